@@ -1,8 +1,7 @@
 -- The integer types of a target: their sizes and their values (C99 5.2.4.2.1, 6.2.5, 6.2.6.2), and
 -- the conversion of a value to one of them (6.3.1.2, 6.3.1.3).
-use Rattle.std.specs.Prelude.{ℕ, zero, ◌*◌, ◌-◌, ◌^◌, Bool, true, false, ℤ, pos, neg_ℤ, ◌+ℤ◌, ◌≤ℤ◌}
+use Rattle.std.specs.Prelude.{ℕ, zero, ◌*◌, ◌-◌, ◌^◌, Bool, true, false, ℤ, pos, neg_ℤ, ◌+ℤ◌, ◌-ℤ◌, ◌≤ℤ◌}
 use Rattle.std.specs.Int.{int_rem_euclid}
-use Rattle.std.proofs.Math.IntN.{◌-ℤ◌}
 use Rattle.cc_num.specs.declared.int_type.IntType.{IntType}
 use Rattle.cc_num.specs.declared.int_type.IntType.TheVariants as int
 use Rattle.cc_num.specs.declared.target.Target.{Target}
@@ -40,7 +39,7 @@ is_signed int.ULong target = false
 is_signed int.LongLong target = true
 is_signed int.ULongLong target = false
 
--- the least value of w bits, in two's complement where they have a sign
+-- the least and the greatest number of w bits, in two's complement where they have a sign
 abbrev pub least_of_bits : Bool → ℕ → ℤ
 least_of_bits true w = neg_ℤ (pos (2 ^ (w - 1)))
 least_of_bits false w = pos 0

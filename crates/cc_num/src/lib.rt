@@ -3,12 +3,14 @@
 #![tactic(auto)]
 
 mod boxed;
+mod conversion;
 mod int_type;
 mod list;
 mod no_memory;
 mod target;
 
 pub use boxed::Boxed;
+pub use conversion::convert;
 pub use int_type::IntType;
 pub use list::{List, Name, at};
 pub use no_memory::NoMemory;
