@@ -1,3 +1,10 @@
 //! The tiny programs: how they are read, and how they are printed.
 
+pub mod cursor;
+pub mod funcs;
+pub mod items;
+pub mod many;
+pub mod names;
+pub mod parse;
+pub mod stmts;
 pub mod word;

@@ -1,0 +1,4 @@
+pub mod FuncSteps
+pub mod ManySteps
+pub mod NameLemmas
+pub mod ReaderSteps
