@@ -1,4 +1,12 @@
+pub mod FileComplete
+pub mod FileSound
 pub mod FuncSteps
+pub mod ItemComplete
+pub mod ItemSound
 pub mod ManySteps
 pub mod NameLemmas
+pub mod OnceLemmas
+pub mod ReaderBasics
 pub mod ReaderSteps
+pub mod StmtComplete
+pub mod StmtSound
