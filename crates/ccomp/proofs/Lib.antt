@@ -3,10 +3,13 @@ pub mod FileSound
 pub mod FuncSteps
 pub mod ItemComplete
 pub mod ItemSound
+pub mod LexerLemmas
 pub mod ManySteps
 pub mod NameLemmas
 pub mod OnceLemmas
 pub mod ReaderBasics
 pub mod ReaderSteps
+pub mod RunLemmas
+pub mod SpellingLemmas
 pub mod StmtComplete
 pub mod StmtSound

@@ -45,7 +45,7 @@ is_letter b = is_digit b || (nat_lt 64 b && nat_lt b 91) || (nat_lt 96 b && nat_
 
 -- the words that no name may be, beside the fixed ones: keywords of C with their other forms
 -- (C99 6.4.1), intrinsics, and words of C and of its compilers that no program of the profile has
-pub reserved : List (List ℕ)
+unfoldable pub reserved : List (List ℕ)
 reserved =
     codes "auto" ∷ codes "case" ∷ codes "const" ∷ codes "continue" ∷ codes "default" ∷ codes "do" ∷ codes "enum" ∷ codes "for" ∷ codes "inline" ∷ codes "long"
     ∷ codes "register" ∷ codes "restrict" ∷ codes "return" ∷ codes "short" ∷ codes "signed" ∷ codes "sizeof" ∷ codes "struct" ∷ codes "switch" ∷ codes "typedef"

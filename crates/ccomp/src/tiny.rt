@@ -3,6 +3,7 @@
 pub mod cursor;
 pub mod funcs;
 pub mod items;
+pub mod lexer;
 pub mod many;
 pub mod names;
 pub mod parse;
