@@ -1,12 +1,13 @@
 -- A conversion lands in the type, and leaves a value of the type as it is. Each type but _Bool has
 -- the numbers of its w bits, so both are facts of residues.
-use Rattle.std.proofs.Common.{◌≡◌, ℕ, zero, suc, ◌<◌, ◌≤◌, ◌≢◌, Bool, true, false, ℤ, pos, negsuc, refl, sym, ap, arith, inl, inr, ⊎_elim, ◌∙◌, eqb-true, nat_eq, ◌⊎◌, ◌||◌, IsTrue}
+use Rattle.std.proofs.Common.{◌^◌, ◌≡◌, ℕ, zero, suc, ◌<◌, ◌≤◌, ◌≢◌, Bool, true, false, ℤ, pos, negsuc, refl, sym, ap, arith, inl, inr, ⊎_elim, ◌∙◌, eqb-true, nat_eq, ◌⊎◌, ◌||◌, IsTrue}
 use Rattle.std.proofs.lemmas.Int.{ints}
+use Rattle.std.specs.Int.{int_rem_euclid}
 use Rattle.cc_num.specs.declared.int_type.IntType.{IntType}
 use Rattle.cc_num.specs.declared.int_type.IntType.TheVariants as int
 use Rattle.cc_num.specs.declared.target.Target.{Target}
 use Rattle.cc_num.specs.Integers.{bytes_of, bits_of, is_signed, least_of, most_of, least_of_bits, most_of_bits, IsValueOf, residue_from, truth_of, converted}
-use Rattle.cc_num.proofs.Residues.{residue_least, residue_most, residue_same}
+use Rattle.cc_num.proofs.Residues.{residue_alike, residue_least, residue_most, residue_same}
 
 -- `converted` by its two rules
 pub converted-Bool : (v : ℤ) (target : Target) → converted v int.Bool target ≡ truth_of v
@@ -71,3 +72,7 @@ converted-same t target v h = residue_same (is_signed t target) (bits_of t targe
 -- a conversion as it is computed
 pub converted_by_residue : (v low r : ℤ) (w : ℕ) (t : IntType) (target : Target) → t ≢ int.Bool → low ≡ least_of t target → w ≡ bits_of t target → r ≡ residue_from low w v → r ≡ converted v t target
 converted_by_residue v low r w t target h e f g = g ∙ ap (λ x. residue_from x w v) e ∙ ap (λ x. residue_from (least_of t target) x v) f ∙ sym (converted_is v t target h)
+
+-- a conversion changes a value by a multiple of 2^w
+pub converted-modulo : (v : ℤ) (t : IntType) (target : Target) → t ≢ int.Bool → int_rem_euclid (converted v t target) (pos (2 ^ bits_of t target)) ≡ int_rem_euclid v (pos (2 ^ bits_of t target))
+converted-modulo v t target h = ap (λ x. int_rem_euclid x (pos (2 ^ bits_of t target))) (converted_is v t target h) ∙ residue_alike (least_of t target) (bits_of t target) v

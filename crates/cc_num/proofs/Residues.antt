@@ -77,3 +77,12 @@ residue_same false w v h low high =
 -- the residue as it is computed, with the remainder taken first
 pub residue_by_steps : (v least r s : ℤ) (w : ℕ) → r ≡ int_rem_euclid v (pos (2 ^ w)) → s ≡ int_rem_euclid (r -ℤ least) (pos (2 ^ w)) → least +ℤ s ≡ residue_from least w v
 residue_by_steps v least r s w e f = ap (λ x. least +ℤ x) (f ∙ ap (λ x. int_rem_euclid (x -ℤ least) (pos (2 ^ w))) e ∙ remainder_less v least (2 ^ w) (pow_pos w))
+
+-- a residue differs from the number by a multiple of 2^w
+pub residue_alike : (least : ℤ) (w : ℕ) (v : ℤ) → int_rem_euclid (residue_from least w v) (pos (2 ^ w)) ≡ int_rem_euclid v (pos (2 ^ w))
+residue_alike least w v =
+    let r = remainder (v -ℤ least) (2 ^ w) (pow_pos w) in
+    let e = r.1 in
+    let a = apart (v -ℤ least) (2 ^ w) r.0 (pow_pos w) e in
+    let s = a.2 in
+    remainder_same (residue_from least w v) v (2 ^ w) a.1 a.0 (pow_pos w) (omega (arith, ints))

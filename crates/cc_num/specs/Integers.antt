@@ -1,6 +1,6 @@
 -- The integer types of a target: their sizes and their values (C99 5.2.4.2.1, 6.2.5, 6.2.6.2), and
 -- the conversion of a value to one of them (6.3.1.2, 6.3.1.3).
-use Rattle.std.specs.Prelude.{ℕ, zero, ◌*◌, ◌-◌, ◌^◌, Bool, true, false, ℤ, pos, neg_ℤ, ◌+ℤ◌, ◌-ℤ◌, ◌≤ℤ◌}
+use Rattle.std.specs.Prelude.{ℕ, zero, ◌*◌, ◌-◌, ◌^◌, Bool, true, false, ℤ, pos, neg_ℤ, ◌+ℤ◌, ◌-ℤ◌, ◌≤ℤ◌, int_le, ◌&&◌}
 use Rattle.std.specs.Int.{int_rem_euclid}
 use Rattle.cc_num.specs.declared.int_type.IntType.{IntType}
 use Rattle.cc_num.specs.declared.int_type.IntType.TheVariants as int
@@ -62,6 +62,13 @@ most_of t target = most_of_bits (is_signed t target) (bits_of t target)
 pub record IsValueOf (t : IntType) (target : Target) (v : ℤ) : Type 0 where
   pub least : least_of t target ≤ℤ v
   pub most : v ≤ℤ most_of t target
+
+-- whether v is a value of the type, and whether t can represent all the values of s
+abbrev pub is_value_of : IntType → Target → ℤ → Bool
+is_value_of t target v = int_le (least_of t target) v && int_le v (most_of t target)
+
+abbrev pub represents_all : IntType → IntType → Target → Bool
+represents_all t s target = int_le (least_of t target) (least_of s target) && int_le (most_of s target) (most_of t target)
 
 -- the number of w bits that differs from v by a multiple of 2^w, from the least one on
 abbrev pub residue_from : ℤ → ℕ → ℤ → ℤ

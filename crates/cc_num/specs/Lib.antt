@@ -1,2 +1,4 @@
 pub mod formers
 pub mod Integers
+pub mod Promotions
+pub mod Results

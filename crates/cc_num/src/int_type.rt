@@ -18,8 +18,8 @@ pub enum IntType {
 }
 
 impl IntType {
-    ghost use Rattle.std.specs.Prelude.{◌≡◌, ◌≤◌, ◌^◌, pos, neg_ℤ, ◌≤ℤ◌};
-    ghost use Rattle.cc_num.specs.Integers.{bytes_of, bits_of, is_signed, least_of};
+    ghost use Rattle.std.specs.Prelude.{◌≡◌, ◌≤◌, ◌^◌, pos, neg_ℤ, ◌≤ℤ◌, ◌<ℤ◌};
+    ghost use Rattle.cc_num.specs.Integers.{bytes_of, bits_of, is_signed, least_of, most_of, is_value_of};
 
     /// How many bytes a value takes.
     pub fn bytes(self, target: &Target) -> u8
@@ -73,5 +73,25 @@ impl IntType {
         } else {
             0
         }
+    }
+
+    /// The greatest value (C99 5.2.4.2.1, 6.2.6.2).
+    pub fn most(self, target: &Target) -> i128
+        ensures value { result ≡ most_of self target.now }
+        ensures low { pos 1 ≤ℤ result }
+        ensures high { result <ℤ pos (2 ^ 64) }
+    {
+        match self {
+            IntType::Bool => 1,
+            _ if self.is_signed(target) => 2i128.pow(self.bits(target) - 1) - 1,
+            _ => 2i128.pow(self.bits(target)) - 1,
+        }
+    }
+
+    /// Whether a number is a value of the type.
+    pub fn contains(self, v: i128, target: &Target) -> bool
+        ensures { result ≡ is_value_of self target.now v }
+    {
+        self.least(target) <= v && v <= self.most(target)
     }
 }
