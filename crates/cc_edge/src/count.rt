@@ -1,0 +1,18 @@
+ghost use Rattle.std.specs.Prelude.{◌≡◌, ◌≤◌};
+ghost use Rattle.cc_edge.specs.Faults.{risen};
+ghost use Rattle.cc_edge.specs.Memory.{is_listed};
+
+// One more than a count, which stands still at the end of its type.
+pub(crate) fn one_more(count: u64) -> u64
+    ensures value { result ≡ risen count }
+    ensures later { count ≤ result }
+{
+    count.saturating_add(1)
+}
+
+// Whether a call of that number is to fail.
+pub(crate) fn is_to_fail(failing: &[u64], call: u64) -> bool
+    ensures { result ≡ is_listed failing.now call }
+{
+    failing.contains(&call)
+}
