@@ -216,15 +216,15 @@ parsed-complete p is ps as' ws target s names =
     let l3 = length-append s.proto_words w3 in
     let l4 = length-append s.object_words w4 in
     let all : All (IsDistinctFunc objects devices) p.funcs =
-        All-weaker (λ f. IsOnce (names_of f.locals ++ file_names p)) (IsDistinctFunc objects devices) (λ f once. distinct_scope objects devices (func_names p.funcs) f.locals once) p.funcs names.locals_apart in
+    All-weaker (λ f. IsOnce (names_of f.locals ++ file_names p)) (IsDistinctFunc objects devices) (λ f once. distinct_scope objects devices (func_names p.funcs) f.locals once) p.funcs names.locals_apart in
     let h5 : funcs (distinct objects) (distinct devices) (length w4) w4 ≡ (p.funcs, as', []) =
-        ap (λ n. funcs n (distinct devices) (length w4) w4) (distinct-once objects (IsOnce-left objects (func_names p.funcs) behind))
-        ∙ ap (λ n. funcs objects n (length w4) w4) (distinct-once devices (IsOnce-left devices (objects ++ func_names p.funcs) file)) ∙ funcs-complete objects devices p.funcs as' w4 fs all (length w4) (omega arith) in
+    ap (λ n. funcs n (distinct devices) (length w4) w4) (distinct-once objects (IsOnce-left objects (func_names p.funcs) behind))
+    ∙ ap (λ n. funcs objects n (length w4) w4) (distinct-once devices (IsOnce-left devices (objects ++ func_names p.funcs) file)) ∙ funcs-complete objects devices p.funcs as' w4 fs all (length w4) (omega arith) in
     let h6 = position_of-complete main_name (func_names p.funcs) p.main (IsOnce-right objects (func_names p.funcs) behind)
-        (slice_get-map (λ (f : Func). f.name) p.funcs p.main ∙ main_at (slice_get p.funcs p.main) names.main_there) in
+    (slice_get-map (λ (f : Func). f.name) p.funcs p.main ∙ main_at (slice_get p.funcs p.main) names.main_there) in
     let whole = parsed-steps (s.intrinsic_words ++ w1) w1 w2 w3 w4 is p.devices ps p.objects p.funcs as' p.main
-        (intrinsics-complete is s.intrinsic_words s.intrinsics_are (length (s.intrinsic_words ++ w1)) w1 (omega arith) intrinsic_none)
-        (devices-complete p.devices s.device_words s.devices_are (length w1) w2 (omega arith) device_none)
-        (protos-complete ps s.proto_words s.protos_are (length w2) w3 (omega arith) proto_none)
-        (objects-complete p.objects s.object_words s.objects_are (length w3) w4 (omega arith) object_none) h5 h6 in
+    (intrinsics-complete is s.intrinsic_words s.intrinsics_are (length (s.intrinsic_words ++ w1)) w1 (omega arith) intrinsic_none)
+    (devices-complete p.devices s.device_words s.devices_are (length w1) w2 (omega arith) device_none)
+    (protos-complete ps s.proto_words s.protos_are (length w2) w3 (omega arith) proto_none)
+    (objects-complete p.objects s.object_words s.objects_are (length w3) w4 (omega arith) object_none) h5 h6 in
     ap parsed s.words ∙ whole ∙ ap (λ t. Some (record { program = record { target = t; devices = p.devices; objects = p.objects; funcs = p.funcs; main = p.main }; intrinsics = is; protos = ps; attributes = as' })) (sym target)

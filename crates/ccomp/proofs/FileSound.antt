@@ -85,8 +85,8 @@ parsed_with-sound ws i d p o f attributes [] (Some main) w1 w2 w3 w4 h1 h2 h3 h4
       protos_are = h3.2;
       objects_are = h4.2;
       funcs_are =
-        subst (λ l. IsFuncs l (device_names d) f attributes h6.0) (distinct-once (object_names o) objects_once)
-        (subst (λ l. IsFuncs (distinct (object_names o)) l f attributes h6.0) (distinct-once (device_names d) devices_once) h6.2);
+          subst (λ l. IsFuncs l (device_names d) f attributes h6.0) (distinct-once (object_names o) objects_once)
+          (subst (λ l. IsFuncs (distinct (object_names o)) l f attributes h6.0) (distinct-once (device_names d) devices_once) h6.2);
     }
 
 pub parsed-sound : (ws : Words) → IfSome (parsed ws) (ParsedTook ws)

@@ -99,6 +99,7 @@ objects-sound = many-sound object IsObject IsObjects object-sound NoObject put
     by_static : (x : List ℕ) (a : List Object) (ws vs : Words) → (ws ≡ object_words x) ⊎ (ws ≡ fixed w.Static ∷ object_words x) → IsObjects a vs → IsObjects (object_named x ∷ a) (ws ++ vs)
     by_static x a ws vs (inl e) k = subst (λ l. IsObjects (object_named x ∷ a) (l ++ vs)) (sym e) (AnObject x a vs k)
     by_static x a ws vs (inr e) k = subst (λ l. IsObjects (object_named x ∷ a) (l ++ vs)) (sym e) (AStaticObject x a vs k)
+
     put : (o : Object) (a : List Object) (ws vs : Words) → IsObject o ws → IsObjects a vs → IsObjects (o ∷ a) (ws ++ vs)
     put o a ws vs h k = subst (λ e. IsObjects (e ∷ a) (ws ++ vs)) (sym h.1) (by_static h.0 a ws vs h.2 k)
 
@@ -171,6 +172,7 @@ protos-sound = many-sound proto IsProto IsProtos proto-sound NoProto put
     by_main : (is_main : Bool) (p : Proto) (a : List Proto) (vs : Words) → (is_main ≡ true → p ≡ record { name = main_name; attribute = false }) → IsProtos a vs → IsProtos (p ∷ a) (head_words is_main p ++ fixed w.Semi ∷ vs)
     by_main true p a vs h k = subst (λ q. IsProtos (q ∷ a) (main_head ++ fixed w.Semi ∷ vs)) (sym (h refl)) (MainProto a vs k)
     by_main false p a vs h k = HandlerProto p.name p.attribute a vs k
+
     put : (p : Proto) (a : List Proto) (ws vs : Words) → IsProto p ws → IsProtos a vs → IsProtos (p ∷ a) (ws ++ vs)
     put p a ws vs h k =
         subst (IsProtos (p ∷ a)) (sym (ap (λ l. l ++ vs) h.1 ∙ append_assoc (head_words h.0 p) (fixed w.Semi ∷ []) vs)) (by_main h.0 p a vs h.2 k)
@@ -187,8 +189,7 @@ module _ (objects devices : List (List ℕ)) where
       let locals = many local (length w1) w1 in
       let h2 = locals-sound (length w1) w1 in
       let scope = scope_with objects devices locals.0 in
-      if_bind (stmts scope (block scope 16) false (length locals.1) locals.1) _ _ _ (stmts-sound scope 0 (block scope 16) (block-sound scope 16 0 refl) false (length locals.1) locals.1) (λ a h3 once.
-      (
+      if_bind (stmts scope (block scope 16) false (length locals.1) locals.1) _ _ _ (stmts-sound scope 0 (block scope 16) (block-sound scope 16 0 refl) false (length locals.1) locals.1) (λ a h3 once. (
         fixed w.LBrace ∷ (h2.0 ++ (h3.2.0 ++ fixed w.RBrace ∷ [])),
         h1 ∙ ap (λ l. fixed w.LBrace ∷ l) (h2.1 ∙ ap (λ l. h2.0 ++ l) (h3.1 ∙ ap (λ l. l ++ a.1) h3.2.1) ∙ sym (append_assoc h2.0 (h3.2.0 ++ fixed w.RBrace ∷ []) a.1)),
         Body objects devices locals.0 a.0 h2.0 h3.2.0 h2.2 (subst (λ l. IsStmts (record { locals = l; objects = objects; devices = devices }) 0 false a.0 h3.2.0) (distinct-once (names_of locals.0) once) h3.2.2),

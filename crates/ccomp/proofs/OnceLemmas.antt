@@ -40,6 +40,7 @@ Contains-append (y ∷ xs) ys x h = by_case (Contains-cases y (xs ++ ys) x h) (C
     by_rest : Contains xs x ⊎ Contains ys x → Contains (y ∷ xs) x ⊎ Contains ys x
     by_rest (inl k) = inl (Contains-tail y xs x k)
     by_rest (inr k) = inr k
+
     by_case : (y ≡ x) ⊎ Contains (xs ++ ys) x → (Contains (xs ++ ys) x → Contains xs x ⊎ Contains ys x) → Contains (y ∷ xs) x ⊎ Contains ys x
     by_case (inl e) go = inl (subst (Contains (y ∷ xs)) e (Contains-head y xs))
     by_case (inr k) go = by_rest (go k)
@@ -76,6 +77,7 @@ inserts seen (x ∷ xs) once apart =
     by_one : (y : List ℕ) → Contains xs y → (x ≡ y) ⊎ Contains {X = List ℕ} [] y → ⊥
     by_one y h (inl e) = once.0 (subst (Contains xs) (sym e) h)
     by_one y h (inr k) = absurd (omega (arith, k.1))
+
     by_case : (y : List ℕ) → Contains xs y → Contains seen y ⊎ Contains (x ∷ []) y → ⊥
     by_case y h (inl k) = apart y (Contains-tail x xs y h) k
     by_case y h (inr k) = by_one y h (Contains-cases x [] y k)

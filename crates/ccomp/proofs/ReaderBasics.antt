@@ -146,10 +146,10 @@ position_of-complete x xs i once e =
     let within = slice_get_within xs i x e in
     position-at (same_name x) xs i within
     (position_or_len_is (same_name x) xs i [] (omega arith)
-      (λ k h. differs x (get_or xs k []) (λ f.
-        let n : k < length xs = omega arith in
-        let same : k ≡ i = IsOnce-position xs k i x once (slice_get-get_or xs k [] n ∙ ap Some f) e in omega arith))
-      (λ h. subst (λ y. same_name x y ≡ true) (sym (get_or_from_slice_get xs i x [] e)) (same_name-self x)))
+    (λ k h. differs x (get_or xs k []) (λ f.
+    let n : k < length xs = omega arith in
+    let same : k ≡ i = IsOnce-position xs k i x once (slice_get-get_or xs k [] n ∙ ap Some f) e in omega arith))
+    (λ h. subst (λ y. same_name x y ≡ true) (sym (get_or_from_slice_get xs i x [] e)) (same_name-self x)))
 
 pub position_of-none : (x : List ℕ) (xs : List (List ℕ)) → (Contains xs x → ⊥) → position_of x xs ≡ None
 position_of-none x xs h = at_position (position_of x xs) (position_of-sound x xs)
@@ -169,7 +169,7 @@ unfolding place_of
 place_of-sound scope x =
     by_kind scope x Local scope.locals (λ i h. h) (position_of x scope.locals) (position_of-sound x scope.locals) (in_place Static (position_of x scope.objects) (in_place Device (position_of x scope.devices) None))
     (by_kind scope x Static scope.objects (λ i h. h) (position_of x scope.objects) (position_of-sound x scope.objects) (in_place Device (position_of x scope.devices) None)
-      (by_kind scope x Device scope.devices (λ i h. h) (position_of x scope.devices) (position_of-sound x scope.devices) None tt))
+    (by_kind scope x Device scope.devices (λ i h. h) (position_of x scope.devices) (position_of-sound x scope.devices) None tt))
 
 -- the names of a scope stand there once
 pub record IsDistinctScope (scope : Scope) : Type 0 where

@@ -155,5 +155,5 @@ block-sound scope (suc left) depth e in_loop ws =
     let inner : left + (depth + 1) ≡ greatest_depth = omega arith in
     if_bind (eat w.LBrace ws) _ _ _ (eat-sound w.LBrace ws) (λ w1 h1.
     if_map (stmts scope (block scope left) in_loop (length w1) w1) (Took (Closed scope (depth + 1) (block scope left) (block-sound scope left (depth + 1) inner) in_loop) w1) (Took (IsBlock scope depth in_loop) ws)
-      (stmts-sound scope (depth + 1) (block scope left) (block-sound scope left (depth + 1) inner) in_loop (length w1) w1) (λ a h2.
-      (fixed w.LBrace ∷ (h2.2.0 ++ fixed w.RBrace ∷ []), h1 ∙ ap (λ l. fixed w.LBrace ∷ l) (h2.1 ∙ ap (λ l. l ++ a.1) h2.2.1), Braces scope depth in_loop a.0 h2.2.0 within h2.2.2)))
+    (stmts-sound scope (depth + 1) (block scope left) (block-sound scope left (depth + 1) inner) in_loop (length w1) w1) (λ a h2.
+    (fixed w.LBrace ∷ (h2.2.0 ++ fixed w.RBrace ∷ []), h1 ∙ ap (λ l. fixed w.LBrace ∷ l) (h2.1 ∙ ap (λ l. l ++ a.1) h2.2.1), Braces scope depth in_loop a.0 h2.2.0 within h2.2.2)))

@@ -1,7 +1,9 @@
-pub mod Words
-pub mod Tiny
-pub mod Printed
+pub mod Command
 pub mod Lexer
-pub mod Reader
-pub mod View
 pub mod Names
+pub mod Printed
+pub mod Reader
+pub mod Statuses
+pub mod Tiny
+pub mod View
+pub mod Words
