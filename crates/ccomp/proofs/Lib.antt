@@ -7,6 +7,12 @@ pub mod LexerLemmas
 pub mod ManySteps
 pub mod NameLemmas
 pub mod OnceLemmas
+pub mod PrintLemmas
+pub mod PrintLemmasBodies
+pub mod PrintLemmasLaw
+pub mod PrintLemmasLines
+pub mod PrintLemmasNames
+pub mod PrintLemmasWords
 pub mod ReaderBasics
 pub mod ReaderSteps
 pub mod RunLemmas

@@ -7,5 +7,6 @@ pub mod lexer;
 pub mod many;
 pub mod names;
 pub mod parse;
+pub mod printer;
 pub mod stmts;
 pub mod word;
