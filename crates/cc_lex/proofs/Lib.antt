@@ -1,0 +1,13 @@
+pub mod Booleans
+pub mod Loops
+pub mod Contents
+pub mod Classes
+pub mod Fronts
+pub mod Closing
+pub mod LongestMark
+pub mod LongestForm
+pub mod Elements
+pub mod Pieces
+pub mod Found
+pub mod Whole
+pub mod Scanned

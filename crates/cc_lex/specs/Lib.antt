@@ -1,0 +1,10 @@
+pub mod Bytes
+pub mod Identifiers
+pub mod Numbers
+pub mod Literals
+pub mod Marks
+pub mod Separators
+pub mod Tokens
+pub mod Faults
+pub mod Forms
+pub mod Scan
