@@ -1,3 +1,4 @@
+pub mod CheckLemmas
 pub mod FileComplete
 pub mod FileSound
 pub mod FuncSteps
@@ -7,12 +8,14 @@ pub mod LexerLemmas
 pub mod ManySteps
 pub mod NameLemmas
 pub mod OnceLemmas
+pub mod PackLaws
 pub mod PrintLemmas
 pub mod PrintLemmasBodies
 pub mod PrintLemmasLaw
 pub mod PrintLemmasLines
 pub mod PrintLemmasNames
 pub mod PrintLemmasWords
+pub mod ReadLaws
 pub mod ReaderBasics
 pub mod ReaderSteps
 pub mod RunLemmas

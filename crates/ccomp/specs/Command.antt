@@ -44,3 +44,8 @@ command_of (command ∷ rest) = Wrong command
 abbrev pub asked_of : Asked → Command
 asked_of (asked.Pack out source) = Pack out.now source.now
 asked_of (asked.Wrong word) = Wrong word.now
+
+-- the command is `pack`, and of its output and its source this holds
+abbrev pub ForPack : Command → (List ℕ → List ℕ → Type 0) → Type 0
+ForPack (Pack out source) P = P out source
+ForPack (Wrong word) P = ⊥

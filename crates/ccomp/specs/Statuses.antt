@@ -1,5 +1,5 @@
 -- The number of each status, and the line that tells it.
-use Rattle.std.specs.Prelude.{ℕ, List, [], ◌++◌, codes}
+use Rattle.std.specs.Prelude.{ℕ, Bool, true, false, List, [], ◌++◌, codes}
 use Rattle.ccomp.specs.declared.status.Status.{Status}
 use Rattle.ccomp.specs.declared.status.Status.TheVariants.{Done, Usage, ReadFault, TooLong, WriteFault, NoMemory, Later}
 
@@ -25,3 +25,13 @@ text_of (Later name) = name ++ codes ": later"
 abbrev pub line_of : Status → List ℕ
 line_of Done = []
 line_of status = codes "ccomp: " ++ (text_of status ++ codes "\n")
+
+-- whether the output may have been begun
+abbrev pub may_write : Status → Bool
+may_write Done = true
+may_write (WriteFault name) = true
+may_write (Usage word) = false
+may_write (ReadFault name) = false
+may_write (TooLong name) = false
+may_write NoMemory = false
+may_write (Later name) = false

@@ -1,5 +1,6 @@
 //! The tiny programs: how they are read, and how they are printed.
 
+pub mod checks;
 pub mod cursor;
 pub mod funcs;
 pub mod items;
@@ -8,5 +9,6 @@ pub mod many;
 pub mod names;
 pub mod parse;
 pub mod printer;
+pub mod reader;
 pub mod stmts;
 pub mod word;

@@ -26,6 +26,21 @@ pub struct Parsed<'w> {
     pub attributes: Vec<bool>,
 }
 
+impl<'w> Parsed<'w> {
+    /// The program alone.
+    pub fn into_program(self) -> Program
+        ensures { result ≡ self.entry.program }
+    {
+        let Parsed {
+            program,
+            intrinsics: _,
+            protos: _,
+            attributes: _,
+        } = self;
+        program
+    }
+}
+
 /// The target of a program without a profile.
 pub fn default_target() -> Target
     ensures { result ≡ default_target_of }

@@ -1,0 +1,51 @@
+-- What `pack` promises of the files, where they are told.
+use Rattle.std.specs.Prelude.{◌≡◌, ◌≤◌, ◌<◌, ◌⊎◌, ℕ, List, ◌++◌, Option, Some, None, take}
+use Rattle.cc_syntax.specs.declared.program.Program.{Program}
+use Rattle.cc_syntax.specs.Layout.{ram}
+use Rattle.cc_meaning.specs.Runs.{Follows, Answers}
+use Rattle.cc_edge.specs.Files.{Files, KeepsOthers, HoldsPrefix}
+use Rattle.ccomp.specs.Tiny.{IsTinyText}
+use Rattle.ccomp.specs.Printed.{printed}
+
+-- the program q does what p does, in no more RAM
+pub record IsPacked (q p : Program) : Type 0 where
+  pub follows : Follows q p
+  pub answers : Answers q p
+  pub ram : ram q ≤ ram p
+
+-- the source was a tiny text of a program, the output is one of a packed program, and nothing else
+-- has changed
+pub record Packs (out source : List ℕ) (old new : Files) : Type 0 where
+  pub text : List ℕ
+  pub there : old source ≡ Some text
+  pub read : Program
+  pub read_from : IsTinyText text read
+  pub bytes : List ℕ
+  pub written : new out ≡ Some bytes
+  pub packed : Program
+  pub reads_back : IsTinyText bytes packed
+  pub is_packed : IsPacked packed read
+  pub others : KeepsOthers out old new
+
+-- the output is as before, or has the first bytes of the printed text of the program that was read
+pub record Leaves (out source : List ℕ) (old new : Files) : Type 0 where
+  pub text : List ℕ
+  pub there : old source ≡ Some text
+  pub read : Program
+  pub read_from : IsTinyText text read
+  pub left : (new out ≡ old out) ⊎ HoldsPrefix (printed read) (new out)
+  pub others : KeepsOthers out old new
+
+-- the text is no tiny text
+abbrev pub IsNoTinyText : List ℕ → Type 0
+IsNoTinyText text = (p : Program) → IsTinyText text p → ⊥
+
+-- the bytes are the printed text of the program that the text is a tiny text of, and a tiny text of
+-- a packed program
+pub record IsPackedText (text bytes : List ℕ) : Type 0 where
+  pub read : Program
+  pub read_from : IsTinyText text read
+  pub printed_as : bytes ≡ printed read
+  pub packed : Program
+  pub reads_back : IsTinyText bytes packed
+  pub is_packed : IsPacked packed read

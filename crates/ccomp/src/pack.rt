@@ -1,0 +1,114 @@
+//! The top call.
+
+ghost use Rattle.std.specs.Prelude.{◌≡◌, ◌≤◌, ◌<◌, ◌⊎◌, ℕ, IsTrue, IfOk, IfSome, IfNone, IsSomeAnd, Some, None, List as ListOf, false, length};
+ghost use Rattle.cc_edge.specs.Faults.{Rose};
+ghost use Rattle.cc_edge.specs.Files.{KeepsFiles, KeepsOthers};
+ghost use Rattle.ccomp.specs.Command.{Command, Pack, Wrong, ForPack, command_of, texts};
+ghost use Rattle.ccomp.specs.Headline.{Packs, Leaves, IsPackedText, IsNoTinyText};
+ghost use Rattle.ccomp.specs.Statuses.{may_write};
+
+use crate::command::{Asked, command};
+use crate::status::Status;
+use crate::tiny::items::copy_name;
+use crate::tiny::printer::print;
+use crate::tiny::reader::read;
+use cc_edge::{ReadEnd, Sink, Store, read_whole, write_whole};
+use cc_num::NoMemory;
+use std::alloc::Global;
+
+/// The most bytes of a source.
+const SOURCE_LIMIT: u64 = 1 << 20;
+
+/// The printed text of the program that the text is a tiny text of, where there is one.
+fn packed(alloc: Global, text: &[u8]) -> Result<Option<Vec<u8>>, NoMemory>
+    ensures found { IfOk result (λ r. IfSome r (λ bytes. IsPackedText text.now bytes.items)) }
+    ensures none { IfOk result (λ r. IfNone r (IsNoTinyText text.now)) }
+{
+    match read(alloc, text)? {
+        None => Ok(None),
+        Some(p) => Ok(Some(print(alloc, &p)?)),
+    }
+}
+
+/// Reads the source, packs it and writes the output. The names that the answers carry are copied
+/// first, so that nothing takes memory once the output is begun.
+fn pack<F: Store>(alloc: Global, out: &str, source: &str, store: &mut F) -> Status
+    ensures told { F.told store.new ≡ F.told store.old }
+    ensures later_faults { F.faults store.old ≤ F.faults store.new }
+    ensures usage { (word : ListOf ℕ) → result ≡ Status.Usage word → ⊥ }
+    ensures headline { result ≡ Status.Done → IsTrue (F.told store.old) → Packs out.now source.now (F.files store.old) (F.files store.new) }
+    ensures read_fault { (name : ListOf ℕ) → result ≡ Status.ReadFault name →
+        (name ≡ source.now) × (Rose (F.faults store.old) (F.faults store.new) ⊎ (IsTrue (F.told store.old) × (F.files store.old source.now ≡ None))) }
+    ensures too_long { (name : ListOf ℕ) → result ≡ Status.TooLong name →
+        (name ≡ source.now) × (IsTrue (F.told store.old) → IsSomeAnd (F.files store.old source.now) (λ text. 1048576 < length text)) }
+    ensures later { (name : ListOf ℕ) → result ≡ Status.Later name →
+        (name ≡ source.now) × (IsTrue (F.told store.old) → IsSomeAnd (F.files store.old source.now) IsNoTinyText) }
+    ensures write_fault { (name : ListOf ℕ) → result ≡ Status.WriteFault name →
+        (name ≡ out.now) × Rose (F.faults store.old) (F.faults store.new) × (IsTrue (F.told store.old) → Leaves out.now source.now (F.files store.old) (F.files store.new)) }
+    ensures unchanged { may_write result ≡ false → IsTrue (F.told store.old) → KeepsFiles (F.files store.old) (F.files store.new) }
+{
+    let Ok(out_name) = copy_name(alloc, out.as_bytes()) else {
+        return Status::NoMemory;
+    };
+    let Ok(source_name) = copy_name(alloc, source.as_bytes()) else {
+        return Status::NoMemory;
+    };
+    let text = match read_whole(alloc, store, source, SOURCE_LIMIT) {
+        Ok(text) => text,
+        Err(ReadEnd::ReadFault) => return Status::ReadFault(source_name),
+        Err(ReadEnd::TooLong) => return Status::TooLong(source_name),
+        Err(ReadEnd::NoMemory) => return Status::NoMemory,
+    };
+    match packed(alloc, &text) {
+        Err(NoMemory) => Status::NoMemory,
+        Ok(None) => Status::Later(source_name),
+        Ok(Some(bytes)) => match write_whole(store, out, &bytes) {
+            Err(_) => Status::WriteFault(out_name),
+            Ok(()) => Status::Done,
+        },
+    }
+}
+
+/// Does what the words say. Where the store tells its files, the clauses speak of them; where it does
+/// not, of answers and their causes alone.
+pub fn ccomp<F: Store, O: Sink>(
+    alloc: Global,
+    words: &[String],
+    store: &mut F,
+    sink: &mut O,
+) -> Status
+    ensures told { F.told store.new ≡ F.told store.old }
+    ensures later_faults { F.faults store.old ≤ F.faults store.new }
+
+    // Usage comes exactly where the words are no command, and with the word that is wrong.
+    ensures usage_word { (word : ListOf ℕ) → result ≡ Status.Usage word → command_of (texts words.now) ≡ Wrong word }
+    ensures usage { (word : ListOf ℕ) → command_of (texts words.now) ≡ Wrong word → (result ≡ Status.Usage word) ⊎ (result ≡ Status.NoMemory) }
+
+    // The output does what the source does, in no more RAM, and nothing else has changed.
+    ensures headline { result ≡ Status.Done → IsTrue (F.told store.old) →
+        ForPack (command_of (texts words.now)) (λ out source. Packs out source (F.files store.old) (F.files store.new)) }
+
+    ensures read_fault { (name : ListOf ℕ) → result ≡ Status.ReadFault name →
+        ForPack (command_of (texts words.now)) (λ out source. (name ≡ source) × (Rose (F.faults store.old) (F.faults store.new) ⊎ (IsTrue (F.told store.old) × (F.files store.old source ≡ None)))) }
+    ensures too_long { (name : ListOf ℕ) → result ≡ Status.TooLong name →
+        ForPack (command_of (texts words.now)) (λ out source. (name ≡ source) × (IsTrue (F.told store.old) → IsSomeAnd (F.files store.old source) (λ text. 1048576 < length text))) }
+    ensures later { (name : ListOf ℕ) → result ≡ Status.Later name →
+        ForPack (command_of (texts words.now)) (λ out source. (name ≡ source) × (IsTrue (F.told store.old) → IsSomeAnd (F.files store.old source) IsNoTinyText)) }
+    ensures write_fault { (name : ListOf ℕ) → result ≡ Status.WriteFault name →
+        ForPack (command_of (texts words.now)) (λ out source. (name ≡ out) × Rose (F.faults store.old) (F.faults store.new) × (IsTrue (F.told store.old) → Leaves out source (F.files store.old) (F.files store.new))) }
+
+    // After any other answer than Done and WriteFault the files are as they were.
+    ensures unchanged { may_write result ≡ false → IsTrue (F.told store.old) → KeepsFiles (F.files store.old) (F.files store.new) }
+
+    // Nothing is said.
+    ensures silent { O.said sink.new ≡ O.said sink.old }
+    ensures no_fault { O.faults sink.new ≡ O.faults sink.old }
+{
+    match command(words) {
+        Asked::Wrong(word) => match copy_name(alloc, word.as_bytes()) {
+            Ok(word) => Status::Usage(word),
+            Err(NoMemory) => Status::NoMemory,
+        },
+        Asked::Pack { out, source } => pack(alloc, out, source, store),
+    }
+}

@@ -1,0 +1,41 @@
+//! How a tiny text is read, and how it is packed.
+
+ghost use Rattle.std.specs.Prelude.{◌≡◌, IfOk, IfSome, Some};
+ghost use Rattle.cc_syntax.specs.declared.program.Program.{Program as ProgramOf};
+ghost use Rattle.ccomp.specs.Tiny.{IsTinyText, IsTinyWords};
+
+use crate::tiny::checks::has_names;
+use crate::tiny::lexer::words;
+use crate::tiny::parse::parse;
+use crate::tiny::word::Word;
+use cc_num::NoMemory;
+use cc_syntax::Program;
+use std::alloc::Global;
+
+/// The program whose words these are, where there is one.
+fn program_of(alloc: Global, words: &[Word]) -> Result<Option<Program>, NoMemory>
+    ensures found { IfOk result (λ r. IfSome r (λ p. IsTinyWords p words.now)) }
+    ensures only { IfOk result (λ r. (p : ProgramOf) → IsTinyWords p words.now → r ≡ Some p) }
+{
+    match parse(alloc, words)? {
+        None => Ok(None),
+        Some(parsed) => {
+            if has_names(alloc, &parsed)? {
+                Ok(Some(parsed.into_program()))
+            } else {
+                Ok(None)
+            }
+        }
+    }
+}
+
+/// The program that the text is a tiny text of, where there is one. There is at most one.
+pub fn read(alloc: Global, text: &[u8]) -> Result<Option<Program>, NoMemory>
+    ensures found { IfOk result (λ r. IfSome r (λ p. IsTinyText text.now p)) }
+    ensures only { IfOk result (λ r. (p : ProgramOf) → IsTinyText text.now p → r ≡ Some p) }
+{
+    match words(alloc, text)? {
+        None => Ok(None),
+        Some(words) => Ok(program_of(alloc, &words)?),
+    }
+}
