@@ -4,6 +4,8 @@
 mod command;
 mod pack;
 mod status;
+#[cfg(test)]
+mod tests;
 mod tiny;
 
 use cc_edge::{DiskStore, OutSink};

@@ -21,17 +21,20 @@ returns-in-Err-write_whole-clause-write_fault g c = λ name e.
     let bytes = c.as_bytes.ensures.value in
     let found : IsPackedText c.deref.result.now c.in-Ok-Some.bytes.items = rw c.in-Ok-Some.field-0-is at c.in-Ok-Some.ensures.found in
     let read : IsPackedText c.in-Ok-read_whole.text.items c.deref-in-Ok-Some.result.now =
-        subst (λ t. IsPackedText t c.deref-in-Ok-Some.result.now) c.deref.ensures.value (subst (IsPackedText c.deref.result.now) (sym c.deref-in-Ok-Some.ensures.value) found) in
-    (cc, Rose-earlier _ _ _ c.in-Ok-read_whole.ensures.later c.in-Err-write_whole.ensures.fault, λ told.
-    let told_then : IsTrue (g.F.Store.told c.read_whole.new.store) = subst IsTrue (sym c.in-Ok-read_whole.ensures.told) told in
-    leaves c.args.out.now c.args.source.now (g.F.Store.files c.args.store.now) (g.F.Store.files c.read_whole.new.store) (g.F.Store.files c.write_whole.new.store) c.in-Ok-read_whole.text.items c.deref-in-Ok-Some.result.now
-      (c.in-Ok-read_whole.ensures.whole told) read (c.in-Ok-read_whole.ensures.stay told) (c.in-Err-write_whole.ensures.left told_then) (c.in-Err-write_whole.ensures.others told_then))
+    subst (λ t. IsPackedText t c.deref-in-Ok-Some.result.now) c.deref.ensures.value (subst (IsPackedText c.deref.result.now) (sym c.deref-in-Ok-Some.ensures.value) found) in (
+      cc,
+      Rose-earlier _ _ _ c.in-Ok-read_whole.ensures.later c.in-Err-write_whole.ensures.fault,
+      λ told.
+          let told_then : IsTrue (g.F.Store.told c.read_whole.new.store) = subst IsTrue (sym c.in-Ok-read_whole.ensures.told) told in
+          leaves c.args.out.now c.args.source.now (g.F.Store.files c.args.store.now) (g.F.Store.files c.read_whole.new.store) (g.F.Store.files c.write_whole.new.store) c.in-Ok-read_whole.text.items c.deref-in-Ok-Some.result.now
+          (c.in-Ok-read_whole.ensures.whole told) read (c.in-Ok-read_whole.ensures.stay told) (c.in-Err-write_whole.ensures.left told_then) (c.in-Err-write_whole.ensures.others told_then),
+    )
 
 pub returns-in-Ok-write_whole-clause-headline : goal.returns-in-Ok-write_whole-clause-headline
 returns-in-Ok-write_whole-clause-headline g c = λ e told.
     let found : IsPackedText c.deref.result.now c.in-Ok-Some.bytes.items = rw c.in-Ok-Some.field-0-is at c.in-Ok-Some.ensures.found in
     let read : IsPackedText c.in-Ok-read_whole.text.items c.deref-in-Ok-Some.result.now =
-        subst (λ t. IsPackedText t c.deref-in-Ok-Some.result.now) c.deref.ensures.value (subst (IsPackedText c.deref.result.now) (sym c.deref-in-Ok-Some.ensures.value) found) in
+    subst (λ t. IsPackedText t c.deref-in-Ok-Some.result.now) c.deref.ensures.value (subst (IsPackedText c.deref.result.now) (sym c.deref-in-Ok-Some.ensures.value) found) in
     let told_then : IsTrue (g.F.Store.told c.read_whole.new.store) = subst IsTrue (sym c.in-Ok-read_whole.ensures.told) told in
     packs c.args.out.now c.args.source.now (g.F.Store.files c.args.store.now) (g.F.Store.files c.read_whole.new.store) (g.F.Store.files c.write_whole.new.store) c.in-Ok-read_whole.text.items c.deref-in-Ok-Some.result.now
-      (c.in-Ok-read_whole.ensures.whole told) read (c.in-Ok-read_whole.ensures.stay told) (c.in-Ok-write_whole.ensures.whole told_then) (c.in-Ok-write_whole.ensures.others told_then)
+    (c.in-Ok-read_whole.ensures.whole told) read (c.in-Ok-read_whole.ensures.stay told) (c.in-Ok-write_whole.ensures.whole told_then) (c.in-Ok-write_whole.ensures.others told_then)
