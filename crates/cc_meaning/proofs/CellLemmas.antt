@@ -1,5 +1,5 @@
 -- Scalars in vectors: the view by `map` commutes with a look-up and with a write.
-use Rattle.std.proofs.Common.{◌≡◌, ◌<◌, ◌≤◌, ℕ, zero, suc, List, [], ◌∷◌, refl, ap, sym, ◌∙◌, length, arith, Option, Some, None, slice_get, slice_set, get_or, map, Vec, ◌++◌, ◌+◌, take}
+use Rattle.std.proofs.Common.{◌≡◌, ◌<◌, ◌≤◌, ℕ, List, [], ◌∷◌, refl, ap, sym, ◌∙◌, length, Some, None, slice_get, slice_set, get_or, map, Vec, ◌++◌, ◌+◌, take}
 use Rattle.std.specs.declared.alloc.Global.{Global}
 use Rattle.std.specs.Option.{option_map}
 use Rattle.std.proofs.lemmas.Option.{slice_get-map, slice_get_past, slice_get-get_or}

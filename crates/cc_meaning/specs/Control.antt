@@ -1,6 +1,6 @@
 -- Where an activation stands: what is left of each list of statements that it is in.
 -- The first statement of a list around another is the one that contains that other.
-use Rattle.std.specs.Prelude.{ℕ, ◌+◌, ◌-◌, ◌^◌, min, Bool, true, false, List, [], ◌∷◌, map, reverse, length, if◌then◌else◌}
+use Rattle.std.specs.Prelude.{ℕ, ◌+◌, ◌-◌, ◌^◌, min, Bool, true, false, List, [], ◌∷◌, map, reverse, if◌then◌else◌}
 use Rattle.cc_syntax.specs.declared.stmt.Stmt.{Stmt, out-Stmt}
 use Rattle.cc_syntax.specs.declared.stmt.Stmt.TheOpen as is
 

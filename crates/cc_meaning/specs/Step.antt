@@ -1,5 +1,5 @@
 -- The steps of an activation: one access, one intrinsic, or one choice.
-use Rattle.std.specs.Prelude.{ℕ, ℤ, pos, zero, Bool, true, false, List, [], ◌∷◌, ◌++◌, Option, Some, None, slice_get, length, if◌then◌else◌}
+use Rattle.std.specs.Prelude.{ℕ, ℤ, pos, zero, Bool, true, false, List, [], ◌∷◌, ◌++◌, Option, Some, None, slice_get, length}
 use Rattle.cc_num.specs.declared.target.Target.{Target}
 use Rattle.cc_num.specs.Integers.{converted}
 use Rattle.cc_syntax.specs.declared.stmt.Stmt.{Stmt, out-Stmt}

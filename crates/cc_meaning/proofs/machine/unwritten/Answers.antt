@@ -1,5 +1,3 @@
-use Rattle.std.proofs.Common.{[], ◌∷◌, None, pos}
-use Rattle.cc_syntax.specs.declared.value.Value.TheVariants.{Int}
 use Rattle.cc_meaning.proofs.CellLemmas.{same-more}
 use Rattle.cc_meaning.proofs.machine.unwritten.Goals as goal
 
