@@ -1,6 +1,5 @@
 -- What is in the grammar of functions and of a whole file is read, where the names stand there once.
-use Rattle.std.proofs.Common.{◌≡◌, ◌<◌, ◌≤◌, ◌+◌, ℕ, zero, suc, Bool, true, false, List, [], ◌∷◌, ◌++◌, Option, Some, None, refl, ap, sym, ◌∙◌, subst, arith, append_assoc, length, length-append, All, slice_get, IsSomeAnd}
-use Rattle.std.proofs.lemmas.List.{append-nil}
+use Rattle.std.proofs.Common.{◌≡◌, ◌<◌, ◌≤◌, ℕ, zero, suc, Bool, true, false, List, [], ◌∷◌, ◌++◌, Option, Some, None, refl, ap, sym, ◌∙◌, arith, append_assoc, length, length-append, All, slice_get, IsSomeAnd}
 use Rattle.std.proofs.lemmas.List.Elements.{All-head, All-tail, All-weaker}
 use Rattle.std.proofs.lemmas.Option.{slice_get-map}
 use Rattle.std.specs.Option.{option_map}
@@ -13,9 +12,8 @@ use Rattle.cc_syntax.specs.declared.program.Object.{Object}
 use Rattle.cc_syntax.specs.declared.program.Func.{Func}
 use Rattle.cc_syntax.specs.declared.program.Program.{Program}
 use Rattle.ccomp.specs.declared.tiny.word.Fixed.TheVariants as w
-use Rattle.ccomp.specs.declared.tiny.word.Word.TheVariants as word
-use Rattle.ccomp.specs.Tiny.{Words, fixed, main_name, main_of, handler_of, names_of, handler_head, main_head, object_names, device_names, func_names, file_names, Scope, Proto, IsIntrinsics, IsDevices, NoDevice, ADevice, IsProtos, NoProto, HandlerProto, MainProto, IsObjects, NoObject, AnObject, AStaticObject, IsBody, Body, IsFuncs, NoFunc, AHandler, Main, IsOnce, IsStmts, NoStmt, MoreStmts, IsStmt, SetsConstant, Copies, Turns, Breaks, Chooses, ChoosesElse, Loops, Spells, HasNames, IsTinyWords, default_target}
-use Rattle.ccomp.specs.Reader.{Read, ◌>>=◌, same, eat, many, intrinsic, declared, device, object, local, attribute, Head, head, proto, scope_with, distinct, statements, stmts, block, body, func_of, func, funcs, Parsed, program_of, parsed, position_of}
+use Rattle.ccomp.specs.Tiny.{Words, fixed, main_name, main_of, handler_of, names_of, handler_head, main_head, object_names, device_names, func_names, file_names, Scope, Proto, IsDevices, NoDevice, ADevice, IsProtos, NoProto, HandlerProto, MainProto, IsObjects, NoObject, AnObject, AStaticObject, IsBody, Body, IsFuncs, NoFunc, AHandler, Main, IsOnce, IsStmts, NoStmt, MoreStmts, IsStmt, SetsConstant, Copies, Turns, Breaks, Chooses, ChoosesElse, Loops, Spells, HasNames, default_target}
+use Rattle.ccomp.specs.Reader.{same, many, intrinsic, declared, device, object, local, attribute, Head, head, proto, distinct, statements, stmts, block, body, func, funcs, program_of, parsed, position_of}
 use Rattle.ccomp.proofs.ReaderBasics.{IsDistinctScope, position_of-complete}
 use Rattle.ccomp.proofs.StmtComplete.{stmts-complete}
 use Rattle.ccomp.proofs.OnceLemmas.{distinct-once, IsOnce-left, IsOnce-right, IsOnce-apart, Contains-left, Contains-right}

@@ -1,6 +1,6 @@
 -- What is read of functions and of a whole file is in the grammar, where the names of each function's
 -- locals, of the objects and of the devices stand there once.
-use Rattle.std.proofs.Common.{◌≡◌, ◌+◌, ℕ, zero, suc, Bool, true, false, List, [], ◌∷◌, ◌++◌, Option, Some, None, refl, ap, sym, ◌∙◌, subst, append_assoc, IfSome, length, All}
+use Rattle.std.proofs.Common.{◌≡◌, ℕ, zero, suc, Bool, true, false, List, [], ◌∷◌, ◌++◌, Option, Some, None, refl, ap, sym, ◌∙◌, subst, append_assoc, IfSome, length, All}
 use Rattle.std.proofs.lemmas.List.{append-nil}
 use Rattle.std.proofs.lemmas.List.Elements.{All-head, All-tail}
 use Rattle.cc_syntax.specs.declared.types.CType.{CType}
@@ -10,7 +10,7 @@ use Rattle.cc_syntax.specs.declared.program.Device.{Device as DeviceOf}
 use Rattle.cc_syntax.specs.declared.program.Object.{Object}
 use Rattle.cc_syntax.specs.declared.program.Func.{Func}
 use Rattle.ccomp.specs.Tiny.{Words, main_name, main_of, handler_of, names_of, handler_head, main_head, object_names, device_names, func_names, Proto, IsIntrinsics, IsDevices, IsProtos, IsObjects, IsBody, IsFuncs, NoFunc, AHandler, Main, IsOnce, Spells}
-use Rattle.ccomp.specs.Reader.{Read, ◌>>=◌, many, intrinsic, device, object, Head, head, proto, distinct, body, func_of, func, funcs, funcs_at, Parsed, program_of, parsed_with, parsed, position_of}
+use Rattle.ccomp.specs.Reader.{Read, many, intrinsic, device, object, Head, head, proto, distinct, body, func_of, func, funcs, funcs_at, Parsed, parsed_with, parsed, position_of}
 use Rattle.ccomp.proofs.ReaderBasics.{if_bind, Took}
 use Rattle.ccomp.proofs.OnceLemmas.{distinct-once}
 use Rattle.ccomp.proofs.ItemSound.{IsHead, head_words, head-sound, BodyTook, body-sound, intrinsics-sound, devices-sound, protos-sound, objects-sound}

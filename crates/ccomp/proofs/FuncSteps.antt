@@ -1,5 +1,5 @@
 -- One step of reading functions.
-use Rattle.std.proofs.Common.{◌≡◌, ◌<◌, ◌-◌, ◌+◌, ℕ, zero, suc, Bool, List, [], ◌∷◌, ◌++◌, Option, Some, None, refl, ap, sym, ◌∙◌, arith, append_assoc, sub-one}
+use Rattle.std.proofs.Common.{◌≡◌, ◌<◌, ◌-◌, ℕ, zero, suc, Bool, List, [], ◌∷◌, ◌++◌, Some, None, refl, ap, sym, ◌∙◌, arith, append_assoc, sub-one}
 use Rattle.std.proofs.lemmas.List.{append-nil}
 use Rattle.cc_syntax.specs.declared.program.Func.{Func}
 use Rattle.ccomp.specs.Tiny.{Words}

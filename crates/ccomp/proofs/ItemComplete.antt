@@ -1,22 +1,15 @@
 -- What is in the grammar of a file's parts is read, by recursion on the derivation. What stands behind
 -- a list of parts begins with no further part of that kind.
-use Rattle.std.proofs.Common.{◌≡◌, ◌<◌, ◌≤◌, ◌+◌, ℕ, zero, suc, Bool, true, false, cond, List, [], ◌∷◌, ◌++◌, Option, Some, None, refl, ap, sym, ◌∙◌, subst, arith, append_assoc, length, length-append}
-use Rattle.std.specs.Prelude.{codes}
+use Rattle.std.proofs.Common.{◌≡◌, ◌≤◌, ℕ, zero, suc, Bool, true, false, List, ◌∷◌, ◌++◌, Some, None, refl, arith, append_assoc, length, length-append}
 use Rattle.cc_syntax.specs.declared.types.CType.{CType}
 use Rattle.cc_syntax.specs.declared.expr.Intr.{Intr as IntrOf}
 use Rattle.cc_syntax.specs.declared.expr.Intr.TheVariants as intr
-use Rattle.cc_syntax.specs.declared.stmt.Stmt.{Stmt}
 use Rattle.cc_syntax.specs.declared.program.Device.{Device as DeviceOf}
 use Rattle.cc_syntax.specs.declared.program.Object.{Object}
-use Rattle.cc_syntax.specs.declared.program.Func.{Func}
-use Rattle.ccomp.specs.declared.tiny.word.Fixed.{Fixed}
 use Rattle.ccomp.specs.declared.tiny.word.Fixed.TheVariants as w
 use Rattle.ccomp.specs.declared.tiny.word.Word.TheVariants as word
-use Rattle.ccomp.specs.Tiny.{Words, fixed, fixed_words, intr_word, device_named, object_named, uchar, main_name, main_of, handler_of, names_of, attribute_words, handler_head, main_head, Proto, IsIntrinsics, NoIntrinsic, AnIntrinsic, IsDevices, NoDevice, ADevice, IsProtos, NoProto, HandlerProto, MainProto, IsObjects, NoObject, AnObject, AStaticObject, IsLocals, NoLocal, ALocal, IsBody, Body, IsFuncs, NoFunc, AHandler, Main, IsOnce, IsStmts, NoStmt, MoreStmts, IsStmt, SetsConstant, Copies, Turns, Breaks, Chooses, ChoosesElse, Loops}
-use Rattle.ccomp.specs.Reader.{Read, ◌>>=◌, same, eat, eat_all, name, same_name, many, many_at, intr_of, intrinsic, declared, device, or_here, object, local, signal, attribute_at, attribute, Head, main_head_at, head, proto, scope_with, distinct, statements, stmts, block, body, func_of, func, funcs, funcs_at}
-use Rattle.ccomp.proofs.ReaderBasics.{IsDistinctScope}
-use Rattle.ccomp.proofs.StmtComplete.{stmts-complete}
-use Rattle.ccomp.proofs.OnceLemmas.{distinct-once}
+use Rattle.ccomp.specs.Tiny.{Words, fixed, intr_word, device_named, object_named, uchar, main_name, handler_head, main_head, Proto, IsIntrinsics, NoIntrinsic, AnIntrinsic, IsDevices, NoDevice, ADevice, IsProtos, NoProto, HandlerProto, MainProto, IsObjects, NoObject, AnObject, AStaticObject, IsLocals, NoLocal, ALocal}
+use Rattle.ccomp.specs.Reader.{same, many, intrinsic, declared, device, object, local, attribute, Head, head, proto}
 
 intrinsic-complete : (i : IntrOf) (rest : Words) → intrinsic (fixed w.Void ∷ fixed (intr_word i) ∷ fixed w.LParen ∷ fixed w.Void ∷ fixed w.RParen ∷ fixed w.Semi ∷ rest) ≡ Some (i, rest)
 unfolding intrinsic same

@@ -1,22 +1,18 @@
 -- What is read of a file's parts is in the grammar: each part by `if_bind`, the lists of parts by one
 -- rule for all kinds of them.
-use Rattle.std.proofs.Common.{◌≡◌, ◌<◌, ◌+◌, ℕ, zero, suc, Bool, true, false, cond, List, [], ◌∷◌, ◌++◌, Option, Some, None, refl, ap, sym, ◌∙◌, subst, arith, append_assoc, IfSome, ◌⊎◌, inl, inr, length, All}
-use Rattle.std.proofs.lemmas.List.{append-nil}
-use Rattle.std.proofs.lemmas.List.Elements.{All-head, All-tail}
+use Rattle.std.proofs.Common.{◌≡◌, ℕ, zero, suc, Bool, true, false, List, [], ◌∷◌, ◌++◌, Option, Some, None, refl, ap, sym, ◌∙◌, subst, append_assoc, IfSome, ◌⊎◌, inl, inr, length}
 use Rattle.std.specs.Prelude.{codes}
 use Rattle.cc_syntax.specs.declared.types.CType.{CType}
 use Rattle.cc_syntax.specs.declared.expr.Intr.{Intr as IntrOf}
-use Rattle.cc_syntax.specs.declared.expr.Intr.TheVariants as intr
 use Rattle.cc_syntax.specs.declared.stmt.Stmt.{Stmt}
 use Rattle.cc_syntax.specs.declared.program.Device.{Device as DeviceOf}
 use Rattle.cc_syntax.specs.declared.program.Object.{Object}
-use Rattle.cc_syntax.specs.declared.program.Func.{Func}
 use Rattle.ccomp.specs.declared.tiny.word.Fixed.{Fixed}
 use Rattle.ccomp.specs.declared.tiny.word.Fixed.TheVariants as w
 use Rattle.ccomp.specs.declared.tiny.word.Word.TheVariants as word
-use Rattle.ccomp.specs.Tiny.{Words, fixed, fixed_words, intr_word, device_named, object_named, uchar, main_name, main_of, handler_of, names_of, attribute_words, handler_head, main_head, Proto, IsIntrinsics, NoIntrinsic, AnIntrinsic, IsDevices, NoDevice, ADevice, IsProtos, NoProto, HandlerProto, MainProto, IsObjects, NoObject, AnObject, AStaticObject, IsLocals, NoLocal, ALocal, IsBody, Body, IsFuncs, NoFunc, AHandler, Main, IsOnce, IsStmts}
-use Rattle.ccomp.specs.Reader.{Read, ◌>>=◌, eat, eat_all, name, same_name, many, many_at, intr_of, intrinsic, declared, device, or_here, object, local, signal, attribute_at, attribute, Head, main_head_at, head, proto, scope_with, distinct, statements, stmts, block, body, func_of, func, funcs, funcs_at}
-use Rattle.ccomp.proofs.ReaderBasics.{if_bind, if_map, if_chosen, Took, eat-sound, eat_all-sound, name-sound, same_name-is}
+use Rattle.ccomp.specs.Tiny.{Words, fixed, fixed_words, intr_word, device_named, object_named, uchar, main_name, names_of, attribute_words, handler_head, main_head, Proto, IsIntrinsics, NoIntrinsic, AnIntrinsic, IsDevices, NoDevice, ADevice, IsProtos, NoProto, HandlerProto, MainProto, IsObjects, NoObject, AnObject, AStaticObject, IsLocals, NoLocal, ALocal, IsBody, Body, IsOnce, IsStmts}
+use Rattle.ccomp.specs.Reader.{Read, eat, eat_all, name, same_name, many, many_at, intr_of, intrinsic, declared, device, or_here, object, local, signal, attribute_at, attribute, Head, main_head_at, head, proto, scope_with, statements, stmts, block, body}
+use Rattle.ccomp.proofs.ReaderBasics.{if_bind, if_chosen, Took, eat-sound, eat_all-sound, name-sound, same_name-is}
 use Rattle.ccomp.proofs.StmtSound.{stmts-sound, block-sound}
 use Rattle.ccomp.proofs.OnceLemmas.{distinct-once}
 

@@ -4,7 +4,6 @@ pub mod FileSound
 pub mod FuncSteps
 pub mod ItemComplete
 pub mod ItemSound
-pub mod LexerLemmas
 pub mod ManySteps
 pub mod NameLemmas
 pub mod OnceLemmas
@@ -18,7 +17,7 @@ pub mod PrintLemmasWords
 pub mod ReadLaws
 pub mod ReaderBasics
 pub mod ReaderSteps
-pub mod RunLemmas
-pub mod SpellingLemmas
 pub mod StmtComplete
 pub mod StmtSound
+pub mod TokenSpellings
+pub mod WordLemmas

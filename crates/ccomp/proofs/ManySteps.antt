@@ -1,5 +1,5 @@
 -- One step of reading parts that stand one behind another.
-use Rattle.std.proofs.Common.{◌≡◌, ◌<◌, ◌-◌, ◌+◌, ℕ, zero, suc, List, [], ◌∷◌, ◌++◌, Option, Some, None, refl, ap, sym, ◌∙◌, arith, append_assoc, sub-one}
+use Rattle.std.proofs.Common.{◌≡◌, ◌<◌, ◌-◌, ℕ, zero, suc, List, [], ◌∷◌, ◌++◌, Some, None, refl, ap, sym, arith, append_assoc, sub-one}
 use Rattle.std.proofs.lemmas.List.{append-nil}
 use Rattle.ccomp.specs.Tiny.{Words}
 use Rattle.ccomp.specs.Reader.{Read, many, many_more}

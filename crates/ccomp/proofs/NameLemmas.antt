@@ -1,5 +1,5 @@
 -- Sets of names: the view by `map` commutes with a look-up and with an insertion.
-use Rattle.std.proofs.Common.{◌≡◌, ◌<◌, ◌+◌, ℕ, zero, suc, Bool, true, false, cond, List, [], ◌∷◌, ◌++◌, refl, ap, sym, ◌∙◌, length, arith, Option, Some, None, map, take, get_or}
+use Rattle.std.proofs.Common.{◌≡◌, ◌<◌, ◌+◌, ℕ, Bool, true, false, cond, List, [], ◌∷◌, ◌++◌, refl, ap, sym, ◌∙◌, length, Option, Some, None, map, take, get_or}
 use Rattle.std.specs.Borrow.{Bor}
 use Rattle.std.specs.Prelude.{position, fold, nat_eq, nat_lt, not, ◌||◌}
 use Rattle.std.specs.List.{list_any, position_or_len}

@@ -14,7 +14,7 @@ use Rattle.cc_syntax.specs.declared.stmt.Stmt.TheVariants.{rolls-Do, rolls-If, r
 use Rattle.cc_syntax.specs.declared.stmt.Stmt.TheOpen as stmt
 use Rattle.ccomp.specs.declared.tiny.word.Fixed.TheVariants as w
 use Rattle.ccomp.specs.declared.tiny.word.Word.TheVariants as word
-use Rattle.ccomp.specs.Words.{IsName}
+use Rattle.ccomp.proofs.TokenSpellings.{IsName}
 use Rattle.ccomp.specs.Tiny.{Words, fixed, Scope, IsNameOf, is_local, greatest_depth, intr_word, name_or_none, IsStmt, SetsConstant, Copies, Turns, Breaks, Chooses, ChoosesElse, Loops, IsBlock, Braces, IsStmts, NoStmt, MoreStmts}
 use Rattle.ccomp.specs.Printed.{line, else_text, expr_step, expr_text, stmt_step, stmt_text, stmts_text, place_text, intr_text}
 use Rattle.ccomp.proofs.PrintLemmasWords.{Writes, writes_none, writes_both, writes_same, AreGood, good_left, good_right}

@@ -2,7 +2,6 @@
 -- those of the devices as they were, canonical words of the rest, and the derivations carried over to them.
 use Rattle.std.proofs.Common.{◌≡◌, ℕ, suc, Bool, true, false, List, [], ◌∷◌, ◌++◌, map, Some, slice_get, IsSome, refl, sym, subst, append_assoc, codes, inr}
 use Rattle.std.proofs.lemmas.List.{append-nil}
-use Rattle.std.proofs.lemmas.List.Elements.{All-nil}
 use Rattle.std.specs.List.{flat_map}
 use Rattle.cc_syntax.specs.declared.expr.Intr.{Intr as IntrOf}
 use Rattle.cc_syntax.specs.declared.expr.Intr.TheVariants as intr
@@ -14,10 +13,10 @@ use Rattle.cc_syntax.specs.declared.program.Func.{Func}
 use Rattle.cc_syntax.specs.declared.program.Program.{Program}
 use Rattle.ccomp.specs.declared.tiny.word.Fixed.TheVariants as w
 use Rattle.ccomp.specs.declared.tiny.word.Word.TheVariants as word
-use Rattle.ccomp.specs.Words.{IsName, is_blank, IsText, NoWord}
+use Rattle.ccomp.proofs.TokenSpellings.{IsName}
 use Rattle.ccomp.specs.Tiny.{Words, fixed, Scope, names_of, device_named, object_named, main_of, handler_of, handler_head, main_head, uchar, IsDevices, NoDevice, ADevice, IsObjects, NoObject, AnObject, AStaticObject, IsLocals, NoLocal, ALocal, IsBody, Body, IsFuncs, NoFunc, AHandler, Main, IsProtos, NoProto, HandlerProto, MainProto, device_names, object_names, func_names, Proto, IsOnce, HasNames, IsTinyText}
 use Rattle.ccomp.specs.Printed.{line, where_it_is, intr_text, is_used, device_line, object_line, local_line, proto_line, head_text, stmts_text, printed}
-use Rattle.ccomp.proofs.PrintLemmasWords.{Writes, writes_none, writes_both, AreGood, words_good, good_left, good_right}
+use Rattle.ccomp.proofs.PrintLemmasWords.{IsText, no_words, Writes, writes_none, writes_both, AreGood, words_good, good_left, good_right}
 use Rattle.ccomp.proofs.PrintLemmasLines.{writes_intrinsic, writes_device, writes_object, writes_local, writes_handler_proto, writes_main_proto, writes_handler_head, writes_main_head}
 use Rattle.ccomp.proofs.PrintLemmasBodies.{Prints, stmts_prints, writes_closed}
 use Rattle.ccomp.proofs.PrintLemmasNames.{once_right, proto_of, protos_named, printed_defined, printed_attribute, signal_is_name, handler_name, called_words, both_called, called_intrinsics, called_once}
@@ -149,14 +148,14 @@ named p off on protos intrinsics attributes h =
     }
 
 whole : (text : List ℕ) (ws : Words) → Writes text ws → IsText text ws
-whole text ws f = subst (λ (t : List ℕ). IsText t ws) (append-nil text) (subst (λ (us : Words). IsText (text ++ []) us) (append-nil ws) (f [] [] (NoWord [] (All-nil (λ b. is_blank b ≡ true)))))
+whole text ws f = subst (λ (t : List ℕ). IsText t ws) (append-nil text) (subst (λ (us : Words). IsText (text ++ []) us) (append-nil ws) (f [] [] no_words))
 
 pub print_law : (text : List ℕ) (p : Program) → IsTinyText text p → IsTinyText (printed p) p
 unfolding printed
 print_law text p t =
     let h = t.words_of in
     let s = h.spelled in
-    let g : AreGood (s.intrinsic_words ++ (s.device_words ++ (s.proto_words ++ (s.object_words ++ s.func_words)))) = subst AreGood s.words (words_good text t.words t.text_of) in
+    let g : AreGood (s.intrinsic_words ++ (s.device_words ++ (s.proto_words ++ (s.object_words ++ s.func_words)))) = subst AreGood s.words (words_good true 0 text t.tokens t.words t.tokens_of t.are_words) in
     let g1 = good_right s.intrinsic_words (s.device_words ++ (s.proto_words ++ (s.object_words ++ s.func_words))) g in
     let g2 = good_right s.device_words (s.proto_words ++ (s.object_words ++ s.func_words)) g1 in
     let g3 = good_right s.proto_words (s.object_words ++ s.func_words) g2 in
@@ -173,14 +172,18 @@ print_law text p t =
     let offs = called_words off intr.Off in
     let ons = called_words on intr.On in
     let rest = s.device_words ++ (protos.words ++ (objects.words ++ funcs.words)) in
+    let text =
+    whole (printed p) (offs ++ (ons ++ rest))
+    (writes_both _ _ offs (ons ++ rest) (intr_print off intr.Off)
+    (writes_both _ _ ons rest (intr_print on intr.On)
+    (writes_both _ _ s.device_words (protos.words ++ (objects.words ++ funcs.words)) (devices_print p.devices s.device_words s.devices_are (good_left s.device_words _ g1))
+    (writes_both _ _ protos.words (objects.words ++ funcs.words) protos.writes (writes_both _ _ objects.words funcs.words objects.writes funcs.writes))))) in
+    let has = text.has true 0 in
     record {
+      tokens = has.tokens;
+      tokens_of = has.tokens_are;
       words = offs ++ (ons ++ rest);
-      text_of =
-          whole (printed p) (offs ++ (ons ++ rest))
-          (writes_both _ _ offs (ons ++ rest) (intr_print off intr.Off)
-          (writes_both _ _ ons rest (intr_print on intr.On)
-          (writes_both _ _ s.device_words (protos.words ++ (objects.words ++ funcs.words)) (devices_print p.devices s.device_words s.devices_are (good_left s.device_words _ g1))
-          (writes_both _ _ protos.words (objects.words ++ funcs.words) protos.writes (writes_both _ _ objects.words funcs.words objects.writes funcs.writes)))));
+      are_words = has.are_words;
       words_of =
           record {
             target = h.target;

@@ -6,11 +6,11 @@ use Rattle.cc_syntax.specs.declared.expr.Intr.TheVariants as intr
 use Rattle.cc_syntax.specs.declared.types.CType.{CType}
 use Rattle.ccomp.specs.declared.tiny.word.Fixed.TheVariants as w
 use Rattle.ccomp.specs.declared.tiny.word.Word.TheVariants as word
-use Rattle.ccomp.specs.Words.{spelling_of, IsName, IsText}
+use Rattle.ccomp.proofs.TokenSpellings.{spelling_of, IsName}
 use Rattle.ccomp.specs.Tiny.{Words, fixed, intr_word, device_named, object_named, uchar, handler_of, main_of, handler_head, main_head}
 use Rattle.ccomp.specs.Printed.{line, intr_text, device_line, object_line, local_line, proto_line, head_text}
 use Rattle.cc_syntax.specs.declared.stmt.Stmt.{Stmt}
-use Rattle.ccomp.proofs.PrintLemmasWords.{Writes, writes_line, space_then, newline_then, letters_then, sign_then, name_then, number_then}
+use Rattle.ccomp.proofs.PrintLemmasWords.{IsText, Writes, writes_line, space_then, newline_then, letters_then, sign_then, name_then, number_then}
 
 -- the end of a declaration
 declared : (x rest : List ℕ) (ws : Words) → IsName x → IsText rest ws → IsText (((x ++ codes ";") ++ 10 ∷ []) ++ rest) (word.Name x ∷ fixed w.Semi ∷ ws)

@@ -9,7 +9,7 @@ use Rattle.cc_syntax.specs.declared.expr.Intr.{Intr as IntrOf}
 use Rattle.cc_syntax.specs.declared.expr.Intr.TheVariants as intr
 use Rattle.cc_syntax.specs.declared.program.Func.{Func}
 use Rattle.ccomp.specs.declared.tiny.word.Fixed.TheVariants as w
-use Rattle.ccomp.specs.Words.{IsName}
+use Rattle.ccomp.proofs.TokenSpellings.{IsName}
 use Rattle.ccomp.specs.Tiny.{Words, fixed, intr_word, Proto, IsProtos, NoProto, HandlerProto, MainProto, IsFuncs, NoFunc, AHandler, Main, handler_head, main_head, func_names, IsOnce, IsIntrinsics, NoIntrinsic, AnIntrinsic}
 use Rattle.ccomp.proofs.PrintLemmasWords.{AreGood, good_right}
 

@@ -1,17 +1,46 @@
 -- How a text is put together from the words that it spells. A piece of text is written in front of the
--- text of the words behind it: blanks add no word, and a word of letters is followed by no letter.
--- What holds of the words of any text: its names are names, and its numbers are below 256.
-use Rattle.std.proofs.Common.{◌≡◌, ℕ, zero, suc, ◌+◌, ◌*◌, ◌/◌, ◌%◌, ◌<◌, ◌≤◌, true, false, List, [], ◌∷◌, ◌++◌, refl, ap, sym, ◌∙◌, subst, append_assoc, arith, inl, inr}
-use Rattle.std.proofs.lemmas.Bool.{cases_lt}
-use Rattle.std.proofs.lemmas.List.Elements.{All-nil, All-cons}
-use Rattle.std.proofs.lemmas.Fmt.{decimal_digit, decimal_step}
+-- text of the words behind it, and its tokens in front of the tokens there: blanks add none, and a word is
+-- one token, by what stands behind it.
+-- What holds of the words of any tokens: its names are names by themselves, and its numbers are below 256.
+use Rattle.std.proofs.Common.{◌≡◌, ℕ, zero, suc, ◌+◌, ◌≤◌, Bool, true, false, ◌&&◌, ◌||◌, not, cond, ltb, List, [], ◌∷◌, ◌++◌, map, length, Option, Some, None, codes, refl, ap, sym, ◌∙◌, subst, append_assoc, arith}
+use Rattle.std.proofs.lemmas.Bool.{and_parts, not-true}
+use Rattle.std.proofs.lemmas.Bool.Decides.{nat_tests}
 use Rattle.std.specs.Fmt.{decimal}
+use Rattle.std.specs.Option.{option_map}
+use Rattle.std.specs.Str.{bytes_eq}
+use Rattle.cc_lex.specs.declared.token.Kind.{Kind}
+use Rattle.cc_lex.specs.declared.token.Kind.TheVariants as kind
+use Rattle.cc_lex.specs.declared.token.Suffix.{Suffix}
+use Rattle.cc_lex.specs.declared.token.Token.{Token}
+use Rattle.cc_lex.specs.declared.token.Word.{Word as Keyword}
+use Rattle.cc_lex.specs.Bytes.{is_word}
+use Rattle.cc_lex.specs.Identifiers.{IsIdentifier, name_kind, named, word_of as keyword_named}
+use Rattle.cc_lex.specs.Numbers.{stops}
+use Rattle.cc_lex.specs.Separators.{begins_with, ABlank, ALineFeed}
+use Rattle.cc_lex.specs.Tokens.{Spells, AName, ANumber, ACharacter, AText, AMark, TokensFrom, NoToken, Separated, Spelled}
 use Rattle.ccomp.specs.declared.tiny.word.Fixed.{Fixed}
+use Rattle.ccomp.specs.declared.tiny.word.Fixed.TheVariants as f
 use Rattle.ccomp.specs.declared.tiny.word.Word.{Word}
 use Rattle.ccomp.specs.declared.tiny.word.Word.TheVariants as word
-use Rattle.ccomp.specs.Words.{spelling_of, is_blank, is_digit, IsName, IsSpelled, begins_with_letter, IsLongest, IsText, NoWord, AWord}
+use Rattle.ccomp.specs.Words.{fixed_of_keyword, fixed_of_mark, is_outside, word_of_name, word_of_number, word_of, AreWords}
 use Rattle.ccomp.specs.Tiny.{Words, fixed}
 use Rattle.ccomp.specs.Printed.{indent, line}
+use Rattle.ccomp.proofs.WordLemmas.{token_word}
+use Rattle.ccomp.proofs.TokenSpellings.{spelling_of, is_letters, letters-word, letters-spell, is_sign, mark_spelled, sign-word, sign-spells, IsName, name-word, name-spells, plain, number-word, decimal-number}
+
+-- the text, where it stands at a byte of a line that has only blanks before it or not, has tokens that are
+-- these words
+pub record HasWords (fresh : Bool) (at : ℕ) (text : List ℕ) (ws : Words) : Type 0 where
+  pub tokens : List Token
+  pub tokens_are : TokensFrom fresh at text tokens
+  pub are_words : AreWords tokens ws
+
+-- the text has these words, wherever it stands
+pub record IsText (text : List ℕ) (ws : Words) : Type 0 where
+  pub has : (fresh : Bool) (at : ℕ) → HasWords fresh at text ws
+
+pub no_words : IsText [] []
+no_words = record { has = λ fresh at. record { tokens = []; tokens_are = NoToken fresh at; are_words = refl } }
 
 -- the text spells the words, whatever stands behind it
 abbrev pub Writes : List ℕ → Words → Type 0
@@ -26,74 +55,61 @@ writes_both a b us vs f g rest rs t = rw (append_assoc a b rest, append_assoc us
 pub writes_same : (a b : List ℕ) (us : Words) → a ≡ b → Writes b us → Writes a us
 writes_same a b us e f = subst (λ (t : List ℕ). Writes t us) (sym e) f
 
-pub blank_then : (b : ℕ) (text : List ℕ) (ws : Words) → is_blank b ≡ true → IsText text ws → IsText (b ∷ text) ws
-blank_then b text ws h (NoWord gap g) = NoWord (b ∷ gap) (All-cons (λ c. is_blank c ≡ true) b gap h g)
-blank_then b text ws h (AWord gap bytes rest x vs g s l t) = AWord (b ∷ gap) bytes rest x vs (All-cons (λ c. is_blank c ≡ true) b gap h g) s l t
+pub space_then : {rest : List ℕ} {ws : Words} → IsText rest ws → IsText (32 ∷ rest) ws
+space_then {rest} {ws} t = record {
+  has = λ fresh at.
+      let h = t.has fresh (at + length {A = ℕ} (32 ∷ [])) in
+      record { tokens = h.tokens; tokens_are = Separated fresh fresh at (32 ∷ []) rest h.tokens (ABlank fresh 32 rest refl) h.tokens_are; are_words = h.are_words };
+}
+
+pub newline_then : {rest : List ℕ} {ws : Words} → IsText rest ws → IsText (10 ∷ rest) ws
+newline_then {rest} {ws} t = record {
+  has = λ fresh at.
+      let h = t.has true (at + length {A = ℕ} (10 ∷ [])) in
+      record { tokens = h.tokens; tokens_are = Separated fresh true at (10 ∷ []) rest h.tokens (ALineFeed fresh rest) h.tokens_are; are_words = h.are_words };
+}
 
 pub indent_then : (level : ℕ) (text : List ℕ) (ws : Words) → IsText text ws → IsText (indent level ++ text) ws
 indent_then zero text ws t = t
-indent_then (suc n) text ws t = blank_then 32 (32 ∷ (indent n ++ text)) ws refl (blank_then 32 (indent n ++ text) ws refl (indent_then n text ws t))
+indent_then (suc n) text ws t = space_then (space_then (indent_then n text ws t))
 
 pub writes_line : (level : ℕ) (text : List ℕ) (ws : Words) → Writes (text ++ 10 ∷ []) ws → Writes (line level text) ws
 writes_line level text ws f rest rs t = rw (append_assoc (indent level) (text ++ 10 ∷ []) rest) (indent_then level ((text ++ 10 ∷ []) ++ rest) (ws ++ rs) (f rest rs t))
 
-word_then : (x : Word) (bytes rest : List ℕ) (ws : Words) → IsSpelled x bytes → IsLongest bytes rest → IsText rest ws → IsText (bytes ++ rest) (x ∷ ws)
-word_then x bytes rest ws s l t = AWord [] bytes rest x ws (All-nil (λ c. is_blank c ≡ true)) s l t
+-- a token that is a word
+token_then : (bytes rest : List ℕ) (k : Kind) (x : Word) (ws : Words) → Spells bytes rest k → word_of k ≡ Some x → IsText rest ws → IsText (bytes ++ rest) (x ∷ ws)
+token_then bytes rest k x ws s e t = record {
+  has = λ fresh at.
+      let h = t.has false (at + length bytes) in
+      record {
+        tokens = record { at = at; len = length bytes; kind = k } ∷ h.tokens;
+        tokens_are = Spelled fresh at bytes rest k h.tokens s h.tokens_are;
+        are_words = ap (λ o. o ∷ map token_word h.tokens) e ∙ ap (λ os. Some x ∷ os) h.are_words;
+      };
+}
 
-pub space_then : {rest : List ℕ} {ws : Words} → IsText rest ws → IsText (32 ∷ rest) ws
-space_then {rest} {ws} t = blank_then 32 rest ws refl t
+-- a word of letters, with no letter behind it
+abbrev pub is_alone : Fixed → List ℕ → Bool
+is_alone x rest = is_letters x && not (begins_with is_word rest)
 
-pub newline_then : {rest : List ℕ} {ws : Words} → IsText rest ws → IsText (10 ∷ rest) ws
-newline_then {rest} {ws} t = blank_then 10 rest ws refl t
+pub letters_then : (x : Fixed) {rest : List ℕ} {ws : Words} → is_alone x rest ≡ true → IsText rest ws → IsText (spelling_of x ++ rest) (fixed x ∷ ws)
+letters_then x {rest} {ws} h t =
+    let p = and_parts (is_letters x) (not (begins_with is_word rest)) h in
+    token_then (spelling_of x) rest (name_kind (spelling_of x)) (fixed x) ws (letters-spell x rest p.0 (not-true (begins_with is_word rest) p.1)) (letters-word x p.0) t
 
--- a word of letters
-pub letters_then : (x : Fixed) {rest : List ℕ} {ws : Words} → begins_with_letter rest ≡ false → IsText rest ws → IsText (spelling_of x ++ rest) (fixed x ∷ ws)
-letters_then x {rest} {ws} h t = word_then (fixed x) (spelling_of x) rest ws refl (λ _. h) t
+-- a mark
+pub sign_then : (x : Fixed) {rest : List ℕ} {ws : Words} → is_sign x rest ≡ true → IsText rest ws → IsText (spelling_of x ++ rest) (fixed x ∷ ws)
+sign_then x {rest} {ws} h t = token_then (spelling_of x) rest (kind.Punct (mark_spelled x)) (fixed x) ws (sign-spells x rest h) (sign-word x rest h) t
 
--- a word that is no letter
-pub sign_then : (x : Fixed) {rest : List ℕ} {ws : Words} → begins_with_letter (spelling_of x) ≡ false → IsText rest ws → IsText (spelling_of x ++ rest) (fixed x ∷ ws)
-sign_then x {rest} {ws} h t = word_then (fixed x) (spelling_of x) rest ws refl (λ l. absurd (cc)) t
+pub name_then : (x : List ℕ) {rest : List ℕ} {ws : Words} → IsName x → begins_with is_word rest ≡ false → IsText rest ws → IsText (x ++ rest) (word.Name x ∷ ws)
+name_then x {rest} {ws} n h t = token_then x rest (name_kind x) (word.Name x) ws (name-spells x rest n h) (name-word x n) t
 
-pub name_then : (x : List ℕ) {rest : List ℕ} {ws : Words} → IsName x → begins_with_letter rest ≡ false → IsText rest ws → IsText (x ++ rest) (word.Name x ∷ ws)
-name_then x {rest} {ws} n h t = word_then (word.Name x) x rest ws (refl, n) (λ _. h) t
+pub number_then : (n : ℕ) {rest : List ℕ} {ws : Words} → n ≤ 255 → stops 48 rest ≡ true → IsText rest ws → IsText (decimal n ++ rest) (word.Number n ∷ ws)
+number_then n {rest} {ws} k h t =
+    let d = decimal-number n k in
+    token_then (decimal n) rest (kind.Number n (plain d.is_decimal)) (word.Number n) ws (d.spells rest h) (number-word n d.is_decimal k) t
 
--- the digits of a number
-digit_is : (d : ℕ) → d < 10 → is_digit (48 + d) ≡ true
-digit_is d h = grind arith
-
-one_digit : (n : ℕ) → n < 10 → IsSpelled (word.Number n) ((48 + n) ∷ [])
-one_digit n h = (digit_is n h, omega arith, omega arith)
-
-two_digits : (n a b : ℕ) → 0 < a → a < 10 → b < 10 → n ≡ 10 * a + b → IsSpelled (word.Number n) ((48 + a) ∷ (48 + b) ∷ [])
-two_digits n a b p h k e =
-    ((λ z. omega arith, All-cons (λ d. is_digit d ≡ true) (48 + a) ((48 + b) ∷ []) (digit_is a h) (All-cons (λ d. is_digit d ≡ true) (48 + b) [] (digit_is b k) (All-nil (λ d. is_digit d ≡ true)))), omega arith, omega arith)
-
-three_digits : (n a b c : ℕ) → 0 < a → a < 10 → b < 10 → c < 10 → n ≡ 10 * (10 * a + b) + c → n ≤ 255 → IsSpelled (word.Number n) ((48 + a) ∷ (48 + b) ∷ (48 + c) ∷ [])
-three_digits n a b c p h k l e m =
-    let P : ℕ → Type 0 = λ d. is_digit d ≡ true in
-    ((λ z. omega arith, All-cons P (48 + a) ((48 + b) ∷ (48 + c) ∷ []) (digit_is a h) (All-cons P (48 + b) ((48 + c) ∷ []) (digit_is b k) (All-cons P (48 + c) [] (digit_is c l) (All-nil P)))), omega arith, m)
-
-decimal_two : (n : ℕ) → 10 ≤ n → n < 100 → decimal n ≡ (48 + n / 10) ∷ (48 + n % 10) ∷ []
-decimal_two n l h = decimal_step n l (omega arith) ∙ ap (λ ds. ds ++ (48 + n % 10) ∷ []) (decimal_digit (n / 10) (omega arith))
-
-decimal_three : (n : ℕ) → 100 ≤ n → n < 1000 → decimal n ≡ (48 + n / 10 / 10) ∷ (48 + n / 10 % 10) ∷ (48 + n % 10) ∷ []
-decimal_three n l h = decimal_step n (omega arith) (omega arith) ∙ ap (λ ds. ds ++ (48 + n % 10) ∷ []) (decimal_two (n / 10) (omega arith) (omega arith))
-
-number_spelled : (n : ℕ) → n ≤ 255 → IsSpelled (word.Number n) (decimal n)
-number_spelled n h =
-    elim (cases_lt n 10) [
-      | inl a ↦ subst (IsSpelled (word.Number n)) (sym (decimal_digit n a)) (one_digit n a)
-      | inr b ↦ elim (cases_lt n 100) [
-        | inl a ↦ subst (IsSpelled (word.Number n)) (sym (decimal_two n b a)) (two_digits n (n / 10) (n % 10) (omega arith) (omega arith) (omega arith) (omega arith))
-        | inr c ↦ subst (IsSpelled (word.Number n)) (sym (decimal_three n c (omega arith)))
-            (three_digits n (n / 10 / 10) (n / 10 % 10) (n % 10) (omega arith) (omega arith) (omega arith) (omega arith) (omega arith) h)
-      ]
-    ]
-
-pub number_then : (n : ℕ) {rest : List ℕ} {ws : Words} → n ≤ 255 → begins_with_letter rest ≡ false → IsText rest ws → IsText (decimal n ++ rest) (word.Number n ∷ ws)
-number_then n {rest} {ws} k h t = word_then (word.Number n) (decimal n) rest ws (number_spelled n k) (λ _. h) t
-
--- what holds of each word of a text
+-- what holds of each word that a token is
 abbrev pub IsGood : Word → Type 0
 IsGood (word.Fixed x) = Unit {0}
 IsGood (word.Name x) = IsName x
@@ -103,14 +119,56 @@ abbrev pub AreGood : Words → Type 0
 AreGood [] = Unit {0}
 AreGood (x ∷ ws) = IsGood x × AreGood ws
 
-good_word : (x : Word) (bytes : List ℕ) → IsSpelled x bytes → IsGood x
-good_word (word.Fixed x) bytes s = tt
-good_word (word.Name x) bytes s = s.1
-good_word (word.Number n) bytes s = s.2
+fixed_good : (o : Option Fixed) (x : Word) → option_map word.Fixed o ≡ Some x → IsGood x
+fixed_good None x e = absurd (cc)
+fixed_good (Some y) x e = let same : word.Fixed y ≡ x = cc in subst IsGood same tt
 
-pub words_good : (text : List ℕ) (ws : Words) → IsText text ws → AreGood ws
-words_good text ws (NoWord gap g) = tt
-words_good text ws (AWord gap bytes rest x vs g s l t) = (good_word x bytes s, words_good rest vs t)
+abbrev name_in : List ℕ → Bool → Bool → Bool → Bool → Option Word
+name_in name a b c d = cond a (Some (word.Fixed f.Main)) (cond b (Some (word.Fixed f.IrqOff)) (cond c (Some (word.Fixed f.IrqOn)) (cond d None (Some (word.Name name)))))
+
+name_good : (name : List ℕ) (a b c d : Bool) (x : Word) → (name_in name a b c d ≡ Some (word.Name name) → IsName name) → name_in name a b c d ≡ Some x → IsGood x
+name_good name true b c d x h e = fixed_good (Some f.Main) x e
+name_good name false true c d x h e = fixed_good (Some f.IrqOff) x e
+name_good name false false true d x h e = fixed_good (Some f.IrqOn) x e
+name_good name false false false true x h e = absurd (cc)
+name_good name false false false false x h e = let same : word.Name name ≡ x = cc in subst IsGood same (h refl)
+
+-- the word of an identifier
+identifier_good : (name : List ℕ) (x : Word) → IsIdentifier name → keyword_named name ≡ None → word_of_name name ≡ Some x → IsGood x
+unfolding word_of_name
+identifier_good name x i k e =
+    name_good name (bytes_eq name (codes "main")) (bytes_eq name (codes "irq_off")) (bytes_eq name (codes "irq_on")) (is_outside name) x (λ h. record { identifier = i; no_keyword = k; is_name = h }) e
+
+named_good : (name : List ℕ) (o : Option Keyword) (x : Word) → IsIdentifier name → keyword_named name ≡ o → word_of (named o name) ≡ Some x → IsGood x
+named_good name None x i k e = identifier_good name x i k e
+named_good name (Some w) x i k e = fixed_good (fixed_of_keyword w) x e
+
+at_most : (n : ℕ) → ltb 255 n ≡ false → n ≤ 255
+at_most n h = grind (arith, nat_tests)
+
+number_by : (n : ℕ) (a b : Bool) (x : Word) → ltb 255 n ≡ b → cond (a || b) None (Some (word.Number n)) ≡ Some x → IsGood x
+number_by n true b x h e = absurd (cc)
+number_by n false true x h e = absurd (cc)
+number_by n false false x h e = let same : word.Number n ≡ x = cc in subst IsGood same (at_most n h)
+
+number_good : (n : ℕ) (s : Suffix) (x : Word) → word_of_number n s ≡ Some x → IsGood x
+number_good n s x e = number_by n (s.unsigned || ltb 0 s.longs) (ltb 255 n) x refl e
+
+spelled_good : (w rest : List ℕ) (k : Kind) (x : Word) → Spells w rest k → word_of k ≡ Some x → IsGood x
+spelled_good w rest k x (AName _ _ i _) e = named_good w (keyword_named w) x i refl e
+spelled_good w rest k x (ANumber _ _ _ n s _ _ _) e = number_good n s x e
+spelled_good w rest k x (ACharacter _ _ _ _ _) e = absurd (cc)
+spelled_good w rest k x (AText _ _ _ _ _) e = absurd (cc)
+spelled_good w rest k x (AMark m _ _ _ _) e = fixed_good (fixed_of_mark m) x e
+
+pub words_good : (fresh : Bool) (at : ℕ) (text : List ℕ) (ts : List Token) (ws : Words) → TokensFrom fresh at text ts → AreWords ts ws → AreGood ws
+words_good fresh at text ts [] t e = tt
+words_good fresh at text ts (x ∷ ws) (NoToken _ _) e = absurd (cc)
+words_good fresh at text ts (x ∷ ws) (Separated _ after _ gap rest _ s t) e = words_good after (at + length gap) rest ts (x ∷ ws) t e
+words_good fresh at text ts (x ∷ ws) (Spelled _ _ w rest k us s t) e =
+    let first : word_of k ≡ Some x = cc in
+    let others : AreWords us ws = cc in
+    (spelled_good w rest k x s first, words_good false (at + length w) rest us ws t others)
 
 pub good_left : (us vs : Words) → AreGood (us ++ vs) → AreGood us
 good_left [] vs h = tt

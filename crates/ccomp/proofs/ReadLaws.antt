@@ -1,6 +1,6 @@
 -- The file that is read from words is the tiny program of these words, where its names are right, and
 -- there is none otherwise: soundness and completeness of the parts, put together.
-use Rattle.std.proofs.Common.{◌≡◌, ℕ, Bool, List, [], ◌∷◌, ◌++◌, Option, Some, None, refl, ap, sym, ◌∙◌, subst, IfSome, All, length}
+use Rattle.std.proofs.Common.{◌≡◌, ℕ, Bool, List, [], ◌∷◌, ◌++◌, Option, Some, None, refl, ap, subst, IfSome, length}
 use Rattle.std.proofs.lemmas.List.Elements.{All-weaker}
 use Rattle.cc_syntax.specs.declared.expr.Intr.{Intr as IntrOf}
 use Rattle.cc_syntax.specs.declared.program.Device.{Device as DeviceOf}
@@ -8,7 +8,7 @@ use Rattle.cc_syntax.specs.declared.program.Object.{Object}
 use Rattle.cc_syntax.specs.declared.program.Func.{Func}
 use Rattle.cc_syntax.specs.declared.program.Program.{Program}
 use Rattle.ccomp.specs.Tiny.{Words, Proto, IsOnce, names_of, object_names, device_names, func_names, file_names, default_target, HasNames, IsTinyWords}
-use Rattle.ccomp.specs.Reader.{Parsed, parsed_with, parsed, many, intrinsic, device, proto, object, funcs, distinct, position_of}
+use Rattle.ccomp.specs.Reader.{Parsed, parsed_with, parsed, many, intrinsic, device, proto, object, funcs, distinct}
 use Rattle.ccomp.proofs.OnceLemmas.{IsOnce-left, IsOnce-right}
 use Rattle.ccomp.proofs.FileSound.{ParsedTook, parsed-sound}
 use Rattle.ccomp.proofs.FileComplete.{parsed-complete}

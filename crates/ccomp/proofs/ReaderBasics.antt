@@ -1,21 +1,20 @@
 -- What the first steps of reading find: a fixed word, a name, the place of a name. Each is stated
 -- once as what an answer means, and once as the answer that is given to what stands there.
-use Rattle.std.proofs.Common.{◌≡◌, ◌≢◌, ◌<◌, ◌+◌, ℕ, zero, suc, Bool, true, false, cond, List, [], ◌∷◌, ◌++◌, Option, Some, None, refl, ap, sym, ◌∙◌, subst, arith, append_assoc, nat_eq, slice_get, IfSome, ◌⊎◌, inl, inr, Contains, get_or, length, ◌≤◌, nat_lt}
+use Rattle.std.proofs.Common.{◌≡◌, ◌<◌, ℕ, zero, suc, Bool, true, false, cond, List, [], ◌∷◌, ◌++◌, Option, Some, None, refl, ap, sym, ◌∙◌, subst, arith, nat_eq, slice_get, IfSome, Contains, get_or, length, nat_lt}
 use Rattle.std.specs.Prelude.{position}
 use Rattle.std.specs.List.{position_or_len}
 use Rattle.std.proofs.lemmas.Bool.{eqb-true, eq-eqb, lt-ltb}
-use Rattle.std.specs.Cmp.Lexicographic.{pointwise, same_text}
+use Rattle.std.specs.Cmp.Lexicographic.{same_text}
 use Rattle.cc_syntax.specs.declared.expr.Place.{Place}
 use Rattle.cc_syntax.specs.declared.expr.Place.TheVariants.{Local, Static, Device}
 use Rattle.ccomp.specs.declared.tiny.word.Fixed.{Fixed}
 use Rattle.ccomp.specs.declared.tiny.word.Fixed.TheVariants as w
-use Rattle.ccomp.specs.declared.tiny.word.Word.{Word}
 use Rattle.ccomp.specs.declared.tiny.word.Word.TheVariants as word
 use Rattle.std.proofs.lemmas.List.Quantifiers.{position-Some}
 use Rattle.std.proofs.lemmas.List.Sums.{position_or_len_is}
 use Rattle.std.proofs.lemmas.Option.{slice_get-get_or, slice_get_within, get_or_from_slice_get}
 use Rattle.ccomp.specs.Tiny.{Words, fixed, fixed_words, Scope, IsNameOf, IsOnce}
-use Rattle.ccomp.specs.Reader.{Read, ◌>>=◌, rank_of, same, eat, eat_all, name, one, same_name, position_of, in_place, place_of}
+use Rattle.ccomp.specs.Reader.{◌>>=◌, rank_of, same, eat, eat_all, name, one, same_name, position_of, in_place, place_of}
 
 -- where a reader's answer has P, and what goes on from it has Q
 pub if_bind : {A B : Type 0} (r : Option A) (f : A → Option B) (P : A → Type 0) (Q : B → Type 0) → IfSome r P → ((x : A) → P x → IfSome (f x) Q) → IfSome (r >>= f) Q

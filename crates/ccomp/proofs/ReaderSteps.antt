@@ -1,5 +1,5 @@
 -- One step of reading: the equations of the reader's recursions, as the code takes them.
-use Rattle.std.proofs.Common.{◌≡◌, ◌<◌, ◌-◌, ◌+◌, ℕ, zero, suc, Bool, List, [], ◌∷◌, ◌++◌, Option, Some, None, refl, ap, sym, ◌∙◌, arith, append_assoc, sub-one, length}
+use Rattle.std.proofs.Common.{◌≡◌, ◌<◌, ◌-◌, ℕ, zero, suc, Bool, List, [], ◌∷◌, ◌++◌, Some, None, refl, ap, sym, arith, append_assoc, sub-one, length}
 use Rattle.cc_syntax.specs.declared.stmt.Stmt.{Stmt}
 use Rattle.ccomp.specs.declared.tiny.word.Fixed.TheVariants as w
 use Rattle.ccomp.specs.Tiny.{Words, Scope}

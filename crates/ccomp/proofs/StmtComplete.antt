@@ -1,18 +1,18 @@
 -- What is in the grammar is read, by recursion on the derivation. What may follow a statement is any
 -- words but an `else`; a list of statements has fewer statements than words.
-use Rattle.std.proofs.Common.{◌≡◌, ◌<◌, ◌≤◌, ◌+◌, ℕ, zero, suc, pos, Bool, true, false, cond, List, [], ◌∷◌, ◌++◌, Option, Some, None, refl, ap, sym, ◌∙◌, subst, arith, append_assoc, ◌⊎◌, ◌||◌, inl, inr, length, length-append}
+use Rattle.std.proofs.Common.{◌≡◌, ◌<◌, ◌≤◌, ◌+◌, ℕ, zero, suc, pos, Bool, true, List, ◌∷◌, ◌++◌, Some, None, refl, arith, append_assoc, ◌⊎◌, ◌||◌, inl, inr, length, length-append}
 use Rattle.cc_num.specs.declared.int_type.IntType.TheVariants.{UChar}
 use Rattle.cc_syntax.specs.declared.expr.Expr.{Const, Load, Assign, Intr}
 use Rattle.cc_syntax.specs.declared.expr.Intr.{Intr as IntrOf}
 use Rattle.cc_syntax.specs.declared.expr.Intr.TheVariants as intr
 use Rattle.cc_syntax.specs.declared.expr.Place.{Place}
 use Rattle.cc_syntax.specs.declared.expr.Place.TheVariants.{Local, Static, Device}
-use Rattle.cc_syntax.specs.declared.stmt.Stmt.{Stmt, Do, If, While, Break}
+use Rattle.cc_syntax.specs.declared.stmt.Stmt.{Stmt, Do}
 use Rattle.ccomp.specs.declared.tiny.word.Fixed.{Fixed}
 use Rattle.ccomp.specs.declared.tiny.word.Fixed.TheVariants as w
 use Rattle.ccomp.specs.declared.tiny.word.Word.TheVariants as word
-use Rattle.ccomp.specs.Tiny.{Words, fixed, fixed_words, Scope, IsNameOf, is_local, intr_word, greatest_depth, IsStmt, SetsConstant, Copies, Turns, Breaks, Chooses, ChoosesElse, Loops, IsBlock, Braces, IsStmts, NoStmt, MoreStmts}
-use Rattle.ccomp.specs.Reader.{Read, ◌>>=◌, same, eat, eat_all, name, one, place_of, local_id, right_side, assigns, turns, breaks, condition, Blocks, else_at, else_of, chooses, loops, by_fixed, stmt, more, at_end, stmts, block}
+use Rattle.ccomp.specs.Tiny.{Words, fixed, Scope, IsNameOf, is_local, intr_word, greatest_depth, IsStmt, SetsConstant, Copies, Turns, Breaks, Chooses, ChoosesElse, Loops, IsBlock, Braces, IsStmts, NoStmt, MoreStmts}
+use Rattle.ccomp.specs.Reader.{same, eat, assigns, turns, breaks, condition, Blocks, else_of, chooses, loops, by_fixed, stmt, stmts, block}
 use Rattle.ccomp.proofs.ReaderBasics.{IsDistinctScope, place_of-complete}
 
 -- no `else` stands first

@@ -1,19 +1,17 @@
 -- What is read of statements is in the grammar. The reader's answers are composed by one rule,
 -- `if_bind`; the depth of a block and the blocks that may still be opened add up to the greatest depth.
-use Rattle.std.proofs.Common.{◌≡◌, ◌<◌, ◌+◌, ℕ, zero, suc, Bool, true, false, cond, List, [], ◌∷◌, ◌++◌, Option, Some, None, refl, ap, sym, ◌∙◌, subst, arith, append_assoc, IfSome, ◌||◌, ◌⊎◌, inl, inr, length}
-use Rattle.std.proofs.lemmas.List.{append-nil}
-use Rattle.cc_num.specs.declared.int_type.IntType.TheVariants.{UChar, Int as IntInt}
-use Rattle.cc_syntax.specs.declared.expr.Expr.{Const, Load, Assign, Intr}
+use Rattle.std.proofs.Common.{◌≡◌, ◌<◌, ◌+◌, ℕ, zero, suc, Bool, true, false, List, [], ◌∷◌, ◌++◌, Option, Some, None, refl, ap, sym, ◌∙◌, subst, arith, append_assoc, IfSome, ◌||◌, ◌⊎◌, inl, inr, length}
+use Rattle.cc_syntax.specs.declared.expr.Expr.{Load, Assign}
 use Rattle.cc_syntax.specs.declared.expr.Intr.{Intr as IntrOf}
 use Rattle.cc_syntax.specs.declared.expr.Intr.TheVariants as intr
 use Rattle.cc_syntax.specs.declared.expr.Place.{Place}
 use Rattle.cc_syntax.specs.declared.expr.Place.TheVariants.{Local, Static, Device}
-use Rattle.cc_syntax.specs.declared.stmt.Stmt.{Stmt, Do, If, While, Break}
+use Rattle.cc_syntax.specs.declared.stmt.Stmt.{Stmt, Do, If}
 use Rattle.ccomp.specs.declared.tiny.word.Fixed.{Fixed}
 use Rattle.ccomp.specs.declared.tiny.word.Fixed.TheVariants as w
 use Rattle.ccomp.specs.declared.tiny.word.Word.TheVariants as word
-use Rattle.ccomp.specs.Tiny.{Words, fixed, fixed_words, Scope, IsNameOf, is_local, intr_word, greatest_depth, IsStmt, SetsConstant, Copies, Turns, Breaks, Chooses, ChoosesElse, Loops, IsBlock, Braces, IsStmts, NoStmt, MoreStmts}
-use Rattle.ccomp.specs.Reader.{Read, ◌>>=◌, eat, eat_all, name, one, place_of, local_id, right_side, assigns, turns, breaks, condition, Blocks, else_at, else_of, chooses, loops, by_fixed, stmt, more, at_end, stmts, block}
+use Rattle.ccomp.specs.Tiny.{Words, fixed, Scope, IsNameOf, is_local, intr_word, greatest_depth, IsStmt, SetsConstant, Copies, Turns, Breaks, Chooses, ChoosesElse, Loops, IsBlock, Braces, IsStmts, NoStmt, MoreStmts}
+use Rattle.ccomp.specs.Reader.{eat, eat_all, name, one, place_of, local_id, right_side, assigns, turns, breaks, condition, Blocks, else_at, else_of, chooses, loops, by_fixed, stmt, more, at_end, stmts, block}
 use Rattle.ccomp.proofs.ReaderBasics.{if_bind, if_map, if_chosen, Took, eat-sound, eat_all-sound, name-sound, one-sound, place_of-sound}
 
 or_cases : (a b : Bool) → (a || b) ≡ true → (a ≡ true) ⊎ (b ≡ true)

@@ -1,9 +1,15 @@
 -- What `pack` promises of the files, where they are told.
-use Rattle.std.specs.Prelude.{◌≡◌, ◌≤◌, ◌<◌, ◌⊎◌, ℕ, List, ◌++◌, Option, Some, None, take}
+use Rattle.std.specs.Prelude.{◌≡◌, ◌≢◌, ◌≤◌, ◌⊎◌, ℕ, List, Some}
+use Rattle.cc_lex.specs.declared.fault.LexFault.TheVariants as fault
+use Rattle.cc_lex.specs.declared.token.Token.{Token}
+use Rattle.cc_lex.specs.Faults.{HasFault}
+use Rattle.cc_lex.specs.Tokens.{Tokens}
 use Rattle.cc_syntax.specs.declared.program.Program.{Program}
 use Rattle.cc_syntax.specs.Layout.{ram}
 use Rattle.cc_meaning.specs.Runs.{Follows, Answers}
 use Rattle.cc_edge.specs.Files.{Files, KeepsOthers, HoldsPrefix}
+use Rattle.ccomp.specs.declared.status.ReadRefusal.{ReadRefusal}
+use Rattle.ccomp.specs.declared.status.ReadRefusal.TheVariants.{Lex}
 use Rattle.ccomp.specs.Tiny.{IsTinyText}
 use Rattle.ccomp.specs.Printed.{printed}
 
@@ -39,6 +45,14 @@ pub record Leaves (out source : List ℕ) (old new : Files) : Type 0 where
 -- the text is no tiny text
 abbrev pub IsNoTinyText : List ℕ → Type 0
 IsNoTinyText text = (p : Program) → IsTinyText text p → ⊥
+
+-- the text has tokens
+abbrev pub HasTokens : List ℕ → Type 0
+HasTokens text = (ts : List Token) × Tokens text ts
+
+-- the text is refused for this cause, where memory did not run out
+abbrev pub IsRefused : List ℕ → ReadRefusal → Type 0
+IsRefused text (Lex e) = e ≢ fault.NoMemory → HasFault text e
 
 -- the bytes are the printed text of the program that the text is a tiny text of, and a tiny text of
 -- a packed program

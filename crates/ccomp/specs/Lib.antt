@@ -1,6 +1,5 @@
 pub mod Command
 pub mod Headline
-pub mod Lexer
 pub mod Names
 pub mod Printed
 pub mod Reader

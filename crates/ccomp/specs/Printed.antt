@@ -1,5 +1,5 @@
 -- The printed text of a program.
-use Rattle.std.specs.Prelude.{ℕ, zero, suc, ◌+◌, Bool, true, false, ◌||◌, ◌&&◌, List, [], ◌∷◌, ◌++◌, map, Option, Some, None, slice_get, codes, if◌then◌else◌}
+use Rattle.std.specs.Prelude.{ℕ, zero, suc, ◌+◌, Bool, true, false, ◌||◌, List, [], ◌∷◌, ◌++◌, map, Option, Some, None, slice_get, codes}
 use Rattle.std.specs.List.{list_any, flat_map}
 use Rattle.std.specs.Fmt.{signed_decimal}
 use Rattle.cc_num.specs.declared.int_type.IntType.{IntType}

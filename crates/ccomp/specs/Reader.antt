@@ -1,7 +1,7 @@
 -- The reader, as a function on whole lists of words: what the code computes, step by step.
 -- That it finds what the grammar says is proved of it in proofs/.
-use Rattle.std.specs.Prelude.{ℕ, zero, suc, pos, Bool, true, false, ◌&&◌, ◌||◌, not, List, [], ◌∷◌, ◌++◌, Option, Some, None, map, position, length, nat_eq, if◌then◌else◌, codes, is_some, fold, take}
-use Rattle.std.specs.List.{list_any, list_all}
+use Rattle.std.specs.Prelude.{ℕ, zero, suc, pos, Bool, true, false, ◌||◌, List, [], ◌∷◌, ◌++◌, Option, Some, None, position, length, nat_eq, if◌then◌else◌, codes, fold}
+use Rattle.std.specs.List.{list_any}
 use Rattle.std.specs.Cmp.Lexicographic.{pointwise}
 use Rattle.cc_num.specs.declared.int_type.IntType.TheVariants.{UChar, Int as IntInt}
 use Rattle.cc_syntax.specs.declared.types.CType.{CType}

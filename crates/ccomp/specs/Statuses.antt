@@ -1,22 +1,54 @@
 -- The number of each status, and the line that tells it.
-use Rattle.std.specs.Prelude.{ℕ, Bool, true, false, List, [], ◌++◌, codes}
+use Rattle.std.specs.Prelude.{ℕ, Bool, true, false, List, [], ◌++◌, Option, Some, None, codes}
+use Rattle.std.specs.Fmt.{decimal}
+use Rattle.cc_lex.specs.declared.fault.LexFault.{LexFault}
+use Rattle.cc_lex.specs.declared.fault.LexFault.TheVariants as fault
+use Rattle.ccomp.specs.declared.status.ReadRefusal.{ReadRefusal}
+use Rattle.ccomp.specs.declared.status.ReadRefusal.TheVariants.{Lex}
 use Rattle.ccomp.specs.declared.status.Status.{Status}
-use Rattle.ccomp.specs.declared.status.Status.TheVariants.{Done, Usage, ReadFault, TooLong, WriteFault, NoMemory, Later}
+use Rattle.ccomp.specs.declared.status.Status.TheVariants.{Done, Usage, ReadFault, TooLong, Refused, WriteFault, NoMemory, Later}
 
 abbrev pub number_of : Status → ℕ
 number_of Done = 0
 number_of (Usage word) = 2
 number_of (ReadFault name) = 3
 number_of (TooLong name) = 4
+number_of (Refused name why) = 5
 number_of (WriteFault name) = 11
 number_of NoMemory = 12
 number_of (Later name) = 13
+
+-- the variant in lower case
+abbrev pub fault_name : LexFault → List ℕ
+fault_name (fault.BadByte at) = codes "badbyte"
+fault_name (fault.OpenComment at) = codes "opencomment"
+fault_name (fault.OpenText at) = codes "opentext"
+fault_name (fault.BadNumber at) = codes "badnumber"
+fault_name (fault.Directive at) = codes "directive"
+fault_name fault.NoMemory = codes "nomemory"
+
+-- the byte at which the fault is
+abbrev pub fault_offset : LexFault → Option ℕ
+fault_offset (fault.BadByte at) = Some at
+fault_offset (fault.OpenComment at) = Some at
+fault_offset (fault.OpenText at) = Some at
+fault_offset (fault.BadNumber at) = Some at
+fault_offset (fault.Directive at) = Some at
+fault_offset fault.NoMemory = None
+
+abbrev pub offset_text : Option ℕ → List ℕ
+offset_text None = []
+offset_text (Some at) = codes " at " ++ decimal at
+
+abbrev pub cause_of : ReadRefusal → List ℕ
+cause_of (Lex e) = fault_name e ++ offset_text (fault_offset e)
 
 abbrev pub text_of : Status → List ℕ
 text_of Done = []
 text_of (Usage word) = codes "usage: " ++ word
 text_of (ReadFault name) = codes "cannot read " ++ name
 text_of (TooLong name) = name ++ codes " is too long"
+text_of (Refused name why) = name ++ (codes ": " ++ cause_of why)
 text_of (WriteFault name) = codes "cannot write " ++ name
 text_of NoMemory = codes "out of memory"
 text_of (Later name) = name ++ codes ": later"
@@ -33,5 +65,6 @@ may_write (WriteFault name) = true
 may_write (Usage word) = false
 may_write (ReadFault name) = false
 may_write (TooLong name) = false
+may_write (Refused name why) = false
 may_write NoMemory = false
 may_write (Later name) = false

@@ -1,11 +1,12 @@
 -- The tiny programs and the words that spell them: the grammar, a constructor for each production,
 -- and what holds of the names.
-use Rattle.std.specs.Prelude.{◌≡◌, ◌<◌, ◌≤◌, ◌⊎◌, ℕ, pos, ◌+◌, Bool, true, false, List, [], ◌∷◌, ◌++◌, map, Option, Some, None, slice_get, IsSome, IsSomeAnd, Contains, All, codes, refl}
+use Rattle.std.specs.Prelude.{◌≡◌, ◌<◌, ◌⊎◌, ℕ, pos, ◌+◌, Bool, true, false, List, [], ◌∷◌, ◌++◌, map, Option, Some, None, slice_get, IsSome, IsSomeAnd, Contains, All, codes, refl}
+use Rattle.cc_lex.specs.declared.token.Token.{Token}
+use Rattle.cc_lex.specs.Tokens.{Tokens}
 use Rattle.cc_num.specs.declared.int_type.IntType.TheVariants.{UChar, Int as IntInt}
 use Rattle.cc_num.specs.declared.target.Target.{Target}
 use Rattle.cc_syntax.specs.declared.types.CType.{CType}
 use Rattle.cc_syntax.specs.declared.types.Shape.TheVariants as shape
-use Rattle.cc_syntax.specs.declared.types.Sig.{Sig}
 use Rattle.cc_syntax.specs.declared.expr.Expr.{Const, Load, Assign, Intr}
 use Rattle.cc_syntax.specs.declared.expr.Intr.{Intr as IntrOf}
 use Rattle.cc_syntax.specs.declared.expr.Intr.TheVariants as intr
@@ -21,7 +22,7 @@ use Rattle.ccomp.specs.declared.tiny.word.Fixed.{Fixed}
 use Rattle.ccomp.specs.declared.tiny.word.Fixed.TheVariants as w
 use Rattle.ccomp.specs.declared.tiny.word.Word.{Word}
 use Rattle.ccomp.specs.declared.tiny.word.Word.TheVariants as word
-use Rattle.ccomp.specs.Words.{IsText}
+use Rattle.ccomp.specs.Words.{AreWords}
 
 abbrev pub Words : Type 0
 Words = List Word
@@ -252,8 +253,10 @@ pub record IsTinyWords (p : Program) (ws : Words) : Type 0 where
   pub spelled : Spells p intrinsics protos attributes ws
   pub named : HasNames p intrinsics protos attributes
 
--- the text is a tiny text of the program
+-- the text is a tiny text of the program: its tokens are words of one
 pub record IsTinyText (text : List ℕ) (p : Program) : Type 0 where
+  pub tokens : List Token
+  pub tokens_of : Tokens text tokens
   pub words : Words
-  pub text_of : IsText text words
+  pub are_words : AreWords tokens words
   pub words_of : IsTinyWords p words

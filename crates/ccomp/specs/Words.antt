@@ -1,97 +1,80 @@
--- The words of a tiny text, and how a text spells them.
-use Rattle.std.specs.Prelude.{◌≡◌, ◌≢◌, ◌≤◌, ◌<◌, ℕ, ◌+◌, ◌*◌, ◌-◌, Bool, true, false, ◌||◌, ◌&&◌, List, [], ◌∷◌, ◌++◌, nat_eq, nat_lt, Contains, All, fold, length, codes}
+-- The words of a tiny text: which word a token is, if any.
+use Rattle.std.specs.Prelude.{◌≡◌, ℕ, Bool, ◌||◌, nat_lt, List, [], ◌∷◌, map, Option, Some, None, codes, if◌then◌else◌}
+use Rattle.std.specs.List.{list_any}
+use Rattle.std.specs.Option.{option_map}
+use Rattle.std.specs.Str.{bytes_eq}
+use Rattle.cc_lex.specs.declared.token.Kind.{Kind}
+use Rattle.cc_lex.specs.declared.token.Kind.TheVariants as kind
+use Rattle.cc_lex.specs.declared.token.Mark.{Mark}
+use Rattle.cc_lex.specs.declared.token.Mark.TheVariants as mark
+use Rattle.cc_lex.specs.declared.token.Suffix.{Suffix}
+use Rattle.cc_lex.specs.declared.token.Token.{Token}
+use Rattle.cc_lex.specs.declared.token.Word.{Word as Keyword}
+use Rattle.cc_lex.specs.declared.token.Word.TheVariants as keyword
 use Rattle.ccomp.specs.declared.tiny.word.Fixed.{Fixed}
 use Rattle.ccomp.specs.declared.tiny.word.Fixed.TheVariants as fixed
 use Rattle.ccomp.specs.declared.tiny.word.Word.{Word}
 use Rattle.ccomp.specs.declared.tiny.word.Word.TheVariants as word
 
--- the spelling of a fixed word
-unfoldable pub spelling_of : Fixed → List ℕ
-spelling_of fixed.Attribute = codes "__attribute__"
-spelling_of fixed.Break = codes "break"
-spelling_of fixed.Char = codes "char"
-spelling_of fixed.Else = codes "else"
-spelling_of fixed.Extern = codes "extern"
-spelling_of fixed.If = codes "if"
-spelling_of fixed.Int = codes "int"
-spelling_of fixed.Main = codes "main"
-spelling_of fixed.IrqOff = codes "irq_off"
-spelling_of fixed.IrqOn = codes "irq_on"
-spelling_of fixed.Static = codes "static"
-spelling_of fixed.Unsigned = codes "unsigned"
-spelling_of fixed.Void = codes "void"
-spelling_of fixed.Volatile = codes "volatile"
-spelling_of fixed.While = codes "while"
-spelling_of fixed.LParen = codes "("
-spelling_of fixed.RParen = codes ")"
-spelling_of fixed.LBrace = codes "{"
-spelling_of fixed.RBrace = codes "}"
-spelling_of fixed.Assign = codes "="
-spelling_of fixed.Semi = codes ";"
+-- the keywords that a tiny text has (C99 6.4.1, and one word of GNU C)
+abbrev pub fixed_of_keyword : Keyword → Option Fixed
+fixed_of_keyword keyword.Attribute = Some fixed.Attribute
+fixed_of_keyword keyword.Break = Some fixed.Break
+fixed_of_keyword keyword.Char = Some fixed.Char
+fixed_of_keyword keyword.Else = Some fixed.Else
+fixed_of_keyword keyword.Extern = Some fixed.Extern
+fixed_of_keyword keyword.If = Some fixed.If
+fixed_of_keyword keyword.Int = Some fixed.Int
+fixed_of_keyword keyword.Static = Some fixed.Static
+fixed_of_keyword keyword.Unsigned = Some fixed.Unsigned
+fixed_of_keyword keyword.Void = Some fixed.Void
+fixed_of_keyword keyword.Volatile = Some fixed.Volatile
+fixed_of_keyword keyword.While = Some fixed.While
+fixed_of_keyword _ = None
 
-abbrev pub is_blank : ℕ → Bool
-is_blank b = nat_eq b 32 || nat_eq b 9 || nat_eq b 13 || nat_eq b 10
+-- the marks that a tiny text has (C99 6.4.6)
+abbrev pub fixed_of_mark : Mark → Option Fixed
+fixed_of_mark mark.LParen = Some fixed.LParen
+fixed_of_mark mark.RParen = Some fixed.RParen
+fixed_of_mark mark.LBrace = Some fixed.LBrace
+fixed_of_mark mark.RBrace = Some fixed.RBrace
+fixed_of_mark mark.Assign = Some fixed.Assign
+fixed_of_mark mark.Semi = Some fixed.Semi
+fixed_of_mark _ = None
 
--- a byte that is a word by itself: ( ) { } = ;
-abbrev pub is_single : ℕ → Bool
-is_single b = nat_eq b 40 || nat_eq b 41 || nat_eq b 123 || nat_eq b 125 || nat_eq b 61 || nat_eq b 59
+-- identifiers that no tiny text has: intrinsics that it does not call, and words of C and of its
+-- compilers that no program of the profile has
+unfoldable pub outside : List (List ℕ)
+outside =
+    codes "irq_save" ∷ codes "irq_restore" ∷ codes "asm" ∷ codes "__asm" ∷ codes "__asm__" ∷ codes "goto" ∷ codes "float" ∷ codes "double" ∷ codes "_Complex"
+    ∷ codes "__complex__" ∷ codes "_Imaginary" ∷ codes "union" ∷ codes "typeof" ∷ codes "__typeof__" ∷ codes "__builtin_va_list" ∷ codes "__int128"
+    ∷ codes "_Atomic" ∷ codes "_Generic" ∷ codes "_Static_assert" ∷ codes "_Alignas" ∷ []
 
-abbrev pub is_digit : ℕ → Bool
-is_digit b = nat_lt 47 b && nat_lt b 58
+unfoldable pub is_outside : List ℕ → Bool
+is_outside name = list_any (λ word. bytes_eq word name) outside
 
--- letters, digits and _
-abbrev pub is_letter : ℕ → Bool
-is_letter b = is_digit b || (nat_lt 64 b && nat_lt b 91) || (nat_lt 96 b && nat_lt b 123) || nat_eq b 95
+-- the word that an identifier is: main, an intrinsic or a name
+unfoldable pub word_of_name : List ℕ → Option Word
+word_of_name name =
+    if bytes_eq name (codes "main") then Some (word.Fixed fixed.Main)
+    else if bytes_eq name (codes "irq_off") then Some (word.Fixed fixed.IrqOff)
+    else if bytes_eq name (codes "irq_on") then Some (word.Fixed fixed.IrqOn)
+    else if is_outside name then None
+    else Some (word.Name name)
 
--- the words that no name may be, beside the fixed ones: keywords of C with their other forms
--- (C99 6.4.1), intrinsics, and words of C and of its compilers that no program of the profile has
-unfoldable pub reserved : List (List ℕ)
-reserved =
-    codes "auto" ∷ codes "case" ∷ codes "const" ∷ codes "continue" ∷ codes "default" ∷ codes "do" ∷ codes "enum" ∷ codes "for" ∷ codes "inline" ∷ codes "long"
-    ∷ codes "register" ∷ codes "restrict" ∷ codes "return" ∷ codes "short" ∷ codes "signed" ∷ codes "sizeof" ∷ codes "struct" ∷ codes "switch" ∷ codes "typedef"
-    ∷ codes "_Bool" ∷ codes "__inline" ∷ codes "__inline__" ∷ codes "__const" ∷ codes "__const__" ∷ codes "__volatile" ∷ codes "__volatile__" ∷ codes "__signed"
-    ∷ codes "__signed__" ∷ codes "__restrict" ∷ codes "__restrict__" ∷ codes "__extension__" ∷ codes "__attribute" ∷ codes "irq_save" ∷ codes "irq_restore"
-    ∷ codes "asm" ∷ codes "__asm" ∷ codes "__asm__" ∷ codes "goto" ∷ codes "float" ∷ codes "double" ∷ codes "_Complex" ∷ codes "__complex__" ∷ codes "_Imaginary"
-    ∷ codes "union" ∷ codes "typeof" ∷ codes "__typeof__" ∷ codes "__builtin_va_list" ∷ codes "__int128" ∷ codes "_Atomic" ∷ codes "_Generic"
-    ∷ codes "_Static_assert" ∷ codes "_Alignas" ∷ []
+-- a number has no suffix and is at most 255, in whichever base it is written
+abbrev pub word_of_number : ℕ → Suffix → Option Word
+word_of_number value suffix = if suffix.unsigned || nat_lt 0 suffix.longs || nat_lt 255 value then None else Some (word.Number value)
 
--- letters, digits and _ that do not begin with a digit (C99 6.4.2.1)
-abbrev pub IsIdentifier : List ℕ → Type 0
-IsIdentifier [] = ⊥
-IsIdentifier (b ∷ bs) = (is_digit b ≡ false) × All (λ c. is_letter c ≡ true) (b ∷ bs)
+-- the word that a token of this kind is
+abbrev pub word_of : Kind → Option Word
+word_of (kind.Ident name) = word_of_name name
+word_of (kind.Keyword k) = option_map word.Fixed (fixed_of_keyword k)
+word_of (kind.Number value suffix) = word_of_number value suffix
+word_of (kind.Character byte) = None
+word_of (kind.Text bytes) = None
+word_of (kind.Punct m) = option_map word.Fixed (fixed_of_mark m)
 
--- an identifier that no word is reserved for
-pub record IsName (name : List ℕ) : Type 0 where
-  pub identifier : IsIdentifier name
-  pub not_fixed : (w : Fixed) → spelling_of w ≢ name
-  pub not_reserved : ¬ Contains reserved name
-
--- the number that decimal digits write, behind those of n
-abbrev pub digits_value : ℕ → List ℕ → ℕ
-digits_value n digits = fold (λ m b. 10 * m + (b - 48)) n digits
-
--- decimal digits without a leading zero
-abbrev pub IsNumeral : List ℕ → Type 0
-IsNumeral [] = ⊥
-IsNumeral (b ∷ []) = is_digit b ≡ true
-IsNumeral (b ∷ c ∷ bs) = (b ≢ 48) × All (λ d. is_digit d ≡ true) (b ∷ c ∷ bs)
-
--- the bytes spell the word: a number is one from 0 to 255
-abbrev pub IsSpelled : Word → List ℕ → Type 0
-IsSpelled (word.Fixed w) bytes = bytes ≡ spelling_of w
-IsSpelled (word.Name name) bytes = (bytes ≡ name) × IsName name
-IsSpelled (word.Number n) bytes = IsNumeral bytes × (digits_value 0 bytes ≡ n) × (n ≤ 255)
-
-abbrev pub begins_with_letter : List ℕ → Bool
-begins_with_letter [] = false
-begins_with_letter (b ∷ bs) = is_letter b
-
--- a word of letters is the longest: no letter follows it
-abbrev pub IsLongest : List ℕ → List ℕ → Type 0
-IsLongest bytes rest = begins_with_letter bytes ≡ true → begins_with_letter rest ≡ false
-
--- the text is these words, with blanks before, between and behind them
-pub data IsText : List ℕ → List Word → Type 0 where
-  NoWord : (gap : List ℕ) → All (λ b. is_blank b ≡ true) gap → IsText gap []
-  AWord : (gap bytes rest : List ℕ) (w : Word) (ws : List Word) → All (λ b. is_blank b ≡ true) gap → IsSpelled w bytes → IsLongest bytes rest → IsText rest ws →
-      IsText (gap ++ (bytes ++ rest)) (w ∷ ws)
+-- the tokens are these words, one by one
+abbrev pub AreWords : List Token → List Word → Type 0
+AreWords tokens words = map (λ t. word_of t.kind) tokens ≡ map Some words

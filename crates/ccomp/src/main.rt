@@ -6,6 +6,8 @@ mod pack;
 mod status;
 #[cfg(test)]
 mod tests;
+#[cfg(test)]
+mod tests_tokens;
 mod tiny;
 
 use cc_edge::{DiskStore, OutSink};

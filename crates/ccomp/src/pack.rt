@@ -1,32 +1,51 @@
 //! The top call.
 
-ghost use Rattle.std.specs.Prelude.{◌≡◌, ◌≤◌, ◌<◌, ◌⊎◌, ℕ, IsTrue, IfOk, IfSome, IfNone, IsSomeAnd, Some, None, List as ListOf, false, length};
+ghost use Rattle.std.specs.Prelude.{◌≡◌, ◌≢◌, ◌≤◌, ◌<◌, ◌^◌, ◌⊎◌, ℕ, IsTrue, IfOk, IfErr, IfSome, IfNone, IsSomeAnd, Some, None, List as ListOf, false, length};
 ghost use Rattle.cc_edge.specs.Faults.{Rose};
 ghost use Rattle.cc_edge.specs.Files.{KeepsFiles, KeepsOthers};
+ghost use Rattle.cc_lex.specs.Faults.{HasFault};
+ghost use Rattle.cc_lex.specs.declared.fault.LexFault.{LexFault as LexFaultOf};
+ghost use Rattle.cc_lex.specs.declared.fault.LexFault.TheVariants as fault;
+ghost use Rattle.ccomp.specs.declared.status.ReadRefusal.TheVariants.{Lex};
 ghost use Rattle.ccomp.specs.Command.{Command, Pack, Wrong, ForPack, command_of, texts};
-ghost use Rattle.ccomp.specs.Headline.{Packs, Leaves, IsPackedText, IsNoTinyText};
+ghost use Rattle.ccomp.specs.Headline.{Packs, Leaves, IsPackedText, IsNoTinyText, HasTokens, IsRefused};
 ghost use Rattle.ccomp.specs.Statuses.{may_write};
 
 use crate::command::{Asked, command};
-use crate::status::Status;
+use crate::status::{ReadRefusal, Status};
 use crate::tiny::items::copy_name;
 use crate::tiny::printer::print;
 use crate::tiny::reader::read;
 use cc_edge::{ReadEnd, Sink, Store, read_whole, write_whole};
-use cc_num::NoMemory;
+use cc_lex::LexFault;
+use cc_num::{Name, NoMemory};
 use std::alloc::Global;
 
 /// The most bytes of a source.
 const SOURCE_LIMIT: u64 = 1 << 20;
 
 /// The printed text of the program that the text is a tiny text of, where there is one.
-fn packed(alloc: Global, text: &[u8]) -> Result<Option<Vec<u8>>, NoMemory>
+fn packed(alloc: Global, text: &[u8]) -> Result<Option<Vec<u8>>, ReadRefusal>
+    requires { length text.now < 2 ^ 32 }
     ensures found { IfOk result (λ r. IfSome r (λ bytes. IsPackedText text.now bytes.items)) }
     ensures none { IfOk result (λ r. IfNone r (IsNoTinyText text.now)) }
+    ensures tokens { IfOk result (λ _. HasTokens text.now) }
+    ensures refused { IfErr result (IsRefused text.now) }
 {
     match read(alloc, text)? {
         None => Ok(None),
         Some(p) => Ok(Some(print(alloc, &p)?)),
+    }
+}
+
+/// The answer where a source is refused. Want of memory is an answer of its own.
+fn refused(source: Name, why: ReadRefusal) -> Status
+    ensures { ((why ≡ Lex fault.NoMemory) × (result ≡ Status.NoMemory)) ⊎ ((why ≢ Lex fault.NoMemory) × (result ≡ Status.Refused source why)) }
+{
+    let ReadRefusal::Lex(fault) = why;
+    match fault {
+        LexFault::NoMemory => Status::NoMemory,
+        _ => Status::Refused(source, why),
     }
 }
 
@@ -41,8 +60,11 @@ fn pack<F: Store>(alloc: Global, out: &str, source: &str, store: &mut F) -> Stat
         (name ≡ source.now) × (Rose (F.faults store.old) (F.faults store.new) ⊎ (IsTrue (F.told store.old) × (F.files store.old source.now ≡ None))) }
     ensures too_long { (name : ListOf ℕ) → result ≡ Status.TooLong name →
         (name ≡ source.now) × (IsTrue (F.told store.old) → IsSomeAnd (F.files store.old source.now) (λ text. 1048576 < length text)) }
+    ensures refused { (name : ListOf ℕ) (e : LexFaultOf) → result ≡ Status.Refused name (Lex e) →
+        (name ≡ source.now) × (IsTrue (F.told store.old) → IsSomeAnd (F.files store.old source.now) (λ text. HasFault text e)) }
+    ensures memory { (name : ListOf ℕ) → result ≡ Status.Refused name (Lex fault.NoMemory) → ⊥ }
     ensures later { (name : ListOf ℕ) → result ≡ Status.Later name →
-        (name ≡ source.now) × (IsTrue (F.told store.old) → IsSomeAnd (F.files store.old source.now) IsNoTinyText) }
+        (name ≡ source.now) × (IsTrue (F.told store.old) → IsSomeAnd (F.files store.old source.now) (λ text. HasTokens text × IsNoTinyText text)) }
     ensures write_fault { (name : ListOf ℕ) → result ≡ Status.WriteFault name →
         (name ≡ out.now) × Rose (F.faults store.old) (F.faults store.new) × (IsTrue (F.told store.old) → Leaves out.now source.now (F.files store.old) (F.files store.new)) }
     ensures unchanged { may_write result ≡ false → IsTrue (F.told store.old) → KeepsFiles (F.files store.old) (F.files store.new) }
@@ -60,7 +82,7 @@ fn pack<F: Store>(alloc: Global, out: &str, source: &str, store: &mut F) -> Stat
         Err(ReadEnd::NoMemory) => return Status::NoMemory,
     };
     match packed(alloc, &text) {
-        Err(NoMemory) => Status::NoMemory,
+        Err(why) => refused(source_name, why),
         Ok(None) => Status::Later(source_name),
         Ok(Some(bytes)) => match write_whole(store, out, &bytes) {
             Err(_) => Status::WriteFault(out_name),
@@ -92,8 +114,13 @@ pub fn ccomp<F: Store, O: Sink>(
         ForPack (command_of (texts words.now)) (λ out source. (name ≡ source) × (Rose (F.faults store.old) (F.faults store.new) ⊎ (IsTrue (F.told store.old) × (F.files store.old source ≡ None)))) }
     ensures too_long { (name : ListOf ℕ) → result ≡ Status.TooLong name →
         ForPack (command_of (texts words.now)) (λ out source. (name ≡ source) × (IsTrue (F.told store.old) → IsSomeAnd (F.files store.old source) (λ text. 1048576 < length text))) }
+    // Refused comes with the first place of the source that has no token, and never for want of memory.
+    // A source that has tokens and is no tiny text comes later.
+    ensures refused { (name : ListOf ℕ) (e : LexFaultOf) → result ≡ Status.Refused name (Lex e) →
+        ForPack (command_of (texts words.now)) (λ out source. (name ≡ source) × (IsTrue (F.told store.old) → IsSomeAnd (F.files store.old source) (λ text. HasFault text e))) }
+    ensures memory { (name : ListOf ℕ) → result ≡ Status.Refused name (Lex fault.NoMemory) → ⊥ }
     ensures later { (name : ListOf ℕ) → result ≡ Status.Later name →
-        ForPack (command_of (texts words.now)) (λ out source. (name ≡ source) × (IsTrue (F.told store.old) → IsSomeAnd (F.files store.old source) IsNoTinyText)) }
+        ForPack (command_of (texts words.now)) (λ out source. (name ≡ source) × (IsTrue (F.told store.old) → IsSomeAnd (F.files store.old source) (λ text. HasTokens text × IsNoTinyText text))) }
     ensures write_fault { (name : ListOf ℕ) → result ≡ Status.WriteFault name →
         ForPack (command_of (texts words.now)) (λ out source. (name ≡ out) × Rose (F.faults store.old) (F.faults store.new) × (IsTrue (F.told store.old) → Leaves out source (F.files store.old) (F.files store.new))) }
 

@@ -1,10 +1,36 @@
 //! How a command ends.
 
 ghost use Rattle.std.specs.Prelude.{◌≡◌, ◌++◌, IfOk, codes};
-ghost use Rattle.ccomp.specs.Statuses.{number_of, line_of};
+ghost use Rattle.cc_lex.specs.declared.fault.LexFault.TheVariants as fault;
+ghost use Rattle.ccomp.specs.declared.status.ReadRefusal.TheVariants.{Lex};
+ghost use Rattle.ccomp.specs.Statuses.{number_of, line_of, cause_of, fault_name as fault_text, fault_offset};
 
+use cc_lex::LexFault;
 use cc_num::{Name, NoMemory};
 use std::alloc::Global;
+
+/// Why a source is refused.
+#[derive(Clone, Copy, Debug, PartialEq, Eq)]
+pub enum ReadRefusal {
+    /// It has no tokens.
+    Lex(LexFault),
+}
+
+impl From<LexFault> for ReadRefusal {
+    ghost from_gives = { λ e why. why ≡ Lex e };
+
+    fn from(fault: LexFault) -> ReadRefusal {
+        ReadRefusal::Lex(fault)
+    }
+}
+
+impl From<NoMemory> for ReadRefusal {
+    ghost from_gives = { λ _ why. why ≡ Lex fault.NoMemory };
+
+    fn from(_error: NoMemory) -> ReadRefusal {
+        ReadRefusal::Lex(LexFault::NoMemory)
+    }
+}
 
 /// How a command ended.
 #[derive(Debug, Drop)]
@@ -17,11 +43,13 @@ pub enum Status {
     ReadFault(Name),
     /// The file of this name has more bytes than its limit.
     TooLong(Name),
+    /// The source of this name is refused, for this cause.
+    Refused(Name, ReadRefusal),
     /// The file of this name was not written whole.
     WriteFault(Name),
     /// Memory ran out.
     NoMemory,
-    /// The source of this name is no tiny text.
+    /// The source of this name has tokens, and is no tiny text.
     Later(Name),
 }
 
@@ -34,6 +62,7 @@ pub fn number(status: &Status) -> u8
         Status::Usage(_) => 2,
         Status::ReadFault(_) => 3,
         Status::TooLong(_) => 4,
+        Status::Refused(_, _) => 5,
         Status::WriteFault(_) => 11,
         Status::NoMemory => 12,
         Status::Later(_) => 13,
@@ -53,6 +82,50 @@ fn line(alloc: Global, front: &[u8], name: &[u8], back: &[u8]) -> Result<Vec<u8>
     Ok(text)
 }
 
+/// The name of a fault.
+fn fault_name(fault: LexFault) -> &'static [u8]
+    ensures { result.now ≡ fault_text fault }
+{
+    match fault {
+        LexFault::BadByte(_) => b"badbyte",
+        LexFault::OpenComment(_) => b"opencomment",
+        LexFault::OpenText(_) => b"opentext",
+        LexFault::BadNumber(_) => b"badnumber",
+        LexFault::Directive(_) => b"directive",
+        LexFault::NoMemory => b"nomemory",
+    }
+}
+
+/// The byte at which a fault stands.
+fn fault_at(fault: LexFault) -> Option<u32>
+    ensures { result ≡ fault_offset fault }
+{
+    match fault {
+        LexFault::BadByte(at)
+        | LexFault::OpenComment(at)
+        | LexFault::OpenText(at)
+        | LexFault::BadNumber(at)
+        | LexFault::Directive(at) => Some(at),
+        LexFault::NoMemory => None,
+    }
+}
+
+/// The text of a refusal, which stands behind the source's name.
+fn cause(alloc: Global, why: ReadRefusal) -> Result<Vec<u8>, NoMemory>
+    ensures { IfOk result (λ v. v.items ≡ codes ": " ++ cause_of why) }
+{
+    let ReadRefusal::Lex(fault) = why;
+    let mut text = Vec::new(alloc);
+    text.extend_from_slice(b": ")?;
+    text.extend_from_slice(fault_name(fault))?;
+    if let Some(at) = fault_at(fault) {
+        text.extend_from_slice(b" at ")?;
+        let offset = format!(in alloc; "{at}")?;
+        text.extend_from_slice(offset.as_bytes())?;
+    }
+    Ok(text)
+}
+
 /// The line that tells a status, with its line feed; nothing where the work is done.
 pub fn explain(alloc: Global, status: &Status) -> Result<Vec<u8>, NoMemory>
     ensures { IfOk result (λ v. v.items ≡ line_of status.now) }
@@ -62,6 +135,7 @@ pub fn explain(alloc: Global, status: &Status) -> Result<Vec<u8>, NoMemory>
         Status::Usage(word) => Ok(line(alloc, b"usage: ", word.all(), b"")?),
         Status::ReadFault(name) => Ok(line(alloc, b"cannot read ", name.all(), b"")?),
         Status::TooLong(name) => Ok(line(alloc, b"", name.all(), b" is too long")?),
+        Status::Refused(name, why) => Ok(line(alloc, b"", name.all(), &cause(alloc, *why)?)?),
         Status::WriteFault(name) => Ok(line(alloc, b"cannot write ", name.all(), b"")?),
         Status::NoMemory => Ok(line(alloc, b"out of memory", b"", b"")?),
         Status::Later(name) => Ok(line(alloc, b"", name.all(), b": later")?),

@@ -143,7 +143,6 @@ fn other_sources_are_later_and_make_no_file(rt: HostRuntime) -> Result<(), Fail>
         "int main(void) { break; }",
         // numbers and words of no tiny text
         "unsigned char a; int main(void) { a = 256; }",
-        "unsigned char a; int main(void) { a = 08; }",
         "unsigned char a; int main(void) { a = 'a'; }",
         "unsigned char a; int main(void) { a = b; }",
         "unsigned char return; int main(void) { }",

@@ -1,13 +1,16 @@
-//! How a tiny text is read, and how it is packed.
+//! How a tiny text is read.
 
-ghost use Rattle.std.specs.Prelude.{◌≡◌, IfOk, IfSome, Some};
+ghost use Rattle.std.specs.Prelude.{◌≡◌, ◌<◌, ◌^◌, length, IfOk, IfErr, IfSome, Some};
 ghost use Rattle.cc_syntax.specs.declared.program.Program.{Program as ProgramOf};
+ghost use Rattle.ccomp.specs.Headline.{HasTokens, IsRefused};
 ghost use Rattle.ccomp.specs.Tiny.{IsTinyText, IsTinyWords};
 
+use crate::status::ReadRefusal;
 use crate::tiny::checks::has_names;
-use crate::tiny::lexer::words;
 use crate::tiny::parse::parse;
 use crate::tiny::word::Word;
+use crate::tiny::words::words;
+use cc_lex::lex;
 use cc_num::NoMemory;
 use cc_syntax::Program;
 use std::alloc::Global;
@@ -30,11 +33,15 @@ fn program_of(alloc: Global, words: &[Word]) -> Result<Option<Program>, NoMemory
 }
 
 /// The program that the text is a tiny text of, where there is one. There is at most one.
-pub fn read(alloc: Global, text: &[u8]) -> Result<Option<Program>, NoMemory>
+pub fn read(alloc: Global, text: &[u8]) -> Result<Option<Program>, ReadRefusal>
+    requires { length text.now < 2 ^ 32 }
     ensures found { IfOk result (λ r. IfSome r (λ p. IsTinyText text.now p)) }
     ensures only { IfOk result (λ r. (p : ProgramOf) → IsTinyText text.now p → r ≡ Some p) }
+    ensures tokens { IfOk result (λ _. HasTokens text.now) }
+    ensures refused { IfErr result (IsRefused text.now) }
 {
-    match words(alloc, text)? {
+    let tokens = lex(alloc, text)?;
+    match words(alloc, &tokens)? {
         None => Ok(None),
         Some(words) => Ok(program_of(alloc, &words)?),
     }

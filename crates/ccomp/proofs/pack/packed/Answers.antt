@@ -1,4 +1,4 @@
-use Rattle.std.proofs.Common.{◌≡◌, ◌∙◌, sym, ap, subst, Some, Option, IfSome}
+use Rattle.std.proofs.Common.{subst, Option, IfSome}
 use Rattle.cc_syntax.specs.declared.program.Program.{Program}
 use Rattle.ccomp.specs.Tiny.{IsTinyText}
 use Rattle.ccomp.proofs.PackLaws.{packed_text, none_tiny}

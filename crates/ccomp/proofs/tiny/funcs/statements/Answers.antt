@@ -1,8 +1,7 @@
-use Rattle.std.proofs.Common.{◌≡◌, ◌∙◌, ap, sym, length, false, List, ℕ}
+use Rattle.std.proofs.Common.{◌≡◌, ◌∙◌, ap, length, false, List, ℕ}
 use Rattle.ccomp.specs.Names.{names_in, texts}
 use Rattle.ccomp.specs.Tiny.{Scope, names_of}
 use Rattle.ccomp.specs.Reader.{statements, stmts, block, distinct}
-use Rattle.ccomp.specs.View.{read_of}
 use Rattle.ccomp.proofs.tiny.funcs.statements.Goals as goal
 
 pub returns : goal.returns

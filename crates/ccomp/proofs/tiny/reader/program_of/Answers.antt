@@ -1,4 +1,4 @@
-use Rattle.std.proofs.Common.{◌≡◌, ◌∙◌, sym, ap, subst, Some}
+use Rattle.std.proofs.Common.{◌∙◌, sym, ap, subst, Some}
 use Rattle.cc_syntax.specs.declared.program.Program.{Program}
 use Rattle.ccomp.specs.Tiny.{IsTinyWords}
 use Rattle.ccomp.specs.View.{parsed_in, parsed_read}

@@ -1,0 +1,97 @@
+#!/usr/bin/env python3
+"""Time and peak memory of `ccomp pack` on tiny sources from 64 KiB to 1 MiB.
+
+It builds the program once through ./ccomp and prints a row a source. It ends with status 1 where a
+doubling costs more than 2.3 times, or memory more than 300 bytes for each byte of source.
+"""
+import os
+import subprocess
+import sys
+import tempfile
+import time
+
+TOP = os.path.dirname(os.path.dirname(os.path.abspath(__file__)))
+MOST_RATIO = 2.3
+MOST_BYTES = 300
+# what is too short to be measured against a doubling, in seconds
+SHORT = 0.01
+
+
+def statements(size):
+    """One list of statements."""
+    front = "extern volatile unsigned char in;\nint main(void) {\n  unsigned char t;\n"
+    line = "t=in;\n"
+    return front + line * ((size - len(front) - 3) // len(line)) + "}\n"
+
+
+def names(size):
+    """Many objects, each used once."""
+    lines, used, length = [], [], 60
+    while True:
+        line = f"unsigned char object{len(lines)};\n"
+        use = f"  object{len(lines)} = t;\n"
+        length += len(line) + len(use)
+        if length > size:
+            break
+        lines.append(line)
+        used.append(use)
+    return "".join(lines) + "int main(void) {\n  unsigned char t;\n" + "".join(used) + "}\n"
+
+
+def functions(size):
+    """Many functions, each with nested blocks."""
+    parts, length = [], 40
+    while True:
+        part = (
+            f"__attribute__((signal)) void handler{len(parts)}(void) {{\n  unsigned char t;\n"
+            "  while (1) { t = 1; if (t) { while (1) { break; } } else { irq_on(); } }\n}\n"
+        )
+        length += len(part)
+        if length > size:
+            return "".join(parts) + "int main(void) { }\n"
+        parts.append(part)
+
+
+def measured(folder, source):
+    """The least time of three runs in seconds, and the peak memory in bytes."""
+    with open(os.path.join(folder, "s.c"), "w") as file:
+        file.write(source)
+    best, peak = None, 0
+    for _ in range(3):
+        begun = time.monotonic()
+        words = [os.path.join(TOP, "ccomp"), "pack", "-", "o.c", "-", "-", "s.c"]
+        child = subprocess.Popen(words, cwd=folder)
+        _, status, usage = os.wait4(child.pid, 0)
+        took = time.monotonic() - begun
+        if status != 0:
+            sys.exit(f"the program ended with {os.waitstatus_to_exitcode(status)}")
+        best = took if best is None else min(best, took)
+        peak = max(peak, usage.ru_maxrss * 1024)
+    return best, peak
+
+
+def main():
+    failed = False
+    with tempfile.TemporaryDirectory() as folder:
+        measured(folder, "int main(void) { }\n")
+        idle, ground = measured(folder, "int main(void) { }\n")
+        print(f"nothing: {idle:.3f} s, {ground >> 10} KiB")
+        for made in (statements, names, functions):
+            before = None
+            for shift in range(16, 21):
+                source = made(1 << shift)
+                total, peak = measured(folder, source)
+                took = max(total - idle, SHORT)
+                each = max(peak - ground, 0) / len(source)
+                ratio = took / before if before else 0
+                before = took
+                print(
+                    f"{made.__name__} {len(source)}: {total:.3f} s, x{ratio:.2f}, "
+                    f"{peak >> 10} KiB, {each:.0f} bytes a byte"
+                )
+                failed = failed or ratio > MOST_RATIO or each > MOST_BYTES
+    sys.exit(1 if failed else 0)
+
+
+if __name__ == "__main__":
+    main()
