@@ -3,13 +3,18 @@
 #![tactic(auto)]
 
 mod expr;
+mod normal;
 mod program;
 mod stmt;
 mod types;
 mod value;
 
 pub use expr::{Expr, Intr, Place};
+pub use normal::is_normal;
 pub use program::{Device, Entry, Func, Object, Program};
 pub use stmt::Stmt;
 pub use types::{CType, Shape, Sig};
 pub use value::{Cell, Value};
+
+#[cfg(test)]
+mod tests;
