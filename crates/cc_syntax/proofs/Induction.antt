@@ -1,5 +1,5 @@
 -- Induction over a statement, a case for each variant, with what holds of each statement in its lists.
-use Rattle.std.proofs.Common.{◌≡◌, List, [], ◌∷◌, refl, subst, sym}
+use Rattle.std.proofs.Common.{List, [], ◌∷◌, subst, sym}
 use Rattle.cc_syntax.specs.declared.expr.Expr.{Expr}
 use Rattle.cc_syntax.specs.declared.stmt.Stmt.{Stmt, Do, If, While, Break, If', While', Row_of-Stmt, end_of-Stmt, more_of-Stmt, items-the_row-Stmt}
 use Rattle.cc_syntax.specs.declared.stmt.Stmt.TheBlock.{shown-the_row-Stmt-0, items_shown-the_row-Stmt-0, backs-Stmt}

@@ -1,12 +1,12 @@
 -- A program passes the test exactly where it is in normal form, field by field.
-use Rattle.std.proofs.Common.{◌≡◌, Bool, true, false, ◌&&◌, ◌↔◌, List, [], ◌∷◌, ◌++◌, map, refl, sym, ◌∙◌, subst, slice_get}
+use Rattle.std.proofs.Common.{◌≡◌, Bool, true, false, ◌↔◌, List, ◌++◌, map, refl, sym, ◌∙◌}
 use Rattle.std.specs.Prelude.{IsTrue, All}
 use Rattle.std.specs.List.{list_all}
 use Rattle.std.specs.Bool.{Decides}
 use Rattle.std.proofs.lemmas.Bool.Decides.{Decides-and, Decides-at, Decides-like, Decides-by_and}
 use Rattle.cc_syntax.specs.declared.program.Func.{Func}
 use Rattle.cc_syntax.specs.declared.program.Program.{Program}
-use Rattle.cc_syntax.specs.Normal.{IsOnce, AreStmts, IsFunc, IsNormal, file_names, is_identifier, takes_nothing, has_result, is_local, is_device, is_object, is_main}
+use Rattle.cc_syntax.specs.Normal.{IsFunc, IsNormal, file_names, is_identifier, takes_nothing, has_result, is_local, is_device, is_object}
 use Rattle.cc_syntax.specs.NormalTest.{once_devices, once_locals, is_stmt, is_func, is_normal}
 use Rattle.cc_syntax.proofs.NormalNames.{once_names, Decides-once, devices_once, locals_once}
 use Rattle.cc_syntax.proofs.NormalStmts.{both_true, true_both, Decides-stmts}

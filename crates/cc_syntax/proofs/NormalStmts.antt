@@ -13,7 +13,7 @@ use Rattle.cc_syntax.specs.declared.expr.Expr.{Expr, Const, Load, Assign, Intr, 
 use Rattle.cc_syntax.specs.declared.expr.Expr.TheVariants.{rolls-Const, rolls-Load, rolls-Assign, rolls-Intr, outs-Const, outs-Load, outs-Assign, outs-Intr}
 use Rattle.cc_syntax.specs.declared.expr.Expr.TheOpen as expr
 use Rattle.cc_syntax.specs.declared.expr.Place.{Place}
-use Rattle.cc_syntax.specs.declared.stmt.Stmt.{Stmt, Do, If, While, Break, out-Stmt, fold-Stmt, map-Stmt, fold_out-Stmt}
+use Rattle.cc_syntax.specs.declared.stmt.Stmt.{Stmt, Do, If, While, Break, out-Stmt, map-Stmt, fold_out-Stmt}
 use Rattle.cc_syntax.specs.declared.stmt.Stmt.TheVariants.{outs-Do, outs-If, outs-While, outs-Break}
 use Rattle.cc_syntax.specs.declared.stmt.Stmt.TheOpen as is
 use Rattle.cc_syntax.specs.declared.program.Program.{Program}

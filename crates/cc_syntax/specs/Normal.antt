@@ -1,5 +1,5 @@
 -- Programs in normal form: each statement has at most one access to a place that is not a register.
-use Rattle.std.specs.Prelude.{◌≡◌, ◌==◌, ℕ, ℤ, pos, zero, suc, Bool, true, false, not, ◌&&◌, ◌||◌, nat_le, List, [], ◌∷◌, ◌++◌, map, Option, Some, None, slice_get, if◌then◌else◌, codes}
+use Rattle.std.specs.Prelude.{◌≡◌, ◌==◌, ℕ, ℤ, pos, Bool, true, false, not, ◌&&◌, ◌||◌, nat_le, List, [], ◌∷◌, ◌++◌, map, Option, Some, None, slice_get, if◌then◌else◌, codes}
 use Rattle.std.specs.List.{list_all, All, Contains}
 use Rattle.std.specs.Str.{bytes_eq}
 use Rattle.cc_num.specs.declared.int_type.IntType.{IntType}
@@ -121,8 +121,9 @@ is_integer (shape.Int t) = true
 abbrev pub is_object : Object → Bool
 is_object object = is_identifier object.name && is_integer object.ctype.shape
 
+-- no local is const
 abbrev pub is_local : Named → Bool
-is_local l = is_identifier l.0 && is_integer l.1.shape
+is_local l = is_identifier l.0 && (is_integer l.1.shape && not l.1.constant)
 
 -- the names of a file, in order
 abbrev pub device_name : Option (List ℕ) → List (List ℕ) → List (List ℕ)

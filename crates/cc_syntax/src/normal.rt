@@ -58,7 +58,7 @@ fn are_objects(objects: &[Object]) -> bool
 fn is_local(local: &(Name, CType)) -> bool
     ensures { result ≡ is_local_of local.now }
 {
-    is_identifier(local.0.all()) && is_integer(&local.1)
+    is_identifier(local.0.all()) && is_integer(&local.1) && !local.1.constant
 }
 
 fn are_locals(locals: &[(Name, CType)]) -> bool

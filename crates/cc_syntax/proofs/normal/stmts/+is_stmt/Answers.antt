@@ -1,4 +1,4 @@
-use Rattle.std.proofs.Common.{rules, ◌≡◌, false, sym, ◌∙◌, ap, subst, List, not}
+use Rattle.std.proofs.Common.{rules, ◌≡◌, false}
 use Rattle.cc_syntax.specs.NormalTest.{is_stmt as is_stmt_of}
 use Rattle.cc_syntax.proofs.NormalLists.{all_tests-stop}
 use Rattle.cc_syntax.proofs.normal.stmts.+is_stmt.Goals as goal
