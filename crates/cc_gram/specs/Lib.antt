@@ -1,0 +1,16 @@
+pub mod Tokens
+pub mod Operators
+pub mod Scopes
+pub mod Terms
+pub mod Statements
+pub mod Sentences
+pub mod Height
+pub mod Outside
+pub mod Reading
+pub mod ReadTypes
+pub mod Turns
+pub mod TurnTrees
+pub mod TurnTypes
+pub mod TurnLines
+pub mod Machine
+pub mod Measure

@@ -1,0 +1,30 @@
+//! What holds of the sentences and their trees, and of the machine that reads them.
+
+ghost use Rattle.std.specs.Prelude.{◌≡◌, ◌≤◌, ◌<◌, ℕ, Ok, Err};
+ghost use Rattle.cc_gram.specs.Height.{unit_height};
+ghost use Rattle.cc_gram.specs.Machine.{State, Leads, start, turn, height_of};
+ghost use Rattle.cc_gram.specs.Measure.{measure};
+ghost use Rattle.cc_gram.specs.Outside.{first_outside};
+ghost use Rattle.cc_gram.specs.Sentences.{IsSentence};
+ghost use Rattle.cc_gram.specs.Tokens.{Tokens};
+ghost use Rattle.cc_gram.specs.declared.state.Control.TheVariants as control;
+ghost use Rattle.cc_gram.specs.declared.state.Tall.{Tall};
+ghost use Rattle.cc_gram.specs.declared.stop.Stop.{Stop};
+ghost use Rattle.cc_gram.specs.declared.unit.Unit.{Unit as UnitTree};
+ghost use Rattle.std.specs.Prelude.{None};
+
+/// Tokens are a sentence of at most one tree.
+pub fn tokens_have_one_tree()
+    ensures { (ts : Tokens) (u v : UnitTree) → IsSentence ts u → IsSentence ts v → u ≡ v }
+{}
+
+/// The machine comes to an end on all tokens, and ends with a tree exactly where they are a sentence; then with
+/// that tree and its height. On the way to it nothing is read that is higher than the whole.
+pub fn the_machine_reads_sentences()
+    ensures ends { (s t : State) → turn s ≡ Ok t → measure t < measure s }
+    ensures sound { (limit : ℕ) (ts : Tokens) (s : State) (u : Tall UnitTree) → first_outside ts ≡ None → Leads limit (start ts) s → s.control ≡ control.Done u →
+        IsSentence ts u.node × (u.height ≡ unit_height u.node) }
+    ensures complete { (limit : ℕ) (ts : Tokens) (s : State) (e : Stop) (u : UnitTree) → Leads limit (start ts) s → turn s ≡ Err e → IsSentence ts u →
+        s.control ≡ control.Done (record { node = u; height = unit_height u }) }
+    ensures low { (limit : ℕ) (ts : Tokens) (s t : State) (u : UnitTree) → Leads limit (start ts) s → turn s ≡ Ok t → IsSentence ts u → unit_height u ≤ limit → height_of t.control ≤ limit }
+{}
