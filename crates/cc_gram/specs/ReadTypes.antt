@@ -103,15 +103,6 @@ abbrev pub qualifiers : Tokens → List Word × Tokens
 qualifiers [] = ([], [])
 qualifiers (t ∷ ts) = qualifiers_at t.kind (t ∷ ts) (qualifiers ts)
 
-abbrev pub is_void_word : Kind → Bool
-is_void_word (kind.Keyword w.Void) = true
-is_void_word _ = false
-
--- `void` alone
-unfoldable pub only_void : Tokens → Bool
-only_void [] = false
-only_void (t ∷ ts) = is_void_word t.kind && begins_with m.RParen ts
-
 -- [ name ]
 abbrev pub tag_at : Tokens → Tokens → Kind → Option Name × Tokens
 tag_at all ts (kind.Ident x) = (Some x, ts)

@@ -34,9 +34,6 @@ abbrev pub ◌>>=◌ : {A B : Type 0} → Result A Stop → (A → Result B Stop
 abbrev pub wrong : {A : Type 0} → Tokens → Result A Stop
 wrong ts = Err (stop.Wrong (length ts))
 
-abbrev pub deep : {A : Type 0} → Tokens → Result A Stop
-deep ts = Err (stop.Deep (length ts))
-
 abbrev pub mark_tag : Mark → ℕ
 mark_tag m = tag_of mark_type.the_type m
 

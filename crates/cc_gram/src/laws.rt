@@ -18,8 +18,8 @@ pub fn tokens_have_one_tree()
     ensures { (ts : Tokens) (u v : UnitTree) → IsSentence ts u → IsSentence ts v → u ≡ v }
 {}
 
-/// The machine comes to an end on all tokens, and ends with a tree exactly where they are a sentence; then with
-/// that tree and its height. On the way to it nothing is read that is higher than the whole.
+/// The machine comes to an end on all tokens. Where none is an outside word, what it ends with is the tree of a
+/// sentence, with its height; a sentence ends with its tree. On the way nothing is read that is higher than the whole.
 pub fn the_machine_reads_sentences()
     ensures ends { (s t : State) → turn s ≡ Ok t → measure t < measure s }
     ensures sound { (limit : ℕ) (ts : Tokens) (s : State) (u : Tall UnitTree) → first_outside ts ≡ None → Leads limit (start ts) s → s.control ≡ control.Done u →
