@@ -35,3 +35,8 @@ pub mod MeasureTypes
 pub mod MeasureLines
 pub mod Measure
 pub mod Reading
+pub mod Turned
+pub mod ParseLaws
+pub mod PlainWords
+pub mod Taken
+pub mod ScopeNames

@@ -4,6 +4,7 @@ pub mod Scopes
 pub mod Terms
 pub mod Statements
 pub mod Sentences
+pub mod Faults
 pub mod Height
 pub mod Outside
 pub mod Reading
@@ -13,4 +14,8 @@ pub mod TurnTrees
 pub mod TurnTypes
 pub mod TurnLines
 pub mod Machine
+pub mod View
+pub mod Parse
 pub mod Measure
+pub mod Taken
+pub mod ScopeNames

@@ -1,11 +1,14 @@
 -- The parser's machine: its state, a turn, and what turns lead to.
-use Rattle.std.specs.Prelude.{◌≡◌, ◌≤◌, ℕ, List, [], ◌∷◌, ◌++◌, Option, Some, None, Result, Ok, take}
+use Rattle.std.specs.Prelude.{◌≡◌, ◌≤◌, ◌<◌, ⊤, ℕ, Bool, true, false, List, [], ◌∷◌, ◌++◌, Option, Some, None, Result, Ok, Err, length, take}
 use Rattle.cc_gram.specs.declared.state.Control.{Control}
 use Rattle.cc_gram.specs.declared.state.Control.TheVariants as control
 use Rattle.cc_gram.specs.declared.state.Frame.{Frame}
 use Rattle.cc_gram.specs.declared.state.Scoping.{Scoping}
 use Rattle.cc_gram.specs.declared.state.Scoping.TheVariants as scoping
+use Rattle.cc_gram.specs.declared.state.Tall.{Tall}
 use Rattle.cc_gram.specs.declared.stop.Stop.{Stop}
+use Rattle.cc_gram.specs.declared.stop.Stop.TheVariants as stop
+use Rattle.cc_gram.specs.declared.unit.Unit.{Unit as UnitTree}
 use Rattle.cc_gram.specs.Reading.{◌>>=◌, wrong}
 use Rattle.cc_gram.specs.Scopes.{Scope}
 use Rattle.cc_gram.specs.Tokens.{Tokens}
@@ -59,7 +62,7 @@ turned scope fs ts (control.Items is) = stays fs (lines.items is ts)
 turned scope fs ts (control.HaveItem i) = hands (lines.to_item i ts) fs ts
 turned scope fs ts (control.Done u) = wrong ts
 
-abbrev pub with_frame : Option Frame → List Frame → List Frame
+abbrev pub with_frame : {F : Type 0} → Option F → List F → List F
 with_frame None fs = fs
 with_frame (Some f) fs = f ∷ fs
 
@@ -95,3 +98,41 @@ height_of _ = 0
 pub data Leads (limit : ℕ) : State → State → Type 0 where
   Here : (s : State) → Leads limit s s
   There : (s t u : State) → turn s ≡ Ok t → height_of t.control ≤ limit → Leads limit t u → Leads limit s u
+
+-- whether nothing is left to do
+abbrev pub is_done : Control → Bool
+is_done (control.Done u) = true
+is_done _ = false
+
+-- Turns lead to the end, with this unit.
+pub record Reads (limit : ℕ) (ts : Tokens) (u : Tall UnitTree) : Type 0 where
+  pub last : State
+  pub led : Leads limit (start ts) last
+  pub done : last.control ≡ control.Done u
+  pub low : u.height ≤ limit
+
+-- Turns lead to a state that has none, since what stands n tokens in front of the end cannot stand there.
+pub record Refuses (limit : ℕ) (ts : Tokens) (n : ℕ) : Type 0 where
+  pub last : State
+  pub led : Leads limit (start ts) last
+  pub works : is_done last.control ≡ false
+  pub refused : turn last ≡ Err (stop.Wrong n)
+
+-- Turns lead to a state, n tokens in front of the end, whose turn reads something higher than the limit.
+pub record Exceeds (limit : ℕ) (ts : Tokens) (n : ℕ) : Type 0 where
+  pub last : State
+  pub led : Leads limit (start ts) last
+  pub next : State
+  pub turned : turn last ≡ Ok next
+  pub high : limit < height_of next.control
+  pub ahead : n ≡ length last.rest
+
+-- where a fault is one of syntax, at n tokens in front of the end
+abbrev pub IfWrong : (ℕ → Type 0) → Stop → Type 0
+IfWrong P (stop.Wrong n) = P n
+IfWrong P _ = ⊤
+
+-- where a fault is one of height, at n tokens in front of the end
+abbrev pub IfDeep : (ℕ → Type 0) → Stop → Type 0
+IfDeep P (stop.Deep n) = P n
+IfDeep P _ = ⊤

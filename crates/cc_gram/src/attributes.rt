@@ -10,6 +10,7 @@ use crate::at::At;
 use crate::cursor::{after, begins_with, behind, eat, name, offset, owned};
 use crate::stop::{Reading, Stop};
 use crate::tree::Attr;
+use crate::turns::{closed, named};
 use cc_lex::{Kind, Mark, Token, Word};
 use cc_num::{List, Name};
 use std::alloc::Global;
@@ -22,9 +23,9 @@ fn attr_argument<'t>(alloc: Global, word: Name, tokens: &'t [Token]) -> Reading<
     match after(Mark::LParen, tokens) {
         None => Ok(((word, None), tokens)),
         Some(rest) => {
-            let (argument, rest) = name(rest)?;
-            let rest = eat(Mark::RParen, rest)?;
-            Ok(((word, Some(owned(alloc, argument)?)), rest))
+            let (read, rest) = named(alloc, word, rest)?;
+            let ((word, argument), rest) = closed(read, Mark::RParen, rest)?;
+            Ok(((word, Some(argument)), rest))
         }
     }
 }
@@ -96,8 +97,8 @@ pub fn attr<'t>(alloc: Global, tokens: &'t [Token]) -> Reading<'t, At<Attr>>
     let rest = eat(Mark::LParen, behind(tokens))?;
     let rest = eat(Mark::LParen, rest)?;
     let (words, rest) = attr_list(alloc, rest)?;
-    let rest = eat(Mark::RParen, rest)?;
-    let rest = eat(Mark::RParen, rest)?;
+    let (words, rest) = closed(words, Mark::RParen, rest)?;
+    let (words, rest) = closed(words, Mark::RParen, rest)?;
     let at = offset(tokens);
     let node = Attr { words };
     Ok((At { at, node }, rest))

@@ -3,11 +3,11 @@
 ghost use Rattle.std.specs.Prelude.{◌≡◌, is_some};
 ghost use Rattle.std.specs.Option.{option_copied};
 ghost use Rattle.cc_gram.specs.Scopes.{name_of as name_of_declr, is_typedef_word as is_typedef_word_of, declares_types as declares_types_of};
-ghost use Rattle.cc_gram.specs.Terms.{have_word as have_word_of, attrs_apart as attrs_apart_of, is_nothing as is_nothing_of, is_attr as is_attr_of, ends_structure as ends_structure_of, is_extension as is_extension_of};
+ghost use Rattle.cc_gram.specs.Terms.{have_word as have_word_of, attrs_apart as attrs_apart_of, is_nothing as is_nothing_of, is_attr as is_attr_of, ends_structure as ends_structure_of, is_extension as is_extension_of, is_void as is_void_of, is_void_list as is_void_list_of, is_only_void as is_only_void_of};
 ghost use Rattle.cc_gram.specs.declared.tree.Spec.{Word as SpecWord};
 
 use crate::at::At;
-use crate::tree::{Declr, Spec};
+use crate::tree::{Declr, Param, Spec};
 use cc_lex::Word;
 
 /// Whether a declarator has a name.
@@ -127,4 +127,41 @@ pub fn attrs_apart(behind_brace: bool, specs: &[At<Spec>]) -> bool
         behind_brace = ends_structure(&spec.node);
     }
     true
+}
+
+fn is_void_word(word: Word) -> bool
+    ensures { result ≡ is_void_of (SpecWord word) }
+{
+    match word {
+        Word::Void => true,
+        _ => false,
+    }
+}
+
+fn is_void(spec: &Spec) -> bool
+    ensures { result ≡ is_void_of spec.now }
+{
+    match spec {
+        Spec::Word(word) => is_void_word(*word),
+        _ => false,
+    }
+}
+
+fn is_void_list(specs: &[At<Spec>]) -> bool
+    ensures { result ≡ is_void_list_of specs.now }
+{
+    match specs {
+        [spec] => is_void(&spec.node),
+        _ => false,
+    }
+}
+
+/// Whether parameters are `void` alone.
+pub fn is_only_void(params: &[At<Param>]) -> bool
+    ensures { result ≡ is_only_void_of params.now }
+{
+    match params {
+        [param] => is_void_list(param.node.specs.all()) && is_nothing(&param.node.declr.node),
+        _ => false,
+    }
 }

@@ -1,20 +1,12 @@
 //! Names of typedefs, and what a token means by them.
 
 ghost use Rattle.std.specs.Prelude.{◌≡◌};
-ghost use Rattle.cc_gram.specs.Scopes.{is_typedef as is_typedef_of};
 ghost use Rattle.cc_gram.specs.Terms.{is_spec_word as is_spec_word_of, is_qualifier as is_qualifier_of};
 ghost use Rattle.cc_gram.specs.ReadTypes.{is_spec_start as is_spec_start_of, kind_begins_spec as kind_begins_spec_of, begins_spec as begins_spec_of, begins_specs as begins_specs_of, is_extension_word as is_extension_word_of};
 ghost use Rattle.cc_lex.specs.declared.token.Kind.TheVariants.{Keyword};
 
+use crate::scope::Scope;
 use cc_lex::{Kind, Token, Word};
-use cc_num::Name;
-
-/// Whether a name is one of a typedef in scope.
-pub fn is_typedef(scope: &[Name], name: &[u8]) -> bool
-    ensures { result ≡ is_typedef_of scope.now name.now }
-{
-    scope.iter().any(|known| name == known.all())
-}
 
 pub fn is_qualifier(word: Word) -> bool
     ensures { result ≡ is_qualifier_of word }
@@ -48,19 +40,19 @@ fn is_spec_start(word: Word) -> bool
     }
 }
 
-fn kind_begins_spec(scope: &[Name], kind: &Kind) -> bool
+fn kind_begins_spec(scope: &Scope, kind: &Kind) -> bool
     ensures { result ≡ kind_begins_spec_of scope.now kind.now }
 {
     match kind {
         Kind::Keyword(word) => is_spec_start(*word),
-        Kind::Ident(name) => is_typedef(scope, name.all()),
+        Kind::Ident(name) => scope.is_typedef(name.all()),
         _ => false,
     }
 }
 
 /// Whether a specifier stands first.
 #[tactic(auto, unfolding(crate::specs::ReadTypes::begins_spec))]
-pub fn begins_spec(scope: &[Name], tokens: &[Token]) -> bool
+pub fn begins_spec(scope: &Scope, tokens: &[Token]) -> bool
     ensures { result ≡ begins_spec_of scope.now tokens.now }
 {
     match tokens {
@@ -88,7 +80,7 @@ fn is_extension_word(kind: &Kind) -> bool
 }
 
 /// Whether specifiers stand first, behind as many `__extension__` as there are.
-pub fn begins_specs(scope: &[Name], tokens: &[Token]) -> bool
+pub fn begins_specs(scope: &Scope, tokens: &[Token]) -> bool
     ensures { result ≡ begins_specs_of scope.now tokens.now }
 {
     let mut tokens = tokens;

@@ -4,7 +4,7 @@ use crate::at::At;
 use crate::tree::{Attr, Declr, Enumr, MemberDecl, Param, Spec, Tree, TypeName};
 use crate::unit::{Decl, First, Given, Init, Item, Line, Unit};
 use cc_lex::{Mark, Token};
-use cc_num::{List, Name};
+use cc_num::{Boxed, List, Name};
 
 /// A construct with its height: how many nodes stand on its longest branch.
 #[derive(Drop)]
@@ -12,6 +12,9 @@ pub struct Tall<T> {
     pub node: T,
     pub height: usize,
 }
+
+/// A construct of a tree in a box, with its offset and its height.
+pub type Node<T> = Tall<Boxed<At<T>>>;
 
 /// What a type name in parentheses is for.
 #[derive(Clone, Copy, Drop)]
@@ -55,7 +58,7 @@ pub struct Enumeration {
 /// A function's declarator whose parameters are being read.
 #[derive(Drop)]
 pub struct Function {
-    pub declr: At<Declr>,
+    pub declr: Boxed<At<Declr>>,
     pub params: List<At<Param>>,
     pub height: usize,
 }
@@ -76,7 +79,7 @@ pub struct Declaration {
 pub struct Head {
     pub at: u32,
     pub specs: List<At<Spec>>,
-    pub declr: At<Declr>,
+    pub declr: Boxed<At<Declr>>,
     pub attrs: List<At<Attr>>,
     pub height: usize,
 }
@@ -97,9 +100,9 @@ pub struct Block {
 pub struct For {
     pub at: u32,
     pub scope: usize,
-    pub first: First,
-    pub test: Option<At<Tree>>,
-    pub step: Option<At<Tree>>,
+    pub first: Boxed<First>,
+    pub test: Option<Boxed<At<Tree>>>,
+    pub step: Option<Boxed<At<Tree>>>,
     pub height: usize,
 }
 
@@ -117,28 +120,28 @@ pub enum TreeFrame {
     /// Operators of this level and tighter ones may follow.
     Operators(usize),
     /// The right operand of a binary operator of a level.
-    Binary(usize, Mark, usize, Tall<At<Tree>>),
+    Binary(usize, Mark, usize, Node<Tree>),
     /// What stands between `?` and `:`.
-    Choice(usize, Tall<At<Tree>>),
+    Choice(usize, Node<Tree>),
     /// What stands behind `:`.
-    Otherwise(usize, Tall<At<Tree>>, Tall<At<Tree>>),
-    Assign(usize, Mark, Tall<At<Tree>>),
-    Comma(usize, Tall<At<Tree>>),
+    Otherwise(usize, Node<Tree>, Node<Tree>),
+    Assign(usize, Mark, Node<Tree>),
+    Comma(usize, Node<Tree>),
     Paren(u32),
-    Subscript(Tall<At<Tree>>),
+    Subscript(Node<Tree>),
     /// An argument, behind those so far.
-    Call(Tall<At<Tree>>, List<At<Tree>>),
+    Call(Node<Tree>, List<At<Tree>>),
     Prefix(u32, Mark),
     SizeOf(u32),
     Extension(u32),
-    Cast(u32, Tall<TypeName>),
+    Cast(u32, Tall<Boxed<TypeName>>),
 }
 
 /// What waits for an expression elsewhere.
 #[derive(Drop)]
 pub enum PartFrame {
     /// The bound of an array.
-    Bound(Tall<At<Declr>>),
+    Bound(Node<Declr>),
     /// The value of an enumeration constant, with its offset and name.
     Enumr(Enumeration, u32, Name),
     /// An initialiser.
@@ -147,7 +150,7 @@ pub enum PartFrame {
     While(u32),
     Switch(u32),
     /// The test behind the body of a `do`.
-    Do(u32, Tall<At<Line>>),
+    Do(u32, Node<Line>),
     First(u32, usize),
     Test(For),
     Step(For),
@@ -183,7 +186,7 @@ pub enum DeclrFrame {
 #[derive(Drop)]
 pub enum ValueFrame {
     /// That of a declarator with its attributes.
-    Init(Declaration, At<Declr>, List<At<Attr>>),
+    Init(Declaration, Boxed<At<Declr>>, List<At<Attr>>),
     /// A list in braces that begins at an offset, with its values so far.
     Many(u32, Tall<List<At<Given>>>),
 }
@@ -191,13 +194,13 @@ pub enum ValueFrame {
 /// What waits for a statement.
 #[derive(Drop)]
 pub enum LineFrame {
-    Then(u32, Tall<At<Tree>>),
-    Else(u32, Tall<At<Tree>>, Tall<At<Line>>),
-    While(u32, Tall<At<Tree>>),
-    Switch(u32, Tall<At<Tree>>),
+    Then(u32, Node<Tree>),
+    Else(u32, Node<Tree>, Node<Line>),
+    While(u32, Node<Tree>),
+    Switch(u32, Node<Tree>),
     Do(u32),
     For(For),
-    Case(u32, Tall<At<Tree>>),
+    Case(u32, Node<Tree>),
     Default(u32),
 }
 
@@ -228,11 +231,11 @@ pub enum Control {
     /// Read an operand where an expression of this level is wanted.
     Operand(usize),
     /// Look behind a postfix expression.
-    Postfix(Tall<At<Tree>>),
+    Postfix(Node<Tree>),
     /// Look for an operator of the first level or a tighter one, behind an expression of the second level.
-    Operators(usize, usize, Tall<At<Tree>>),
+    Operators(usize, usize, Node<Tree>),
     /// Hand over an expression of this level.
-    Tree(usize, Tall<At<Tree>>),
+    Tree(usize, Node<Tree>),
     /// Read specifiers behind these.
     Specs(Tall<List<At<Spec>>>),
     HaveSpecs(Tall<List<At<Spec>>>),
@@ -242,10 +245,10 @@ pub enum Control {
     Enumeration(Enumeration),
     Declr,
     /// Look behind a direct declarator.
-    Suffix(Tall<At<Declr>>),
-    HaveDeclr(Tall<At<Declr>>),
+    Suffix(Node<Declr>),
+    HaveDeclr(Node<Declr>),
     Value,
-    HaveValue(Tall<At<Given>>),
+    HaveValue(Node<Given>),
     /// Read a declaration, which stands in no function or in one.
     Decl(bool),
     /// Look behind a declarator with what it is given.
@@ -253,14 +256,14 @@ pub enum Control {
     HaveDecl(u32, Tall<Decl>),
     Statement,
     Block(Block),
-    HaveLine(Tall<At<Line>>),
+    HaveLine(Node<Line>),
     /// Read the test of a `for`.
     Test(For),
     /// Read the last part of a `for`.
     Step(For),
     HaveBody(Tall<List<At<Line>>>),
     Items(Items),
-    HaveItem(Tall<At<Item>>),
+    HaveItem(Node<Item>),
     Done(Tall<Unit>),
 }
 

@@ -1,113 +1,74 @@
-use crate::attributes::attrs;
-use crate::laws::{the_machine_reads_sentences, tokens_have_one_tree};
-use crate::names::begins_specs;
-use crate::outside::first_outside;
-use crate::pieces::texts;
-use cc_lex::{Token, lex};
-use cc_num::{List, Name};
-use std::alloc::Global;
+mod expressions;
+mod heights;
+mod outside;
+mod places;
+mod refused;
+mod scopes;
+mod specifiers;
+mod statements;
+mod types;
+mod written;
+
+use crate::{GramFault, parse};
+use cc_lex::lex;
+use std::alloc::{AllocError, Global};
+use std::fmt::Write;
+use std::process::Abort;
 use std::test::Fail;
+use written::written;
 
-// The tokens of a short text.
-fn tokens(alloc: Global, text: &str) -> Result<Vec<Token>, Fail> {
-    if text.len() > 1000 {
-        return Err(Fail::from("a long text"));
+/// What a text gives: its tree, written, or its fault. An outside word stands there with its offset; the
+/// offsets of the other faults are left out.
+fn outcome(alloc: Global, text: &str, places: bool) -> Result<String, AllocError> {
+    let mut out = String::new(alloc);
+    if text.len() >= 1 << 32 {
+        return Ok(out);
     }
-    lex(alloc, text.as_bytes()).map_err(|_| Fail::from("no tokens"))
-}
-
-#[test]
-fn outside_words_are_found(rt: HostRuntime) -> Result<(), Fail> {
-    let alloc = rt.alloc();
-    let rows = [
-        ("int main(void) { goto x; ) }", "goto", 17),
-        ("asm(\"nop\");", "asm", 0),
-        ("int f(int n, ...);", "...", 13),
-        ("union u { int a; };", "union", 0),
-        ("int c = L'a';", "L", 8),
-        ("char *s = L\"a\";", "L", 10),
-        ("float x; double y;", "float", 0),
-        ("typedef __builtin_va_list v;", "__builtin_va_list", 8),
-    ];
-    for (text, word, at) in rows {
-        let tokens = tokens(alloc, text)?;
-        let (found, place) = first_outside(&tokens).ok_or("no word")?;
-        assert!(rt; found == word.as_bytes(), "in {text}");
-        assert_eq!(rt; place, at, "in {text}");
-    }
-    for text in ["int gotos; int Land;", "int L; L = 'a';", "", "struct u s;"] {
-        assert!(rt; first_outside(&tokens(alloc, text)?).is_none(), "in {text}");
-    }
-    Ok(())
-}
-
-#[test]
-fn attributes_are_read_and_others_refused(rt: HostRuntime) -> Result<(), Fail> {
-    let alloc = rt.alloc();
-    let rows = [
-        ("int x;", 0, 3),
-        ("__attribute__((signal)) void f(void);", 1, 6),
-        ("__attribute__(()) __attribute((a(b), c)) x", 2, 1),
-    ];
-    for (text, count, behind) in rows {
-        let tokens = tokens(alloc, text)?;
-        let Ok((list, rest)) = attrs(alloc, &tokens) else {
-            return Err(Fail::from("refused"));
-        };
-        assert_eq!(rt; list.all().len(), count, "in {text}");
-        assert_eq!(rt; rest.len(), behind, "in {text}");
-    }
-    let refused = [
-        "__attribute__((aligned(2))) int x;",
-        "__attribute__((section(\"x\"))) int x;",
-        "__attribute__((const)) int x;",
-        "__attribute__(signal) int x;",
-        "__attribute__((signal) int x;",
-        "__attribute__((a b)) int x;",
-    ];
-    for text in refused {
-        assert!(rt; attrs(alloc, &tokens(alloc, text)?).is_err(), "in {text}");
-    }
-    Ok(())
-}
-
-#[test]
-fn neighbouring_literals_are_one(rt: HostRuntime) -> Result<(), Fail> {
-    let alloc = rt.alloc();
-    let tokens = tokens(alloc, "\"a\" \"\" \"bc\";")?;
-    let Ok((bytes, rest)) = texts(alloc, &tokens) else {
-        return Err(Fail::from("refused"));
+    let Ok(tokens) = lex(alloc, text.as_bytes()) else {
+        out.push_str("no tokens")?;
+        return Ok(out);
     };
-    assert!(rt; bytes.all() == b"abc".as_slice());
-    assert_eq!(rt; rest.len(), 1);
-    Ok(())
+    match parse(alloc, &tokens) {
+        Ok(unit) => out.push_str(written(alloc, places, &unit).as_str())?,
+        Err(GramFault::Outside(name, at)) => {
+            out.push_str("Outside ")?;
+            for b in name.all() {
+                out.push(char::from(*b))?;
+            }
+            write!(out, " {at}")?;
+        }
+        Err(GramFault::TooDeep(_)) => out.push_str("TooDeep")?,
+        Err(GramFault::Syntax(_)) => out.push_str("Syntax")?,
+        Err(GramFault::NoMemory) => out.push_str("NoMemory")?,
+    }
+    Ok(out)
 }
 
-#[test]
-fn typedef_names_begin_specifiers(rt: HostRuntime) -> Result<(), Fail> {
-    let alloc = rt.alloc();
-    let mut scope: Vec<Name> = Vec::new(alloc);
-    scope.push(List::of(Vec::from_slice(alloc, b"T")?))?;
-    let rows = [
-        ("T x;", true),
-        ("x = 1;", false),
-        ("__extension__ T x;", true),
-        ("__extension__ x;", false),
-        ("const int x;", true),
-        ("struct T x;", true),
-        ("return x;", false),
-        ("", false),
-    ];
+/// A text, and what it gives.
+type Row = (&'static str, &'static str);
+
+/// Rows of whole translation units.
+fn check<R: Abort + AllocGlobal>(rt: &R, rows: &[Row]) -> Result<(), Fail> {
     for (text, wanted) in rows {
-        let tokens = tokens(alloc, text)?;
-        assert_eq!(rt; begins_specs(&scope, &tokens), wanted, "in {text}");
+        let got = outcome(rt.alloc(), text, false)?;
+        assert_eq!(rt; got.as_str(), *wanted, "in {text:?}");
     }
     Ok(())
 }
 
-#[test]
-fn the_laws_are_there(_rt: HostRuntime) -> Result<(), Fail> {
-    tokens_have_one_tree();
-    the_machine_reads_sentences();
+/// Rows whose texts stand between `front` and `back`, and their trees between two others.
+fn check_inside<R: Abort + AllocGlobal>(
+    rt: &R,
+    texts: Row,
+    trees: Row,
+    rows: &[Row],
+) -> Result<(), Fail> {
+    let alloc = rt.alloc();
+    for (text, wanted) in rows {
+        let whole = format!(in alloc; "{}{}{}", texts.0, text, texts.1)?;
+        let tree = format!(in alloc; "{}{}{}", trees.0, wanted, trees.1)?;
+        let got = outcome(alloc, whole.as_str(), false)?;
+        assert_eq!(rt; got.as_str(), tree.as_str(), "in {text:?}");
+    }
     Ok(())
 }

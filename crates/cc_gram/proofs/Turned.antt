@@ -1,0 +1,36 @@
+-- What turns lead to, as one turn more is done.
+use Rattle.std.proofs.Common.{List, [], ◌≡◌, ◌≤◌, ◌<◌, ℕ, false, Ok, Err, length, refl}
+use Rattle.cc_gram.specs.declared.state.Control.TheVariants as control
+use Rattle.cc_gram.specs.declared.state.Tall.{Tall}
+use Rattle.cc_gram.specs.declared.at.At.{At}
+use Rattle.cc_gram.specs.declared.machine.Machine.{Machine}
+use Rattle.cc_gram.specs.declared.stop.Stop.TheVariants as stop
+use Rattle.cc_gram.specs.declared.unit.Item.{Item}
+use Rattle.cc_gram.specs.View.{state_of, waiting}
+use Rattle.cc_gram.specs.declared.unit.Unit.{Unit as UnitTree}
+use Rattle.cc_gram.specs.Machine.{State, Leads, Here, There, turn, start, is_done, height_of, Reads, Refuses, Exceeds}
+use Rattle.cc_gram.specs.Measure.{measure}
+use Rattle.cc_gram.specs.Tokens.{Tokens}
+use Rattle.cc_gram.proofs.Measure.{falls}
+
+pub leads-more : (limit : ℕ) (s t u : State) → Leads limit s t → turn t ≡ Ok u → height_of u.control ≤ limit → Leads limit s u
+leads-more limit s t u (Here v) h k = There s u u h k (Here u)
+leads-more limit s t u (There v w x g i j) h k = There s w u g i (leads-more limit w t u j h k)
+
+pub reads-here : (limit : ℕ) (ts : Tokens) (s : State) (u : Tall UnitTree) → Leads limit (start ts) s → s.control ≡ control.Done u → u.height ≤ limit → Reads limit ts u
+reads-here limit ts s u h k l = record { last = s; led = h; done = k; low = l }
+
+pub refuses-here : (limit : ℕ) (ts : Tokens) (s : State) (n : ℕ) → Leads limit (start ts) s → is_done s.control ≡ false → turn s ≡ Err (stop.Wrong n) → Refuses limit ts n
+refuses-here limit ts s n h k l = record { last = s; led = h; works = k; refused = l }
+
+pub exceeds-here : (limit : ℕ) (ts : Tokens) (s t : State) → Leads limit (start ts) s → turn s ≡ Ok t → limit < height_of t.control → Exceeds limit ts (length s.rest)
+exceeds-here limit ts s t h k l = record { last = s; led = h; next = t; turned = k; high = l; ahead = refl }
+
+pub ruleset of_leading = (leads-more, reads-here, refuses-here, exceeds-here)
+
+pub falls_here : (s t : State) → turn s ≡ Ok t → measure t < measure s
+falls_here s t h = falls s t h
+
+pub starts : (limit : ℕ) (m : Machine) (is : List (At Item)) (ts : Tokens) → m.scope ≡ [] → m.frames.items ≡ [] → is ≡ [] → Leads limit (start ts) (state_of m (control.Items (record { items = is; height = 0 })) ts)
+unfolding waiting
+starts limit m is ts h k l = rw (h, k, l) (Here (start ts))

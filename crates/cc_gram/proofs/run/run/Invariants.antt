@@ -1,0 +1,15 @@
+use Rattle.std.proofs.Common.{◌≤◌}
+use Rattle.cc_gram.specs.Height.{greatest_height}
+use Rattle.cc_gram.specs.Machine.{Leads, start, height_of}
+use Rattle.cc_gram.specs.Measure.{measure}
+use Rattle.cc_gram.specs.View.{state_of}
+use Rattle.cc_gram.proofs.run.run.Given as goal
+
+abbrev pub invariant-turns : goal.invariant-turns
+invariant-turns l = record {
+  led : Leads greatest_height (start l.fn.tokens) (state_of l.machine l.control l.rest);
+  low : height_of l.control ≤ greatest_height;
+}
+
+abbrev pub decreases-turns : goal.decreases-turns
+decreases-turns l = measure (state_of l.machine l.control l.rest)

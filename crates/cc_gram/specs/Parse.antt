@@ -1,0 +1,63 @@
+-- What is answered to a list of tokens, by the turns that it leads through.
+use Rattle.std.specs.Prelude.{◌≡◌, ◌≤◌, ◌-◌, ◌+◌, ℕ, length, Option, Some, None, slice_get, ⊤}
+use Rattle.cc_lex.specs.declared.token.Token.{Token}
+use Rattle.cc_gram.specs.declared.fault.GramFault.{GramFault}
+use Rattle.cc_gram.specs.declared.fault.GramFault.TheVariants as fault
+use Rattle.cc_gram.specs.declared.unit.Unit.{Unit as UnitTree}
+use Rattle.cc_gram.specs.Machine.{Reads, Refuses, Exceeds}
+use Rattle.cc_gram.specs.Tokens.{Tokens}
+use Rattle.cc_gram.specs.Turns.{tall}
+
+abbrev pub end_at : Option Token → ℕ
+end_at None = 0
+end_at (Some t) = t.at + t.len
+
+-- the offset behind the last token
+abbrev pub end_of : Tokens → ℕ
+end_of ts = end_at (slice_get ts (length ts - 1))
+
+abbrev pub offset_at : ℕ → Option Token → ℕ
+offset_at n None = n
+offset_at n (Some t) = t.at
+
+-- the offset of the token from which n tokens stand to the end, or the end
+abbrev pub place : Tokens → ℕ → ℕ
+place ts n = offset_at (end_of ts) (slice_get ts (length ts - n))
+
+-- Turns lead to the end, with this unit.
+pub record ReadsUnit (limit : ℕ) (ts : Tokens) (u : UnitTree) : Type 0 where
+  pub height : ℕ
+  pub reads : Reads limit ts (tall u height)
+
+-- Turns lead to a state that has none, at this offset.
+pub record RefusesAt (limit : ℕ) (ts : Tokens) (n : ℕ) : Type 0 where
+  pub ahead : ℕ
+  pub refuses : Refuses limit ts ahead
+  pub offset : n ≡ place ts ahead
+
+-- the offset of a token with at least 64 before it
+pub record DeepAt (ts : Tokens) (n : ℕ) : Type 0 where
+  pub before : ℕ
+  pub token : Token
+  pub there : slice_get ts before ≡ Some token
+  pub enough : 64 ≤ before
+  pub offset : n ≡ token.at
+
+-- Turns lead to one that reads something higher than the limit.
+pub record ExceedsAt (limit : ℕ) (ts : Tokens) (n : ℕ) : Type 0 where
+  pub ahead : ℕ
+  pub exceeds : Exceeds limit ts ahead
+  pub place : DeepAt ts n
+
+abbrev pub IfSyntax : (ℕ → Type 0) → GramFault → Type 0
+IfSyntax P (fault.Syntax n) = P n
+IfSyntax P _ = ⊤
+
+abbrev pub IfTooDeep : (ℕ → Type 0) → GramFault → Type 0
+IfTooDeep P (fault.TooDeep n) = P n
+IfTooDeep P _ = ⊤
+
+-- no outside word is told
+abbrev pub IsInside : GramFault → Type 0
+IsInside (fault.Outside x n) = ⊥
+IsInside _ = ⊤
