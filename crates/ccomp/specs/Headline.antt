@@ -1,5 +1,9 @@
 -- What `pack` promises of the files, where they are told.
-use Rattle.std.specs.Prelude.{◌≡◌, ◌≢◌, ◌≤◌, ◌⊎◌, ℕ, List, Some}
+use Rattle.std.specs.Prelude.{◌≡◌, ◌≤◌, ◌⊎◌, ℕ, Bool, true, false, List, Some}
+use Rattle.cc_gram.specs.declared.fault.GramFault.{GramFault}
+use Rattle.cc_gram.specs.declared.fault.GramFault.TheVariants as gram
+use Rattle.cc_gram.specs.declared.unit.Unit.{Unit as UnitTree}
+use Rattle.cc_gram.specs.Faults.{IsRead, HasFault as IsGramFault}
 use Rattle.cc_lex.specs.declared.fault.LexFault.TheVariants as fault
 use Rattle.cc_lex.specs.declared.token.Token.{Token}
 use Rattle.cc_lex.specs.Faults.{HasFault}
@@ -9,7 +13,7 @@ use Rattle.cc_syntax.specs.Layout.{ram}
 use Rattle.cc_meaning.specs.Runs.{Follows, Answers}
 use Rattle.cc_edge.specs.Files.{Files, KeepsOthers, HoldsPrefix}
 use Rattle.ccomp.specs.declared.status.ReadRefusal.{ReadRefusal}
-use Rattle.ccomp.specs.declared.status.ReadRefusal.TheVariants.{Lex}
+use Rattle.ccomp.specs.declared.status.ReadRefusal.TheVariants.{Lex, Gram}
 use Rattle.ccomp.specs.Tiny.{IsTinyText}
 use Rattle.ccomp.specs.Printed.{printed}
 
@@ -46,13 +50,34 @@ pub record Leaves (out source : List ℕ) (old new : Files) : Type 0 where
 abbrev pub IsNoTinyText : List ℕ → Type 0
 IsNoTinyText text = (p : Program) → IsTinyText text p → ⊥
 
--- the text has tokens
-abbrev pub HasTokens : List ℕ → Type 0
-HasTokens text = (ts : List Token) × Tokens text ts
+-- the text's tokens are a sentence of at most the greatest height
+pub record HasSentence (text : List ℕ) : Type 0 where
+  pub tokens : List Token
+  pub tokens_of : Tokens text tokens
+  pub tree : UnitTree
+  pub read : IsRead tokens tree
+
+-- the text has tokens, and they are refused for this cause
+pub record HasGramFault (text : List ℕ) (e : GramFault) : Type 0 where
+  pub tokens : List Token
+  pub tokens_of : Tokens text tokens
+  pub fault : IsGramFault tokens e
+
+-- why the text is refused
+abbrev pub HasCause : List ℕ → ReadRefusal → Type 0
+HasCause text (Lex e) = HasFault text e
+HasCause text (Gram e) = HasGramFault text e
+
+-- the cause is want of memory
+abbrev pub is_for_memory : ReadRefusal → Bool
+is_for_memory (Lex fault.NoMemory) = true
+is_for_memory (Lex _) = false
+is_for_memory (Gram gram.NoMemory) = true
+is_for_memory (Gram _) = false
 
 -- the text is refused for this cause, where memory did not run out
 abbrev pub IsRefused : List ℕ → ReadRefusal → Type 0
-IsRefused text (Lex e) = e ≢ fault.NoMemory → HasFault text e
+IsRefused text why = is_for_memory why ≡ false → HasCause text why
 
 -- the bytes are the printed text of the program that the text is a tiny text of, and a tiny text of
 -- a packed program

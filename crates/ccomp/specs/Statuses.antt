@@ -1,10 +1,12 @@
 -- The number of each status, and the line that tells it.
 use Rattle.std.specs.Prelude.{ℕ, Bool, true, false, List, [], ◌++◌, Option, Some, None, codes}
 use Rattle.std.specs.Fmt.{decimal}
+use Rattle.cc_gram.specs.declared.fault.GramFault.{GramFault}
+use Rattle.cc_gram.specs.declared.fault.GramFault.TheVariants as gram
 use Rattle.cc_lex.specs.declared.fault.LexFault.{LexFault}
 use Rattle.cc_lex.specs.declared.fault.LexFault.TheVariants as fault
 use Rattle.ccomp.specs.declared.status.ReadRefusal.{ReadRefusal}
-use Rattle.ccomp.specs.declared.status.ReadRefusal.TheVariants.{Lex}
+use Rattle.ccomp.specs.declared.status.ReadRefusal.TheVariants.{Lex, Gram}
 use Rattle.ccomp.specs.declared.status.Status.{Status}
 use Rattle.ccomp.specs.declared.status.Status.TheVariants.{Done, Usage, ReadFault, TooLong, Refused, WriteFault, NoMemory, Later}
 
@@ -40,8 +42,28 @@ abbrev pub offset_text : Option ℕ → List ℕ
 offset_text None = []
 offset_text (Some at) = codes " at " ++ decimal at
 
+abbrev pub gram_name : GramFault → List ℕ
+gram_name (gram.Outside x at) = codes "outside"
+gram_name (gram.TooDeep at) = codes "toodeep"
+gram_name (gram.Syntax at) = codes "syntax"
+gram_name gram.NoMemory = codes "nomemory"
+
+-- the word that is outside
+abbrev pub gram_word : GramFault → List ℕ
+gram_word (gram.Outside x at) = codes " " ++ x
+gram_word (gram.TooDeep at) = []
+gram_word (gram.Syntax at) = []
+gram_word gram.NoMemory = []
+
+abbrev pub gram_offset : GramFault → Option ℕ
+gram_offset (gram.Outside x at) = Some at
+gram_offset (gram.TooDeep at) = Some at
+gram_offset (gram.Syntax at) = Some at
+gram_offset gram.NoMemory = None
+
 abbrev pub cause_of : ReadRefusal → List ℕ
 cause_of (Lex e) = fault_name e ++ offset_text (fault_offset e)
+cause_of (Gram e) = gram_name e ++ (gram_word e ++ offset_text (gram_offset e))
 
 abbrev pub text_of : Status → List ℕ
 text_of Done = []

@@ -7,6 +7,8 @@ mod status;
 #[cfg(test)]
 mod tests;
 #[cfg(test)]
+mod tests_sentences;
+#[cfg(test)]
 mod tests_tokens;
 mod tiny;
 

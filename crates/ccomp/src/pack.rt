@@ -1,14 +1,11 @@
 //! The top call.
 
-ghost use Rattle.std.specs.Prelude.{◌≡◌, ◌≢◌, ◌≤◌, ◌<◌, ◌^◌, ◌⊎◌, ℕ, IsTrue, IfOk, IfErr, IfSome, IfNone, IsSomeAnd, Some, None, List as ListOf, false, length};
+ghost use Rattle.std.specs.Prelude.{◌≡◌, ◌≤◌, ◌<◌, ◌^◌, ◌⊎◌, ℕ, IsTrue, IfOk, IfErr, IfSome, IfNone, IsSomeAnd, Some, None, List as ListOf, true, false, length};
 ghost use Rattle.cc_edge.specs.Faults.{Rose};
 ghost use Rattle.cc_edge.specs.Files.{KeepsFiles, KeepsOthers};
-ghost use Rattle.cc_lex.specs.Faults.{HasFault};
-ghost use Rattle.cc_lex.specs.declared.fault.LexFault.{LexFault as LexFaultOf};
-ghost use Rattle.cc_lex.specs.declared.fault.LexFault.TheVariants as fault;
-ghost use Rattle.ccomp.specs.declared.status.ReadRefusal.TheVariants.{Lex};
+ghost use Rattle.ccomp.specs.declared.status.ReadRefusal.{ReadRefusal as ReadRefusalOf};
 ghost use Rattle.ccomp.specs.Command.{Command, Pack, Wrong, ForPack, command_of, texts};
-ghost use Rattle.ccomp.specs.Headline.{Packs, Leaves, IsPackedText, IsNoTinyText, HasTokens, IsRefused};
+ghost use Rattle.ccomp.specs.Headline.{Packs, Leaves, IsPackedText, IsNoTinyText, HasSentence, HasCause, IsRefused, is_for_memory as is_for_memory_of};
 ghost use Rattle.ccomp.specs.Statuses.{may_write};
 
 use crate::command::{Asked, command};
@@ -17,6 +14,7 @@ use crate::tiny::items::copy_name;
 use crate::tiny::printer::print;
 use crate::tiny::reader::read;
 use cc_edge::{ReadEnd, Sink, Store, read_whole, write_whole};
+use cc_gram::GramFault;
 use cc_lex::LexFault;
 use cc_num::{Name, NoMemory};
 use std::alloc::Global;
@@ -29,7 +27,7 @@ fn packed(alloc: Global, text: &[u8]) -> Result<Option<Vec<u8>>, ReadRefusal>
     requires { length text.now < 2 ^ 32 }
     ensures found { IfOk result (λ r. IfSome r (λ bytes. IsPackedText text.now bytes.items)) }
     ensures none { IfOk result (λ r. IfNone r (IsNoTinyText text.now)) }
-    ensures tokens { IfOk result (λ _. HasTokens text.now) }
+    ensures sentence { IfOk result (λ _. HasSentence text.now) }
     ensures refused { IfErr result (IsRefused text.now) }
 {
     match read(alloc, text)? {
@@ -38,14 +36,27 @@ fn packed(alloc: Global, text: &[u8]) -> Result<Option<Vec<u8>>, ReadRefusal>
     }
 }
 
+/// Whether a source is refused for want of memory.
+fn is_for_memory(why: &ReadRefusal) -> bool
+    ensures { result ≡ is_for_memory_of why.now }
+{
+    match why {
+        ReadRefusal::Lex(fault) => *fault == LexFault::NoMemory,
+        ReadRefusal::Gram(fault) => match fault {
+            GramFault::NoMemory => true,
+            _ => false,
+        },
+    }
+}
+
 /// The answer where a source is refused. Want of memory is an answer of its own.
 fn refused(source: Name, why: ReadRefusal) -> Status
-    ensures { ((why ≡ Lex fault.NoMemory) × (result ≡ Status.NoMemory)) ⊎ ((why ≢ Lex fault.NoMemory) × (result ≡ Status.Refused source why)) }
+    ensures { ((is_for_memory_of why ≡ true) × (result ≡ Status.NoMemory)) ⊎ ((is_for_memory_of why ≡ false) × (result ≡ Status.Refused source why)) }
 {
-    let ReadRefusal::Lex(fault) = why;
-    match fault {
-        LexFault::NoMemory => Status::NoMemory,
-        _ => Status::Refused(source, why),
+    if is_for_memory(&why) {
+        Status::NoMemory
+    } else {
+        Status::Refused(source, why)
     }
 }
 
@@ -60,11 +71,11 @@ fn pack<F: Store>(alloc: Global, out: &str, source: &str, store: &mut F) -> Stat
         (name ≡ source.now) × (Rose (F.faults store.old) (F.faults store.new) ⊎ (IsTrue (F.told store.old) × (F.files store.old source.now ≡ None))) }
     ensures too_long { (name : ListOf ℕ) → result ≡ Status.TooLong name →
         (name ≡ source.now) × (IsTrue (F.told store.old) → IsSomeAnd (F.files store.old source.now) (λ text. 1048576 < length text)) }
-    ensures refused { (name : ListOf ℕ) (e : LexFaultOf) → result ≡ Status.Refused name (Lex e) →
-        (name ≡ source.now) × (IsTrue (F.told store.old) → IsSomeAnd (F.files store.old source.now) (λ text. HasFault text e)) }
-    ensures memory { (name : ListOf ℕ) → result ≡ Status.Refused name (Lex fault.NoMemory) → ⊥ }
+    ensures refused { (name : ListOf ℕ) (why : ReadRefusalOf) → result ≡ Status.Refused name why →
+        (name ≡ source.now) × (IsTrue (F.told store.old) → IsSomeAnd (F.files store.old source.now) (λ text. HasCause text why)) }
+    ensures memory { (name : ListOf ℕ) (why : ReadRefusalOf) → result ≡ Status.Refused name why → is_for_memory_of why ≡ false }
     ensures later { (name : ListOf ℕ) → result ≡ Status.Later name →
-        (name ≡ source.now) × (IsTrue (F.told store.old) → IsSomeAnd (F.files store.old source.now) (λ text. HasTokens text × IsNoTinyText text)) }
+        (name ≡ source.now) × (IsTrue (F.told store.old) → IsSomeAnd (F.files store.old source.now) (λ text. HasSentence text × IsNoTinyText text)) }
     ensures write_fault { (name : ListOf ℕ) → result ≡ Status.WriteFault name →
         (name ≡ out.now) × Rose (F.faults store.old) (F.faults store.new) × (IsTrue (F.told store.old) → Leaves out.now source.now (F.files store.old) (F.files store.new)) }
     ensures unchanged { may_write result ≡ false → IsTrue (F.told store.old) → KeepsFiles (F.files store.old) (F.files store.new) }
@@ -114,13 +125,14 @@ pub fn ccomp<F: Store, O: Sink>(
         ForPack (command_of (texts words.now)) (λ out source. (name ≡ source) × (Rose (F.faults store.old) (F.faults store.new) ⊎ (IsTrue (F.told store.old) × (F.files store.old source ≡ None)))) }
     ensures too_long { (name : ListOf ℕ) → result ≡ Status.TooLong name →
         ForPack (command_of (texts words.now)) (λ out source. (name ≡ source) × (IsTrue (F.told store.old) → IsSomeAnd (F.files store.old source) (λ text. 1048576 < length text))) }
-    // Refused comes with the first place of the source that has no token, and never for want of memory.
-    // A source that has tokens and is no tiny text comes later.
-    ensures refused { (name : ListOf ℕ) (e : LexFaultOf) → result ≡ Status.Refused name (Lex e) →
-        ForPack (command_of (texts words.now)) (λ out source. (name ≡ source) × (IsTrue (F.told store.old) → IsSomeAnd (F.files store.old source) (λ text. HasFault text e))) }
-    ensures memory { (name : ListOf ℕ) → result ≡ Status.Refused name (Lex fault.NoMemory) → ⊥ }
+    // Refused comes with the first place of the source that has no token, with its first outside word, or where
+    // its tokens are no sentence (of the greatest height), and never for want of memory. A source that is a
+    // sentence and no tiny text comes later.
+    ensures refused { (name : ListOf ℕ) (why : ReadRefusalOf) → result ≡ Status.Refused name why →
+        ForPack (command_of (texts words.now)) (λ out source. (name ≡ source) × (IsTrue (F.told store.old) → IsSomeAnd (F.files store.old source) (λ text. HasCause text why))) }
+    ensures memory { (name : ListOf ℕ) (why : ReadRefusalOf) → result ≡ Status.Refused name why → is_for_memory_of why ≡ false }
     ensures later { (name : ListOf ℕ) → result ≡ Status.Later name →
-        ForPack (command_of (texts words.now)) (λ out source. (name ≡ source) × (IsTrue (F.told store.old) → IsSomeAnd (F.files store.old source) (λ text. HasTokens text × IsNoTinyText text))) }
+        ForPack (command_of (texts words.now)) (λ out source. (name ≡ source) × (IsTrue (F.told store.old) → IsSomeAnd (F.files store.old source) (λ text. HasSentence text × IsNoTinyText text))) }
     ensures write_fault { (name : ListOf ℕ) → result ≡ Status.WriteFault name →
         ForPack (command_of (texts words.now)) (λ out source. (name ≡ out) × Rose (F.faults store.old) (F.faults store.new) × (IsTrue (F.told store.old) → Leaves out source (F.files store.old) (F.files store.new))) }
 

@@ -2,18 +2,21 @@
 
 ghost use Rattle.std.specs.Prelude.{◌≡◌, ◌++◌, IfOk, codes};
 ghost use Rattle.cc_lex.specs.declared.fault.LexFault.TheVariants as fault;
-ghost use Rattle.ccomp.specs.declared.status.ReadRefusal.TheVariants.{Lex};
-ghost use Rattle.ccomp.specs.Statuses.{number_of, line_of, cause_of, fault_name as fault_text, fault_offset};
+ghost use Rattle.ccomp.specs.declared.status.ReadRefusal.TheVariants.{Lex, Gram};
+ghost use Rattle.ccomp.specs.Statuses.{number_of, line_of, cause_of, offset_text, fault_name as fault_text, fault_offset, gram_name as gram_text, gram_word, gram_offset};
 
+use cc_gram::GramFault;
 use cc_lex::LexFault;
 use cc_num::{Name, NoMemory};
 use std::alloc::Global;
 
 /// Why a source is refused.
-#[derive(Clone, Copy, Debug, PartialEq, Eq)]
+#[derive(Debug, Drop)]
 pub enum ReadRefusal {
     /// It has no tokens.
     Lex(LexFault),
+    /// Its tokens are no sentence, or one that is too high.
+    Gram(GramFault),
 }
 
 impl From<LexFault> for ReadRefusal {
@@ -21,6 +24,14 @@ impl From<LexFault> for ReadRefusal {
 
     fn from(fault: LexFault) -> ReadRefusal {
         ReadRefusal::Lex(fault)
+    }
+}
+
+impl From<GramFault> for ReadRefusal {
+    ghost from_gives = { λ e why. why ≡ Gram e };
+
+    fn from(fault: GramFault) -> ReadRefusal {
+        ReadRefusal::Gram(fault)
     }
 }
 
@@ -110,20 +121,93 @@ fn fault_at(fault: LexFault) -> Option<u32>
     }
 }
 
-/// The text of a refusal, which stands behind the source's name.
-fn cause(alloc: Global, why: ReadRefusal) -> Result<Vec<u8>, NoMemory>
-    ensures { IfOk result (λ v. v.items ≡ codes ": " ++ cause_of why) }
+/// The name of a fault of a sentence.
+fn gram_name(fault: &GramFault) -> &'static [u8]
+    ensures { result.now ≡ gram_text fault.now }
 {
-    let ReadRefusal::Lex(fault) = why;
+    match fault {
+        GramFault::Outside(_, _) => b"outside",
+        GramFault::TooDeep(_) => b"toodeep",
+        GramFault::Syntax(_) => b"syntax",
+        GramFault::NoMemory => b"nomemory",
+    }
+}
+
+/// The byte at which a fault of a sentence stands.
+fn gram_at(fault: &GramFault) -> Option<u32>
+    ensures { result ≡ gram_offset fault.now }
+{
+    match fault {
+        GramFault::Outside(_, at) | GramFault::TooDeep(at) | GramFault::Syntax(at) => Some(*at),
+        GramFault::NoMemory => None,
+    }
+}
+
+/// The text of an offset, where there is one.
+fn offset_at(alloc: Global, at: Option<u32>) -> Result<Vec<u8>, NoMemory>
+    ensures { IfOk result (λ v. v.items ≡ offset_text at) }
+{
     let mut text = Vec::new(alloc);
-    text.extend_from_slice(b": ")?;
-    text.extend_from_slice(fault_name(fault))?;
-    if let Some(at) = fault_at(fault) {
+    if let Some(at) = at {
         text.extend_from_slice(b" at ")?;
         let offset = format!(in alloc; "{at}")?;
         text.extend_from_slice(offset.as_bytes())?;
     }
     Ok(text)
+}
+
+/// A text with an offset behind it, where there is one.
+fn with_offset(alloc: Global, text: Vec<u8>, at: Option<u32>) -> Result<Vec<u8>, NoMemory>
+    ensures { IfOk result (λ v. v.items ≡ text.items ++ offset_text at) }
+{
+    let mut text = text;
+    let offset = offset_at(alloc, at)?;
+    text.extend_from_slice(&offset)?;
+    Ok(text)
+}
+
+/// A text with the word behind it that is outside the subset, where there is one.
+fn with_word(text: Vec<u8>, fault: &GramFault) -> Result<Vec<u8>, NoMemory>
+    ensures { IfOk result (λ v. v.items ≡ text.items ++ gram_word fault.now) }
+{
+    let mut text = text;
+    match fault {
+        GramFault::Outside(word, _) => {
+            text.extend_from_slice(b" ")?;
+            text.extend_from_slice(word.all())?;
+            Ok(text)
+        }
+        GramFault::TooDeep(_) | GramFault::Syntax(_) | GramFault::NoMemory => Ok(text),
+    }
+}
+
+fn lex_cause(alloc: Global, fault: LexFault) -> Result<Vec<u8>, NoMemory>
+    ensures { IfOk result (λ v. v.items ≡ codes ": " ++ cause_of (Lex fault)) }
+{
+    let mut text = Vec::new(alloc);
+    text.extend_from_slice(b": ")?;
+    text.extend_from_slice(fault_name(fault))?;
+    Ok(with_offset(alloc, text, fault_at(fault))?)
+}
+
+fn gram_cause(alloc: Global, fault: &GramFault) -> Result<Vec<u8>, NoMemory>
+    ensures { IfOk result (λ v. v.items ≡ codes ": " ++ cause_of (Gram fault.now)) }
+{
+    let mut text = Vec::new(alloc);
+    text.extend_from_slice(b": ")?;
+    text.extend_from_slice(gram_name(fault))?;
+    let text = with_word(text, fault)?;
+    Ok(with_offset(alloc, text, gram_at(fault))?)
+}
+
+/// The text of a refusal, which stands behind the source's name.
+fn cause(alloc: Global, why: &ReadRefusal) -> Result<Vec<u8>, NoMemory>
+    ensures { IfOk result (λ v. v.items ≡ codes ": " ++ cause_of why.now) }
+{
+    match why {
+        ReadRefusal::Lex(fault) => Ok(lex_cause(alloc, *fault)?),
+        ReadRefusal::Gram(fault) => Ok(gram_cause(alloc, fault)?),
+    }
 }
 
 /// The line that tells a status, with its line feed; nothing where the work is done.
@@ -135,7 +219,7 @@ pub fn explain(alloc: Global, status: &Status) -> Result<Vec<u8>, NoMemory>
         Status::Usage(word) => Ok(line(alloc, b"usage: ", word.all(), b"")?),
         Status::ReadFault(name) => Ok(line(alloc, b"cannot read ", name.all(), b"")?),
         Status::TooLong(name) => Ok(line(alloc, b"", name.all(), b" is too long")?),
-        Status::Refused(name, why) => Ok(line(alloc, b"", name.all(), &cause(alloc, *why)?)?),
+        Status::Refused(name, why) => Ok(line(alloc, b"", name.all(), &cause(alloc, why)?)?),
         Status::WriteFault(name) => Ok(line(alloc, b"cannot write ", name.all(), b"")?),
         Status::NoMemory => Ok(line(alloc, b"out of memory", b"", b"")?),
         Status::Later(name) => Ok(line(alloc, b"", name.all(), b": later")?),

@@ -145,9 +145,7 @@ fn other_sources_are_later_and_make_no_file(rt: HostRuntime) -> Result<(), Fail>
         "unsigned char a; int main(void) { a = 256; }",
         "unsigned char a; int main(void) { a = 'a'; }",
         "unsigned char a; int main(void) { a = b; }",
-        "unsigned char return; int main(void) { }",
         "unsigned char irq_save; int main(void) { }",
-        "unsigned char goto; int main(void) { }",
         // prototypes twice
         "void irq_on(void); void irq_on(void); int main(void) { }",
         "int main(void); int main(void); int main(void) { }",

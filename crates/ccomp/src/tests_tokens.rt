@@ -102,12 +102,11 @@ fn the_first_place_without_a_token_is_told(rt: HostRuntime) -> Result<(), Fail> 
 #[test]
 fn tokens_that_are_no_tiny_words_come_later(rt: HostRuntime) -> Result<(), Fail> {
     let alloc = rt.alloc();
-    let rows: [&[u8]; 6] = [
+    let rows: [&[u8]; 5] = [
         b"",
         b"int main(void) { unsigned char a; a = 256; }",
         b"int main(void) { unsigned char a; a = 1u; }",
         b"int main(void) { unsigned char a; a = 0L; }",
-        b"int main(void) { unsigned char goto; }",
         b"int main(void) { unsigned char long; }",
     ];
     for text in rows {

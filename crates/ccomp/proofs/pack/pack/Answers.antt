@@ -1,18 +1,18 @@
 use Rattle.std.proofs.Common.{◌≡◌, sym, subst, IsTrue, List, ℕ}
 use Rattle.ccomp.specs.declared.status.Status.TheVariants.{WriteFault}
-use Rattle.ccomp.specs.Headline.{IsNoTinyText, HasTokens, IsPackedText}
+use Rattle.ccomp.specs.Headline.{IsNoTinyText, HasSentence, IsPackedText}
 use Rattle.ccomp.proofs.PackLaws.{packs, leaves, there-is, Rose-earlier}
 use Rattle.ccomp.proofs.pack.pack.Goals as goal
 
 abbrev IsLater : List ℕ → Type 0
-IsLater text = HasTokens text × IsNoTinyText text
+IsLater text = HasSentence text × IsNoTinyText text
 
 pub returns-in-Ok-None-clause-later : goal.returns-in-Ok-None-clause-later
 returns-in-Ok-None-clause-later g c = λ name e.
     let none : IsNoTinyText c.deref.result.now = rw c.in-Ok-None.field-0-is at c.in-Ok-None.ensures.none in
     let copied = c.in-Ok-copy_name.ensures in
     let bytes = c.as_bytes-2.ensures.value in
-    let read : IsLater c.in-Ok-read_whole.text.items = subst IsLater c.deref.ensures.value (c.in-Ok-None.ensures.tokens, none) in
+    let read : IsLater c.in-Ok-read_whole.text.items = subst IsLater c.deref.ensures.value (c.in-Ok-None.ensures.sentence, none) in
     (cc, λ told. there-is (g.F.Store.files c.args.store.now c.args.source.now) c.in-Ok-read_whole.text.items IsLater (c.in-Ok-read_whole.ensures.whole told) read)
 
 pub returns-in-Err-write_whole-clause-write_fault : goal.returns-in-Err-write_whole-clause-write_fault

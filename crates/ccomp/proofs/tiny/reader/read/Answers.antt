@@ -10,7 +10,7 @@ use Rattle.ccomp.proofs.tiny.reader.read.Goals as goal
 
 pub returns-clause-only : goal.returns-clause-only
 returns-clause-only c = λ p h.
-    let tokens : c.deref.result.now ≡ h.tokens = c.deref.ensures.value ∙ c.in_ok-tokens.ensures.only h.tokens h.tokens_of in
-    let found : AreWords c.deref.result.now c.in-Some.words.items = subst (λ (r : Option (Vec Word Global)). IfSome r (λ words. AreWords c.deref.result.now words.items)) c.in-Some.is c.in_ok-words.ensures.found in
+    let tokens : c.deref-2.result.now ≡ h.tokens = c.deref-2.ensures.value ∙ c.in_ok-tokens.ensures.only h.tokens h.tokens_of in
+    let found : AreWords c.deref-2.result.now c.in-Some.words.items = subst (λ (r : Option (Vec Word Global)). IfSome r (λ words. AreWords c.deref-2.result.now words.items)) c.in-Some.is c.in_ok-words.ensures.found in
     let same = words-one h.tokens c.in-Some.words.items h.words (subst (λ (ts : List Token). AreWords ts c.in-Some.words.items) tokens found) h.are_words in
     c.in_ok-program_of-in-Some.ensures.only p (subst (IsTinyWords p) (sym (c.deref-in-Some.ensures.value ∙ same)) h.words_of)
