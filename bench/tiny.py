@@ -85,11 +85,11 @@ KINDS = (
 
 
 def measured(folder, source, expected):
-    """The least time of three runs in seconds, and the peak memory in bytes."""
+    """The least time of nine runs in seconds, and the peak memory in bytes."""
     with open(os.path.join(folder, "s.c"), "w") as file:
         file.write(source)
     best, peak = None, 0
-    for _ in range(3):
+    for _ in range(9):
         begun = time.monotonic()
         words = [os.path.join(TOP, "ccomp"), "pack", "-", "o.c", "-", "-", "s.c"]
         child = subprocess.Popen(words, cwd=folder, stderr=subprocess.DEVNULL)
