@@ -21,6 +21,3 @@ pub use read::{ReadEnd, read_whole};
 pub use sink::Sink;
 pub use store::{Got, Made, Put, Store};
 pub use write::{WriteFault, say_whole, write_whole};
-
-#[cfg(test)]
-mod tests;

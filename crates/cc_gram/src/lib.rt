@@ -30,10 +30,6 @@ mod state;
 mod statements;
 mod stop;
 mod structures;
-#[cfg(test)]
-mod tests;
-#[cfg(test)]
-mod tests_parts;
 mod tree;
 mod turns;
 mod unit;

@@ -17,6 +17,3 @@ pub use fault::LexFault;
 pub use laws::{spellings_are_longest, texts_have_tokens_or_a_fault};
 pub use lexer::lex;
 pub use token::{Kind, Mark, Suffix, Token, Word};
-
-#[cfg(test)]
-mod tests;

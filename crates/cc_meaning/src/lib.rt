@@ -16,6 +16,3 @@ pub use event::{End, Event, Took};
 pub use laws::{Relation, Simulation, SimulationBack, answers_by, follows_by, orders};
 pub use machine::{Machine, start};
 pub use step::{Activation, Memory};
-
-#[cfg(test)]
-mod tests;

@@ -25,6 +25,3 @@ pub use no_memory::NoMemory;
 pub use op::{BinOp, UnOp};
 pub use promotion::{promote, usual};
 pub use target::Target;
-
-#[cfg(test)]
-mod tests;

@@ -15,6 +15,3 @@ pub use program::{Device, Entry, Func, Object, Program};
 pub use stmt::Stmt;
 pub use types::{CType, Shape, Sig};
 pub use value::{Cell, Value};
-
-#[cfg(test)]
-mod tests;

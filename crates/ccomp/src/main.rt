@@ -4,12 +4,6 @@
 mod command;
 mod pack;
 mod status;
-#[cfg(test)]
-mod tests;
-#[cfg(test)]
-mod tests_sentences;
-#[cfg(test)]
-mod tests_tokens;
 mod tiny;
 
 use cc_edge::{DiskStore, OutSink};

@@ -8,8 +8,6 @@ ghost use Rattle.ccomp.specs.Printed.{printed};
 
 mod body;
 mod lines;
-#[cfg(test)]
-mod tests;
 mod text;
 mod uses;
 
