@@ -1,14 +1,14 @@
 -- A list of files by name, as a map: `found` after a file is changed, emptied, made longer or put
 -- behind the others. Each is by recursion down to the first file of the name; the files in front of
 -- it have other names, and so answer as before.
-use Rattle.std.proofs.Common.{◌≡◌, ◌<◌, ◌+◌, ℕ, zero, suc, List, [], ◌∷◌, drop, length, arith, refl, ap, sym, ◌∙◌, subst, true, false, nat_eq, get_or, Vec, add-zero, add-one, drop-cons, Option, Some, None, slice_set, Bool, cond, ◌++◌, take, option_map}
+use Rattle.std.proofs.Common.{◌≡◌, ◌<◌, ◌+◌, ◌-◌, ℕ, zero, suc, List, [], ◌∷◌, drop, length, arith, refl, ap, sym, ◌∙◌, subst, true, false, nat_eq, get_or, Vec, vec_len, vec_capacity, add-zero, add-one, drop-cons, Option, Some, None, slice_set, Bool, cond, ◌++◌, take, option_map}
 use Rattle.std.proofs.lemmas.Bool.{eq-eqb}
 use Rattle.std.proofs.lemmas.List.{take_all}
 use Rattle.cc_edge.specs.Files.{appended}
 use Rattle.cc_edge.specs.declared.store.Put.TheVariants as put
 use Rattle.std.specs.Cmp.Lexicographic.{pointwise, same_text}
 use Rattle.std.specs.declared.alloc.Global.{Global}
-use Rattle.cc_edge.specs.Memory.{found, IsPlace}
+use Rattle.cc_edge.specs.Memory.{found, IsPlace, room}
 
 abbrev pub File : Type 0
 File = List ℕ × Vec ℕ Global
@@ -81,4 +81,11 @@ found-append name i files d v piece h e =
     let next = found-set name i files d v h in
     rw (now, next, e, all) refl
 
-pub ruleset of_files = (found-append, found-at, found-set, found-set_other, found-push, found-push_other)
+-- the room of what stands at a name's place
+pub room-at : (name : List ℕ) (i : ℕ) (files : List File) (d : File) → IsPlace name i files →
+    room name files ≡ vec_capacity (get_or files i d).1 - vec_len (get_or files i d).1
+room-at name i [] d h = absurd h
+room-at name zero (f ∷ files) d h = rw h refl
+room-at name (suc i) (f ∷ files) d h = rw h.0 (room-at name i files d h.1)
+
+pub ruleset of_files = (found-append, room-at, found-at, found-set, found-set_other, found-push, found-push_other)

@@ -6,6 +6,7 @@ use Rattle.std.proofs.Math.Seq.{take-add}
 use Rattle.std.proofs.lemmas.List.{take_all, length-take-le, drop-drop, take_rest, take-take}
 use Rattle.cc_edge.specs.declared.store.Got.TheVariants as got
 use Rattle.cc_edge.specs.declared.store.Put.TheVariants as put
+use Rattle.cc_edge.specs.Faults.{raised}
 use Rattle.cc_edge.specs.Files.{Gives, appended, HoldsPrefix}
 
 -- the first bytes of a file; nothing, where it is not there
@@ -31,7 +32,20 @@ pub IsStart-long : (xs : List ℕ) (file : Option (List ℕ)) (limit : ℕ) → 
 IsStart-long xs None limit s h = absurd (omega arith)
 IsStart-long xs (Some bytes) limit s h = omega arith
 
-pub ruleset of_reads = (IsStart-more, IsStart-whole, IsStart-long)
+-- a count that is raised again and again
+pub raised-none : (count : ℕ) → raised 0 count ≡ count
+unfolding raised
+raised-none count = omega arith
+
+pub raised-more : (n m count : ℕ) → raised n (raised m count) ≡ raised (m + n) count
+unfolding raised
+raised-more n m count = omega arith
+
+pub raised-least : (n m count : ℕ) → n ≤ m → raised n count ≤ raised m count
+unfolding raised
+raised-least n m count h = omega arith
+
+pub ruleset of_reads = (IsStart-more, IsStart-whole, IsStart-long, raised-none, raised-more, raised-least)
 
 -- after n bytes: what is left of all, and what has been added to what was there
 pub record IsAdded (old bytes rest new : List ℕ) : Type 0 where

@@ -1,5 +1,5 @@
--- Counts of calls and of faults: how they rise, and when a fault may be answered.
-use Rattle.std.specs.Prelude.{ℕ, ◌+◌, ◌-◌, ◌^◌, ◌≤◌, min}
+-- Counts of calls, of faults and of bytes: how they rise, and when a fault may be answered.
+use Rattle.std.specs.Prelude.{ℕ, ◌+◌, ◌-◌, ◌^◌, ◌≤◌, max, min, Option, Some, None}
 use Rattle.cc_edge.specs.declared.store.Got.{Got}
 use Rattle.cc_edge.specs.declared.store.Got.TheVariants as got
 use Rattle.cc_edge.specs.declared.store.Made.{Made}
@@ -28,3 +28,19 @@ faults_after_made made.Failed faults = risen faults
 abbrev pub faults_after_put : Put → ℕ → ℕ
 faults_after_put (put.Bytes n) faults = faults
 faults_after_put put.Failed faults = risen faults
+
+-- n more; a count stands still at the end of its type
+unfoldable pub raised : ℕ → ℕ → ℕ
+raised n count = max count (min (count + n) (2 ^ 64 - 1))
+
+-- the count of bytes that reads have given, after one more read
+abbrev pub taken_after : Got → ℕ → ℕ
+taken_after (got.Bytes n) taken = raised n taken
+taken_after got.End taken = taken
+taken_after got.Failed taken = taken
+
+-- where a read from a place found the end of its file, if it did
+abbrev pub end_after : Got → ℕ → Option ℕ
+end_after (got.Bytes n) at = None
+end_after got.End at = Some at
+end_after got.Failed at = None

@@ -1,5 +1,5 @@
 ghost use Rattle.std.specs.Prelude.{◌≡◌, ◌≤◌};
-ghost use Rattle.cc_edge.specs.Faults.{risen};
+ghost use Rattle.cc_edge.specs.Faults.{risen, raised};
 ghost use Rattle.cc_edge.specs.Memory.{is_listed};
 
 // One more than a count, which stands still at the end of its type.
@@ -8,6 +8,14 @@ pub(crate) fn one_more(count: u64) -> u64
     ensures later { count ≤ result }
 {
     count.saturating_add(1)
+}
+
+// So many more than a count, which stands still at the end of its type.
+#[tactic(auto, unfolding(crate::specs::Faults::raised))]
+pub(crate) fn more(count: u64, by: usize) -> u64
+    ensures { result ≡ raised by count }
+{
+    count.saturating_add(by as u64)
 }
 
 // Whether a call of that number is to fail.

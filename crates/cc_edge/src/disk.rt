@@ -1,14 +1,14 @@
-ghost use Rattle.std.specs.Prelude.{◌≡◌, ◌≤◌, ◌-◌, ◌^◌, false, None, length, IfOk};
-ghost use Rattle.cc_edge.specs.Faults.{faults_after_got, faults_after_made, faults_after_put};
+ghost use Rattle.std.specs.Prelude.{◌≡◌, ◌≤◌, ◌<◌, ◌-◌, ◌^◌, false, None, length, IfOk};
+ghost use Rattle.cc_edge.specs.Faults.{Rose, faults_after_got, faults_after_made, faults_after_put, taken_after, end_after};
 ghost use Rattle.cc_edge.specs.Files.{IsReadWithin, IsPutWithin};
 
-use crate::count::one_more;
+use crate::count::{more, one_more};
 use crate::store::{Got, Made, Put, Store};
 use std::fs::{File, OpenOptions};
 use std::io::{self, Read, Seek, SeekFrom, Write};
 use std::rt::Files;
 
-/// The files of the system, by path. It tells none of their bytes.
+/// The files of the system, by path. It tells none of their bytes, but what its reads have given.
 ///
 /// Each error of the system is a fault. Where the count of faults stands at its last value, every
 /// call fails. A file is opened anew for each piece, and none is ever held whole.
@@ -17,29 +17,61 @@ pub struct DiskStore<'r, R> {
     rt: &'r R,
     /// The count of faults.
     pub faults: u64,
+    // The count of bytes that reads have given.
+    taken: u64,
+    // Where the last read found the end of its file, if it did.
+    end: Option<u64>,
 }
 
 impl<'r, R: Files> DiskStore<'r, R> {
     /// The files that the runtime reaches, without a fault so far.
     pub fn new(rt: &'r R) -> DiskStore<'r, R>
-        ensures { result.faults ≡ 0 }
+        ensures faults { result.faults ≡ 0 }
+        ensures taken { result.taken ≡ 0 }
+        ensures end { result.end ≡ None }
     {
-        DiskStore { rt, faults: 0 }
+        DiskStore {
+            rt,
+            faults: 0,
+            taken: 0,
+            end: None,
+        }
     }
+}
 
-    // Reads a piece, with one read of the system.
-    fn read_piece(&mut self, name: &str, at: u64, piece: &mut [u8]) -> Got
+impl<R: Files> Store for DiskStore<'_, R> {
+    ghost told = { λ _. false };
+
+    ghost files = { λ _ _. None };
+
+    ghost faults = { λ store. store.faults };
+
+    ghost taken = { λ store. store.taken };
+
+    ghost end = { λ store. store.end };
+
+    fn read_at(&mut self, name: &str, at: u64, piece: &mut [u8]) -> Got
         ensures spent { self.old.faults ≡ 2 ^ 64 - 1 → result ≡ Got.Failed }
         ensures counted { self.new.faults ≡ faults_after_got result self.old.faults }
         ensures later { self.old.faults ≤ self.new.faults }
         ensures count { IsReadWithin result (length piece.new) }
+        ensures cause { result ≡ Got.Failed → Rose self.old.faults self.new.faults }
+        ensures taken { self.new.taken ≡ taken_after result self.old.taken }
+        ensures end { self.new.end ≡ end_after result at }
     {
+        self.end = None;
         if self.faults == u64::MAX {
             return Got::Failed;
         }
         match read_from(self.rt, name, at, piece) {
-            Ok(0) => Got::End,
-            Ok(n) => Got::Bytes(n),
+            Ok(0) => {
+                self.end = Some(at);
+                Got::End
+            }
+            Ok(n) => {
+                self.taken = more(self.taken, n);
+                Got::Bytes(n)
+            }
             Err(_) => {
                 self.faults = one_more(self.faults);
                 Got::Failed
@@ -47,11 +79,13 @@ impl<'r, R: Files> DiskStore<'r, R> {
         }
     }
 
-    // Makes a file, or empties the one that is there.
-    fn make(&mut self, name: &str) -> Made
+    fn create(&mut self, name: &str) -> Made
         ensures spent { self.old.faults ≡ 2 ^ 64 - 1 → result ≡ Made.Failed }
         ensures counted { self.new.faults ≡ faults_after_made result self.old.faults }
         ensures later { self.old.faults ≤ self.new.faults }
+        ensures cause { result ≡ Made.Failed → Rose self.old.faults self.new.faults }
+        ensures taken { self.new.taken ≡ self.old.taken }
+        ensures end { self.new.end ≡ self.old.end }
     {
         if self.faults == u64::MAX {
             return Made::Failed;
@@ -65,11 +99,14 @@ impl<'r, R: Files> DiskStore<'r, R> {
         }
     }
 
-    // Appends the first bytes of a piece, with one write of the system.
-    fn append_piece(&mut self, name: &str, piece: &[u8]) -> Put
+    // One write of the system.
+    fn append(&mut self, name: &str, piece: &[u8]) -> Put
         ensures spent { self.old.faults ≡ 2 ^ 64 - 1 → result ≡ Put.Failed }
         ensures counted { self.new.faults ≡ faults_after_put result self.old.faults }
         ensures later { self.old.faults ≤ self.new.faults }
+        ensures cause { result ≡ Put.Failed → Rose self.old.faults self.new.faults }
+        ensures taken { self.new.taken ≡ self.old.taken }
+        ensures end { self.new.end ≡ self.old.end }
         ensures count { IsPutWithin result (length piece.now) }
     {
         if self.faults == u64::MAX {
@@ -82,26 +119,6 @@ impl<'r, R: Files> DiskStore<'r, R> {
             }
             Ok(n) => Put::Bytes(n),
         }
-    }
-}
-
-impl<R: Files> Store for DiskStore<'_, R> {
-    ghost told = { λ _. false };
-
-    ghost files = { λ _ _. None };
-
-    ghost faults = { λ store. store.faults };
-
-    fn read_at(&mut self, name: &str, at: u64, piece: &mut [u8]) -> Got {
-        self.read_piece(name, at, piece)
-    }
-
-    fn create(&mut self, name: &str) -> Made {
-        self.make(name)
-    }
-
-    fn append(&mut self, name: &str, piece: &[u8]) -> Put {
-        self.append_piece(name, piece)
     }
 }
 

@@ -2,9 +2,9 @@ ghost use Rattle.std.specs.Prelude.{◌≡◌, ◌≤◌, ◌<◌, ◌⊎◌, le
 ghost use Rattle.std.specs.Option.{option_copied};
 ghost use Rattle.std.specs.Cmp.Lexicographic.{pointwise};
 ghost use Rattle.std.specs.declared.alloc.Global.{Global};
-ghost use Rattle.cc_edge.specs.Faults.{risen, faults_after_got, faults_after_made, faults_after_put};
-ghost use Rattle.cc_edge.specs.Files.{KeepsOthers, IsReadWithin, Gives, created, appended};
-ghost use Rattle.cc_edge.specs.Memory.{found, IsPlace, is_listed};
+ghost use Rattle.cc_edge.specs.Faults.{Rose, risen, faults_after_made, faults_after_put};
+ghost use Rattle.cc_edge.specs.Files.{KeepsOthers, IsReadWithin, Gives, created, IsPutWithin, appended};
+ghost use Rattle.cc_edge.specs.Memory.{found, IsPlace, is_listed, room, given_from, read_answer, faults_after_read};
 
 use crate::count::{is_to_fail, one_more};
 use crate::store::{Got, Made, Put, Store};
@@ -42,93 +42,6 @@ impl MemoryStore {
             faults: 0,
         }
     }
-
-    // Reads all from a place that the piece holds. It has a fault exactly where the file is there
-    // and the call is listed.
-    fn read_piece(&mut self, name: &[u8], at: u64, piece: &mut [u8]) -> Got
-        requires { 0 < length piece.old }
-        ensures calls { self.new.calls ≡ risen self.old.calls }
-        ensures failing { self.new.failing ≡ self.old.failing }
-        ensures files { self.new.files ≡ self.old.files }
-        ensures listed { IsTrue (is_listed self.old.failing.items self.new.calls) → result ≡ Got.Failed }
-        ensures unlisted { result ≡ Got.Failed → IsTrue (is_listed self.old.failing.items self.new.calls)
-            ⊎ (found name.now self.old.files.items ≡ None) }
-        ensures counted { IsSome (found name.now self.old.files.items) → self.new.faults ≡ faults_after_got result self.old.faults }
-        ensures missing { found name.now self.old.files.items ≡ None →
-            (result ≡ Got.Failed) × (self.new.faults ≡ self.old.faults) }
-        ensures later { self.old.faults ≤ self.new.faults }
-        ensures count { IsReadWithin result (length piece.new) }
-        ensures bytes { Gives result at piece.new (found name.now self.old.files.items) }
-    {
-        self.calls = one_more(self.calls);
-        let Some(bytes) = contents(&self.files, name) else {
-            return Got::Failed;
-        };
-        if is_to_fail(&self.failing, self.calls) {
-            self.faults = one_more(self.faults);
-            return Got::Failed;
-        }
-        bytes_from(bytes, at, piece)
-    }
-
-    // Empties a file, for which it takes no memory, or adds one.
-    fn make(&mut self, name: &[u8]) -> Made
-        ensures calls { self.new.calls ≡ risen self.old.calls }
-        ensures failing { self.new.failing ≡ self.old.failing }
-        ensures listed { IsTrue (is_listed self.old.failing.items self.new.calls) → result ≡ Made.Failed }
-        ensures unlisted { result ≡ Made.Failed → IsTrue (is_listed self.old.failing.items self.new.calls)
-            ⊎ (found name.now self.old.files.items ≡ None) }
-        ensures counted { self.new.faults ≡ faults_after_made result self.old.faults }
-        ensures later { self.old.faults ≤ self.new.faults }
-        ensures file { found name.now self.new.files.items ≡ created result (found name.now self.old.files.items) }
-        ensures others { KeepsOthers name.now (λ n. found n self.old.files.items) (λ n. found n self.new.files.items) }
-    {
-        self.calls = one_more(self.calls);
-        if is_to_fail(&self.failing, self.calls) {
-            self.faults = one_more(self.faults);
-            return Made::Failed;
-        }
-        match place(&self.files, name) {
-            Some(i) => {
-                clear(&mut self.files, name, i);
-                Made::Done
-            }
-            None => match add(&mut self.files, name) {
-                Ok(()) => Made::Done,
-                Err(_) => {
-                    self.faults = one_more(self.faults);
-                    Made::Failed
-                }
-            },
-        }
-    }
-
-    // Puts all of a piece behind a file.
-    fn append_piece(&mut self, name: &[u8], piece: &[u8]) -> Put
-        requires { IsSome (found name.now self.old.files.items) }
-        ensures calls { self.new.calls ≡ risen self.old.calls }
-        ensures failing { self.new.failing ≡ self.old.failing }
-        ensures listed { IsTrue (is_listed self.old.failing.items self.new.calls) → result ≡ Put.Failed }
-        ensures counted { self.new.faults ≡ faults_after_put result self.old.faults }
-        ensures later { self.old.faults ≤ self.new.faults }
-        ensures whole { result ≡ Put.Failed ⊎ result ≡ Put.Bytes (length piece.now) }
-        ensures file { found name.now self.new.files.items
-            ≡ option_map (appended result piece.now) (found name.now self.old.files.items) }
-        ensures others { KeepsOthers name.now (λ n. found n self.old.files.items) (λ n. found n self.new.files.items) }
-    {
-        self.calls = one_more(self.calls);
-        if is_to_fail(&self.failing, self.calls) {
-            self.faults = one_more(self.faults);
-            return Put::Failed;
-        }
-        if let Some(i) = place(&self.files, name)
-            && extend(&mut self.files, name, i, piece).is_ok()
-        {
-            return Put::Bytes(piece.len());
-        }
-        self.faults = one_more(self.faults);
-        Put::Failed
-    }
 }
 
 impl Store for MemoryStore {
@@ -140,16 +53,94 @@ impl Store for MemoryStore {
 
     ghost faults = { λ store. store.faults };
 
-    fn read_at(&mut self, name: &str, at: u64, piece: &mut [u8]) -> Got {
-        self.read_piece(name.as_bytes(), at, piece)
+    ghost taken = { λ _. 0 };
+
+    ghost end = { λ _. None };
+
+    // All from the place that the piece holds.
+    fn read_at(&mut self, name: &str, at: u64, piece: &mut [u8]) -> Got
+        requires { 0 < length piece.old }
+        ensures calls { self.new.calls ≡ risen self.old.calls }
+        ensures failing { self.new.failing ≡ self.old.failing }
+        ensures files { self.new.files ≡ self.old.files }
+        ensures answer { result ≡ read_answer (found name.now self.old.files.items)
+            (is_listed self.old.failing.items self.new.calls) at (length piece.new) }
+        ensures bytes { Gives result at piece.new (found name.now self.old.files.items) }
+        ensures counted { self.new.faults ≡ faults_after_read (found name.now self.old.files.items) result self.old.faults }
+
+        // What the trait says besides:
+        ensures later { self.old.faults ≤ self.new.faults }
+        ensures count { IsReadWithin result (length piece.new) }
+        ensures cause { result ≡ Got.Failed → Rose self.old.faults self.new.faults
+            ⊎ (found name.now self.old.files.items ≡ None) }
+        ensures missing { found name.now self.old.files.items ≡ None →
+            (result ≡ Got.Failed) × (self.new.faults ≡ self.old.faults) }
+    {
+        self.calls = one_more(self.calls);
+        let Some(bytes) = contents(&self.files, name.as_bytes()) else {
+            return Got::Failed;
+        };
+        if is_to_fail(&self.failing, self.calls) {
+            self.faults = one_more(self.faults);
+            return Got::Failed;
+        }
+        bytes_from(bytes, at, piece)
     }
 
-    fn create(&mut self, name: &str) -> Made {
-        self.make(name.as_bytes())
+    // Emptying a file takes no memory; adding one does.
+    fn create(&mut self, name: &str) -> Made
+        ensures calls { self.new.calls ≡ risen self.old.calls }
+        ensures failing { self.new.failing ≡ self.old.failing }
+        ensures listed { IsTrue (is_listed self.old.failing.items self.new.calls) → result ≡ Made.Failed }
+        ensures unlisted { result ≡ Made.Failed → IsTrue (is_listed self.old.failing.items self.new.calls)
+            ⊎ (found name.now self.old.files.items ≡ None) }
+        ensures counted { self.new.faults ≡ faults_after_made result self.old.faults }
+        ensures file { found name.now self.new.files.items ≡ created result (found name.now self.old.files.items) }
+        ensures others { KeepsOthers name.now (λ n. found n self.old.files.items) (λ n. found n self.new.files.items) }
+
+        // What the trait says besides:
+        ensures later { self.old.faults ≤ self.new.faults }
+        ensures cause { result ≡ Made.Failed → Rose self.old.faults self.new.faults }
+    {
+        self.calls = one_more(self.calls);
+        if !is_to_fail(&self.failing, self.calls)
+            && empty(&mut self.files, name.as_bytes()).is_ok()
+        {
+            return Made::Done;
+        }
+        self.faults = one_more(self.faults);
+        Made::Failed
     }
 
-    fn append(&mut self, name: &str, piece: &[u8]) -> Put {
-        self.append_piece(name.as_bytes(), piece)
+    // All of the piece.
+    fn append(&mut self, name: &str, piece: &[u8]) -> Put
+        requires some { 0 < length piece.now }
+        requires there { IsSome (found name.now self.old.files.items) }
+        ensures calls { self.new.calls ≡ risen self.old.calls }
+        ensures failing { self.new.failing ≡ self.old.failing }
+        ensures listed { IsTrue (is_listed self.old.failing.items self.new.calls) → result ≡ Put.Failed }
+        ensures unlisted { result ≡ Put.Failed → IsTrue (is_listed self.old.failing.items self.new.calls)
+            ⊎ (room name.now self.old.files.items < length piece.now) }
+        ensures whole { result ≡ Put.Failed ⊎ result ≡ Put.Bytes (length piece.now) }
+        ensures counted { self.new.faults ≡ faults_after_put result self.old.faults }
+        ensures file { found name.now self.new.files.items
+            ≡ option_map (appended result piece.now) (found name.now self.old.files.items) }
+        ensures others { KeepsOthers name.now (λ n. found n self.old.files.items) (λ n. found n self.new.files.items) }
+
+        // What the trait says besides:
+        ensures later { self.old.faults ≤ self.new.faults }
+        ensures count { IsPutWithin result (length piece.now) }
+        ensures cause { result ≡ Put.Failed → Rose self.old.faults self.new.faults }
+    {
+        self.calls = one_more(self.calls);
+        if !is_to_fail(&self.failing, self.calls)
+            && let Some(i) = place(&self.files, name.as_bytes())
+            && extend(&mut self.files, name.as_bytes(), i, piece).is_ok()
+        {
+            return Put::Bytes(piece.len());
+        }
+        self.faults = one_more(self.faults);
+        Put::Failed
     }
 }
 
@@ -184,8 +175,9 @@ fn contents<'a>(files: &'a [(Name, Vec<u8>)], name: &[u8]) -> Option<&'a [u8]>
 // What a read of these bytes gives: all from `at` that the piece holds.
 fn bytes_from(bytes: &[u8], at: u64, piece: &mut [u8]) -> Got
     requires { 0 < length piece.old }
-    ensures count { IsReadWithin result (length piece.new) }
+    ensures answer { result ≡ given_from bytes.now at (length piece.new) }
     ensures bytes { Gives result at piece.new (Some bytes.now) }
+    ensures count { IsReadWithin result (length piece.new) }
     ensures reads { result ≡ Got.Failed → ⊥ }
 {
     if at >= bytes.len() as u64 {
@@ -195,6 +187,21 @@ fn bytes_from(bytes: &[u8], at: u64, piece: &mut [u8]) -> Got
     let n = rest.len().min(piece.len());
     piece[..n].copy_from_slice(&rest[..n]);
     Got::Bytes(n)
+}
+
+// Empties the file of that name, or adds one with nothing in it.
+fn empty(files: &mut Vec<(Name, Vec<u8>)>, name: &[u8]) -> Result<(), AllocError>
+    ensures ok { OnOk result (found name.now files.new.items ≡ Some []) }
+    ensures err { OnErr result ((files.new.items ≡ files.old.items) × (found name.now files.old.items ≡ None)) }
+    ensures others { KeepsOthers name.now (λ n. found n files.old.items) (λ n. found n files.new.items) }
+{
+    match place(files, name) {
+        Some(i) => {
+            clear(files, name, i);
+            Ok(())
+        }
+        None => add(files, name),
+    }
 }
 
 // Adds a file with nothing in it.
@@ -234,7 +241,7 @@ fn extend(
     requires place { IsPlace name.now i files.old }
     ensures ok { OnOk result (found name.now files.new
         ≡ option_map (appended (Put.Bytes (length piece.now)) piece.now) (found name.now files.old)) }
-    ensures err { OnErr result (found name.now files.new ≡ found name.now files.old) }
+    ensures err { OnErr result ((found name.now files.new ≡ found name.now files.old) × (room name.now files.old < length piece.now)) }
     ensures others { KeepsOthers name.now (λ n. found n files.old) (λ n. found n files.new) }
 {
     files[i].1.extend_from_slice(piece)?;

@@ -1,5 +1,5 @@
 ghost use Rattle.std.specs.Prelude.{◌≡◌, ◌≤◌, ◌<◌, ◌+◌, ◌⊎◌, true, IsTrue, [], length, vec_len, vec_capacity};
-ghost use Rattle.cc_edge.specs.Faults.{risen, faults_after_put};
+ghost use Rattle.cc_edge.specs.Faults.{Rose, risen, faults_after_put};
 ghost use Rattle.cc_edge.specs.Files.{IsPutWithin, appended};
 ghost use Rattle.cc_edge.specs.Memory.{is_listed};
 
@@ -39,32 +39,6 @@ impl MemorySink {
             faults: 0,
         }
     }
-
-    // Says all of a piece.
-    fn say(&mut self, piece: &[u8]) -> Put
-        ensures calls { self.new.calls ≡ risen self.old.calls }
-        ensures failing { self.new.failing ≡ self.old.failing }
-        ensures listed { IsTrue (is_listed self.old.failing.items self.new.calls) → result ≡ Put.Failed }
-        ensures unlisted { result ≡ Put.Failed → IsTrue (is_listed self.old.failing.items self.new.calls)
-            ⊎ (vec_capacity self.old.said < vec_len self.old.said + length piece.now) }
-        ensures counted { self.new.faults ≡ faults_after_put result self.old.faults }
-        ensures later { self.old.faults ≤ self.new.faults }
-        ensures said { self.new.said.items ≡ appended result piece.now self.old.said.items }
-        ensures whole { result ≡ Put.Failed ⊎ result ≡ Put.Bytes (length piece.now) }
-    {
-        self.calls = one_more(self.calls);
-        if is_to_fail(&self.failing, self.calls) {
-            self.faults = one_more(self.faults);
-            return Put::Failed;
-        }
-        match self.said.extend_from_slice(piece) {
-            Ok(()) => Put::Bytes(piece.len()),
-            Err(_) => {
-                self.faults = one_more(self.faults);
-                Put::Failed
-            }
-        }
-    }
 }
 
 impl Sink for MemorySink {
@@ -74,7 +48,28 @@ impl Sink for MemorySink {
 
     ghost faults = { λ sink. sink.faults };
 
-    fn put(&mut self, piece: &[u8]) -> Put {
-        self.say(piece)
+    // All of the piece.
+    fn put(&mut self, piece: &[u8]) -> Put
+        requires { 0 < length piece.now }
+        ensures calls { self.new.calls ≡ risen self.old.calls }
+        ensures failing { self.new.failing ≡ self.old.failing }
+        ensures listed { IsTrue (is_listed self.old.failing.items self.new.calls) → result ≡ Put.Failed }
+        ensures unlisted { result ≡ Put.Failed → IsTrue (is_listed self.old.failing.items self.new.calls)
+            ⊎ (vec_capacity self.old.said < vec_len self.old.said + length piece.now) }
+        ensures whole { result ≡ Put.Failed ⊎ result ≡ Put.Bytes (length piece.now) }
+        ensures counted { self.new.faults ≡ faults_after_put result self.old.faults }
+        ensures bytes { self.new.said.items ≡ appended result piece.now self.old.said.items }
+
+        // What the trait says besides:
+        ensures later { self.old.faults ≤ self.new.faults }
+        ensures count { IsPutWithin result (length piece.now) }
+        ensures cause { result ≡ Put.Failed → Rose self.old.faults self.new.faults }
+    {
+        self.calls = one_more(self.calls);
+        if !is_to_fail(&self.failing, self.calls) && self.said.extend_from_slice(piece).is_ok() {
+            return Put::Bytes(piece.len());
+        }
+        self.faults = one_more(self.faults);
+        Put::Failed
     }
 }

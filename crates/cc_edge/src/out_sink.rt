@@ -1,5 +1,5 @@
 ghost use Rattle.std.specs.Prelude.{◌≡◌, ◌≤◌, ◌-◌, ◌^◌, false, [], length};
-ghost use Rattle.cc_edge.specs.Faults.{faults_after_put};
+ghost use Rattle.cc_edge.specs.Faults.{Rose, faults_after_put};
 ghost use Rattle.cc_edge.specs.Files.{IsPutWithin};
 
 use crate::count::one_more;
@@ -24,12 +24,21 @@ impl<'r, R: Print> OutSink<'r, R> {
     {
         OutSink { rt, faults: 0 }
     }
+}
 
-    // Prints the first bytes of a piece.
-    fn print_piece(&mut self, piece: &[u8]) -> Put
+impl<R: Print> Sink for OutSink<'_, R> {
+    ghost told = { λ _. false };
+
+    ghost said = { λ _. [] };
+
+    ghost faults = { λ sink. sink.faults };
+
+    // One write of the system.
+    fn put(&mut self, piece: &[u8]) -> Put
         ensures spent { self.old.faults ≡ 2 ^ 64 - 1 → result ≡ Put.Failed }
         ensures counted { self.new.faults ≡ faults_after_put result self.old.faults }
         ensures later { self.old.faults ≤ self.new.faults }
+        ensures cause { result ≡ Put.Failed → Rose self.old.faults self.new.faults }
         ensures count { IsPutWithin result (length piece.now) }
     {
         if self.faults == u64::MAX {
@@ -42,17 +51,5 @@ impl<'r, R: Print> OutSink<'r, R> {
             }
             Ok(n) => Put::Bytes(n),
         }
-    }
-}
-
-impl<R: Print> Sink for OutSink<'_, R> {
-    ghost told = { λ _. false };
-
-    ghost said = { λ _. [] };
-
-    ghost faults = { λ sink. sink.faults };
-
-    fn put(&mut self, piece: &[u8]) -> Put {
-        self.print_piece(piece)
     }
 }

@@ -1,5 +1,5 @@
-ghost use Rattle.std.specs.Prelude.{◌≡◌, ◌≤◌, ◌<◌, ◌-◌, ◌^◌, ◌⊎◌, IsTrue, Some, None, length, IfOk, IsSomeAnd};
-ghost use Rattle.cc_edge.specs.Faults.{Rose};
+ghost use Rattle.std.specs.Prelude.{◌≡◌, ◌≤◌, ◌<◌, ◌+◌, ◌-◌, ◌^◌, ◌⊎◌, false, IsTrue, Some, None, length, IfOk, IsSomeAnd};
+ghost use Rattle.cc_edge.specs.Faults.{Rose, raised};
 ghost use Rattle.cc_edge.specs.Files.{KeepsFiles};
 
 use crate::store::{Got, PIECE, Store};
@@ -41,6 +41,17 @@ pub fn read_whole<F: Store>(
     ensures whole { IfOk result (λ bytes. IsTrue (F.told store.old) → F.files store.old name.now ≡ Some bytes.items) }
     ensures long { result ≡ Err ReadEnd.TooLong → IsTrue (F.told store.old) →
         IsSomeAnd (F.files store.old name.now) (λ bytes. limit < length bytes) }
+
+    // Where they are not: TooLong comes where limit + 1 bytes were taken, and ReadFault where fewer
+    // were. Ok comes where the store found the end behind the bytes that it gave.
+    ensures taken { IfOk result (λ bytes. F.told store.old ≡ false →
+        F.taken store.new ≡ raised (length bytes.items) (F.taken store.old)) }
+    ensures end { IfOk result (λ bytes. F.told store.old ≡ false → F.end store.new ≡ Some (length bytes.items)) }
+    ensures over { result ≡ Err ReadEnd.TooLong → F.told store.old ≡ false →
+        F.taken store.new ≡ raised (limit + 1) (F.taken store.old) }
+    ensures under { result ≡ Err ReadEnd.ReadFault → F.told store.old ≡ false →
+        F.taken store.new ≤ raised limit (F.taken store.old) }
+    ensures most { F.told store.old ≡ false → F.taken store.new ≤ raised (limit + 1) (F.taken store.old) }
 {
     let mut bytes: Vec<u8> = Vec::new(alloc);
     let mut piece = [0u8; PIECE];

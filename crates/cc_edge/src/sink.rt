@@ -15,7 +15,7 @@ pub trait Sink {
     /// The bytes said so far.
     ghost said: { Self → List ℕ };
 
-    /// The count of faults. It never falls, and stays at `u64::MAX` once it stands there.
+    /// The count of faults. It never falls.
     ghost faults: { Self → ℕ };
 
     /// Says the first bytes of a piece, or fails and says nothing.

@@ -16,6 +16,8 @@ pub struct WriteFault;
 pub fn write_whole<F: Store>(store: &mut F, name: &str, bytes: &[u8]) -> Result<(), WriteFault>
     ensures told { F.told store.new ≡ F.told store.old }
     ensures later { F.faults store.old ≤ F.faults store.new }
+    ensures taken { F.taken store.new ≡ F.taken store.old }
+    ensures end { F.end store.new ≡ F.end store.old }
     ensures fault { OnErr result (Rose (F.faults store.old) (F.faults store.new)) }
 
     // Where the files are told:

@@ -2,7 +2,7 @@
 -- the loop stands at each element's first byte.
 use Rattle.std.proofs.Common.{◌≡◌, ℕ, zero, suc, ◌+◌, ◌<◌, ◌≤◌, List, [], ◌∷◌, ◌++◌, length, drop, Option, Some, None, Result, Ok, Err, refl, ap, sym, ◌∙◌, arith, append_assoc, sub-one, add-zero}
 use Rattle.cc_lex.specs.declared.fault.LexFault.{LexFault}
-use Rattle.cc_lex.specs.Literals.{element_of}
+use Rattle.cc_lex.specs.ScanParts.{element_of}
 use Rattle.cc_lex.specs.Scan.{bytes_of, put_byte}
 use Rattle.cc_lex.specs.declared.fault.LexFault.TheVariants as fault
 

@@ -1,14 +1,19 @@
--- The elements of a content, as a relation and as computed. Each element takes at least one byte, so
--- the content behind it is shorter.
-use Rattle.std.proofs.Common.{◌≡◌, ℕ, zero, suc, ◌+◌, ◌<◌, ◌≤◌, min, Bool, true, false, cond, eqb, List, [], ◌∷◌, length, take, drop, Option, Some, None, Result, Ok, Err, refl, ap, sym, ◌∙◌, subst, arith, add-zero, sub-one, length-drop}
+-- The elements of a content, one behind another, as a relation and as computed. Each element takes at
+-- least one byte, so the content behind it is shorter.
+use Rattle.std.proofs.Common.{◌≡◌, ℕ, zero, suc, ◌+◌, ◌<◌, ◌≤◌, min, Bool, true, false, cond, eqb, List, [], ◌∷◌, ◌++◌, length, take, drop, Option, Some, None, Result, Ok, Err, refl, ap, sym, ◌∙◌, subst, arith, add-zero, sub-one, length-drop}
 use Rattle.std.specs.List.{prefix_len}
+use Rattle.std.proofs.Math.ListN.{take-append-drop}
+use Rattle.std.proofs.lemmas.List.{length-take-le}
 use Rattle.std.proofs.lemmas.List.Sums.{prefix_len-le-length}
 use Rattle.cc_lex.specs.declared.fault.LexFault.{LexFault}
 use Rattle.cc_lex.specs.declared.fault.LexFault.TheVariants as fault
-use Rattle.cc_lex.specs.Literals.{simple_escape, octal_escape, hexadecimal_escape, byte_of, escape_of, behind_backslash, element_of, HasBytes, NoElement, OneElement, HasBadEscape, AtFirst, Behind}
-use Rattle.cc_lex.specs.Numbers.{is_digit_in, value_of}
+use Rattle.cc_lex.specs.Literals.{IsContent, IsElement, HasBytes, NoElement, OneElement, HasBadEscape, AtFirst, Behind}
+use Rattle.cc_lex.specs.Numbers.{is_digit_in}
+use Rattle.cc_lex.specs.ScanParts.{value_of, simple_escape, octal_escape, hexadecimal_escape, byte_of, escape_of, behind_backslash, element_of}
 use Rattle.cc_lex.specs.Scan.{put_byte, bytes_of}
 use Rattle.cc_lex.proofs.Contents.{bytes_of-skip}
+use Rattle.cc_lex.proofs.Escapes.{ElementIs, element-is, element-found, bad-found, behind-element, element-some, bad-some}
+use Rattle.cc_lex.proofs.Fronts.{drop-front}
 
 -- ---- lengths
 
@@ -62,17 +67,27 @@ bytes-step at b bs (suc n) v e =
 pub bytes-bad : (at b : ℕ) (bs : List ℕ) (n : ℕ) → element_of (b ∷ bs) ≡ (n, None) → bytes_of 0 at (b ∷ bs) ≡ Err (fault.BadNumber at)
 bytes-bad at b bs n e = rw e refl
 
+-- the same at an element that is derived
+step-found : (at : ℕ) (w rest : List ℕ) (v : ℕ) → 0 < length w → element_of (w ++ rest) ≡ (length w, Some v) → bytes_of 0 at (w ++ rest) ≡ put_byte v (bytes_of 0 (at + length w) rest)
+step-found at [] rest v some e = absurd (omega arith)
+step-found at (b ∷ bs) rest v some e = bytes-step at b (bs ++ rest) (length (b ∷ bs)) v e ∙ ap (λ (x : List ℕ). put_byte v (bytes_of 0 (at + length (b ∷ bs)) x)) (drop-front (b ∷ bs) rest)
+
+bad-at : (at : ℕ) (w rest : List ℕ) → 0 < length w → element_of (w ++ rest) ≡ (length w, None) → bytes_of 0 at (w ++ rest) ≡ Err (fault.BadNumber at)
+bad-at at [] rest some e = absurd (omega arith)
+bad-at at (b ∷ bs) rest some e = bytes-bad at b (bs ++ rest) (length (b ∷ bs)) e
+
 -- ---- from the relation
 
 pub has-bytes : (c vs : List ℕ) → HasBytes c vs → (at : ℕ) → bytes_of 0 at c ≡ Ok vs
 has-bytes c vs NoElement at = refl
-has-bytes c vs (OneElement b bs n v ws e h) at = bytes-step at b bs n v e ∙ ap (put_byte v) (has-bytes (drop n (b ∷ bs)) ws h (at + n))
+has-bytes c vs (OneElement w rest ws v e h) at =
+    step-found at w rest v (element-some w rest v e) (element-found w rest v e) ∙ ap (put_byte v) (has-bytes rest ws h (at + length w))
 
 pub has-bad : (c : List ℕ) (k : ℕ) → HasBadEscape c k → (at : ℕ) → bytes_of 0 at c ≡ Err (fault.BadNumber (at + k))
-has-bad c k (AtFirst b bs n e) at = bytes-bad at b bs n e ∙ ap (λ (x : ℕ). Err (fault.BadNumber x)) (sym (add-zero at))
-has-bad c k (Behind b bs n v j e h) at =
-    let f : at + n + j ≡ at + (n + j) = omega arith in
-    bytes-step at b bs n v e ∙ ap (put_byte v) (has-bad (drop n (b ∷ bs)) j h (at + n)) ∙ ap (λ (x : ℕ). Err (fault.BadNumber x)) f
+has-bad c k (AtFirst w rest e) at = bad-at at w rest (bad-some w rest e) (bad-found w rest e) ∙ ap (λ (x : ℕ). Err (fault.BadNumber x)) (sym (add-zero at))
+has-bad c k (Behind w rest v j e h) at =
+    let f : at + length w + j ≡ at + (length w + j) = omega arith in
+    step-found at w rest v (element-some w rest v e) (element-found w rest v e) ∙ ap (put_byte v) (has-bad rest j h (at + length w)) ∙ ap (λ (x : ℕ). Err (fault.BadNumber x)) f
 
 -- ---- to the relation
 
@@ -81,24 +96,34 @@ abbrev pub BytesAre : List ℕ → ℕ → Result (List ℕ) LexFault → Type 0
 BytesAre c at (Ok vs) = HasBytes c vs
 BytesAre c at (Err e) = (k : ℕ) × (e ≡ fault.BadNumber (at + k)) × HasBadEscape c k
 
-with-first : (at b : ℕ) (bs : List ℕ) (n v : ℕ) (r : Result (List ℕ) LexFault) → element_of (b ∷ bs) ≡ (n, Some v) → BytesAre (drop n (b ∷ bs)) (at + n) r → BytesAre (b ∷ bs) at (put_byte v r)
-with-first at b bs n v (Ok vs) e h = OneElement b bs n v vs e h
-with-first at b bs n v (Err x) e h =
-    let f : at + n + h.0 ≡ at + (n + h.0) = omega arith in
-    (n + h.0, h.1 ∙ ap (λ (y : ℕ). fault.BadNumber y) f, Behind b bs n v h.0 e h.2)
+with-first : (at : ℕ) (w rest : List ℕ) (v : ℕ) (r : Result (List ℕ) LexFault) → IsElement w rest v → BytesAre rest (at + length w) r → BytesAre (w ++ rest) at (put_byte v r)
+with-first at w rest v (Ok vs) e h = OneElement w rest vs v e h
+with-first at w rest v (Err x) e h =
+    let f : at + length w + h.0 ≡ at + (length w + h.0) = omega arith in
+    (length w + h.0, h.1 ∙ ap (λ (y : ℕ). fault.BadNumber y) f, Behind w rest v h.0 e h.2)
 
-bytes-at : (fuel b : ℕ) (bs : List ℕ) (at : ℕ) → ((c : List ℕ) (here : ℕ) → length c ≤ fuel → BytesAre c here (bytes_of 0 here c)) →
-    (x : ℕ × Option ℕ) → element_of (b ∷ bs) ≡ x → length (b ∷ bs) ≤ suc fuel → BytesAre (b ∷ bs) at (bytes_of 0 at (b ∷ bs))
-bytes-at fuel b bs at rest (n, None) e h = subst (BytesAre (b ∷ bs) at) (sym (bytes-bad at b bs n e)) (0, ap (λ (y : ℕ). fault.BadNumber y) (sym (add-zero at)), AtFirst b bs n e)
-bytes-at fuel b bs at rest (n, Some v) e h =
+bytes-at : (fuel quote b : ℕ) (bs : List ℕ) (at : ℕ) → IsContent quote (b ∷ bs) → ((c : List ℕ) (here : ℕ) → IsContent quote c → length c ≤ fuel → BytesAre c here (bytes_of 0 here c)) →
+    (x : ℕ × Option ℕ) → element_of (b ∷ bs) ≡ x → ElementIs (b ∷ bs) x → length (b ∷ bs) ≤ suc fuel → BytesAre (b ∷ bs) at (bytes_of 0 at (b ∷ bs))
+bytes-at fuel quote b bs at c rest (n, None) e k h =
+    let whole = take-append-drop n (b ∷ bs) in
+    subst (BytesAre (b ∷ bs) at) (sym (bytes-bad at b bs n e))
+    (0, ap (λ (y : ℕ). fault.BadNumber y) (sym (add-zero at)), subst (λ (x : List ℕ). HasBadEscape x 0) whole (AtFirst (take n (b ∷ bs)) (drop n (b ∷ bs)) k))
+bytes-at fuel quote b bs at c rest (n, Some v) e k h =
     let size = element-size b bs n (Some v) e in
-    let shorter : length (drop n (b ∷ bs)) ≤ fuel = omega (arith, length-drop n (b ∷ bs), size.0, size.1) in
-    subst (BytesAre (b ∷ bs) at) (sym (bytes-step at b bs n v e)) (with-first at b bs n v (bytes_of 0 (at + n) (drop n (b ∷ bs))) e (rest (drop n (b ∷ bs)) (at + n) shorter))
+    let front = take n (b ∷ bs) in
+    let behind = drop n (b ∷ bs) in
+    let whole : front ++ behind ≡ b ∷ bs = take-append-drop n (b ∷ bs) in
+    let len : length front ≡ n = length-take-le n (b ∷ bs) size.1 in
+    let shorter : length behind ≤ fuel = omega (arith, length-drop n (b ∷ bs), size.0, size.1) in
+    let content : IsContent quote behind = behind-element quote front behind v k (subst (IsContent quote) (sym whole) c) in
+    let is : BytesAre (front ++ behind) at (put_byte v (bytes_of 0 (at + length front) behind)) = with-first at front behind v (bytes_of 0 (at + length front) behind) k (rest behind (at + length front) content shorter) in
+    subst (BytesAre (b ∷ bs) at) (ap (λ (m : ℕ). put_byte v (bytes_of 0 (at + m) behind)) len ∙ sym (bytes-step at b bs n v e))
+    (subst (λ (x : List ℕ). BytesAre x at (put_byte v (bytes_of 0 (at + length front) behind))) whole is)
 
-bytes-by : (fuel : ℕ) (c : List ℕ) (at : ℕ) → length c ≤ fuel → BytesAre c at (bytes_of 0 at c)
-bytes-by fuel [] at h = NoElement
-bytes-by zero (b ∷ bs) at h = absurd (omega arith)
-bytes-by (suc fuel) (b ∷ bs) at h = bytes-at fuel b bs at (λ c here k. bytes-by fuel c here k) (element_of (b ∷ bs)) refl h
+bytes-by : (fuel quote : ℕ) (c : List ℕ) (at : ℕ) → IsContent quote c → length c ≤ fuel → BytesAre c at (bytes_of 0 at c)
+bytes-by fuel quote [] at i h = NoElement
+bytes-by zero quote (b ∷ bs) at i h = absurd (omega arith)
+bytes-by (suc fuel) quote (b ∷ bs) at i h = bytes-at fuel quote b bs at i (λ c here j k. bytes-by fuel quote c here j k) (element_of (b ∷ bs)) refl (element-is quote b bs i) h
 
-pub bytes-are : (c : List ℕ) (at : ℕ) → BytesAre c at (bytes_of 0 at c)
-bytes-are c at = bytes-by (length c) c at (omega arith)
+pub bytes-are : (quote : ℕ) (c : List ℕ) (at : ℕ) → IsContent quote c → BytesAre c at (bytes_of 0 at c)
+bytes-are quote c at i = bytes-by (length c) quote c at i (omega arith)

@@ -1,6 +1,6 @@
 -- What the grammar says is at a place is found there: each separator, spelling and fault is what the
 -- scanner answers.
-use Rattle.std.proofs.Common.{◌≡◌, ◌≢◌, ℕ, suc, ◌+◌, Bool, true, false, ◌||◌, cond, eqb, List, [], ◌∷◌, ◌++◌, length, Option, Some, None, Ok, Err, refl, ap, sym, ◌∙◌, subst, arith, append_assoc, add-one, length-append}
+use Rattle.std.proofs.Common.{◌≡◌, ℕ, suc, ◌+◌, ◌<◌, Bool, true, false, ◌||◌, cond, eqb, List, [], ◌∷◌, ◌++◌, length, Option, Some, None, Ok, Err, refl, ap, sym, ◌∙◌, subst, arith, append_assoc, add-one, length-append}
 use Rattle.std.specs.List.{list_all, prefix_len}
 use Rattle.cc_lex.specs.declared.byte.Class.{Class}
 use Rattle.cc_lex.specs.declared.byte.Class.TheVariants as class
@@ -13,18 +13,22 @@ use Rattle.cc_lex.specs.declared.token.Mark.{Mark}
 use Rattle.cc_lex.specs.declared.token.Mark.TheVariants as mark
 use Rattle.cc_lex.specs.Bytes.{is_word, is_in_line}
 use Rattle.cc_lex.specs.Identifiers.{IsIdentifier, name_kind}
-use Rattle.cc_lex.specs.Literals.{IsContent, IsOneElement, element_of}
+use Rattle.cc_lex.specs.Literals.{IsContent, IsElement, IsBadEscape}
 use Rattle.cc_lex.specs.Marks.{spelling_of, IsLongestMark, HasNoMark}
-use Rattle.cc_lex.specs.Numbers.{IsRun, FromDigit, FromPoint, all_go_on, stops, last_of, number_of, begins_with_digit, begins_fraction}
+use Rattle.cc_lex.specs.Numbers.{IsRun, FromDigit, FromPoint, all_go_on, stops, last_of, begins_with_digit, begins_fraction}
 use Rattle.cc_lex.specs.Separators.{begins_with, has_close, Separates, ABlank, ALineFeed, AnotherSpace, AComment, ALineComment, ALine, begins_comment}
 use Rattle.cc_lex.specs.Tokens.{Spells, AName, ANumber, ACharacter, AText, AMark}
 use Rattle.cc_lex.specs.Faults.{Fails, ABadByte, ALateHash, ADirective, AnOpenComment, ABadNumber, AnOpenCharacter, AnOpenText, AWrongLength, ABadCharacter, ABadEscape}
+use Rattle.cc_lex.specs.ScanParts.{number_of, element_of, is_skipped}
 use Rattle.cc_lex.specs.Scan.{class_of, content_len, close_len, numbered, number_at, marked, mark_at, one_element, character_at, bytes_of, text_of, text_at, comment_in, slash_at, by_class, piece_at}
 use Rattle.cc_lex.proofs.Classes.{IsClass, class-is, letter-class, digit-class, blank-class, other_space-class, nothing-class, point-class, apostrophe-class, quote-class, line_feed-class, slash-class, hash-class}
 use Rattle.cc_lex.proofs.Fronts.{take-front, front-len, run-len}
 use Rattle.cc_lex.proofs.Closing.{IsQuote, ClosesAt, content-len, content-closes-is, pair_len, close_len-is, close-len, no-close}
 use Rattle.cc_lex.proofs.LongestMark.{no-mark, the-mark}
+use Rattle.cc_lex.proofs.Constants.{integer-number, no-number}
+use Rattle.cc_lex.proofs.Escapes.{ElementIs, element-is, WholeIs, all-element, whole-element, whole-bad, element-some, bad-some}
 use Rattle.cc_lex.proofs.Elements.{has-bytes, has-bad}
+use Rattle.cc_lex.proofs.SkippedLines.{skipped-found, none-skipped}
 use Rattle.cc_lex.proofs.Pieces.{apostrophe, quotation}
 use Rattle.cc_lex.proofs.Booleans.{or-false, eq-true, eq-same, eq-other}
 
@@ -50,7 +54,7 @@ gap-found fresh after w rest (ALineComment _ c _ h k) at =
     let n : 1 + (1 + length c) ≡ suc (suc (length c)) = omega arith in
     rw (slash-class, line-found c rest h k, n) refl
 gap-found fresh after w rest (ALine c _ h k s) at =
-    rw (hash-class, line-found c rest h k, take-front c rest, s, add-one) refl
+    rw (hash-class, line-found c rest h k, take-front c rest, skipped-found c s, add-one) refl
 
 -- ---- names and numbers
 
@@ -78,34 +82,41 @@ number-found fresh at c cs rest (FromPoint _ h g) k = rw (point-class, fraction-
 literal-len : (quote : ℕ) (c : List ℕ) → length c + 2 ≡ suc (length (c ++ quote ∷ []))
 literal-len quote c = let e = length-append c (quote ∷ []) in omega arith
 
-not-none : (c : List ℕ) → c ≢ [] → eqb (length c) 0 ≡ false
-not-none [] h = absurd (h refl)
-not-none (b ∷ bs) h = eq-other (suc (length bs)) 0 (λ k. absurd (omega (arith, k)))
+not-none : (c : List ℕ) → 0 < length c → eqb (length c) 0 ≡ false
+not-none c h = eq-other (length c) 0 (λ k. absurd (omega (arith, k)))
 
 pub closed-character : (at : ℕ) (c rest : List ℕ) → IsContent 39 c → character_at at (39 ∷ (c ++ (39 ∷ rest))) ≡ cond (eqb (length c) 0) (Err (fault.OpenText at)) (one_element at (length c) (element_of c))
 closed-character at c rest h = rw (content-len 39 apostrophe c rest h, take-front c (39 ∷ rest)) refl
 
-character-found : (at : ℕ) (c rest : List ℕ) (v : ℕ) → IsContent 39 c → IsOneElement c (Some v) → character_at at (39 ∷ (c ++ (39 ∷ rest))) ≡ Ok (piece.Spelled (suc (length (c ++ 39 ∷ []))) (kind.Character v))
-character-found at c rest v h k = closed-character at c rest h ∙ rw (not-none c k.0, k.1, eq-same (length c), literal-len 39 c) refl
+character-found : (at : ℕ) (c rest : List ℕ) (v : ℕ) → IsContent 39 c → IsElement c [] v → character_at at (39 ∷ (c ++ (39 ∷ rest))) ≡ Ok (piece.Spelled (suc (length (c ++ 39 ∷ []))) (kind.Character v))
+character-found at c rest v h k = closed-character at c rest h ∙ rw (not-none c (element-some c [] v k), whole-element c v k, eq-same (length c), literal-len 39 c) refl
 
-bad-character-found : (at : ℕ) (c rest : List ℕ) → IsContent 39 c → IsOneElement c None → character_at at (39 ∷ (c ++ (39 ∷ rest))) ≡ Err (fault.BadNumber (at + 1))
-bad-character-found at c rest h k = closed-character at c rest h ∙ rw (not-none c k.0, k.1, eq-same (length c)) refl
+bad-character-found : (at : ℕ) (c rest : List ℕ) → IsContent 39 c → IsBadEscape c [] → character_at at (39 ∷ (c ++ (39 ∷ rest))) ≡ Err (fault.BadNumber (at + 1))
+bad-character-found at c rest h k = closed-character at c rest h ∙ rw (not-none c (bad-some c [] k), whole-bad c k, eq-same (length c)) refl
 
 wrong-element : (at : ℕ) (c : List ℕ) (len : ℕ) (v : Option ℕ) → eqb len (length c) ≡ false → one_element at (length c) (len, v) ≡ Err (fault.OpenText at)
 wrong-element at c len None e = rw e refl
 wrong-element at c len (Some v) e = rw e refl
 
-other-length : (c : List ℕ) (t : Bool) → c ≢ [] → eqb (element_of c).0 (length c) ≡ t → ((v : Option ℕ) → IsOneElement c v → ⊥) → t ≡ false
-other-length c true k e h = absurd (h (element_of c).1 (k, ap (λ (n : ℕ). (n, (element_of c).1)) (eq-true (element_of c).0 (length c) e)))
-other-length c false k e h = refl
+-- no element is the whole content
+abbrev IsNoElement : List ℕ → Type 0
+IsNoElement c = ((v : ℕ) → IsElement c [] v → ⊥) × (IsBadEscape c [] → ⊥)
 
-wrong-length-by : (at : ℕ) (c : List ℕ) → ((v : Option ℕ) → IsOneElement c v → ⊥) → cond (eqb (length c) 0) (Err (fault.OpenText at)) (one_element at (length c) (element_of c)) ≡ Err (fault.OpenText at)
-wrong-length-by at [] h = refl
-wrong-length-by at (b ∷ bs) h =
-    let some : (b ∷ bs) ≢ [] = λ k. cc in
-    let e = other-length (b ∷ bs) (eqb (element_of (b ∷ bs)).0 (length (b ∷ bs))) some refl h in
-    ap (λ (t : Bool). cond t (Err (fault.OpenText at)) (one_element at (length (b ∷ bs)) (element_of (b ∷ bs)))) (not-none (b ∷ bs) some)
-    ∙ wrong-element at (b ∷ bs) (element_of (b ∷ bs)).0 (element_of (b ∷ bs)).1 e
+whole-none : (c : List ℕ) (r : Option ℕ) → IsNoElement c → WholeIs c r → ⊥
+whole-none c None h k = h.1 k
+whole-none c (Some v) h k = h.0 v k
+
+other-length : (c : List ℕ) (n : ℕ) (r : Option ℕ) (t : Bool) → IsNoElement c → ElementIs c (n, r) → eqb n (length c) ≡ t → t ≡ false
+other-length c n r true h k e = absurd (whole-none c r h (all-element c n r k (eq-true n (length c) e)))
+other-length c n r false h k e = refl
+
+wrong-length-by : (at : ℕ) (c : List ℕ) → IsContent 39 c → IsNoElement c → cond (eqb (length c) 0) (Err (fault.OpenText at)) (one_element at (length c) (element_of c)) ≡ Err (fault.OpenText at)
+wrong-length-by at [] i h = refl
+wrong-length-by at (b ∷ bs) i h =
+    let x = element_of (b ∷ bs) in
+    let e = other-length (b ∷ bs) x.0 x.1 (eqb x.0 (length (b ∷ bs))) h (element-is 39 b bs i) refl in
+    ap (λ (t : Bool). cond t (Err (fault.OpenText at)) (one_element at (length (b ∷ bs)) x)) (not-none (b ∷ bs) (omega arith))
+    ∙ wrong-element at (b ∷ bs) x.0 x.1 e
 
 pub closed-text : (at : ℕ) (c rest : List ℕ) → IsContent 34 c → text_at at (34 ∷ (c ++ (34 ∷ rest))) ≡ text_of (length c) (bytes_of 0 (at + 1) c)
 closed-text at c rest h = rw (content-len 34 quotation c rest h, take-front c (34 ∷ rest)) refl
@@ -209,7 +220,7 @@ mark-found fresh at m rest h f c = mark-by fresh at (spelling_of m) rest (mark-f
 pub spelling-found : (w rest : List ℕ) (k : Kind) → Spells w rest k → (fresh : Bool) (at : ℕ) → piece_at fresh at (w ++ rest) ≡ Ok (piece.Spelled (length w) k)
 unfolding piece_at
 spelling-found w rest k (AName _ _ h j) fresh at = name-found fresh at w rest h j
-spelling-found w rest k (ANumber c cs _ n s h j e) fresh at = number-found fresh at c cs rest h j ∙ ap (numbered at (suc (length cs))) e
+spelling-found w rest k (ANumber c cs _ n s h j e) fresh at = number-found fresh at c cs rest h j ∙ ap (numbered at (suc (length cs))) (integer-number (c ∷ cs) n s e)
 spelling-found w rest k (ACharacter c _ v h j) fresh at = rw apostrophe-class (ap (λ (x : List ℕ). character_at at (39 ∷ x)) (append_assoc c (39 ∷ []) rest) ∙ character-found at c rest v h j)
 spelling-found w rest k (AText c _ vs h j) fresh at =
     rw quote-class (ap (λ (x : List ℕ). text_at at (34 ∷ x)) (append_assoc c (34 ∷ []) rest) ∙ closed-text at c rest h ∙ ap (text_of (length c)) (has-bytes c vs j (at + 1)) ∙ ap (λ (n : ℕ). Ok (piece.Spelled n (kind.Text vs))) (literal-len 34 c))
@@ -228,11 +239,11 @@ fault-found fresh at text e (ABadByte _ _ b rest h k) =
     let j = no-mark-other b rest mark.Slash (eqb b 47) 47 k refl refl in
     rw (nothing-class b h i j, no-mark (b ∷ rest) k) refl
 fault-found fresh at text e (ALateHash _ rest) = rw hash-class refl
-fault-found fresh at text e (ADirective _ c rest h k s) = rw (hash-class, line-found c rest h k, take-front c rest, s) refl
+fault-found fresh at text e (ADirective _ c rest h k s) = rw (hash-class, line-found c rest h k, take-front c rest, none-skipped c (is_skipped c) refl s) refl
 fault-found fresh at text e (AnOpenComment _ _ rest h) = rw slash-class (ap (comment_in at) (close_len-is rest ∙ no-close rest h))
-fault-found fresh at text e (ABadNumber _ _ c cs rest h k n) = number-found fresh at c cs rest h k ∙ ap (numbered at (suc (length cs))) n
+fault-found fresh at text e (ABadNumber _ _ c cs rest h k n) = number-found fresh at c cs rest h k ∙ ap (numbered at (suc (length cs))) (no-number (c ∷ cs) n)
 fault-found fresh at text e (AnOpenCharacter _ _ rest h) = rw (apostrophe-class, open-found 39 apostrophe rest h) refl
 fault-found fresh at text e (AnOpenText _ _ rest h) = rw (quote-class, open-found 34 quotation rest h) refl
-fault-found fresh at text e (AWrongLength _ _ c rest h k) = rw apostrophe-class (closed-character at c rest h ∙ wrong-length-by at c k)
+fault-found fresh at text e (AWrongLength _ _ c rest h k i) = rw apostrophe-class (closed-character at c rest h ∙ wrong-length-by at c h (k, i))
 fault-found fresh at text e (ABadCharacter _ _ c rest h k) = rw apostrophe-class (bad-character-found at c rest h k)
 fault-found fresh at text e (ABadEscape _ _ c rest k h j) = rw quote-class (closed-text at c rest h ∙ ap (text_of (length c)) (has-bad c k j (at + 1)))

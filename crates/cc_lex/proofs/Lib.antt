@@ -6,7 +6,10 @@ pub mod Fronts
 pub mod Closing
 pub mod LongestMark
 pub mod LongestForm
+pub mod Constants
+pub mod Escapes
 pub mod Elements
+pub mod SkippedLines
 pub mod Pieces
 pub mod Found
 pub mod Whole

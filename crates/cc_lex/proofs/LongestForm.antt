@@ -14,10 +14,11 @@ use Rattle.cc_lex.specs.declared.token.Suffix.{Suffix}
 use Rattle.cc_lex.specs.Bytes.{is_word, is_in_line}
 use Rattle.cc_lex.specs.Forms.{HasForm, NameForm, RunForm, CharacterForm, TextForm, MarkForm, IsLongest}
 use Rattle.cc_lex.specs.Identifiers.{IsIdentifier}
-use Rattle.cc_lex.specs.Literals.{IsContent, element_of}
+use Rattle.cc_lex.specs.Literals.{IsContent}
 use Rattle.cc_lex.specs.Marks.{spelling_of}
-use Rattle.cc_lex.specs.Numbers.{IsRun, FromDigit, FromPoint, goes_on, all_go_on, number_of, begins_fraction}
+use Rattle.cc_lex.specs.Numbers.{IsRun, FromDigit, FromPoint, goes_on, all_go_on, begins_fraction}
 use Rattle.cc_lex.specs.Tokens.{Spells, AName, ANumber, ACharacter, AText, AMark}
+use Rattle.cc_lex.specs.ScanParts.{number_of, element_of}
 use Rattle.cc_lex.specs.Scan.{class_of, run_len, close_len, mark_of, Reading, numbered, number_at, marked, mark_at, one_element, bytes_of, text_of, comment_in, slash_at, by_class, piece_at}
 use Rattle.cc_lex.proofs.Classes.{letter-class, digit-class, point-class, apostrophe-class, quote-class}
 use Rattle.cc_lex.proofs.LongestMark.{MarkIs, mark-is}

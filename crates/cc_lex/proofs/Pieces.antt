@@ -1,6 +1,6 @@
 -- What the scanner says is at a place is there: by the class of the first byte, what it answers names a
 -- separator, a spelling or a fault of the grammar.
-use Rattle.std.proofs.Common.{◌≡◌, ◌≢◌, ℕ, suc, ◌+◌, ◌<◌, ◌≤◌, Bool, true, false, cond, eqb, List, [], ◌∷◌, ◌++◌, length, take, drop, Option, Some, None, Result, Ok, Err, refl, ap, sym, ◌∙◌, subst, arith, append_assoc, add-one, length-take, length-append}
+use Rattle.std.proofs.Common.{◌≡◌, ℕ, suc, ◌+◌, ◌<◌, ◌≤◌, Bool, true, false, cond, eqb, List, [], ◌∷◌, ◌++◌, length, take, drop, Option, Some, None, Result, Ok, Err, refl, ap, sym, ◌∙◌, subst, arith, append_assoc, add-one, length-take, length-append}
 use Rattle.std.specs.List.{prefix_len}
 use Rattle.std.proofs.Math.ListN.{take-append-drop}
 use Rattle.std.proofs.lemmas.List.Sums.{prefix_len-le-length}
@@ -15,18 +15,22 @@ use Rattle.cc_lex.specs.declared.token.Mark.TheVariants as mark
 use Rattle.cc_lex.specs.declared.token.Suffix.{Suffix}
 use Rattle.cc_lex.specs.Bytes.{is_letter, is_digit, is_word, is_in_line}
 use Rattle.cc_lex.specs.Identifiers.{name_kind}
-use Rattle.cc_lex.specs.Literals.{IsContent, IsOneElement, element_of}
+use Rattle.cc_lex.specs.Literals.{IsContent}
 use Rattle.cc_lex.specs.Marks.{spelling_of, IsLongestMark, HasNoMark}
-use Rattle.cc_lex.specs.Numbers.{IsRun, FromDigit, FromPoint, goes_on, number_of, begins_with_digit, begins_fraction}
-use Rattle.cc_lex.specs.Separators.{is_skipped, Separates, ABlank, ALineFeed, AnotherSpace, AComment, ALineComment, ALine, begins_comment}
+use Rattle.cc_lex.specs.Numbers.{IsRun, FromDigit, FromPoint, goes_on, begins_with_digit, begins_fraction}
+use Rattle.cc_lex.specs.Separators.{Separates, ABlank, ALineFeed, AnotherSpace, AComment, ALineComment, ALine, begins_comment}
 use Rattle.cc_lex.specs.Tokens.{Spells, AName, ANumber, ACharacter, AText, AMark}
 use Rattle.cc_lex.specs.Faults.{Fails, ABadByte, ALateHash, ADirective, AnOpenComment, ABadNumber, AnOpenCharacter, AnOpenText, AWrongLength, ABadCharacter, ABadEscape, begins_nothing}
+use Rattle.cc_lex.specs.ScanParts.{number_of, element_of, is_skipped}
 use Rattle.cc_lex.specs.Scan.{class_of, run_len, content_len, close_len, mark_of, Reading, numbered, number_at, marked, mark_at, one_element, character_in, character_at, bytes_of, text_of, text_in, text_at, comment_in, slash_at, line_at, by_class, piece_at, name_at}
 use Rattle.cc_lex.proofs.Classes.{IsClass, class-is}
 use Rattle.cc_lex.proofs.Fronts.{take-front, front-all, front-stops, run-all, run-stops}
 use Rattle.cc_lex.proofs.Closing.{IsQuote, Closes, ClosesAt, content-closes-is, pair_len, close_len-is, EndsAt, close-ends}
 use Rattle.cc_lex.proofs.LongestMark.{MarkIs, mark-is, mark-some}
+use Rattle.cc_lex.proofs.Constants.{number-integer, no-integer}
+use Rattle.cc_lex.proofs.Escapes.{ElementIs, element-is, all-element, whole-element, whole-bad, element-some, bad-some}
 use Rattle.cc_lex.proofs.Elements.{BytesAre, bytes-are}
+use Rattle.cc_lex.proofs.SkippedLines.{skipped-is, not-skipped}
 use Rattle.cc_lex.proofs.Booleans.{or-true, eq-true, eq-false, eq-other}
 
 -- a text that begins with w, and what is behind it
@@ -81,11 +85,11 @@ number-by : (fresh : Bool) (at b : ℕ) (bs : List ℕ) (r : Option (ℕ × Suff
 number-by fresh at b bs None h e =
     let n = run_len b bs in
     subst (λ (x : List ℕ). Fails fresh at (b ∷ x) (fault.BadNumber at)) (take-append-drop n bs)
-    (ABadNumber fresh at b (take n bs) (drop n bs) h (run-stops b bs) e)
+    (ABadNumber fresh at b (take n bs) (drop n bs) h (run-stops b bs) (no-integer (b ∷ take n bs) e))
 number-by fresh at b bs (Some (v, s)) h e =
     let n = run_len b bs in
     cut-at b bs n (λ w rest. Spells w rest (kind.Number v s)) (run-within b bs)
-    (ANumber b (take n bs) (drop n bs) v s h (run-stops b bs) e)
+    (ANumber b (take n bs) (drop n bs) v s h (run-stops b bs) (number-integer (b ∷ take n bs) v s e))
 
 pub number-is : (fresh : Bool) (at b : ℕ) (bs : List ℕ) → IsRun (b ∷ take (run_len b bs) bs) → IsPiece fresh at (b ∷ bs) (number_at at (b ∷ bs))
 number-is fresh at b bs h = number-by fresh at b bs (number_of (b ∷ take (run_len b bs) bs)) h refl
@@ -146,25 +150,26 @@ cut-literal quote c rest P h = record {
   is = h;
 }
 
-not-one : (c : List ℕ) (len : ℕ) (v : Option ℕ) → element_of c ≡ (len, v) → eqb len (length c) ≡ false → (w : Option ℕ) → IsOneElement c w → ⊥
-not-one c len v e h w k = let f : len ≡ length c = ap (λ (x : ℕ × Option ℕ). x.0) (sym e ∙ k.1) in absurd (eq-false len (length c) h f)
+not-whole : (c : List ℕ) (len : ℕ) (r s : Option ℕ) → element_of c ≡ (len, r) → eqb len (length c) ≡ false → element_of c ≡ (length c, s) → ⊥
+not-whole c len r s e h k = let f : len ≡ length c = ap (λ (x : ℕ × Option ℕ). x.0) (sym e ∙ k) in eq-false len (length c) h f
 
-one-by : (fresh : Bool) (at : ℕ) (c rest : List ℕ) (len : ℕ) (v : Option ℕ) (t : Bool) → IsContent 39 c → c ≢ [] → element_of c ≡ (len, v) → eqb len (length c) ≡ t →
-    IsPiece fresh at (39 ∷ (c ++ (39 ∷ rest))) (one_element at (length c) (len, v))
-one-by fresh at c rest len None true h k e i =
-    let f = eq-true len (length c) i in
-    rw i (ABadCharacter fresh at c rest h (k, e ∙ ap (λ (n : ℕ). (n, None)) f))
-one-by fresh at c rest len None false h k e i = rw i (AWrongLength fresh at c rest h (not-one c len None e i))
-one-by fresh at c rest len (Some v) true h k e i =
-    let f = eq-true len (length c) i in
-    rw i (cut-literal 39 c rest (λ w rest. Spells w rest (kind.Character v)) (ACharacter c rest v h (k, e ∙ ap (λ (n : ℕ). (n, Some v)) f)))
-one-by fresh at c rest len (Some v) false h k e i = rw i (AWrongLength fresh at c rest h (not-one c len (Some v) e i))
+wrong-length : (fresh : Bool) (at : ℕ) (c rest : List ℕ) (len : ℕ) (r : Option ℕ) → IsContent 39 c → element_of c ≡ (len, r) → eqb len (length c) ≡ false → Fails fresh at (39 ∷ (c ++ (39 ∷ rest))) (fault.OpenText at)
+wrong-length fresh at c rest len r h e i = AWrongLength fresh at c rest h (λ v k. not-whole c len r (Some v) e i (whole-element c v k)) (λ k. not-whole c len r None e i (whole-bad c k))
+
+one-by : (fresh : Bool) (at : ℕ) (c rest : List ℕ) (len : ℕ) (r : Option ℕ) (t : Bool) → IsContent 39 c → element_of c ≡ (len, r) → ElementIs c (len, r) → eqb len (length c) ≡ t →
+    IsPiece fresh at (39 ∷ (c ++ (39 ∷ rest))) (one_element at (length c) (len, r))
+one-by fresh at c rest len None true h e k i = rw i (ABadCharacter fresh at c rest h (all-element c len None k (eq-true len (length c) i)))
+one-by fresh at c rest len None false h e k i = rw i (wrong-length fresh at c rest len None h e i)
+one-by fresh at c rest len (Some v) true h e k i =
+    rw i (cut-literal 39 c rest (λ w rest. Spells w rest (kind.Character v)) (ACharacter c rest v h (all-element c len (Some v) k (eq-true len (length c) i))))
+one-by fresh at c rest len (Some v) false h e k i = rw i (wrong-length fresh at c rest len (Some v) h e i)
 
 content-by : (fresh : Bool) (at : ℕ) (c rest : List ℕ) → IsContent 39 c → IsPiece fresh at (39 ∷ (c ++ (39 ∷ rest))) (cond (eqb (length c) 0) (Err (fault.OpenText at)) (one_element at (length c) (element_of c)))
-content-by fresh at [] rest h = AWrongLength fresh at [] rest h (λ v k. k.0 refl)
+content-by fresh at [] rest h = AWrongLength fresh at [] rest h (λ v k. absurd (omega (arith, element-some [] [] v k))) (λ k. absurd (omega (arith, bad-some [] [] k)))
 content-by fresh at (b ∷ bs) rest h =
     let e : eqb (suc (length bs)) 0 ≡ false = eq-other (suc (length bs)) 0 (λ k. absurd (omega (arith, k))) in
-    rw e (one-by fresh at (b ∷ bs) rest (element_of (b ∷ bs)).0 (element_of (b ∷ bs)).1 (eqb (element_of (b ∷ bs)).0 (length (b ∷ bs))) h (λ k. cc) refl refl)
+    let x = element_of (b ∷ bs) in
+    rw e (one-by fresh at (b ∷ bs) rest x.0 x.1 (eqb x.0 (length (b ∷ bs))) h refl (element-is 39 b bs h) refl)
 
 -- what is taken up to the quote is the content
 closed-take : (quote : ℕ) (text : List ℕ) (n : ℕ) (h : Closes quote text n) → take n text ≡ h.content
@@ -188,7 +193,7 @@ text-in-by fresh at bs (Some n) h =
     let goal : ℕ → List ℕ → List ℕ → Type 0 = λ k c text. IsPiece fresh at (34 ∷ text) (text_of k (bytes_of 0 (at + 1) c)) in
     subst (λ (c : List ℕ). goal n c bs) (sym (closed-take 34 bs n h))
     (subst (λ (k : ℕ). goal k h.content bs) (sym h.size)
-    (subst (goal (length h.content) h.content) (sym h.whole) (text-by fresh at h.content h.rest (bytes_of 0 (at + 1) h.content) h.is (bytes-are h.content (at + 1)))))
+    (subst (goal (length h.content) h.content) (sym h.whole) (text-by fresh at h.content h.rest (bytes_of 0 (at + 1) h.content) h.is (bytes-are 34 h.content (at + 1) h.is))))
 
 -- ---- comments
 
@@ -240,11 +245,11 @@ line-by : (at : ℕ) (bs : List ℕ) (t : Bool) → is_skipped (take (prefix_len
 line-by at bs true e =
     let n = prefix_len is_in_line bs in
     subst (λ (k : ℕ). IsPiece true at (35 ∷ bs) (Ok (piece.Gap k false))) (sym (add-one n))
-    (cut-at 35 bs n (λ w rest. Separates true w rest false) (prefix_len-le-length is_in_line bs) (ALine (take n bs) (drop n bs) (front-all is_in_line bs) (front-stops is_in_line bs) e))
+    (cut-at 35 bs n (λ w rest. Separates true w rest false) (prefix_len-le-length is_in_line bs) (ALine (take n bs) (drop n bs) (front-all is_in_line bs) (front-stops is_in_line bs) (skipped-is (take n bs) e)))
 line-by at bs false e =
     let n = prefix_len is_in_line bs in
     subst (λ (x : List ℕ). Fails true at (35 ∷ x) (fault.Directive at)) (take-append-drop n bs)
-    (ADirective at (take n bs) (drop n bs) (front-all is_in_line bs) (front-stops is_in_line bs) e)
+    (ADirective at (take n bs) (drop n bs) (front-all is_in_line bs) (front-stops is_in_line bs) (not-skipped (take n bs) e))
 
 line-is : (fresh : Bool) (at : ℕ) (bs : List ℕ) → IsPiece fresh at (35 ∷ bs) (line_at fresh at (35 ∷ bs))
 line-is false at bs = ALateHash at bs

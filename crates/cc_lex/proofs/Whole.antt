@@ -78,7 +78,7 @@ fails-some fresh at text e (AnOpenComment _ _ rest h) = omega arith
 fails-some fresh at text e (ABadNumber _ _ c cs rest h k n) = omega arith
 fails-some fresh at text e (AnOpenCharacter _ _ rest h) = omega arith
 fails-some fresh at text e (AnOpenText _ _ rest h) = omega arith
-fails-some fresh at text e (AWrongLength _ _ c rest h k) = omega arith
+fails-some fresh at text e (AWrongLength _ _ c rest h k i) = omega arith
 fails-some fresh at text e (ABadCharacter _ _ c rest h k) = omega arith
 fails-some fresh at text e (ABadEscape _ _ c rest k h j) = omega arith
 

@@ -1,14 +1,15 @@
 -- Why a text has no tokens: the first place where there is none, and the cause there.
-use Rattle.std.specs.Prelude.{◌≡◌, ℕ, ◌+◌, Bool, true, false, ◌||◌, not, ◌==◌, List, ◌∷◌, ◌++◌, length, Option, None}
+use Rattle.std.specs.Prelude.{◌≡◌, ℕ, ◌+◌, Bool, true, false, ◌||◌, not, ◌==◌, List, [], ◌∷◌, ◌++◌, length}
 use Rattle.std.specs.List.{list_all}
 use Rattle.cc_lex.specs.declared.fault.LexFault.{LexFault}
 use Rattle.cc_lex.specs.declared.fault.LexFault.TheVariants as fault
 use Rattle.cc_lex.specs.declared.token.Kind.{Kind}
+use Rattle.cc_lex.specs.declared.token.Suffix.{Suffix}
 use Rattle.cc_lex.specs.Bytes.{line_feed, quotation, hash, apostrophe, star, slash, is_letter, is_digit, is_blank, is_other_space, is_in_line}
-use Rattle.cc_lex.specs.Literals.{IsContent, IsOneElement, HasBadEscape}
+use Rattle.cc_lex.specs.Literals.{IsContent, IsElement, IsBadEscape, HasBadEscape}
 use Rattle.cc_lex.specs.Marks.{HasNoMark}
-use Rattle.cc_lex.specs.Numbers.{IsRun, stops, last_of, number_of}
-use Rattle.cc_lex.specs.Separators.{begins_with, has_close, is_skipped, Separates}
+use Rattle.cc_lex.specs.Numbers.{IsInteger, IsRun, stops, last_of}
+use Rattle.cc_lex.specs.Separators.{begins_with, has_close, IsSkipped, Separates}
 use Rattle.cc_lex.specs.Tokens.{Spells}
 
 -- no token, literal, separator or line begins with this byte; `.` and `/` are marks
@@ -21,17 +22,17 @@ pub data Fails : Bool → ℕ → List ℕ → LexFault → Type 0 where
   -- a `#` that is not the first of its line
   ALateHash : (at : ℕ) (rest : List ℕ) → Fails false at (hash ∷ rest) (fault.BadByte at)
   -- a line of another form than those that are skipped
-  ADirective : (at : ℕ) (c rest : List ℕ) → list_all is_in_line c ≡ true → begins_with is_in_line rest ≡ false → is_skipped c ≡ false → Fails true at (hash ∷ (c ++ rest)) (fault.Directive at)
+  ADirective : (at : ℕ) (c rest : List ℕ) → list_all is_in_line c ≡ true → begins_with is_in_line rest ≡ false → (IsSkipped c → ⊥) → Fails true at (hash ∷ (c ++ rest)) (fault.Directive at)
   AnOpenComment : (fresh : Bool) (at : ℕ) (rest : List ℕ) → has_close rest ≡ false → Fails fresh at (slash ∷ star ∷ rest) (fault.OpenComment at)
   -- a run that is no integer, or one out of range
-  ABadNumber : (fresh : Bool) (at c : ℕ) (cs rest : List ℕ) → IsRun (c ∷ cs) → stops (last_of c cs) rest ≡ true → number_of (c ∷ cs) ≡ None → Fails fresh at (c ∷ (cs ++ rest)) (fault.BadNumber at)
+  ABadNumber : (fresh : Bool) (at c : ℕ) (cs rest : List ℕ) → IsRun (c ∷ cs) → stops (last_of c cs) rest ≡ true → ((n : ℕ) (s : Suffix) → IsInteger (c ∷ cs) n s → ⊥) → Fails fresh at (c ∷ (cs ++ rest)) (fault.BadNumber at)
   -- a literal that is not closed on its line
   AnOpenCharacter : (fresh : Bool) (at : ℕ) (rest : List ℕ) → ((c behind : List ℕ) → IsContent apostrophe c → rest ≡ c ++ (apostrophe ∷ behind) → ⊥) → Fails fresh at (apostrophe ∷ rest) (fault.OpenText at)
   AnOpenText : (fresh : Bool) (at : ℕ) (rest : List ℕ) → ((c behind : List ℕ) → IsContent quotation c → rest ≡ c ++ (quotation ∷ behind) → ⊥) → Fails fresh at (quotation ∷ rest) (fault.OpenText at)
   -- a character of no element, or of more than one
-  AWrongLength : (fresh : Bool) (at : ℕ) (c rest : List ℕ) → IsContent apostrophe c → ((v : Option ℕ) → IsOneElement c v → ⊥) → Fails fresh at (apostrophe ∷ (c ++ (apostrophe ∷ rest))) (fault.OpenText at)
+  AWrongLength : (fresh : Bool) (at : ℕ) (c rest : List ℕ) → IsContent apostrophe c → ((v : ℕ) → IsElement c [] v → ⊥) → (IsBadEscape c [] → ⊥) → Fails fresh at (apostrophe ∷ (c ++ (apostrophe ∷ rest))) (fault.OpenText at)
   -- an escape without a value, at its backslash
-  ABadCharacter : (fresh : Bool) (at : ℕ) (c rest : List ℕ) → IsContent apostrophe c → IsOneElement c None → Fails fresh at (apostrophe ∷ (c ++ (apostrophe ∷ rest))) (fault.BadNumber (at + 1))
+  ABadCharacter : (fresh : Bool) (at : ℕ) (c rest : List ℕ) → IsContent apostrophe c → IsBadEscape c [] → Fails fresh at (apostrophe ∷ (c ++ (apostrophe ∷ rest))) (fault.BadNumber (at + 1))
   ABadEscape : (fresh : Bool) (at : ℕ) (c rest : List ℕ) (k : ℕ) → IsContent quotation c → HasBadEscape c k → Fails fresh at (quotation ∷ (c ++ (quotation ∷ rest))) (fault.BadNumber (at + 1 + k))
 
 -- the first fault of a text that stands at byte `at`: separators and spellings in turn, and then the cause

@@ -7,4 +7,5 @@ pub mod Separators
 pub mod Tokens
 pub mod Faults
 pub mod Forms
+pub mod ScanParts
 pub mod Scan

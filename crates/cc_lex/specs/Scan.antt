@@ -1,5 +1,5 @@
--- The scanner as a function on lists, which the code computes: what is at a place, and from it the
--- tokens or the first fault. Not the meaning of the tokens, which stands in Tokens.
+-- The scanner as a function on lists, a twin of the code: what is at a place, and from it the tokens or
+-- the first fault. Not the meaning of the tokens, which stands in Tokens.
 use Rattle.std.specs.Prelude.{◌≡◌, ℕ, zero, suc, ◌+◌, ◌-◌, Bool, true, false, ◌&&◌, not, ◌==◌, if◌then◌else◌, List, [], ◌∷◌, length, take, drop, slice_index, find, Option, Some, None, Result, Ok, Err, ⊤}
 use Rattle.std.specs.List.{prefix_len, starts_with}
 use Rattle.cc_lex.specs.declared.byte.Class.{Class}
@@ -15,10 +15,9 @@ use Rattle.cc_lex.specs.declared.token.Suffix.{Suffix}
 use Rattle.cc_lex.specs.declared.token.Token.{Token}
 use Rattle.cc_lex.specs.Bytes.{is_letter, is_digit, is_word, is_blank, is_other_space, is_in_line}
 use Rattle.cc_lex.specs.Identifiers.{name_kind}
-use Rattle.cc_lex.specs.Literals.{element_of}
 use Rattle.cc_lex.specs.Marks.{spelling_of}
-use Rattle.cc_lex.specs.Numbers.{goes_on, number_of, begins_fraction}
-use Rattle.cc_lex.specs.Separators.{is_skipped}
+use Rattle.cc_lex.specs.Numbers.{goes_on, begins_fraction}
+use Rattle.cc_lex.specs.ScanParts.{element_of, number_of, is_skipped}
 
 -- what a byte begins, where it stands at the front of a separator or a token
 unfoldable pub class_of : ℕ → Class

@@ -1,9 +1,8 @@
 //! Character constants and string literals (C99 6.4.4.4, 6.4.5).
 
 ghost use Rattle.std.specs.Prelude.{◌≡◌, ◌+◌, ◌≤◌, ◌<◌, ◌^◌, length, false, IfSome};
-ghost use Rattle.cc_lex.specs.Literals.{simple_escape as value_of_escape, byte_of as in_a_byte, escape_of as escape_behind, element_of as first_element};
-ghost use Rattle.cc_lex.specs.Numbers.{value_of};
 ghost use Rattle.cc_lex.specs.Scan.{Gives, bytes_of as bytes_of_content, content_len as len_of_content};
+ghost use Rattle.cc_lex.specs.ScanParts.{value_of, simple_escape as value_of_escape, byte_of as in_a_byte, escape_of as escape_behind, element_of as first_element};
 
 use crate::fault::LexFault;
 use crate::numbers::{capped_value, digit_value, digits_len};
@@ -56,7 +55,7 @@ fn byte_value(base: u8, digits: &[u8]) -> Option<u8>
 }
 
 /// Behind a backslash: how many bytes belong to the escape, and its value.
-#[tactic(auto, unfolding(crate::specs::Literals::escape_of))]
+#[tactic(auto, unfolding(crate::specs::ScanParts::escape_of))]
 fn escape_of(text: &[u8]) -> (usize, Option<u8>)
     ensures value { result ≡ escape_behind text.now }
     ensures within { result.0 ≤ length text.now }
@@ -82,7 +81,7 @@ fn escape_of(text: &[u8]) -> (usize, Option<u8>)
 }
 
 /// The first element of a content: how many bytes it takes, and its value.
-#[tactic(auto, unfolding(crate::specs::Literals::element_of))]
+#[tactic(auto, unfolding(crate::specs::ScanParts::element_of))]
 pub fn element_of(content: &[u8]) -> (usize, Option<u8>)
     ensures value { result ≡ first_element content.now }
     ensures within { result.0 ≤ length content.now }

@@ -2,7 +2,8 @@
 
 ghost use Rattle.std.specs.Prelude.{◌≡◌, ◌+◌, ◌≤◌, ◌<◌, ◌^◌, ◌==◌, length, min};
 ghost use Rattle.std.specs.List.{prefix_len};
-ghost use Rattle.cc_lex.specs.Numbers.{goes_on as continues, digit_value as value_of_digit, is_digit_in as is_digit_of, value_of, base_of as base_and_start, suffix_of as unsigned_and_longs, greatest as greatest_of, valued as constant, number_of as number_of_run};
+ghost use Rattle.cc_lex.specs.Numbers.{goes_on as continues, digit_value as value_of_digit, is_digit_in as is_digit_of, greatest as greatest_of};
+ghost use Rattle.cc_lex.specs.ScanParts.{value_of, base_of as base_and_start, suffix_of as unsigned_and_longs, valued as constant, number_of as number_of_run};
 ghost use Rattle.cc_lex.specs.Scan.{run_len as len_of_run};
 
 use crate::byte::is_word;
@@ -54,7 +55,7 @@ pub fn digits_len(base: u8, text: &[u8]) -> usize
 }
 
 /// The value of digits, or 2^64 where it is more.
-#[tactic(auto, using(crate::proofs::Loops::capped_more), unfolding(crate::specs::Numbers::value_of))]
+#[tactic(auto, using(crate::proofs::Loops::capped_more), unfolding(crate::specs::ScanParts::value_of))]
 pub fn capped_value(base: u8, digits: &[u8]) -> u128
     requires positive { 0 < base }
     requires small { base ≤ 16 }
@@ -130,7 +131,7 @@ fn valued(base: u8, digits: &[u8], unsigned: bool, longs: u8) -> Option<(u64, Su
 }
 
 /// The integer constant that a run is: its value, and what decides its type.
-#[tactic(auto, unfolding(crate::specs::Numbers::number_of))]
+#[tactic(auto, unfolding(crate::specs::ScanParts::number_of))]
 pub fn number_of(run: &[u8]) -> Option<(u64, Suffix)>
     ensures { result ≡ number_of_run run.now }
 {

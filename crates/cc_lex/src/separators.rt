@@ -4,7 +4,7 @@
 ghost use Rattle.std.specs.Prelude.{◌≡◌, ◌≤◌, length, false, IfSome};
 ghost use Rattle.std.specs.List.{prefix_len, list_all};
 ghost use Rattle.cc_lex.specs.Bytes.{is_in_line, is_blank as is_blank_byte, is_digit as is_digit_byte};
-ghost use Rattle.cc_lex.specs.Separators.{past_blanks as behind_blanks, is_decimal as is_decimal_word, begins_with_decimal as begins_decimal, is_other_pragma as is_other_word, is_skipped_word as skips_word, is_skipped as skips};
+ghost use Rattle.cc_lex.specs.ScanParts.{past_blanks as behind_blanks, is_decimal as is_decimal_word, begins_with_decimal as begins_decimal, is_other_pragma as is_other_word, is_skipped_word as skips_word, is_skipped as skips};
 ghost use Rattle.cc_lex.specs.Scan.{close_len as len_to_close};
 
 use crate::byte::{is_blank, is_digit};
@@ -54,15 +54,11 @@ fn all_digits(word: &[u8]) -> bool
     word.iter().all(|b| is_digit(*b))
 }
 
-/// Whether the word is decimal digits without a leading zero.
+/// Whether the word is decimal digits.
 fn is_decimal(word: &[u8]) -> bool
     ensures { result ≡ is_decimal_word word.now }
 {
-    match word {
-        [] => false,
-        [b] => is_digit(*b),
-        [first, _, ..] => *first != b'0' && all_digits(word),
-    }
+    !word.is_empty() && all_digits(word)
 }
 
 fn begins_with_decimal(text: &[u8]) -> bool
@@ -93,7 +89,7 @@ fn is_skipped_word(word: &[u8], behind: &[u8]) -> bool
 }
 
 /// Whether a line with this behind its `#` is skipped: a linemarker, or a pragma other than `pack`.
-#[tactic(auto, unfolding(crate::specs::Separators::is_skipped))]
+#[tactic(auto, unfolding(crate::specs::ScanParts::is_skipped))]
 pub fn is_skipped(behind: &[u8]) -> bool
     ensures { result ≡ skips behind.now }
 {

@@ -1,6 +1,7 @@
 -- What has been read is the start of the file, and never more than limit + 1 bytes. Each turn reads
 -- at least one of these.
-use Rattle.std.proofs.Common.{◌≡◌, ◌≤◌, ◌+◌, ◌-◌, IsTrue, length, vec_len}
+use Rattle.std.proofs.Common.{◌≡◌, ◌≤◌, ◌+◌, ◌-◌, false, IsTrue, length, vec_len}
+use Rattle.cc_edge.specs.Faults.{raised}
 use Rattle.cc_edge.specs.Files.{KeepsFiles}
 use Rattle.cc_edge.proofs.Prefixes.{IsStart}
 use Rattle.cc_edge.proofs.read.read_whole.Given as goal
@@ -12,6 +13,7 @@ invariant-loop-piece g l = record {
   size : length l.piece ≡ 4096;
   most : vec_len l.bytes ≤ l.limit + 1;
   stay : IsTrue (g.F.Store.told l.fn.store) → KeepsFiles (g.F.Store.files l.fn.store) (g.F.Store.files l.store);
+  taken : g.F.Store.told l.fn.store ≡ false → g.F.Store.taken l.store ≡ raised (vec_len l.bytes) (g.F.Store.taken l.fn.store);
   start : IsTrue (g.F.Store.told l.fn.store) → IsStart l.bytes.items (g.F.Store.files l.fn.store l.name);
 }
 

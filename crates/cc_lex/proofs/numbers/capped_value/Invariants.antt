@@ -1,5 +1,5 @@
 use Rattle.std.proofs.Common.{◌≡◌, ◌^◌, min, take}
-use Rattle.cc_lex.specs.Numbers.{value_of}
+use Rattle.cc_lex.specs.ScanParts.{value_of}
 use Rattle.cc_lex.proofs.numbers.capped_value.Given as goal
 
 abbrev pub invariant-loop-b : goal.invariant-loop-b
