@@ -4,8 +4,8 @@ use Rattle.cc_syntax.specs.declared.program.Program.{Program}
 use Rattle.cc_meaning.proofs.RunLaws.{Follows-refl, Answers-refl}
 use Rattle.cc_edge.specs.Faults.{Rose}
 use Rattle.cc_edge.specs.Files.{Files, KeepsFiles, KeepsOthers, HoldsPrefix}
-use Rattle.ccomp.specs.Tiny.{IsTinyText}
-use Rattle.ccomp.specs.Printed.{printed}
+use Rattle.cc_tiny.specs.Tiny.{IsTinyText}
+use Rattle.cc_tiny.specs.Printed.{printed}
 use Rattle.ccomp.specs.Headline.{IsPacked, Packs, Leaves, IsPackedText, IsNoTinyText}
 
 -- a program does what it does itself

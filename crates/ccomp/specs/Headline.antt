@@ -14,8 +14,8 @@ use Rattle.cc_meaning.specs.Runs.{Follows, Answers}
 use Rattle.cc_edge.specs.Files.{Files, KeepsOthers, HoldsPrefix}
 use Rattle.ccomp.specs.declared.status.ReadRefusal.{ReadRefusal}
 use Rattle.ccomp.specs.declared.status.ReadRefusal.TheVariants.{Lex, Gram}
-use Rattle.ccomp.specs.Tiny.{IsTinyText}
-use Rattle.ccomp.specs.Printed.{printed}
+use Rattle.cc_tiny.specs.Tiny.{IsTinyText}
+use Rattle.cc_tiny.specs.Printed.{printed}
 
 -- the program q does what p does, in no more RAM
 pub record IsPacked (q p : Program) : Type 0 where

@@ -1,9 +1,3 @@
 pub mod Command
 pub mod Headline
-pub mod Names
-pub mod Printed
-pub mod Reader
 pub mod Statuses
-pub mod Tiny
-pub mod View
-pub mod Words

@@ -1,7 +1,7 @@
 //! The top call.
 
 ghost use Rattle.std.specs.Prelude.{◌≡◌, ◌≤◌, ◌<◌, ◌^◌, ◌⊎◌, ℕ, IsTrue, IfOk, IfErr, IfSome, IfNone, IsSomeAnd, Some, None, List as ListOf, true, false, length};
-ghost use Rattle.cc_edge.specs.Faults.{Rose};
+ghost use Rattle.cc_edge.specs.Faults.{Rose, raised};
 ghost use Rattle.cc_edge.specs.Files.{KeepsFiles, KeepsOthers};
 ghost use Rattle.ccomp.specs.declared.status.ReadRefusal.{ReadRefusal as ReadRefusalOf};
 ghost use Rattle.ccomp.specs.Command.{Command, Pack, Wrong, ForPack, command_of, texts};
@@ -9,18 +9,24 @@ ghost use Rattle.ccomp.specs.Headline.{Packs, Leaves, IsPackedText, IsNoTinyText
 ghost use Rattle.ccomp.specs.Statuses.{may_write};
 
 use crate::command::{Asked, command};
+use crate::source::read;
 use crate::status::{ReadRefusal, Status};
-use crate::tiny::items::copy_name;
-use crate::tiny::printer::print;
-use crate::tiny::reader::read;
 use cc_edge::{ReadEnd, Sink, Store, read_whole, write_whole};
 use cc_gram::GramFault;
 use cc_lex::LexFault;
-use cc_num::{Name, NoMemory};
+use cc_num::{List, Name, NoMemory};
+use cc_tiny::print;
 use std::alloc::Global;
 
 /// The most bytes of a source.
 const SOURCE_LIMIT: u64 = 1 << 20;
+
+/// A copy of a name.
+fn copy_name(alloc: Global, name: &[u8]) -> Result<Name, NoMemory>
+    ensures { IfOk result (λ r. r ≡ name.now) }
+{
+    Ok(List::of(Vec::from_slice(alloc, name)?))
+}
 
 /// The printed text of the program that the text is a tiny text of, where there is one.
 fn packed(alloc: Global, text: &[u8]) -> Result<Option<Vec<u8>>, ReadRefusal>
@@ -71,6 +77,7 @@ fn pack<F: Store>(alloc: Global, out: &str, source: &str, store: &mut F) -> Stat
         (name ≡ source.now) × (Rose (F.faults store.old) (F.faults store.new) ⊎ (IsTrue (F.told store.old) × (F.files store.old source.now ≡ None))) }
     ensures too_long { (name : ListOf ℕ) → result ≡ Status.TooLong name →
         (name ≡ source.now) × (IsTrue (F.told store.old) → IsSomeAnd (F.files store.old source.now) (λ text. 1048576 < length text)) }
+    ensures over { (name : ListOf ℕ) → result ≡ Status.TooLong name → F.told store.old ≡ false → F.taken store.new ≡ raised 1048577 (F.taken store.old) }
     ensures refused { (name : ListOf ℕ) (why : ReadRefusalOf) → result ≡ Status.Refused name why →
         (name ≡ source.now) × (IsTrue (F.told store.old) → IsSomeAnd (F.files store.old source.now) (λ text. HasCause text why)) }
     ensures memory { (name : ListOf ℕ) (why : ReadRefusalOf) → result ≡ Status.Refused name why → is_for_memory_of why ≡ false }
@@ -125,6 +132,8 @@ pub fn ccomp<F: Store, O: Sink>(
         ForPack (command_of (texts words.now)) (λ out source. (name ≡ source) × (Rose (F.faults store.old) (F.faults store.new) ⊎ (IsTrue (F.told store.old) × (F.files store.old source ≡ None)))) }
     ensures too_long { (name : ListOf ℕ) → result ≡ Status.TooLong name →
         ForPack (command_of (texts words.now)) (λ out source. (name ≡ source) × (IsTrue (F.told store.old) → IsSomeAnd (F.files store.old source) (λ text. 1048576 < length text))) }
+    // Over a store that does not tell its files, TooLong comes where one byte more than a source may have was taken.
+    ensures over { (name : ListOf ℕ) → result ≡ Status.TooLong name → F.told store.old ≡ false → F.taken store.new ≡ raised 1048577 (F.taken store.old) }
     // Refused comes with the first place of the source that has no token, with its first outside word, or where
     // its tokens are no sentence (of the greatest height), and never for want of memory. A source that is a
     // sentence and no tiny text comes later.

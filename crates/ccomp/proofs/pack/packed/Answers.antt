@@ -1,6 +1,6 @@
 use Rattle.std.proofs.Common.{subst, Option, IfSome}
 use Rattle.cc_syntax.specs.declared.program.Program.{Program}
-use Rattle.ccomp.specs.Tiny.{IsTinyText}
+use Rattle.cc_tiny.specs.Tiny.{IsTinyText}
 use Rattle.ccomp.proofs.PackLaws.{packed_text, none_tiny}
 use Rattle.ccomp.proofs.pack.packed.Goals as goal
 
