@@ -1,0 +1,116 @@
+//! A case: what the command is run over, and how it ended.
+
+use cc_edge::{MemorySink, MemoryStore, WriteFault, read_whole, write_whole};
+use ccomp::{ccomp, explain, number};
+use std::alloc::{AllocError, Global};
+use std::io::{self, Write};
+
+/// The name of the source.
+const SOURCE: &str = "s.c";
+
+/// The name of the output.
+const OUTPUT: &str = "o.c";
+
+/// The most bytes of an output that is printed.
+const OUTPUT_LIMIT: u64 = 1 << 20;
+
+/// What the command is run over.
+#[derive(Drop)]
+pub struct Case {
+    /// The bytes of the source, where there is one.
+    source: Option<Vec<u8>>,
+    /// The numbers of the store's calls that are to fail.
+    failing: Vec<u64>,
+}
+
+impl Case {
+    pub fn new(alloc: Global) -> Case {
+        Case {
+            source: None,
+            failing: Vec::new(alloc),
+        }
+    }
+
+    /// Puts a text behind the source, so many times.
+    fn put(&mut self, alloc: Global, text: &str, times: u32) -> Result<(), AllocError> {
+        let mut source = self.source.take().unwrap_or(Vec::new(alloc));
+        for _ in 0..times {
+            source.extend_from_slice(text.as_bytes())?;
+        }
+        self.source = Some(source);
+        Ok(())
+    }
+
+    /// Does what a line says that neither begins a case nor runs one; false where it says nothing.
+    pub fn set(&mut self, alloc: Global, word: &str, rest: &str) -> Result<bool, AllocError> {
+        match (word, quoted(rest), first_number(rest)) {
+            ("text", Some(text), _) => self.put(alloc, text, 1)?,
+            ("line", Some(text), _) => {
+                self.put(alloc, text, 1)?;
+                self.put(alloc, "\n", 1)?;
+            }
+            ("times", Some(text), Some(times)) => self.put(alloc, text, times)?,
+            ("failing", None, Some(call)) => self.failing.push(u64::from(call))?,
+            _ => return Ok(false),
+        }
+        Ok(true)
+    }
+
+    /// The store, of which no call was made yet.
+    fn store(&self, alloc: Global) -> Result<MemoryStore, WriteFault> {
+        let mut store = MemoryStore::new(alloc);
+        if let Some(source) = &self.source {
+            write_whole(&mut store, SOURCE, source)?;
+        }
+        store.calls = 0;
+        if store.failing.extend_from_slice(&self.failing).is_err() {
+            return Err(WriteFault);
+        }
+        Ok(store)
+    }
+
+    /// Does what the words say, and prints how it ended.
+    pub fn run(&self, rt: &(impl Print + AllocGlobal), words: &str) -> io::Result<()> {
+        let alloc = rt.alloc();
+        let Ok(mut store) = self.store(alloc) else {
+            return println!(rt; "no store");
+        };
+        let words = split(alloc, words)?;
+        let mut sink = MemorySink::new(alloc);
+        let status = ccomp(alloc, &words, &mut store, &mut sink);
+        println!(rt; "status {}", number(&status))?;
+        if let Ok(line) = explain(alloc, &status) {
+            io::writer(rt).write_all(&line)?;
+        }
+        println!(rt; "calls {} faults {}", store.calls, store.faults)?;
+        store.failing.clear();
+        match read_whole(alloc, &mut store, OUTPUT, OUTPUT_LIMIT) {
+            Ok(text) => {
+                println!(rt; "output")?;
+                io::writer(rt).write_all(&text)
+            }
+            Err(_) => println!(rt; "no output"),
+        }
+    }
+}
+
+/// What stands between the first quote and the last.
+fn quoted(line: &str) -> Option<&str> {
+    let (_, rest) = line.split_once('"')?;
+    let (text, _) = rest.rsplit_once('"')?;
+    Some(text)
+}
+
+/// The number with which the line begins.
+fn first_number(line: &str) -> Option<u32> {
+    line.split_whitespace().next()?.parse::<u32>().ok()
+}
+
+/// The words of a line.
+fn split(alloc: Global, line: &str) -> Result<Vec<String>, AllocError> {
+    let mut words = Vec::new(alloc);
+    for word in line.split_whitespace() {
+        words.push(word.to_string(alloc)?)?;
+    }
+    Ok(words)
+}

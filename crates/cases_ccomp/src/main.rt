@@ -1,0 +1,44 @@
+//! Reads a script of cases of the command from the input, and prints how each ends. A line of it is
+//!
+//!     == NAME           begins a case: a store without files, of whose calls none is to fail
+//!     text "TEXT"       puts a text behind the source `s.c`
+//!     line "TEXT"       puts a text and a line feed there
+//!     times N "TEXT"    puts a text there so many times
+//!     failing N         has the store's call of this number fail
+//!     run WORD..        does what the words say
+//!
+//! and of a run it prints the status, the line that explains it, the calls of the store and its faults,
+//! and what the output `o.c` holds then. A quoted text ends at the last quote of its line.
+#![tactic(auto)]
+
+mod case;
+
+use case::Case;
+use std::io;
+
+fn main(rt: HostRuntime) -> io::Result<()> {
+    let alloc = rt.alloc();
+    let mut case = Case::new(alloc);
+    let mut runs = 0u64;
+    for line in rt.lines(alloc) {
+        let line = line?;
+        let (word, rest) = line.split_once(' ').unwrap_or((line.as_str(), ""));
+        match word {
+            "" => {}
+            "==" => {
+                case = Case::new(alloc);
+                println!(rt; "== {rest}")?;
+            }
+            "run" => {
+                case.run(&rt, rest)?;
+                runs = runs.saturating_add(1);
+            }
+            _ => {
+                if !case.set(alloc, word, rest)? {
+                    println!(rt; "no such line: {word} {rest}")?;
+                }
+            }
+        }
+    }
+    println!(rt; "{runs} runs")
+}
