@@ -1,17 +1,20 @@
 -- What turns lead to, as one turn more is done.
-use Rattle.std.proofs.Common.{List, [], ◌≡◌, ◌≤◌, ◌<◌, ℕ, false, Ok, Err, length, refl}
-use Rattle.cc_gram.specs.declared.state.Control.TheVariants as control
-use Rattle.cc_gram.specs.declared.state.Tall.{Tall}
-use Rattle.cc_gram.specs.declared.at.At.{At}
-use Rattle.cc_gram.specs.declared.machine.Machine.{Machine}
-use Rattle.cc_gram.specs.declared.stop.Stop.TheVariants as stop
-use Rattle.cc_gram.specs.declared.unit.Item.{Item}
-use Rattle.cc_gram.specs.View.{state_of, waiting}
-use Rattle.cc_gram.specs.declared.unit.Unit.{Unit as UnitTree}
-use Rattle.cc_gram.specs.Machine.{State, Leads, Here, There, turn, start, is_done, height_of, Reads, Refuses, Exceeds}
-use Rattle.cc_gram.specs.Measure.{measure}
-use Rattle.cc_gram.specs.Tokens.{Tokens}
-use Rattle.cc_gram.proofs.Measure.{falls}
+use Rattle.std.proofs.Common.{List, [], ◌≡◌, ◌≤◌, ◌<◌, ◌+◌, ℕ, false, Ok, Err, length, refl, arith}
+use Rattle.cc_tree.specs.declared.state.Control.{Control}
+use Rattle.cc_tree.specs.declared.state.Control.TheVariants as control
+use Rattle.cc_tree.specs.declared.state.Tall.{Tall}
+use Rattle.cc_tree.specs.declared.at.At.{At}
+use Rattle.cc_machine.specs.declared.machine.Machine.{Machine}
+use Rattle.cc_tree.specs.declared.stop.Stop.TheVariants as stop
+use Rattle.cc_tree.specs.declared.unit.Item.{Item}
+use Rattle.cc_machine.specs.View.{state_of}
+use Rattle.cc_machine.specs.Waits.{waiting}
+use Rattle.cc_tree.specs.declared.unit.Unit.{Unit as UnitTree}
+use Rattle.cc_tree.specs.Machine.{State, Leads, Here, There, turn, start, is_done, height_of, Reads, Refuses, Exceeds}
+use Rattle.cc_tree.specs.Depth.{depth}
+use Rattle.cc_tree.specs.Measure.{measure}
+use Rattle.cc_tree.specs.Tokens.{Tokens}
+use Rattle.cc_tree.proofs.Measure.{falls}
 
 pub leads-more : (limit : ℕ) (s t u : State) → Leads limit s t → turn t ≡ Ok u → height_of u.control ≤ limit → Leads limit s u
 leads-more limit s t u (Here v) h k = There s u u h k (Here u)
@@ -23,7 +26,7 @@ reads-here limit ts s u h k l = record { last = s; led = h; done = k; low = l }
 pub refuses-here : (limit : ℕ) (ts : Tokens) (s : State) (n : ℕ) → Leads limit (start ts) s → is_done s.control ≡ false → turn s ≡ Err (stop.Wrong n) → Refuses limit ts n
 refuses-here limit ts s n h k l = record { last = s; led = h; works = k; refused = l }
 
-pub exceeds-here : (limit : ℕ) (ts : Tokens) (s t : State) → Leads limit (start ts) s → turn s ≡ Ok t → limit < height_of t.control → Exceeds limit ts (length s.rest)
+pub exceeds-here : (limit : ℕ) (ts : Tokens) (s t : State) → Leads limit (start ts) s → turn s ≡ Ok t → limit < depth t.frames + height_of t.control → Exceeds limit ts (length s.rest)
 exceeds-here limit ts s t h k l = record { last = s; led = h; next = t; turned = k; high = l; ahead = refl }
 
 pub ruleset of_leading = (leads-more, reads-here, refuses-here, exceeds-here)
@@ -31,6 +34,8 @@ pub ruleset of_leading = (leads-more, reads-here, refuses-here, exceeds-here)
 pub falls_here : (s t : State) → turn s ≡ Ok t → measure t < measure s
 falls_here s t h = falls s t h
 
-pub starts : (limit : ℕ) (m : Machine) (is : List (At Item)) (ts : Tokens) → m.scope ≡ [] → m.frames.items ≡ [] → is ≡ [] → Leads limit (start ts) (state_of m (control.Items (record { items = is; height = 0 })) ts)
-unfolding waiting
-starts limit m is ts h k l = rw (h, k, l) (Here (start ts))
+pub starts : (limit : ℕ) (m : Machine) (c : Control) (ts : Tokens) → m.scope ≡ [] → waiting m.frames ≡ [] → c ≡ control.Items (record { items = []; height = 0 }) → Leads limit (start ts) (state_of m c ts)
+starts limit m c ts h k l = rw (h, k, l) (Here (start ts))
+
+pub starts-low : (limit : ℕ) (c : Control) → c ≡ control.Items (record { items = []; height = 0 }) → height_of c ≤ limit
+starts-low limit c e = rw e (omega arith)

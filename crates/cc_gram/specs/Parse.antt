@@ -1,18 +1,18 @@
--- What is answered to a list of tokens, by the turns that it leads through.
-use Rattle.std.specs.Prelude.{◌≡◌, ◌≤◌, ◌-◌, ◌+◌, ℕ, length, Option, Some, None, slice_get, ⊤}
+-- A twin of the code: what is answered to a list of tokens, by the turns that it leads through.
+use Rattle.std.specs.Prelude.{◌≡◌, ◌≤◌, ◌-◌, ◌+◌, ◌^◌, ℕ, length, min, Option, Some, None, slice_get, ⊤}
 use Rattle.cc_lex.specs.declared.token.Token.{Token}
-use Rattle.cc_gram.specs.declared.fault.GramFault.{GramFault}
-use Rattle.cc_gram.specs.declared.fault.GramFault.TheVariants as fault
-use Rattle.cc_gram.specs.declared.unit.Unit.{Unit as UnitTree}
-use Rattle.cc_gram.specs.Machine.{Reads, Refuses, Exceeds}
-use Rattle.cc_gram.specs.Tokens.{Tokens}
-use Rattle.cc_gram.specs.Turns.{tall}
+use Rattle.cc_tree.specs.declared.fault.GramFault.{GramFault}
+use Rattle.cc_tree.specs.declared.fault.GramFault.TheVariants as fault
+use Rattle.cc_tree.specs.declared.unit.Unit.{Unit as UnitTree}
+use Rattle.cc_tree.specs.Machine.{Reads, Refuses, Exceeds}
+use Rattle.cc_tree.specs.Tokens.{Tokens}
+use Rattle.cc_tree.specs.Turns.{tall}
 
 abbrev pub end_at : Option Token → ℕ
 end_at None = 0
-end_at (Some t) = t.at + t.len
+end_at (Some t) = min (t.at + t.len) (2 ^ 32 - 1)
 
--- the offset behind the last token
+-- the offset behind the last token, or the greatest one
 abbrev pub end_of : Tokens → ℕ
 end_of ts = end_at (slice_get ts (length ts - 1))
 

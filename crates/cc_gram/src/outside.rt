@@ -2,8 +2,8 @@
 
 ghost use Rattle.std.specs.Prelude.{◌≡◌, codes};
 ghost use Rattle.std.specs.List.{list_any};
-ghost use Rattle.cc_gram.specs.Scopes.{same_name};
-ghost use Rattle.cc_gram.specs.Outside.{outside_names, begins_literal as begins_literal_of, outside_word as outside_word_of, first_outside as first_outside_of, word_and_offset};
+ghost use Rattle.cc_tree.specs.Scopes.{same_name};
+ghost use Rattle.cc_tree.specs.Outside.{outside_names, begins_literal as begins_literal_of, outside_word as outside_word_of, first_outside as first_outside_of, word_and_offset};
 ghost use Rattle.std.specs.Option.{option_copied};
 ghost use Rattle.cc_lex.specs.declared.token.Kind.TheVariants.{Ident, Punct};
 

@@ -1,15 +1,17 @@
 //! The turns from the first one to the last.
 
-ghost use Rattle.std.specs.Prelude.{◌≡◌, IfOk, IfErr};
-ghost use Rattle.cc_gram.specs.Height.{greatest_height};
-ghost use Rattle.cc_gram.specs.Machine.{height_of as height_of_control, Reads, Refuses, Exceeds, IfWrong, IfDeep};
+ghost use Rattle.std.specs.Prelude.{◌≡◌, [], IfOk, IfErr};
+ghost use Rattle.cc_tree.specs.declared.state.Control.TheVariants as control;
+ghost use Rattle.cc_tree.specs.Height.{greatest_height};
+ghost use Rattle.cc_tree.specs.Machine.{height_of as height_of_control, Reads, Refuses, Exceeds, IfWrong, IfDeep};
 
-use crate::machine::Machine;
-use crate::state::{Control, Items, Tall};
-use crate::stop::Stop;
-use crate::turns::{discard, empty};
-use crate::unit::Unit;
 use cc_lex::Token;
+use cc_machine::machine::Machine;
+use cc_num::{Boxed, NoMemory};
+use cc_tree::Unit;
+use cc_tree::state::{Control, Items, Tall};
+use cc_tree::stop::Stop;
+use cc_turns::turns::{discard, empty};
 use std::alloc::Global;
 
 /// Up to this height a sentence is read.
@@ -32,7 +34,19 @@ fn height_of(control: &Control) -> usize
     }
 }
 
-/// Goes from the first turn to the last, as long as nothing that is read is higher than the greatest height.
+/// What is to be done first.
+fn first(alloc: Global) -> Result<Boxed<Control>, NoMemory>
+    ensures { IfOk result (λ c. c ≡ control.Items (record { items = []; height = 0 })) }
+{
+    let items = Items {
+        items: empty(alloc),
+        height: 0,
+    };
+    Boxed::new(alloc, Control::Items(items))
+}
+
+/// Goes from the first turn to the last, as long as the nodes that wait and what has just been read are together no
+/// higher than the greatest height.
 #[tactic(auto, using(crate::proofs::Turned::of_leading, crate::proofs::Turned::falls_here))]
 pub fn run(alloc: Global, tokens: &[Token]) -> Result<Tall<Unit>, Stop>
     ensures read { IfOk result (Reads greatest_height tokens.now) }
@@ -41,18 +55,16 @@ pub fn run(alloc: Global, tokens: &[Token]) -> Result<Tall<Unit>, Stop>
 {
     let mut machine = Machine::new(alloc);
     let mut rest = tokens;
-    let mut control = Control::Items(Items {
-        items: empty(alloc),
-        height: 0,
-    });
+    let mut control = first(alloc)?;
     'turns: loop {
-        match control {
+        match control.into_inner() {
             Control::Done(unit) => return Ok(unit),
             other => match machine.turn(alloc, other, rest) {
                 Err(Stop::Wrong(ahead)) => return Err(Stop::Wrong(ahead)),
                 Err(_) => return Err(Stop::NoMemory),
                 Ok((next, behind)) => {
-                    if height_of(&next) > GREATEST_HEIGHT {
+                    let height = machine.frames.depth().saturating_add(height_of(next.get()));
+                    if height > GREATEST_HEIGHT {
                         discard(next);
                         return Err(Stop::Deep(rest.len()));
                     }

@@ -1,9 +1,9 @@
 -- What `pack` promises of the files, where they are told.
 use Rattle.std.specs.Prelude.{◌≡◌, ◌≤◌, ◌⊎◌, ℕ, Bool, true, false, List, Some}
-use Rattle.cc_gram.specs.declared.fault.GramFault.{GramFault}
-use Rattle.cc_gram.specs.declared.fault.GramFault.TheVariants as gram
-use Rattle.cc_gram.specs.declared.unit.Unit.{Unit as UnitTree}
-use Rattle.cc_gram.specs.Faults.{IsRead, HasFault as IsGramFault}
+use Rattle.cc_tree.specs.declared.fault.GramFault.{GramFault}
+use Rattle.cc_tree.specs.declared.fault.GramFault.TheVariants as gram
+use Rattle.cc_tree.specs.declared.unit.Unit.{Unit as UnitTree}
+use Rattle.cc_tree.specs.Faults.{IsRead, HasFault as IsGramFault}
 use Rattle.cc_lex.specs.declared.fault.LexFault.TheVariants as fault
 use Rattle.cc_lex.specs.declared.token.Token.{Token}
 use Rattle.cc_lex.specs.Faults.{HasFault}

@@ -1,8 +1,8 @@
 -- The number of each status, and the line that tells it.
 use Rattle.std.specs.Prelude.{ℕ, Bool, true, false, List, [], ◌++◌, Option, Some, None, codes}
 use Rattle.std.specs.Fmt.{decimal}
-use Rattle.cc_gram.specs.declared.fault.GramFault.{GramFault}
-use Rattle.cc_gram.specs.declared.fault.GramFault.TheVariants as gram
+use Rattle.cc_tree.specs.declared.fault.GramFault.{GramFault}
+use Rattle.cc_tree.specs.declared.fault.GramFault.TheVariants as gram
 use Rattle.cc_lex.specs.declared.fault.LexFault.{LexFault}
 use Rattle.cc_lex.specs.declared.fault.LexFault.TheVariants as fault
 use Rattle.ccomp.specs.declared.status.ReadRefusal.{ReadRefusal}

@@ -1,5 +1,5 @@
 use Rattle.std.proofs.Common.{◌≡◌, length}
-use Rattle.cc_gram.specs.Outside.{first_outside}
+use Rattle.cc_tree.specs.Outside.{first_outside}
 use Rattle.cc_gram.proofs.outside.first_outside.Given as goal
 
 abbrev pub invariant-loop-tokens : goal.invariant-loop-tokens

@@ -1,10 +1,9 @@
-use Rattle.std.proofs.Common.{arith}
-use Rattle.cc_gram.specs.Height.{greatest_height}
-use Rattle.cc_gram.proofs.Turned.{starts}
+use Rattle.cc_tree.specs.Height.{greatest_height}
+use Rattle.cc_gram.proofs.Turned.{starts, starts-low}
 use Rattle.cc_gram.proofs.run.run.Goals as goal
 
 pub turns-init : goal.turns-init
 turns-init c = record {
-  led = starts greatest_height c.new-machine.result c.empty.result c.args.tokens.now c.new-machine.ensures.scope c.new-machine.ensures.frames c.empty.ensures;
-  low = omega arith;
+  led = starts greatest_height c.new-machine.result c.in_ok-control.control c.args.tokens.now c.new-machine.ensures.scope c.new-machine.ensures.frames c.in_ok-control.ensures;
+  low = starts-low greatest_height c.in_ok-control.control c.in_ok-control.ensures;
 }
