@@ -13,8 +13,8 @@ use std::alloc::{AllocError, Global};
 
 /// Files in memory. Of two files of one name the first counts.
 ///
-/// A call has a fault where its number is in `failing`, or where memory refuses to grow. Calls are
-/// counted from 1, over all calls of the store. Both counts stay at their last value.
+/// A call has a fault where its number is in `failing`, or where memory refuses to grow; a read of a name that is not
+/// there fails without one. Calls are counted from 1, over all calls of the store. Both counts stay at their last value.
 #[derive(Debug, Drop)]
 pub struct MemoryStore {
     /// The files, each with its name.

@@ -28,7 +28,7 @@ not_done : (s : State) (v : Tall UnitTree) → is_done s.control ≡ false → s
 not_done s v h e = let t : is_done s.control ≡ true = ap is_done e in absurd (cc)
 
 pub is_wrong : (ts : Tokens) (n : ℕ) → first_outside ts ≡ None → RefusesAt greatest_height ts n → HasFault ts (fault.Syntax n)
-is_wrong ts n e h = IsWrong ts n e (λ u k. not_wrong greatest_height h.refuses.last (stop.Wrong h.ahead) u k.after ts h.refuses.led h.refuses.refused (λ v d. not_done h.refuses.last v h.refuses.works d) k.items)
+is_wrong ts n e h = IsWrong ts n e (λ u k. not_wrong greatest_height h.refuses.last (stop.Wrong h.ahead) u k.after ts h.refuses.led h.refuses.refused (λ v d. not_done h.refuses.last v h.refuses.unfinished d) k.items)
 
 pub is_too_deep : (ts : Tokens) (n : ℕ) → first_outside ts ≡ None → ExceedsAt greatest_height ts n → HasFault ts (fault.TooDeep n)
 is_too_deep ts n e h = subst (λ k. HasFault ts (fault.TooDeep k)) (sym h.place.offset)

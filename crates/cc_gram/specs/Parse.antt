@@ -29,7 +29,7 @@ pub record ReadsUnit (limit : ℕ) (ts : Tokens) (u : UnitTree) : Type 0 where
   pub height : ℕ
   pub reads : Reads limit ts (tall u height)
 
--- Turns lead to a state that has none, at this offset.
+-- Turns lead to a state from which there is no turn, at this offset.
 pub record RefusesAt (limit : ℕ) (ts : Tokens) (n : ℕ) : Type 0 where
   pub ahead : ℕ
   pub refuses : Refuses limit ts ahead

@@ -3,8 +3,8 @@
 
 mod outside;
 mod parser;
-mod run;
 
+pub use cc_machine::run::discard_unit;
 pub use cc_tree::{
     At, Attr, Decl, Declr, Enumr, First, Given, GramFault, Init, Item, Line, MemberDecl, Param,
     Params, Spec, Tree, TypeName, Unit, tokens_have_one_tree,

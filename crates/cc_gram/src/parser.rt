@@ -8,8 +8,8 @@ ghost use Rattle.cc_tree.specs.Height.{greatest_height};
 ghost use Rattle.cc_gram.specs.Parse.{place as place_of, end_of, DeepAt, ReadsUnit, RefusesAt, ExceedsAt, IfSyntax, IfTooDeep, IsInside};
 
 use crate::outside::first_outside;
-use crate::run::run;
 use cc_lex::Token;
+use cc_machine::run::run;
 use cc_num::{List, at};
 use cc_tree::stop::Stop;
 use cc_tree::{GramFault, Unit};

@@ -8,11 +8,11 @@ ghost use Rattle.cc_tree.specs.declared.state.DeclrFrame.TheVariants.{Pointer as
 ghost use Rattle.cc_tree.specs.declared.state.SpecsFrame.TheVariants.{Member as MemberFrame};
 ghost use Rattle.cc_tree.specs.declared.state.ValueFrame.TheVariants.{Init as InitFrame};
 
-use crate::declarations::{decl_specs, declr_done, values, with_init};
 use crate::parts::give_part;
-use cc_declarators::declarators::paren_declr;
-use cc_declarators::parameters::{close_type, param};
-use cc_declarators::structures::{member_declr, open_members};
+use cc_declarations::declarations::{decl_specs, declr_done, values, with_init};
+use cc_declarations::declarators::paren_declr;
+use cc_declarations::parameters::{close_type, param};
+use cc_declarations::structures::{member_declr, open_members};
 use cc_lex::{Token, Word};
 use cc_num::{Boxed, List};
 use cc_tree::state::{

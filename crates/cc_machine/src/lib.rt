@@ -1,12 +1,9 @@
-//! The turns of the parser on declarations and statements (C99 6.7 to 6.9), and the machine that takes turns.
+//! The machine that takes turns: what was read is handed to what waits for it. Its run goes from the first turn to the last.
 #![tactic(auto)]
 
-mod declarations;
 mod depth;
 mod handing;
-mod items;
-mod lines;
-pub mod machine;
+mod machine;
 mod parts;
-mod statements;
+pub mod run;
 mod waiting;

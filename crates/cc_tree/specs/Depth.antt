@@ -1,5 +1,6 @@
--- A twin of the code: how many nodes of the tree wait for a part. A frame stands for a node where what it waits for is a
--- part of one whose first token has been read. So an expression that is a statement counts only once its `;` is read.
+-- A twin of the code: how many nodes of the tree wait for a part. A node counts once a token of its own has been taken, and
+-- not one of its parts alone: an operator, a mark, a word. So an expression that is a statement counts only once its `;` is
+-- taken.
 use Rattle.std.specs.Prelude.{ℕ, ◌+◌, Bool, true, false, List, [], ◌∷◌}
 use Rattle.cc_tree.specs.declared.state.Block.{Block}
 use Rattle.cc_tree.specs.declared.state.DeclrFrame.{DeclrFrame}

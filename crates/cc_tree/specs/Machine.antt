@@ -67,7 +67,7 @@ abbrev pub with_frame : {F : Type 0} → Option F → List F → List F
 with_frame None fs = fs
 with_frame (Some f) fs = f ∷ fs
 
--- with a name that is in scope from now on
+-- with a name that is in scope from now on; one that is in scope already is not declared again (C99 6.7, 3)
 abbrev pub with_typedef : Name → Scope → Bool → Scope
 with_typedef x scope true = scope
 with_typedef x scope false = scope ++ x ∷ []
@@ -117,11 +117,11 @@ pub record Reads (limit : ℕ) (ts : Tokens) (u : Tall UnitTree) : Type 0 where
   pub done : last.control ≡ control.Done u
   pub low : u.height ≤ limit
 
--- Turns lead to a state that has none, since what stands n tokens in front of the end cannot stand there.
+-- Turns lead to a state from which there is none, since what stands n tokens in front of the end cannot stand there.
 pub record Refuses (limit : ℕ) (ts : Tokens) (n : ℕ) : Type 0 where
   pub last : State
   pub led : Leads limit (start ts) last
-  pub works : is_done last.control ≡ false
+  pub unfinished : is_done last.control ≡ false
   pub refused : turn last ≡ Err (stop.Wrong n)
 
 -- Turns lead to a state, n tokens in front of the end, behind whose turn the nodes that wait and what has just been read

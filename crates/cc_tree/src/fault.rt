@@ -9,7 +9,7 @@ use std::alloc::{AllocError, AllocFailed};
 pub enum GramFault {
     /// The first word of C or GNU C that is outside the subset, and its offset.
     Outside(Name, u32),
-    /// The tokens are no sentence of the greatest height.
+    /// The tokens are no sentence of height at most 128.
     TooDeep(u32),
     /// The tokens are no sentence.
     Syntax(u32),

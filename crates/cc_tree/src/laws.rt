@@ -19,7 +19,7 @@ pub fn tokens_have_one_tree()
     ensures { (ts : Tokens) (u v : UnitTree) → IsSentence ts u → IsSentence ts v → u ≡ v }
 {}
 
-/// The machine comes to an end on all tokens. Where none is an outside word, what it ends with is the tree of a
+/// For the crate that runs the machine. It comes to an end on all tokens. Where none is an outside word, what it ends with is the tree of a
 /// sentence, with its height; a sentence ends with its tree. On the way the nodes that wait and what has just been
 /// read are together no higher than the whole; and where they are high, as many tokens have been taken.
 pub fn the_machine_reads_sentences()
@@ -29,5 +29,5 @@ pub fn the_machine_reads_sentences()
     ensures complete { (limit : ℕ) (ts : Tokens) (s : State) (e : Stop) (u : UnitTree) → Leads limit (start ts) s → turn s ≡ Err e → IsSentence ts u →
         s.control ≡ control.Done (record { node = u; height = unit_height u }) }
     ensures low { (limit : ℕ) (ts : Tokens) (s t : State) (u : UnitTree) → Leads limit (start ts) s → turn s ≡ Ok t → IsSentence ts u → unit_height u ≤ limit → depth t.frames + height_of t.control ≤ limit }
-    ensures paid { (limit : ℕ) (ts : Tokens) (s t : State) → Leads limit (start ts) s → turn s ≡ Ok t → limit < depth t.frames + height_of t.control → limit + length s.rest ≤ length ts }
+    ensures tokens_taken { (limit : ℕ) (ts : Tokens) (s t : State) → Leads limit (start ts) s → turn s ≡ Ok t → limit < depth t.frames + height_of t.control → limit + length s.rest ≤ length ts }
 {}

@@ -3,6 +3,7 @@
 ghost use Rattle.std.specs.Prelude.{◌≡◌, ◌++◌, ◌∷◌, [], suc, length, Ok as OkOf};
 ghost use Rattle.cc_tree.specs.Reading.{Gives, flat_of, ◌>>=◌ as bind, eat as eat_of, name as name_of};
 ghost use Rattle.cc_tree.specs.declared.stop.Stop.TheVariants.{Wrong as WrongOf};
+ghost use Rattle.cc_tree.specs.TurnLines.{scoped as scoped_of};
 ghost use Rattle.cc_tree.specs.Turns.{went_of, on as on_of, opens as opens_of, made as made_of, tall as tall_of};
 
 use crate::cursor::{after, name, owned};
@@ -51,6 +52,18 @@ pub fn opens<'t>(
         rest,
         scoping: Scoping::Same,
     })
+}
+
+/// Goes on with other typedef names.
+pub fn scoped<'t>(scoping: Scoping, turn: Turn<'t>) -> Turn<'t>
+    ensures { OkOf (went_of result) ≡ scoped_of scoping (OkOf (went_of turn.entry)) }
+{
+    Turn {
+        frame: turn.frame,
+        control: turn.control,
+        rest: turn.rest,
+        scoping,
+    }
 }
 
 /// A node with its height.

@@ -6,6 +6,7 @@ ghost use Rattle.cc_tiny.specs.Tiny.{IsTinyText};
 ghost use Rattle.ccomp.specs.Headline.{HasSentence, IsRefused};
 
 use crate::status::ReadRefusal;
+use cc_gram::{discard_unit, parse};
 use cc_lex::lex;
 use cc_syntax::Program;
 use std::alloc::Global;
@@ -20,6 +21,6 @@ pub fn read(alloc: Global, text: &[u8]) -> Result<Option<Program>, ReadRefusal>
     ensures refused { IfErr result (IsRefused text.now) }
 {
     let tokens = lex(alloc, text)?;
-    cc_gram::parse(alloc, &tokens)?;
+    discard_unit(parse(alloc, &tokens)?);
     Ok(cc_tiny::read(alloc, &tokens)?)
 }

@@ -13,8 +13,8 @@ returns-clause-sound c = read_sound
 pub returns-clause-complete : goal.returns-clause-complete
 returns-clause-complete c = λ limit ts s e u h k t. ends limit s e u t.after ts h k t.items
 
-pub returns-clause-paid : goal.returns-clause-paid
-returns-clause-paid c = far
+pub returns-clause-tokens_taken : goal.returns-clause-tokens_taken
+returns-clause-tokens_taken c = far
 
 pub returns-clause-low : goal.returns-clause-low
 returns-clause-low c = read_low

@@ -1,6 +1,6 @@
 use Rattle.cc_tree.specs.Height.{greatest_height}
-use Rattle.cc_gram.proofs.Turned.{starts, starts-low}
-use Rattle.cc_gram.proofs.run.run.Goals as goal
+use Rattle.cc_machine.proofs.Turned.{starts, starts-low}
+use Rattle.cc_machine.proofs.run.run.Goals as goal
 
 pub turns-init : goal.turns-init
 turns-init c = record {

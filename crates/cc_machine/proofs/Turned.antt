@@ -24,7 +24,7 @@ pub reads-here : (limit : ℕ) (ts : Tokens) (s : State) (u : Tall UnitTree) →
 reads-here limit ts s u h k l = record { last = s; led = h; done = k; low = l }
 
 pub refuses-here : (limit : ℕ) (ts : Tokens) (s : State) (n : ℕ) → Leads limit (start ts) s → is_done s.control ≡ false → turn s ≡ Err (stop.Wrong n) → Refuses limit ts n
-refuses-here limit ts s n h k l = record { last = s; led = h; works = k; refused = l }
+refuses-here limit ts s n h k l = record { last = s; led = h; unfinished = k; refused = l }
 
 pub exceeds-here : (limit : ℕ) (ts : Tokens) (s t : State) → Leads limit (start ts) s → turn s ≡ Ok t → limit < depth t.frames + height_of t.control → Exceeds limit ts (length s.rest)
 exceeds-here limit ts s t h k l = record { last = s; led = h; next = t; turned = k; high = l; ahead = refl }

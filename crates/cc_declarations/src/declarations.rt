@@ -4,10 +4,10 @@ ghost use Rattle.std.specs.Prelude.{◌≡◌, ◌&&◌, ◌++◌, ◌∷◌, []
 ghost use Rattle.cc_tree.specs.Reading.{Gives, after as after_of, begins_with as begins_with_of};
 ghost use Rattle.cc_tree.specs.Scopes.{name_of};
 ghost use Rattle.cc_tree.specs.Turns.{went_of, tall as tall_of};
-ghost use Rattle.cc_tree.specs.TurnLines.{scoped as scoped_of, value as value_of, close_values as close_values_of, behind_comma as behind_comma_of, values as values_of, values_by as values_by_of, declaration as declaration_of, with_init as with_init_of, with_height as with_height_of, declared as declared_of, init_value as init_value_of, init as init_of, no_init as no_init_of, body as body_of, declr_attrs as declr_attrs_of, declr_done as declr_done_of, have_decl as have_decl_of, inits as inits_of, decl_specs as decl_specs_of};
+ghost use Rattle.cc_tree.specs.TurnLines.{value as value_of, close_values as close_values_of, behind_comma as behind_comma_of, values as values_of, values_by as values_by_of, declaration as declaration_of, with_init as with_init_of, with_height as with_height_of, declared as declared_of, init_value as init_value_of, init as init_of, no_init as no_init_of, body as body_of, declr_attrs as declr_attrs_of, declr_done as declr_done_of, have_decl as have_decl_of, inits as inits_of, decl_specs as decl_specs_of};
 ghost use Rattle.cc_lex.specs.declared.token.Mark.TheVariants.{Assign, Comma, RBrace};
 
-use cc_declarators::specifiers::with_attrs;
+use crate::specifiers::with_attrs;
 use cc_lex::{Mark, Token};
 use cc_num::{Boxed, List, Name};
 use cc_tree::state::{
@@ -20,20 +20,10 @@ use cc_turns::cursor::{after, begins_with, offset, owned};
 use cc_turns::forms::{declared_name, declares_types};
 use cc_turns::operators::ASSIGNMENT;
 use cc_turns::scope::Scope;
-use cc_turns::turns::{closed, discard, empty, grown, on, opens, raised, refused, tall, with};
+use cc_turns::turns::{
+    closed, discard, empty, grown, on, opens, raised, refused, scoped, tall, with,
+};
 use std::alloc::Global;
-
-/// Goes on with other typedef names.
-pub fn scoped<'t>(scoping: Scoping, turn: Turn<'t>) -> Turn<'t>
-    ensures { OkOf (went_of result) ≡ scoped_of scoping (OkOf (went_of turn.entry)) }
-{
-    Turn {
-        frame: turn.frame,
-        control: turn.control,
-        rest: turn.rest,
-        scoping,
-    }
-}
 
 /// Reads an initialiser.
 #[tactic(auto, unfolding(cc_tree::specs::TurnLines::value))]

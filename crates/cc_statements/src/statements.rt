@@ -10,7 +10,6 @@ ghost use Rattle.cc_tree.specs.declared.unit.Line.{Return as ReturnOf, Break as 
 ghost use Rattle.std.specs.Prelude.{None as NoneOf};
 ghost use Rattle.cc_tree.specs.declared.state.PartFrame.TheVariants.{Return as ReturnFrame};
 
-use crate::declarations::scoped;
 use cc_lex::{Kind, Mark, Token, Word};
 use cc_num::Boxed;
 use cc_tree::state::{Block, Control, For, Frame, LineFrame, PartFrame, Scoping, Turn};
@@ -20,7 +19,7 @@ use cc_turns::cursor::{after, eat};
 use cc_turns::names::begins_specs;
 use cc_turns::operators::{COMMA, CONDITIONAL};
 use cc_turns::scope::Scope;
-use cc_turns::turns::{closed, empty, on, opens, raised, tall, with};
+use cc_turns::turns::{closed, empty, on, opens, raised, scoped, tall, with};
 use std::alloc::Global;
 
 /// Hands over a statement, which is a node over others of this height.

@@ -3,7 +3,7 @@ use Rattle.cc_tree.specs.Height.{greatest_height}
 use Rattle.cc_tree.specs.Machine.{Leads, start, height_of}
 use Rattle.cc_tree.specs.Measure.{measure}
 use Rattle.cc_machine.specs.View.{state_of}
-use Rattle.cc_gram.proofs.run.run.Given as goal
+use Rattle.cc_machine.proofs.run.run.Given as goal
 
 abbrev pub invariant-turns : goal.invariant-turns
 invariant-turns l = record {

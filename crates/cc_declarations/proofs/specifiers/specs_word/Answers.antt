@@ -1,6 +1,6 @@
 use Rattle.std.proofs.Common.{◌∙◌}
-use Rattle.cc_declarators.proofs.PlainWords.{plain_word}
-use Rattle.cc_declarators.proofs.specifiers.specs_word.Goals as goal
+use Rattle.cc_declarations.proofs.PlainWords.{plain_word}
+use Rattle.cc_declarations.proofs.specifiers.specs_word.Goals as goal
 
 pub returns-in_ok-specs_plain-in_default : goal.returns-in_ok-specs_plain-in_default
 returns-in_ok-specs_plain-in_default c =

@@ -7,13 +7,12 @@ ghost use Rattle.cc_tree.specs.TurnLines.{begins_else as begins_else_of, after_e
 ghost use Rattle.cc_tree.specs.declared.state.LineFrame.TheVariants.{Else, While, Switch, For as ForFrame, Case, Default};
 ghost use Rattle.cc_lex.specs.declared.token.Kind.TheVariants.{Keyword};
 
-use crate::declarations::scoped;
 use crate::statements::{have_line, head};
 use cc_lex::{Kind, Token, Word};
 use cc_tree::state::{Control, For, Frame, LineFrame, Node, PartFrame, Scoping, Turn};
 use cc_tree::stop::Stop;
 use cc_tree::{Line, Tree};
-use cc_turns::turns::{opens, refused, unboxed};
+use cc_turns::turns::{opens, refused, scoped, unboxed};
 use std::alloc::Global;
 
 fn is_else(word: Word) -> bool

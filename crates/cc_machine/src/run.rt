@@ -5,8 +5,8 @@ ghost use Rattle.cc_tree.specs.declared.state.Control.TheVariants as control;
 ghost use Rattle.cc_tree.specs.Height.{greatest_height};
 ghost use Rattle.cc_tree.specs.Machine.{height_of as height_of_control, Reads, Refuses, Exceeds, IfWrong, IfDeep};
 
+use crate::machine::Machine;
 use cc_lex::Token;
-use cc_machine::machine::Machine;
 use cc_num::{Boxed, NoMemory};
 use cc_tree::Unit;
 use cc_tree::state::{Control, Items, Tall};
@@ -75,3 +75,6 @@ pub fn run(alloc: Global, tokens: &[Token]) -> Result<Tall<Unit>, Stop>
         }
     }
 }
+
+/// Lets a tree go. What that takes is proved once, here.
+pub fn discard_unit(_unit: Unit) {}
