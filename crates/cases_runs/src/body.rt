@@ -11,7 +11,7 @@
 
 use crate::words::split_first;
 use cc_num::{Boxed, IntType, List};
-use cc_syntax::{Expr, Intr, Place, Stmt};
+use cc_tiny_types::{Expr, Intr, Place, Stmt};
 use std::alloc::Global;
 use std::mem;
 

@@ -5,7 +5,7 @@
 use crate::body::Body;
 use crate::words::{quoted, split_first};
 use cc_num::{IntType, List, Name, NoMemory, Target};
-use cc_syntax::{CType, Device, Entry, Func, Object, Program, Shape, Sig, Stmt, is_normal};
+use cc_tiny_types::{CType, Device, Entry, Func, Object, Program, Shape, Sig, Stmt, is_normal};
 use std::alloc::Global;
 use std::io;
 

@@ -4,8 +4,8 @@
 -- proof that one program follows another; taken from the other side, with entries at boundaries
 -- alone, it is the proof that it answers it.
 use Rattle.std.proofs.Common.{◌≡◌, ℕ, zero, suc, Bool, true, false, ◌&&◌, if◌then◌else◌, List, [], ◌∷◌, ◌++◌, refl, ap, sym, ◌∙◌, subst, Option, Some, None, slice_get, is_some, ℤ}
-use Rattle.cc_syntax.specs.declared.program.Func.{Func}
-use Rattle.cc_syntax.specs.declared.program.Program.{Program}
+use Rattle.cc_tiny_types.specs.declared.program.Func.{Func}
+use Rattle.cc_tiny_types.specs.declared.program.Program.{Program}
 use Rattle.cc_meaning.specs.declared.event.End.{End}
 use Rattle.cc_meaning.specs.declared.event.End.TheVariants.{Going, Exit, Trap, Starved}
 use Rattle.cc_meaning.specs.Rows.{rows_of}

@@ -1,7 +1,7 @@
 -- A program and itself, as the least case of catching up: equal memories and equal activations.
 use Rattle.std.proofs.Common.{◌≡◌, ℕ, ℤ, zero, true, List, refl, ap, sym, Option, Some, None, slice_get}
-use Rattle.cc_syntax.specs.declared.program.Func.{Func}
-use Rattle.cc_syntax.specs.declared.program.Program.{Program}
+use Rattle.cc_tiny_types.specs.declared.program.Func.{Func}
+use Rattle.cc_tiny_types.specs.declared.program.Program.{Program}
 use Rattle.cc_meaning.specs.Rows.{rows_of}
 use Rattle.cc_meaning.specs.State.{Active, Memory, started}
 use Rattle.cc_meaning.specs.Step.{Step, Goes, Returns, Stops, with_flag, active_step}

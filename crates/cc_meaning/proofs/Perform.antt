@@ -2,12 +2,12 @@
 -- activations that keeps the locals and commutes with marking, and what every marking keeps an action
 -- keeps. So a pass shows these two things of its map, and not each action anew.
 use Rattle.std.proofs.Common.{◌≡◌, ℕ, ℤ, List, [], ◌∷◌, refl, ap, ◌∙◌, slice_get, Option, Some, None}
-use Rattle.cc_syntax.specs.declared.stmt.Stmt.{Stmt, out-Stmt}
-use Rattle.cc_syntax.specs.declared.stmt.Stmt.TheOpen as is
-use Rattle.cc_syntax.specs.declared.expr.Place.TheVariants.{Local, Static, Device}
-use Rattle.cc_syntax.specs.declared.value.Value.{Value}
-use Rattle.cc_syntax.specs.declared.program.Device.{Device as DeviceOf}
-use Rattle.cc_syntax.specs.declared.program.Program.{Program}
+use Rattle.cc_tiny_types.specs.declared.stmt.Stmt.{Stmt, out-Stmt}
+use Rattle.cc_tiny_types.specs.declared.stmt.Stmt.TheOpen as is
+use Rattle.cc_tiny_types.specs.declared.expr.Place.TheVariants.{Local, Static, Device}
+use Rattle.cc_tiny_types.specs.declared.value.Value.{Value}
+use Rattle.cc_tiny_types.specs.declared.program.Device.{Device as DeviceOf}
+use Rattle.cc_tiny_types.specs.declared.program.Program.{Program}
 use Rattle.cc_num.specs.declared.target.Target.{Target}
 use Rattle.cc_meaning.specs.declared.eval.Mark.{Mark}
 use Rattle.cc_meaning.specs.declared.eval.Mark.TheVariants.{Did}

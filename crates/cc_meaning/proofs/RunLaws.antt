@@ -3,7 +3,7 @@
 -- runs are walked turn by turn, and the turns that answer are put one behind another.
 use Rattle.std.specs.Prelude.{◌≡◌, ℤ, ℕ, true, List, [], ◌∷◌, ◌++◌, Option, refl}
 use Rattle.std.proofs.Common.{sym, ◌∙◌, subst}
-use Rattle.cc_syntax.specs.declared.program.Program.{Program}
+use Rattle.cc_tiny_types.specs.declared.program.Program.{Program}
 use Rattle.cc_meaning.specs.State.{State, start}
 use Rattle.cc_meaning.specs.Turn.{turn, enters}
 use Rattle.cc_meaning.specs.Runs.{Arrivals, run, Same, Follows, Answers, EntersAtBoundaries, IsBoundary}

@@ -4,13 +4,13 @@
 -- that called another waits in a known place. Steps, returns and entries keep that, whatever the
 -- relations are.
 use Rattle.std.proofs.Common.{◌≡◌, ℕ, Bool, true, false, List, [], ◌∷◌, ◌++◌, refl, sym, ◌∙◌, subst, Option, Some, None, slice_get}
-use Rattle.cc_syntax.specs.declared.program.Func.{Func}
-use Rattle.cc_syntax.specs.declared.program.Program.{Program}
+use Rattle.cc_tiny_types.specs.declared.program.Func.{Func}
+use Rattle.cc_tiny_types.specs.declared.program.Program.{Program}
 use Rattle.cc_meaning.specs.declared.event.End.{End}
 use Rattle.cc_meaning.specs.declared.event.End.TheVariants.{Going}
 use Rattle.cc_meaning.specs.declared.event.Event.TheVariants.{Enter}
 use Rattle.cc_meaning.specs.State.{Active, Memory, State, activation}
-use Rattle.cc_syntax.specs.declared.value.Value.{Value}
+use Rattle.cc_tiny_types.specs.declared.value.Value.{Value}
 use Rattle.cc_meaning.specs.declared.eval.Action.{Action}
 use Rattle.cc_meaning.specs.Eval.{Progress, Known, Waits}
 use Rattle.cc_meaning.specs.Step.{Step, Goes, Returns, Stops, with_flag, perform, stepped}

@@ -1,8 +1,8 @@
 -- Where an activation stands: what is left of each list of statements that it is in.
 -- The first statement of a list around another is the one that contains that other.
 use Rattle.std.specs.Prelude.{ℕ, ◌+◌, ◌-◌, ◌^◌, min, Bool, true, false, List, [], ◌∷◌, map, reverse, if◌then◌else◌}
-use Rattle.cc_syntax.specs.declared.stmt.Stmt.{Stmt, out-Stmt}
-use Rattle.cc_syntax.specs.declared.stmt.Stmt.TheOpen as is
+use Rattle.cc_tiny_types.specs.declared.stmt.Stmt.{Stmt, out-Stmt}
+use Rattle.cc_tiny_types.specs.declared.stmt.Stmt.TheOpen as is
 
 -- a level of nesting: what is left of a list, and the position of its first statement in the whole list
 pub record Level : Type 0 where

@@ -1,12 +1,12 @@
 -- What an expression does next, from what its steps have given so far.
 -- A value that is bad is written None: a trap put off to a later step.
 use Rattle.std.specs.Prelude.{pos, List, [], ◌∷◌, Option, Some, None, Bool, true, false}
-use Rattle.cc_syntax.specs.declared.expr.Expr.{Expr, fold-Expr}
-use Rattle.cc_syntax.specs.declared.expr.Expr.TheOpen as is
-use Rattle.cc_syntax.specs.declared.expr.Intr.{Intr}
-use Rattle.cc_syntax.specs.declared.expr.Intr.TheVariants as intr
-use Rattle.cc_syntax.specs.declared.value.Value.{Value}
-use Rattle.cc_syntax.specs.declared.value.Value.TheVariants.{Int}
+use Rattle.cc_tiny_types.specs.declared.expr.Expr.{Expr, fold-Expr}
+use Rattle.cc_tiny_types.specs.declared.expr.Expr.TheOpen as is
+use Rattle.cc_tiny_types.specs.declared.expr.Intr.{Intr}
+use Rattle.cc_tiny_types.specs.declared.expr.Intr.TheVariants as intr
+use Rattle.cc_tiny_types.specs.declared.value.Value.{Value}
+use Rattle.cc_tiny_types.specs.declared.value.Value.TheVariants.{Int}
 use Rattle.cc_meaning.specs.declared.eval.Mark.{Mark}
 use Rattle.cc_meaning.specs.declared.eval.Mark.TheVariants.{Gave, Did}
 use Rattle.cc_meaning.specs.declared.eval.Action.{Action}

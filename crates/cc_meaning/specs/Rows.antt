@@ -1,11 +1,11 @@
 -- The events of a trace, spelled by the names that the program gives.
 use Rattle.std.specs.Prelude.{ℕ, List, Option, Some, None, map, slice_get}
-use Rattle.cc_syntax.specs.declared.program.Device.{Device}
-use Rattle.cc_syntax.specs.declared.program.Func.{Func}
-use Rattle.cc_syntax.specs.declared.program.Program.{Program}
-use Rattle.cc_syntax.specs.declared.value.Cell.{Cell}
-use Rattle.cc_syntax.specs.declared.value.Cell.TheVariants as cell
-use Rattle.cc_syntax.specs.declared.value.Value.{Value}
+use Rattle.cc_tiny_types.specs.declared.program.Device.{Device}
+use Rattle.cc_tiny_types.specs.declared.program.Func.{Func}
+use Rattle.cc_tiny_types.specs.declared.program.Program.{Program}
+use Rattle.cc_tiny_types.specs.declared.value.Cell.{Cell}
+use Rattle.cc_tiny_types.specs.declared.value.Cell.TheVariants as cell
+use Rattle.cc_tiny_types.specs.declared.value.Value.{Value}
 use Rattle.cc_meaning.specs.declared.event.Event.{Event}
 use Rattle.cc_meaning.specs.declared.event.Event.TheVariants as event
 

@@ -1,6 +1,6 @@
 -- Whole runs, and when one program does what another does.
 use Rattle.std.specs.Prelude.{◌≡◌, ℕ, ℤ, Bool, true, false, List, [], ◌∷◌, Option}
-use Rattle.cc_syntax.specs.declared.program.Program.{Program}
+use Rattle.cc_tiny_types.specs.declared.program.Program.{Program}
 use Rattle.cc_meaning.specs.declared.eval.Mark.{Mark}
 use Rattle.cc_meaning.specs.State.{Active, State, start}
 use Rattle.cc_meaning.specs.Turn.{turn, enters}

@@ -1,9 +1,9 @@
 -- The state of a run.
 use Rattle.std.specs.Prelude.{ℕ, ℤ, Bool, false, List, [], ◌∷◌, Option, Some, None, map, pos, slice_get}
-use Rattle.cc_syntax.specs.declared.value.Value.{Value}
-use Rattle.cc_syntax.specs.declared.value.Value.TheVariants.{Int}
-use Rattle.cc_syntax.specs.declared.program.Func.{Func}
-use Rattle.cc_syntax.specs.declared.program.Program.{Program}
+use Rattle.cc_tiny_types.specs.declared.value.Value.{Value}
+use Rattle.cc_tiny_types.specs.declared.value.Value.TheVariants.{Int}
+use Rattle.cc_tiny_types.specs.declared.program.Func.{Func}
+use Rattle.cc_tiny_types.specs.declared.program.Program.{Program}
 use Rattle.cc_meaning.specs.declared.eval.Mark.{Mark}
 use Rattle.cc_meaning.specs.declared.event.End.{End}
 use Rattle.cc_meaning.specs.declared.event.End.TheVariants.{Going}

@@ -2,14 +2,14 @@
 use Rattle.std.specs.Prelude.{ℕ, ℤ, pos, zero, Bool, true, false, List, [], ◌∷◌, ◌++◌, Option, Some, None, slice_get, length}
 use Rattle.cc_num.specs.declared.target.Target.{Target}
 use Rattle.cc_num.specs.Integers.{converted}
-use Rattle.cc_syntax.specs.declared.stmt.Stmt.{Stmt, out-Stmt}
-use Rattle.cc_syntax.specs.declared.stmt.Stmt.TheOpen as is
-use Rattle.cc_syntax.specs.declared.expr.Place.TheVariants.{Local, Static, Device}
-use Rattle.cc_syntax.specs.declared.value.Value.{Value}
-use Rattle.cc_syntax.specs.declared.value.Value.TheVariants.{Int}
-use Rattle.cc_syntax.specs.declared.value.Cell.TheVariants as cell
-use Rattle.cc_syntax.specs.declared.program.Device.{Device as DeviceOf}
-use Rattle.cc_syntax.specs.declared.program.Program.{Program}
+use Rattle.cc_tiny_types.specs.declared.stmt.Stmt.{Stmt, out-Stmt}
+use Rattle.cc_tiny_types.specs.declared.stmt.Stmt.TheOpen as is
+use Rattle.cc_tiny_types.specs.declared.expr.Place.TheVariants.{Local, Static, Device}
+use Rattle.cc_tiny_types.specs.declared.value.Value.{Value}
+use Rattle.cc_tiny_types.specs.declared.value.Value.TheVariants.{Int}
+use Rattle.cc_tiny_types.specs.declared.value.Cell.TheVariants as cell
+use Rattle.cc_tiny_types.specs.declared.program.Device.{Device as DeviceOf}
+use Rattle.cc_tiny_types.specs.declared.program.Program.{Program}
 use Rattle.cc_meaning.specs.declared.eval.Mark.{Mark}
 use Rattle.cc_meaning.specs.declared.eval.Mark.TheVariants.{Gave, Did}
 use Rattle.cc_meaning.specs.declared.eval.Action.{Action}

@@ -1,7 +1,7 @@
 -- A turn of a run: one step of the program, or the entry of a handler.
 use Rattle.std.specs.Prelude.{ℕ, pos, ◌+◌, Bool, true, false, List, [], ◌∷◌, ◌++◌, Option, Some, None, slice_get, is_some, if◌then◌else◌, ◌&&◌}
-use Rattle.cc_syntax.specs.declared.program.Func.{Func}
-use Rattle.cc_syntax.specs.declared.program.Program.{Program}
+use Rattle.cc_tiny_types.specs.declared.program.Func.{Func}
+use Rattle.cc_tiny_types.specs.declared.program.Program.{Program}
 use Rattle.cc_meaning.specs.declared.event.End.{End}
 use Rattle.cc_meaning.specs.declared.event.End.TheVariants.{Going, Exit, Trap, Starved}
 use Rattle.cc_meaning.specs.declared.event.Event.TheVariants.{Enter}

@@ -4,7 +4,7 @@ ghost use Rattle.std.specs.Prelude.{◌≡◌, ◌∷◌, length};
 ghost use Rattle.cc_meaning.specs.Control.{is_loop as is_loop_of, behind as behind_of, go_on as go_on_of, behind_loop as behind_loop_of, counted as counted_of};
 ghost use Rattle.cc_meaning.specs.View.{level_of, levels_of};
 
-use cc_syntax::Stmt;
+use cc_tiny_types::Stmt;
 
 /// A level of nesting: what is left of a list of statements. The first statement of a level around
 /// another contains that other.

@@ -4,7 +4,7 @@ ghost use Rattle.std.specs.Prelude.{◌≡◌};
 ghost use Rattle.cc_meaning.specs.Eval.{next_of, given as given_of, done as done_of, turns_on as turns_on_of};
 ghost use Rattle.cc_meaning.specs.View.{progress_of};
 
-use cc_syntax::{Expr, Intr, Place, Value};
+use cc_tiny_types::{Expr, Intr, Place, Value};
 
 /// What a step of the present statement gave.
 #[derive(Clone, Copy, Debug, PartialEq, Eq)]

@@ -1,4 +1,4 @@
-use cc_syntax::{Cell, Value};
+use cc_tiny_types::{Cell, Value};
 
 /// How a run stands.
 #[derive(Clone, Copy, Debug, PartialEq, Eq)]

@@ -1,7 +1,7 @@
 //! Laws of runs.
 
 ghost use Rattle.std.specs.Prelude.{ℕ, ℤ, List, Option, true, ◌≡◌};
-ghost use Rattle.cc_syntax.specs.declared.program.Program.{Program};
+ghost use Rattle.cc_tiny_types.specs.declared.program.Program.{Program};
 ghost use Rattle.cc_meaning.specs.State.{State, start};
 ghost use Rattle.cc_meaning.specs.Turn.{turn, enters};
 ghost use Rattle.cc_meaning.specs.Runs.{Arrivals, run, Same, Follows, Answers, EntersAtBoundaries, IsBoundary};

@@ -11,7 +11,7 @@ use crate::control::Level;
 use crate::event::{End, Event, Took};
 use crate::step::{Activation, Memory, Went, active_step};
 use cc_num::{Name, NoMemory, at};
-use cc_syntax::{CType, Func, Object, Program, Value};
+use cc_tiny_types::{CType, Func, Object, Program, Value};
 use std::alloc::Global;
 
 /// A run of a program.

@@ -10,7 +10,7 @@ use crate::control::{Level, behind, behind_loop, counted, go_on};
 use crate::eval::{Action, Mark, Stage, next};
 use crate::event::{End, Event};
 use cc_num::{List, NoMemory, at, convert};
-use cc_syntax::{Cell, Place, Program, Stmt, Value};
+use cc_tiny_types::{Cell, Place, Program, Stmt, Value};
 
 /// A function that was entered and has not returned.
 #[derive(Drop)]

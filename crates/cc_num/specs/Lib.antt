@@ -1,4 +1,5 @@
 pub mod formers
 pub mod Integers
+pub mod Names
 pub mod Promotions
 pub mod Results

@@ -1,5 +1,10 @@
-pub mod NormalLists
-pub mod NormalNames
-pub mod Induction
-pub mod NormalStmts
-pub mod NormalLemmas
+pub mod Alignment
+pub mod TypeLayouts
+pub mod Whole
+pub mod Prefixes
+pub mod Parts
+pub mod Measure
+pub mod Members
+pub mod Shapes
+pub mod Places
+pub mod ExampleLayouts

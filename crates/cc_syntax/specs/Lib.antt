@@ -1,3 +1,3 @@
+pub mod Examples
 pub mod Layout
-pub mod Normal
-pub mod NormalTest
+pub mod Types

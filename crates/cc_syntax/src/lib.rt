@@ -1,17 +1,12 @@
-//! The types of a program: what the reader makes of C, what is rewritten, and what is printed.
-//! An id is a `u32` and is the position in the program's list of that kind.
+//! The types of a program, and how many bytes their objects take.
 #![tactic(auto)]
 
-mod expr;
-mod normal;
-mod program;
-mod stmt;
-mod types;
-mod value;
+mod law;
+mod sizes;
 
-pub use expr::{Expr, Intr, Place};
-pub use normal::is_normal;
-pub use program::{Device, Entry, Func, Object, Program};
-pub use stmt::Stmt;
-pub use types::{CType, Shape, Sig};
-pub use value::{Cell, Value};
+pub use cc_program::{
+    Address, CType, Case, Cell, Device, Entry, Expr, Func, Intr, Leaf, Object, Part, Place,
+    Program, Roles, Root, Shape, Sig, Stmt, Structure, Value,
+};
+pub use law::laws;
+pub use sizes::{Layout, align_of, layout_of, size_of};

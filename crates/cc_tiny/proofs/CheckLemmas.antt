@@ -9,9 +9,9 @@ use Rattle.std.proofs.lemmas.List.{length-map, append-nil}
 use Rattle.std.proofs.lemmas.List.Folds.{Any-from_list_any, list_any-from_Any}
 use Rattle.std.proofs.lemmas.List.Elements.{All-nil, All-cons, All-head, All-tail, All-map, All-weaker, Contains-append_left, Contains-append_right, Contains-append_cases, Contains-push, Contains-push_cases}
 use Rattle.std.specs.Borrow.{Bor}
-use Rattle.cc_syntax.specs.declared.expr.Intr.{Intr}
-use Rattle.cc_syntax.specs.declared.program.Func.{Func}
-use Rattle.cc_syntax.specs.declared.expr.Intr.TheVariants as intr
+use Rattle.cc_tiny_types.specs.declared.expr.Intr.{Intr}
+use Rattle.cc_tiny_types.specs.declared.program.Func.{Func}
+use Rattle.cc_tiny_types.specs.declared.expr.Intr.TheVariants as intr
 use Rattle.cc_tiny.specs.Tiny.{IsOnce, Proto, names_of}
 use Rattle.cc_tiny.specs.Reader.{same_name, insert_name, distinct}
 use Rattle.cc_tiny.specs.Names.{names_in, texts, NameSet}

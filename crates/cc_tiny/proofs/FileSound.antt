@@ -3,12 +3,12 @@
 use Rattle.std.proofs.Common.{◌≡◌, ℕ, zero, suc, Bool, true, false, List, [], ◌∷◌, ◌++◌, Option, Some, None, refl, ap, sym, ◌∙◌, subst, append_assoc, IfSome, length, All}
 use Rattle.std.proofs.lemmas.List.{append-nil}
 use Rattle.std.proofs.lemmas.List.Elements.{All-head, All-tail}
-use Rattle.cc_syntax.specs.declared.types.CType.{CType}
-use Rattle.cc_syntax.specs.declared.expr.Intr.{Intr as IntrOf}
-use Rattle.cc_syntax.specs.declared.stmt.Stmt.{Stmt}
-use Rattle.cc_syntax.specs.declared.program.Device.{Device as DeviceOf}
-use Rattle.cc_syntax.specs.declared.program.Object.{Object}
-use Rattle.cc_syntax.specs.declared.program.Func.{Func}
+use Rattle.cc_tiny_types.specs.declared.types.CType.{CType}
+use Rattle.cc_tiny_types.specs.declared.expr.Intr.{Intr as IntrOf}
+use Rattle.cc_tiny_types.specs.declared.stmt.Stmt.{Stmt}
+use Rattle.cc_tiny_types.specs.declared.program.Device.{Device as DeviceOf}
+use Rattle.cc_tiny_types.specs.declared.program.Object.{Object}
+use Rattle.cc_tiny_types.specs.declared.program.Func.{Func}
 use Rattle.cc_tiny.specs.Tiny.{Words, main_name, main_of, handler_of, names_of, handler_head, main_head, object_names, device_names, func_names, Proto, IsIntrinsics, IsDevices, IsProtos, IsObjects, IsBody, IsFuncs, NoFunc, AHandler, Main, IsOnce, Spells}
 use Rattle.cc_tiny.specs.Reader.{Read, many, intrinsic, device, object, Head, head, proto, distinct, body, func_of, func, funcs, funcs_at, Parsed, parsed_with, parsed, position_of}
 use Rattle.cc_tiny.proofs.ReaderBasics.{if_bind, Took}

@@ -1,7 +1,7 @@
 -- One step of reading functions.
 use Rattle.std.proofs.Common.{◌≡◌, ◌<◌, ◌-◌, ℕ, zero, suc, Bool, List, [], ◌∷◌, ◌++◌, Some, None, refl, ap, sym, ◌∙◌, arith, append_assoc, sub-one}
 use Rattle.std.proofs.lemmas.List.{append-nil}
-use Rattle.cc_syntax.specs.declared.program.Func.{Func}
+use Rattle.cc_tiny_types.specs.declared.program.Func.{Func}
 use Rattle.cc_tiny.specs.Tiny.{Words}
 use Rattle.cc_tiny.specs.Reader.{func, funcs, funcs_more}
 

@@ -1,11 +1,11 @@
 -- What is in the grammar of a file's parts is read, by recursion on the derivation. What stands behind
 -- a list of parts begins with no further part of that kind.
 use Rattle.std.proofs.Common.{◌≡◌, ◌≤◌, ℕ, zero, suc, Bool, true, false, List, ◌∷◌, ◌++◌, Some, None, refl, arith, append_assoc, length, length-append}
-use Rattle.cc_syntax.specs.declared.types.CType.{CType}
-use Rattle.cc_syntax.specs.declared.expr.Intr.{Intr as IntrOf}
-use Rattle.cc_syntax.specs.declared.expr.Intr.TheVariants as intr
-use Rattle.cc_syntax.specs.declared.program.Device.{Device as DeviceOf}
-use Rattle.cc_syntax.specs.declared.program.Object.{Object}
+use Rattle.cc_tiny_types.specs.declared.types.CType.{CType}
+use Rattle.cc_tiny_types.specs.declared.expr.Intr.{Intr as IntrOf}
+use Rattle.cc_tiny_types.specs.declared.expr.Intr.TheVariants as intr
+use Rattle.cc_tiny_types.specs.declared.program.Device.{Device as DeviceOf}
+use Rattle.cc_tiny_types.specs.declared.program.Object.{Object}
 use Rattle.cc_tiny.specs.declared.word.Fixed.TheVariants as w
 use Rattle.cc_tiny.specs.declared.word.Word.TheVariants as word
 use Rattle.cc_tiny.specs.Tiny.{Words, fixed, intr_word, device_named, object_named, uchar, main_name, handler_head, main_head, Proto, IsIntrinsics, NoIntrinsic, AnIntrinsic, IsDevices, NoDevice, ADevice, IsProtos, NoProto, HandlerProto, MainProto, IsObjects, NoObject, AnObject, AStaticObject, IsLocals, NoLocal, ALocal}

@@ -2,11 +2,11 @@
 -- rule for all kinds of them.
 use Rattle.std.proofs.Common.{◌≡◌, ℕ, zero, suc, Bool, true, false, List, [], ◌∷◌, ◌++◌, Option, Some, None, refl, ap, sym, ◌∙◌, subst, append_assoc, IfSome, ◌⊎◌, inl, inr, length}
 use Rattle.std.specs.Prelude.{codes}
-use Rattle.cc_syntax.specs.declared.types.CType.{CType}
-use Rattle.cc_syntax.specs.declared.expr.Intr.{Intr as IntrOf}
-use Rattle.cc_syntax.specs.declared.stmt.Stmt.{Stmt}
-use Rattle.cc_syntax.specs.declared.program.Device.{Device as DeviceOf}
-use Rattle.cc_syntax.specs.declared.program.Object.{Object}
+use Rattle.cc_tiny_types.specs.declared.types.CType.{CType}
+use Rattle.cc_tiny_types.specs.declared.expr.Intr.{Intr as IntrOf}
+use Rattle.cc_tiny_types.specs.declared.stmt.Stmt.{Stmt}
+use Rattle.cc_tiny_types.specs.declared.program.Device.{Device as DeviceOf}
+use Rattle.cc_tiny_types.specs.declared.program.Object.{Object}
 use Rattle.cc_tiny.specs.declared.word.Fixed.{Fixed}
 use Rattle.cc_tiny.specs.declared.word.Fixed.TheVariants as w
 use Rattle.cc_tiny.specs.declared.word.Word.TheVariants as word

@@ -6,7 +6,7 @@ use Rattle.std.specs.List.{list_any, position_or_len}
 use Rattle.std.proofs.lemmas.List.Sums.{fold-append}
 use Rattle.std.specs.Cmp.Lexicographic.{pointwise}
 use Rattle.std.proofs.lemmas.List.{map-append, take_more, length-map}
-use Rattle.cc_syntax.specs.declared.program.Func.{Func}
+use Rattle.cc_tiny_types.specs.declared.program.Func.{Func}
 use Rattle.cc_tiny.specs.Tiny.{func_names}
 use Rattle.cc_tiny.specs.Names.{names_in, texts, NameSet}
 use Rattle.cc_tiny.specs.Reader.{position_of, insert_name, distinct, same_name}

@@ -6,7 +6,7 @@ use Rattle.std.proofs.lemmas.Option.{slice_get-map}
 use Rattle.std.specs.List.{flat_map}
 use Rattle.std.specs.Option.{option_map}
 use Rattle.cc_tiny.specs.Tiny.{name_or_none, Scope}
-use Rattle.cc_syntax.specs.declared.stmt.Stmt.{Stmt}
+use Rattle.cc_tiny_types.specs.declared.stmt.Stmt.{Stmt}
 use Rattle.cc_tiny.specs.Printed.{name_at, indent, at_level, stmt_text, stmts_text, any_true}
 
 -- the name of an element

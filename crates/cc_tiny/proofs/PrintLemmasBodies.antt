@@ -3,15 +3,15 @@
 use Rattle.std.proofs.Common.{◌≡◌, ◌<◌, ◌≤◌, ◌⊎◌, ℕ, pos, ◌+◌, Bool, true, List, [], ◌∷◌, ◌++◌, map, ap, sym, ◌∙◌, subst, append_assoc, codes}
 use Rattle.std.specs.Fmt.{decimal}
 use Rattle.cc_num.specs.declared.int_type.IntType.TheVariants.{UChar, Int as IntInt}
-use Rattle.cc_syntax.specs.declared.expr.Expr.{Expr, Const, Load, Assign, Intr, fold-roll-Expr}
-use Rattle.cc_syntax.specs.declared.expr.Expr.TheVariants.{rolls-Const, rolls-Load, rolls-Assign, rolls-Intr}
-use Rattle.cc_syntax.specs.declared.expr.Expr.TheOpen as expr
-use Rattle.cc_syntax.specs.declared.expr.Intr.{Intr as IntrOf}
-use Rattle.cc_syntax.specs.declared.expr.Place.{Place}
-use Rattle.cc_syntax.specs.declared.expr.Place.TheVariants.{Local, Static, Device}
-use Rattle.cc_syntax.specs.declared.stmt.Stmt.{Stmt, Do, If, While, Break, fold-roll-Stmt}
-use Rattle.cc_syntax.specs.declared.stmt.Stmt.TheVariants.{rolls-Do, rolls-If, rolls-While, rolls-Break}
-use Rattle.cc_syntax.specs.declared.stmt.Stmt.TheOpen as stmt
+use Rattle.cc_tiny_types.specs.declared.expr.Expr.{Expr, Const, Load, Assign, Intr, fold-roll-Expr}
+use Rattle.cc_tiny_types.specs.declared.expr.Expr.TheVariants.{rolls-Const, rolls-Load, rolls-Assign, rolls-Intr}
+use Rattle.cc_tiny_types.specs.declared.expr.Expr.TheOpen as expr
+use Rattle.cc_tiny_types.specs.declared.expr.Intr.{Intr as IntrOf}
+use Rattle.cc_tiny_types.specs.declared.expr.Place.{Place}
+use Rattle.cc_tiny_types.specs.declared.expr.Place.TheVariants.{Local, Static, Device}
+use Rattle.cc_tiny_types.specs.declared.stmt.Stmt.{Stmt, Do, If, While, Break, fold-roll-Stmt}
+use Rattle.cc_tiny_types.specs.declared.stmt.Stmt.TheVariants.{rolls-Do, rolls-If, rolls-While, rolls-Break}
+use Rattle.cc_tiny_types.specs.declared.stmt.Stmt.TheOpen as stmt
 use Rattle.cc_tiny.specs.declared.word.Fixed.TheVariants as w
 use Rattle.cc_tiny.specs.declared.word.Word.TheVariants as word
 use Rattle.cc_tiny.proofs.TokenSpellings.{IsName}

@@ -1,15 +1,15 @@
 -- What words each printed line spells.
 use Rattle.std.proofs.Common.{ℕ, ◌≤◌, true, false, List, [], ◌∷◌, ◌++◌, refl, append_assoc, arith, codes}
 use Rattle.std.specs.Fmt.{decimal}
-use Rattle.cc_syntax.specs.declared.expr.Intr.{Intr}
-use Rattle.cc_syntax.specs.declared.expr.Intr.TheVariants as intr
-use Rattle.cc_syntax.specs.declared.types.CType.{CType}
+use Rattle.cc_tiny_types.specs.declared.expr.Intr.{Intr}
+use Rattle.cc_tiny_types.specs.declared.expr.Intr.TheVariants as intr
+use Rattle.cc_tiny_types.specs.declared.types.CType.{CType}
 use Rattle.cc_tiny.specs.declared.word.Fixed.TheVariants as w
 use Rattle.cc_tiny.specs.declared.word.Word.TheVariants as word
 use Rattle.cc_tiny.proofs.TokenSpellings.{spelling_of, IsName}
 use Rattle.cc_tiny.specs.Tiny.{Words, fixed, intr_word, device_named, object_named, uchar, handler_of, main_of, handler_head, main_head}
 use Rattle.cc_tiny.specs.Printed.{line, intr_text, device_line, object_line, local_line, proto_line, head_text}
-use Rattle.cc_syntax.specs.declared.stmt.Stmt.{Stmt}
+use Rattle.cc_tiny_types.specs.declared.stmt.Stmt.{Stmt}
 use Rattle.cc_tiny.proofs.PrintLemmasWords.{IsText, Writes, writes_line, space_then, newline_then, letters_then, sign_then, name_then, number_then}
 
 -- the end of a declaration

@@ -5,9 +5,9 @@ use Rattle.std.proofs.lemmas.List.{get_or-map, length-map}
 use Rattle.std.proofs.lemmas.List.Elements.{All-map}
 use Rattle.std.proofs.lemmas.Option.{slice_get_within, get_or_from_slice_get, slice_get-get_or}
 use Rattle.std.specs.Option.{is_some}
-use Rattle.cc_syntax.specs.declared.expr.Intr.{Intr as IntrOf}
-use Rattle.cc_syntax.specs.declared.expr.Intr.TheVariants as intr
-use Rattle.cc_syntax.specs.declared.program.Func.{Func}
+use Rattle.cc_tiny_types.specs.declared.expr.Intr.{Intr as IntrOf}
+use Rattle.cc_tiny_types.specs.declared.expr.Intr.TheVariants as intr
+use Rattle.cc_tiny_types.specs.declared.program.Func.{Func}
 use Rattle.cc_tiny.specs.declared.word.Fixed.TheVariants as w
 use Rattle.cc_tiny.proofs.TokenSpellings.{IsName}
 use Rattle.cc_tiny.specs.Tiny.{Words, fixed, intr_word, Proto, IsProtos, NoProto, HandlerProto, MainProto, IsFuncs, NoFunc, AHandler, Main, handler_head, main_head, func_names, IsOnce, IsIntrinsics, NoIntrinsic, AnIntrinsic}

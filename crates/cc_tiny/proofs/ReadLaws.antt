@@ -2,11 +2,11 @@
 -- there is none otherwise: soundness and completeness of the parts, put together.
 use Rattle.std.proofs.Common.{◌≡◌, ℕ, Bool, List, [], ◌∷◌, ◌++◌, Option, Some, None, refl, ap, subst, IfSome, length}
 use Rattle.std.proofs.lemmas.List.Elements.{All-weaker}
-use Rattle.cc_syntax.specs.declared.expr.Intr.{Intr as IntrOf}
-use Rattle.cc_syntax.specs.declared.program.Device.{Device as DeviceOf}
-use Rattle.cc_syntax.specs.declared.program.Object.{Object}
-use Rattle.cc_syntax.specs.declared.program.Func.{Func}
-use Rattle.cc_syntax.specs.declared.program.Program.{Program}
+use Rattle.cc_tiny_types.specs.declared.expr.Intr.{Intr as IntrOf}
+use Rattle.cc_tiny_types.specs.declared.program.Device.{Device as DeviceOf}
+use Rattle.cc_tiny_types.specs.declared.program.Object.{Object}
+use Rattle.cc_tiny_types.specs.declared.program.Func.{Func}
+use Rattle.cc_tiny_types.specs.declared.program.Program.{Program}
 use Rattle.cc_tiny.specs.Tiny.{Words, Proto, IsOnce, names_of, object_names, device_names, func_names, file_names, default_target, HasNames, IsTinyWords}
 use Rattle.cc_tiny.specs.Reader.{Parsed, parsed_with, parsed, many, intrinsic, device, proto, object, funcs, distinct}
 use Rattle.cc_tiny.proofs.OnceLemmas.{IsOnce-left, IsOnce-right}

@@ -5,8 +5,8 @@ use Rattle.std.specs.Prelude.{position}
 use Rattle.std.specs.List.{position_or_len}
 use Rattle.std.proofs.lemmas.Bool.{eqb-true, eq-eqb, lt-ltb}
 use Rattle.std.specs.Cmp.Lexicographic.{same_text}
-use Rattle.cc_syntax.specs.declared.expr.Place.{Place}
-use Rattle.cc_syntax.specs.declared.expr.Place.TheVariants.{Local, Static, Device}
+use Rattle.cc_tiny_types.specs.declared.expr.Place.{Place}
+use Rattle.cc_tiny_types.specs.declared.expr.Place.TheVariants.{Local, Static, Device}
 use Rattle.cc_tiny.specs.declared.word.Fixed.{Fixed}
 use Rattle.cc_tiny.specs.declared.word.Fixed.TheVariants as w
 use Rattle.cc_tiny.specs.declared.word.Word.TheVariants as word

@@ -1,6 +1,6 @@
 -- One step of reading: the equations of the reader's recursions, as the code takes them.
 use Rattle.std.proofs.Common.{◌≡◌, ◌<◌, ◌-◌, ℕ, zero, suc, Bool, List, [], ◌∷◌, ◌++◌, Some, None, refl, ap, sym, arith, append_assoc, sub-one, length}
-use Rattle.cc_syntax.specs.declared.stmt.Stmt.{Stmt}
+use Rattle.cc_tiny_types.specs.declared.stmt.Stmt.{Stmt}
 use Rattle.cc_tiny.specs.declared.word.Fixed.TheVariants as w
 use Rattle.cc_tiny.specs.Tiny.{Words, Scope}
 use Rattle.cc_tiny.specs.Reader.{Read, Blocks, ◌>>=◌, eat, more, stmt, stmts, block}

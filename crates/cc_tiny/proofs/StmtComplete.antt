@@ -2,12 +2,12 @@
 -- words but an `else`; a list of statements has fewer statements than words.
 use Rattle.std.proofs.Common.{◌≡◌, ◌<◌, ◌≤◌, ◌+◌, ℕ, zero, suc, pos, Bool, true, List, ◌∷◌, ◌++◌, Some, None, refl, arith, append_assoc, ◌⊎◌, ◌||◌, inl, inr, length, length-append}
 use Rattle.cc_num.specs.declared.int_type.IntType.TheVariants.{UChar}
-use Rattle.cc_syntax.specs.declared.expr.Expr.{Const, Load, Assign, Intr}
-use Rattle.cc_syntax.specs.declared.expr.Intr.{Intr as IntrOf}
-use Rattle.cc_syntax.specs.declared.expr.Intr.TheVariants as intr
-use Rattle.cc_syntax.specs.declared.expr.Place.{Place}
-use Rattle.cc_syntax.specs.declared.expr.Place.TheVariants.{Local, Static, Device}
-use Rattle.cc_syntax.specs.declared.stmt.Stmt.{Stmt, Do}
+use Rattle.cc_tiny_types.specs.declared.expr.Expr.{Const, Load, Assign, Intr}
+use Rattle.cc_tiny_types.specs.declared.expr.Intr.{Intr as IntrOf}
+use Rattle.cc_tiny_types.specs.declared.expr.Intr.TheVariants as intr
+use Rattle.cc_tiny_types.specs.declared.expr.Place.{Place}
+use Rattle.cc_tiny_types.specs.declared.expr.Place.TheVariants.{Local, Static, Device}
+use Rattle.cc_tiny_types.specs.declared.stmt.Stmt.{Stmt, Do}
 use Rattle.cc_tiny.specs.declared.word.Fixed.{Fixed}
 use Rattle.cc_tiny.specs.declared.word.Fixed.TheVariants as w
 use Rattle.cc_tiny.specs.declared.word.Word.TheVariants as word

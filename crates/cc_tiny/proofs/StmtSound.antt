@@ -1,12 +1,12 @@
 -- What is read of statements is in the grammar. The reader's answers are composed by one rule,
 -- `if_bind`; the depth of a block and the blocks that may still be opened add up to the greatest depth.
 use Rattle.std.proofs.Common.{◌≡◌, ◌<◌, ◌+◌, ℕ, zero, suc, Bool, true, false, List, [], ◌∷◌, ◌++◌, Option, Some, None, refl, ap, sym, ◌∙◌, subst, arith, append_assoc, IfSome, ◌||◌, ◌⊎◌, inl, inr, length}
-use Rattle.cc_syntax.specs.declared.expr.Expr.{Load, Assign}
-use Rattle.cc_syntax.specs.declared.expr.Intr.{Intr as IntrOf}
-use Rattle.cc_syntax.specs.declared.expr.Intr.TheVariants as intr
-use Rattle.cc_syntax.specs.declared.expr.Place.{Place}
-use Rattle.cc_syntax.specs.declared.expr.Place.TheVariants.{Local, Static, Device}
-use Rattle.cc_syntax.specs.declared.stmt.Stmt.{Stmt, Do, If}
+use Rattle.cc_tiny_types.specs.declared.expr.Expr.{Load, Assign}
+use Rattle.cc_tiny_types.specs.declared.expr.Intr.{Intr as IntrOf}
+use Rattle.cc_tiny_types.specs.declared.expr.Intr.TheVariants as intr
+use Rattle.cc_tiny_types.specs.declared.expr.Place.{Place}
+use Rattle.cc_tiny_types.specs.declared.expr.Place.TheVariants.{Local, Static, Device}
+use Rattle.cc_tiny_types.specs.declared.stmt.Stmt.{Stmt, Do, If}
 use Rattle.cc_tiny.specs.declared.word.Fixed.{Fixed}
 use Rattle.cc_tiny.specs.declared.word.Fixed.TheVariants as w
 use Rattle.cc_tiny.specs.declared.word.Word.TheVariants as word

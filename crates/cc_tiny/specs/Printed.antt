@@ -4,23 +4,23 @@ use Rattle.std.specs.List.{list_any, flat_map}
 use Rattle.std.specs.Fmt.{signed_decimal}
 use Rattle.cc_num.specs.declared.int_type.IntType.{IntType}
 use Rattle.cc_num.specs.declared.int_type.IntType.TheVariants as int
-use Rattle.cc_syntax.specs.declared.types.CType.{CType}
-use Rattle.cc_syntax.specs.declared.types.Shape.{Shape}
-use Rattle.cc_syntax.specs.declared.types.Shape.TheVariants as shape
-use Rattle.cc_syntax.specs.declared.expr.Expr.{Expr, fold-Expr}
-use Rattle.cc_syntax.specs.declared.expr.Expr.TheOpen as expr
-use Rattle.cc_syntax.specs.declared.expr.Intr.{Intr}
-use Rattle.cc_syntax.specs.declared.expr.Intr.TheVariants as intr
-use Rattle.cc_syntax.specs.declared.expr.Place.{Place}
-use Rattle.cc_syntax.specs.declared.expr.Place.TheVariants.{Local, Static, Device}
-use Rattle.cc_syntax.specs.declared.stmt.Stmt.{Stmt, fold-Stmt}
-use Rattle.cc_syntax.specs.declared.stmt.Stmt.TheOpen as stmt
-use Rattle.cc_syntax.specs.declared.program.Device.{Device as DeviceOf}
-use Rattle.cc_syntax.specs.declared.program.Object.{Object}
-use Rattle.cc_syntax.specs.declared.program.Func.{Func}
-use Rattle.cc_syntax.specs.declared.program.Entry.{Entry}
-use Rattle.cc_syntax.specs.declared.program.Entry.TheVariants.{Signal}
-use Rattle.cc_syntax.specs.declared.program.Program.{Program}
+use Rattle.cc_tiny_types.specs.declared.types.CType.{CType}
+use Rattle.cc_tiny_types.specs.declared.types.Shape.{Shape}
+use Rattle.cc_tiny_types.specs.declared.types.Shape.TheVariants as shape
+use Rattle.cc_tiny_types.specs.declared.expr.Expr.{Expr, fold-Expr}
+use Rattle.cc_tiny_types.specs.declared.expr.Expr.TheOpen as expr
+use Rattle.cc_tiny_types.specs.declared.expr.Intr.{Intr}
+use Rattle.cc_tiny_types.specs.declared.expr.Intr.TheVariants as intr
+use Rattle.cc_tiny_types.specs.declared.expr.Place.{Place}
+use Rattle.cc_tiny_types.specs.declared.expr.Place.TheVariants.{Local, Static, Device}
+use Rattle.cc_tiny_types.specs.declared.stmt.Stmt.{Stmt, fold-Stmt}
+use Rattle.cc_tiny_types.specs.declared.stmt.Stmt.TheOpen as stmt
+use Rattle.cc_tiny_types.specs.declared.program.Device.{Device as DeviceOf}
+use Rattle.cc_tiny_types.specs.declared.program.Object.{Object}
+use Rattle.cc_tiny_types.specs.declared.program.Func.{Func}
+use Rattle.cc_tiny_types.specs.declared.program.Entry.{Entry}
+use Rattle.cc_tiny_types.specs.declared.program.Entry.TheVariants.{Signal}
+use Rattle.cc_tiny_types.specs.declared.program.Program.{Program}
 use Rattle.cc_tiny.specs.Tiny.{Scope, names_of, object_names, device_names, name_or_none}
 
 abbrev pub int_text : IntType → List ℕ

@@ -4,17 +4,17 @@ use Rattle.std.specs.Prelude.{ℕ, zero, suc, pos, Bool, true, false, ◌||◌, 
 use Rattle.std.specs.List.{list_any}
 use Rattle.std.specs.Cmp.Lexicographic.{pointwise}
 use Rattle.cc_num.specs.declared.int_type.IntType.TheVariants.{UChar, Int as IntInt}
-use Rattle.cc_syntax.specs.declared.types.CType.{CType}
-use Rattle.cc_syntax.specs.declared.expr.Expr.{Const, Load, Assign, Intr}
-use Rattle.cc_syntax.specs.declared.expr.Intr.{Intr as IntrOf}
-use Rattle.cc_syntax.specs.declared.expr.Intr.TheVariants as intr
-use Rattle.cc_syntax.specs.declared.expr.Place.{Place}
-use Rattle.cc_syntax.specs.declared.expr.Place.TheVariants.{Local, Static, Device}
-use Rattle.cc_syntax.specs.declared.stmt.Stmt.{Stmt, Do, If, While, Break}
-use Rattle.cc_syntax.specs.declared.program.Device.{Device as DeviceOf}
-use Rattle.cc_syntax.specs.declared.program.Object.{Object}
-use Rattle.cc_syntax.specs.declared.program.Func.{Func}
-use Rattle.cc_syntax.specs.declared.program.Program.{Program}
+use Rattle.cc_tiny_types.specs.declared.types.CType.{CType}
+use Rattle.cc_tiny_types.specs.declared.expr.Expr.{Const, Load, Assign, Intr}
+use Rattle.cc_tiny_types.specs.declared.expr.Intr.{Intr as IntrOf}
+use Rattle.cc_tiny_types.specs.declared.expr.Intr.TheVariants as intr
+use Rattle.cc_tiny_types.specs.declared.expr.Place.{Place}
+use Rattle.cc_tiny_types.specs.declared.expr.Place.TheVariants.{Local, Static, Device}
+use Rattle.cc_tiny_types.specs.declared.stmt.Stmt.{Stmt, Do, If, While, Break}
+use Rattle.cc_tiny_types.specs.declared.program.Device.{Device as DeviceOf}
+use Rattle.cc_tiny_types.specs.declared.program.Object.{Object}
+use Rattle.cc_tiny_types.specs.declared.program.Func.{Func}
+use Rattle.cc_tiny_types.specs.declared.program.Program.{Program}
 use Rattle.cc_tiny.specs.declared.word.Fixed.{Fixed}
 use Rattle.cc_tiny.specs.declared.word.Fixed.TheVariants as w
 use Rattle.cc_tiny.specs.declared.word.Word.TheVariants as word

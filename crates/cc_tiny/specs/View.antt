@@ -6,7 +6,7 @@ use Rattle.cc_tiny.specs.declared.word.Word.{Word}
 use Rattle.cc_tiny.specs.declared.items.Proto.{Proto as ProtoOf}
 use Rattle.cc_tiny.specs.declared.items.Head.{Head as HeadOf}
 use Rattle.cc_tiny.specs.declared.funcs.Funcs.{Funcs as FuncsOf}
-use Rattle.cc_syntax.specs.declared.program.Func.{Func}
+use Rattle.cc_tiny_types.specs.declared.program.Func.{Func}
 use Rattle.cc_tiny.specs.Tiny.{Words, Proto}
 use Rattle.cc_tiny.specs.declared.parse.Parsed.{Parsed as ParsedOf}
 use Rattle.cc_tiny.specs.Reader.{Head, Parsed}

@@ -3,7 +3,7 @@
 ghost use Rattle.std.specs.Prelude.{◌≡◌, ◌++◌, ◌↔◌, ◌⊎◌, IfOk, IsTrue, IsSome, IsSomeAnd, All, Contains, Some, ℕ, true, map, filter, not, slice_get};
 ghost use Rattle.std.specs.List.{list_any, list_all};
 ghost use Rattle.cc_tiny.specs.Reader.{same_name};
-ghost use Rattle.cc_syntax.specs.declared.program.Func.{Func as FuncOf};
+ghost use Rattle.cc_tiny_types.specs.declared.program.Func.{Func as FuncOf};
 ghost use Rattle.cc_tiny.specs.Tiny.{IsOnce, HasNames, main_name, names_of, func_names as func_names_of, file_names as file_names_of};
 ghost use Rattle.cc_tiny.specs.Names.{names_in, texts};
 ghost use Rattle.cc_tiny.specs.View.{parsed_in, proto_in};
@@ -13,7 +13,7 @@ use crate::items::Proto;
 use crate::names::{Names, name_set};
 use crate::parse::{Parsed, device_names, object_names};
 use cc_num::{Name, NoMemory, at};
-use cc_syntax::{CType, Func, Intr, Program};
+use cc_tiny_types::{CType, Func, Intr, Program};
 use std::alloc::Global;
 
 /// Whether no intrinsic stands there twice. There are two, so a longer list has one twice.

@@ -13,7 +13,7 @@ use crate::names::{Names, Scope, name_set};
 use crate::stmts::{Reading, stmts};
 use crate::word::{Fixed, Word};
 use cc_num::{IntType, List, Name, NoMemory};
-use cc_syntax::{CType, Entry, Func, Shape, Sig, Stmt};
+use cc_tiny_types::{CType, Entry, Func, Shape, Sig, Stmt};
 use std::alloc::Global;
 
 /// The prototypes of functions, and the words behind them.

@@ -9,7 +9,7 @@ use crate::cursor::{eat, eat_all, name, signal};
 use crate::stmts::Reading;
 use crate::word::{Fixed, Word};
 use cc_num::{IntType, List, Name, NoMemory};
-use cc_syntax::{CType, Device, Intr, Object, Shape};
+use cc_tiny_types::{CType, Device, Intr, Object, Shape};
 use std::alloc::Global;
 
 /// The prototype of a function: its name, and whether the attribute stands there.

@@ -5,7 +5,7 @@ ghost use Rattle.cc_tiny.specs.Reader.{position_of as position_in, place_of as p
 ghost use Rattle.cc_tiny.specs.Names.{names_in, scope_in, texts};
 
 use cc_num::NoMemory;
-use cc_syntax::Place;
+use cc_tiny_types::Place;
 use indexmap::IndexSet;
 use std::alloc::Global;
 

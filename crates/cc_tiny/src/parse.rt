@@ -12,7 +12,7 @@ use crate::many::many;
 use crate::names::name_set;
 use crate::word::Word;
 use cc_num::{List, NoMemory, Target};
-use cc_syntax::{Device, Func, Intr, Object, Program};
+use cc_tiny_types::{Device, Func, Intr, Object, Program};
 use std::alloc::Global;
 
 /// A program, and what stands beside it in its text.

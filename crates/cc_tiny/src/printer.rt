@@ -12,7 +12,7 @@ mod text;
 mod uses;
 
 use cc_num::NoMemory;
-use cc_syntax::{Intr, Program};
+use cc_tiny_types::{Intr, Program};
 use lines::{put_devices, put_funcs, put_intrinsic, put_objects, put_protos};
 use std::alloc::Global;
 

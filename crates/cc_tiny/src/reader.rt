@@ -1,7 +1,7 @@
 //! How a tiny text is read.
 
 ghost use Rattle.std.specs.Prelude.{◌≡◌, IfOk, IfSome, Some};
-ghost use Rattle.cc_syntax.specs.declared.program.Program.{Program as ProgramOf};
+ghost use Rattle.cc_tiny_types.specs.declared.program.Program.{Program as ProgramOf};
 ghost use Rattle.cc_tiny.specs.Tiny.{AreTinyTokens, IsTinyWords};
 
 use crate::checks::has_names;
@@ -10,7 +10,7 @@ use crate::word::Word;
 use crate::words::words;
 use cc_lex::Token;
 use cc_num::NoMemory;
-use cc_syntax::Program;
+use cc_tiny_types::Program;
 use std::alloc::Global;
 
 /// The program whose words these are, where there is one.

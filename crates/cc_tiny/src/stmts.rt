@@ -10,7 +10,7 @@ use crate::cursor::{eat, eat_all, name, one};
 use crate::names::{Scope, place_of};
 use crate::word::{Fixed, Word};
 use cc_num::{Boxed, IntType, List, NoMemory};
-use cc_syntax::{Expr, Intr, Place, Stmt};
+use cc_tiny_types::{Expr, Intr, Place, Stmt};
 use std::alloc::Global;
 
 /// What was read and the words behind it, where it stands first.

@@ -1,6 +1,6 @@
 -- What a run of `pack` leaves, from what its parts say: the source was read, and then the output written.
 use Rattle.std.proofs.Common.{◌≡◌, ◌≤◌, ℕ, List, Option, Some, None, sym, ◌∙◌, subst, ◌⊎◌, inl, inr, IsSomeAnd, arith}
-use Rattle.cc_syntax.specs.declared.program.Program.{Program}
+use Rattle.cc_tiny_types.specs.declared.program.Program.{Program}
 use Rattle.cc_meaning.proofs.RunLaws.{Follows-refl, Answers-refl}
 use Rattle.cc_edge.specs.Faults.{Rose}
 use Rattle.cc_edge.specs.Files.{Files, KeepsFiles, KeepsOthers, HoldsPrefix}

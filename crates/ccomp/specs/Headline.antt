@@ -8,8 +8,8 @@ use Rattle.cc_lex.specs.declared.fault.LexFault.TheVariants as fault
 use Rattle.cc_lex.specs.declared.token.Token.{Token}
 use Rattle.cc_lex.specs.Faults.{HasFault}
 use Rattle.cc_lex.specs.Tokens.{Tokens}
-use Rattle.cc_syntax.specs.declared.program.Program.{Program}
-use Rattle.cc_syntax.specs.Layout.{ram}
+use Rattle.cc_tiny_types.specs.declared.program.Program.{Program}
+use Rattle.cc_tiny_types.specs.Layout.{ram}
 use Rattle.cc_meaning.specs.Runs.{Follows, Answers}
 use Rattle.cc_edge.specs.Files.{Files, KeepsOthers, HoldsPrefix}
 use Rattle.ccomp.specs.declared.status.ReadRefusal.{ReadRefusal}

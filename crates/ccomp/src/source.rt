@@ -1,14 +1,14 @@
 //! How a source is read.
 
 ghost use Rattle.std.specs.Prelude.{◌≡◌, ◌<◌, ◌^◌, length, IfOk, IfErr, IfSome, Some};
-ghost use Rattle.cc_syntax.specs.declared.program.Program.{Program as ProgramOf};
+ghost use Rattle.cc_tiny_types.specs.declared.program.Program.{Program as ProgramOf};
 ghost use Rattle.cc_tiny.specs.Tiny.{IsTinyText};
 ghost use Rattle.ccomp.specs.Headline.{HasSentence, IsRefused};
 
 use crate::status::ReadRefusal;
 use cc_gram::{discard_unit, parse};
 use cc_lex::lex;
-use cc_syntax::Program;
+use cc_tiny_types::Program;
 use std::alloc::Global;
 
 /// The program that the text is a tiny text of, where there is one. There is at most one. A text whose

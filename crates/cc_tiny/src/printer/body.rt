@@ -6,7 +6,7 @@ ghost use Rattle.cc_tiny.specs.Printed.{expr_text, stmt_text, stmts_text, else_t
 
 use crate::printer::text::{intr_name, put_indent, put_line, put_place};
 use cc_num::NoMemory;
-use cc_syntax::{Expr, Func, Program, Stmt};
+use cc_tiny_types::{Expr, Func, Program, Stmt};
 use std::alloc::Global;
 
 fn put_number(alloc: Global, out: &mut Vec<u8>, number: i128) -> Result<(), NoMemory>

@@ -8,7 +8,7 @@ use crate::printer::body::put_stmts;
 use crate::printer::text::{int_name, intr_name, put_name, put_type};
 use crate::printer::uses::uses;
 use cc_num::{Name, NoMemory};
-use cc_syntax::{CType, Device, Entry, Func, Intr, Object, Program};
+use cc_tiny_types::{CType, Device, Entry, Func, Intr, Object, Program};
 use std::alloc::Global;
 
 /// Appends the prototype of an intrinsic, where the program calls it.

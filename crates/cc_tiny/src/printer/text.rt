@@ -6,7 +6,7 @@ ghost use Rattle.cc_tiny.specs.Tiny.{names_of, object_names, device_names, name_
 ghost use Rattle.cc_tiny.specs.Printed.{int_text, shape_text, type_text, indent, line, intr_text, name_at, place_text, scope_of};
 
 use cc_num::{IntType, Name, NoMemory, at};
-use cc_syntax::{CType, Func, Intr, Place, Program, Shape};
+use cc_tiny_types::{CType, Func, Intr, Place, Program, Shape};
 
 /// The name of an integer type (C99 6.7.2).
 pub fn int_name(int: IntType) -> &'static [u8]

@@ -3,7 +3,7 @@
 ghost use Rattle.std.specs.Prelude.{◌≡◌, map};
 ghost use Rattle.cc_tiny.specs.Printed.{is_intr, expr_calls, stmt_calls, any_true, is_used};
 
-use cc_syntax::{Expr, Intr, Program, Stmt};
+use cc_tiny_types::{Expr, Intr, Program, Stmt};
 
 fn is_same(intr: Intr, other: Intr) -> bool
     ensures { result ≡ is_intr intr other }

@@ -1,5 +1,5 @@
 use Rattle.std.proofs.Common.{◌≡◌, map, take, [], ◌∷◌, pos}
-use Rattle.cc_syntax.specs.declared.value.Value.TheVariants.{Int}
+use Rattle.cc_tiny_types.specs.declared.value.Value.TheVariants.{Int}
 use Rattle.cc_meaning.specs.Cells.{cells_of}
 use Rattle.cc_meaning.proofs.machine.zeros.Given as goal
 

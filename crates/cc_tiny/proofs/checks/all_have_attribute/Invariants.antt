@@ -1,6 +1,6 @@
 use Rattle.std.proofs.Common.{◌≡◌, ◌<◌, ◌⊎◌, ℕ, IsSome, IsTrue, Some, true, slice_get}
 use Rattle.std.specs.List.{list_any}
-use Rattle.cc_syntax.specs.declared.program.Func.{Func}
+use Rattle.cc_tiny_types.specs.declared.program.Func.{Func}
 use Rattle.cc_tiny.specs.Reader.{same_name}
 use Rattle.cc_tiny.specs.Names.{names_in}
 use Rattle.cc_tiny.proofs.checks.all_have_attribute.Given as goal

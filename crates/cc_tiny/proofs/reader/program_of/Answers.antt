@@ -1,5 +1,5 @@
 use Rattle.std.proofs.Common.{◌∙◌, sym, ap, subst, Some}
-use Rattle.cc_syntax.specs.declared.program.Program.{Program}
+use Rattle.cc_tiny_types.specs.declared.program.Program.{Program}
 use Rattle.cc_tiny.specs.Tiny.{IsTinyWords}
 use Rattle.cc_tiny.specs.View.{parsed_in, parsed_read}
 use Rattle.cc_tiny.proofs.ReadLaws.{none-no_words, some-no_words, some-words_of, parsed-words}

@@ -2,7 +2,7 @@
 use Rattle.std.proofs.Common.{◌≡◌, ◌∙◌, sym, subst, Option, Some, Vec, IfSome}
 use Rattle.std.proofs.lemmas.Result.{IfOk-weaker}
 use Rattle.std.specs.declared.alloc.Global.{Global}
-use Rattle.cc_syntax.specs.declared.program.Program.{Program as ProgramOf}
+use Rattle.cc_tiny_types.specs.declared.program.Program.{Program as ProgramOf}
 use Rattle.cc_tiny.specs.declared.word.Word.{Word}
 use Rattle.cc_tiny.specs.Words.{AreWords}
 use Rattle.cc_tiny.specs.Tiny.{AreTinyTokens, IsTinyWords}

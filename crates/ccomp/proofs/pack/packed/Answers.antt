@@ -1,5 +1,5 @@
 use Rattle.std.proofs.Common.{subst, Option, IfSome}
-use Rattle.cc_syntax.specs.declared.program.Program.{Program}
+use Rattle.cc_tiny_types.specs.declared.program.Program.{Program}
 use Rattle.cc_tiny.specs.Tiny.{IsTinyText}
 use Rattle.ccomp.proofs.PackLaws.{packed_text, none_tiny}
 use Rattle.ccomp.proofs.pack.packed.Goals as goal

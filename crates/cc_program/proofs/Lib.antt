@@ -1,0 +1,6 @@
+pub mod Each
+pub mod ExprInduction
+pub mod Levels
+pub mod QualifierLemmas
+pub mod StmtInduction
+pub mod TypeInduction

@@ -1,0 +1,44 @@
+use Rattle.std.proofs.Common.{ap}
+use Rattle.cc_syntax.specs.declared.sizes.Layout.{Layout}
+use Rattle.cc_syntax.specs.Layout.{IsAlign}
+use Rattle.cc_syntax.proofs.ExampleLayouts.{offsets, padded, unpadded, array_of_structures, nested_offsets, large}
+use Rattle.cc_syntax.proofs.Places.{each_from_all, placed, lowest}
+use Rattle.cc_syntax.proofs.Shapes.{layout-Array, layout-structure}
+use Rattle.cc_syntax.proofs.Whole.{whole}
+use Rattle.cc_syntax.proofs.law.laws.Goals as goal
+
+pub returns-clause-size_is_multiple : goal.returns-clause-size_is_multiple
+returns-clause-size_is_multiple c = λ t s target. (whole target t s).size
+
+pub returns-clause-align_is_small : goal.returns-clause-align_is_small
+returns-clause-align_is_small c = λ t s target. (whole target t s).align
+
+pub returns-clause-array : goal.returns-clause-array
+returns-clause-array c = λ t e n s target h. ap (λ (l : Layout). l.size) (layout-Array t s target e n h)
+
+pub returns-clause-structure : goal.returns-clause-structure
+returns-clause-structure c = λ t i m s target order h g. layout-structure t i m s target order h g
+
+pub returns-clause-placed : goal.returns-clause-placed
+returns-clause-placed c = λ n objects all. placed n objects (each_from_all (λ (o : Layout). IsAlign o.align) objects all)
+
+pub returns-clause-lowest : goal.returns-clause-lowest
+returns-clause-lowest c = λ n objects places all h. lowest n objects places (each_from_all (λ (o : Layout). IsAlign o.align) objects all) h
+
+pub returns-clause-offsets : goal.returns-clause-offsets
+returns-clause-offsets c = offsets
+
+pub returns-clause-padded : goal.returns-clause-padded
+returns-clause-padded c = padded
+
+pub returns-clause-packed : goal.returns-clause-packed
+returns-clause-packed c = unpadded
+
+pub returns-clause-array_of_structures : goal.returns-clause-array_of_structures
+returns-clause-array_of_structures c = array_of_structures
+
+pub returns-clause-nested_offsets : goal.returns-clause-nested_offsets
+returns-clause-nested_offsets c = nested_offsets
+
+pub returns-clause-large : goal.returns-clause-large
+returns-clause-large c = large

@@ -1,0 +1,5 @@
+pub mod NormalLists
+pub mod NormalNames
+pub mod Induction
+pub mod NormalStmts
+pub mod NormalLemmas
