@@ -1,7 +1,7 @@
 -- A word that opens no structure, no enumeration and no attribute is a specifier by itself, or none.
 use Rattle.std.proofs.Common.{◌≡◌, ◌≢◌, ℕ, refl}
-use Rattle.cc_lex.specs.declared.token.Word.{Word}
-use Rattle.cc_lex.specs.declared.token.Word.TheVariants as w
+use Rattle.cc_words.specs.declared.word.Word.{Word}
+use Rattle.cc_words.specs.declared.word.Word.TheVariants as w
 use Rattle.cc_tree.specs.Terms.{is_spec_word}
 use Rattle.cc_tree.specs.Tokens.{Tokens}
 use Rattle.cc_tree.specs.TurnTypes.{Specs, specs_word, specs_plain}

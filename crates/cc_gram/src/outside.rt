@@ -1,46 +1,12 @@
 //! Words of C and GNU C that are outside the subset.
 
-ghost use Rattle.std.specs.Prelude.{◌≡◌, codes};
-ghost use Rattle.std.specs.List.{list_any};
-ghost use Rattle.cc_tree.specs.Scopes.{same_name};
-ghost use Rattle.cc_tree.specs.Outside.{outside_names, begins_literal as begins_literal_of, outside_word as outside_word_of, first_outside as first_outside_of, word_and_offset};
+ghost use Rattle.std.specs.Prelude.{◌≡◌};
+ghost use Rattle.cc_tree.specs.Outside.{begins_literal as begins_literal_of, outside_word as outside_word_of, first_outside as first_outside_of, word_and_offset};
 ghost use Rattle.std.specs.Option.{option_copied};
 ghost use Rattle.cc_lex.specs.declared.token.Kind.TheVariants.{Ident, Punct};
 
 use cc_lex::{Kind, Mark, Token};
-
-const OUTSIDE_NAMES: [&[u8]; 18] = [
-    b"asm",
-    b"__asm",
-    b"__asm__",
-    b"goto",
-    b"float",
-    b"double",
-    b"_Complex",
-    b"__complex__",
-    b"_Imaginary",
-    b"union",
-    b"typeof",
-    b"__typeof__",
-    b"__builtin_va_list",
-    b"__int128",
-    b"_Atomic",
-    b"_Generic",
-    b"_Static_assert",
-    b"_Alignas",
-];
-
-fn is_one_of(names: &[&[u8]], name: &[u8]) -> bool
-    ensures { result ≡ list_any (λ other. same_name name.now other.now) names.now }
-{
-    names.iter().any(|other| name == *other)
-}
-
-fn is_outside_name(name: &[u8]) -> bool
-    ensures { result ≡ list_any (same_name name.now) outside_names }
-{
-    is_one_of(&OUTSIDE_NAMES, name)
-}
+use cc_words::is_outside;
 
 fn begins_literal(tokens: &[Token]) -> bool
     ensures { result ≡ begins_literal_of tokens.now }
@@ -58,7 +24,7 @@ fn begins_literal(tokens: &[Token]) -> bool
 fn outside_name<'t>(name: &'t [u8], rest: &[Token]) -> Option<&'t [u8]>
     ensures { option_copied result ≡ outside_word_of (Ident name.now) rest.now }
 {
-    if is_outside_name(name) || name == b"L".as_slice() && begins_literal(rest) {
+    if is_outside(name) || name == b"L".as_slice() && begins_literal(rest) {
         Some(name)
     } else {
         None

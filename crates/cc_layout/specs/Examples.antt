@@ -1,7 +1,8 @@
 -- Programs whose seats are known.
 use Rattle.std.specs.Prelude.{ℕ, Bool, true, false, refl, List, [], ◌∷◌, codes}
-use Rattle.cc_num.specs.Names.{is_name}
 use Rattle.cc_num.specs.declared.int_type.IntType.TheVariants as int
+use Rattle.cc_words.specs.Names.{is_name}
+use Rattle.cc_words.specs.Words.{word_of}
 use Rattle.cc_program.specs.declared.object.Object.{Object}
 use Rattle.cc_program.specs.declared.program.Program.{Program}
 use Rattle.cc_program.specs.declared.program.Roles.{Roles}
@@ -12,7 +13,7 @@ use Rattle.cc_layout.specs.declared.seats.Seat.{Seat}
 
 -- no handlers, and the default names of the intrinsics
 pub roles : Roles
-unfolding is_name
+unfolding is_name word_of
 roles = record {
   handlers = [];
   off = codes "irq_off";

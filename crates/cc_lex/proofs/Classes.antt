@@ -3,7 +3,8 @@ use Rattle.std.proofs.Common.{◌≡◌, ℕ, Bool, true, false, ◌||◌, not, 
 use Rattle.std.proofs.lemmas.Bool.Decides.{nat_tests}
 use Rattle.cc_lex.specs.declared.byte.Class.{Class}
 use Rattle.cc_lex.specs.declared.byte.Class.TheVariants as class
-use Rattle.cc_lex.specs.Bytes.{is_letter, is_digit, is_blank, is_other_space}
+use Rattle.cc_words.specs.Names.{is_letter, is_digit}
+use Rattle.cc_lex.specs.Bytes.{is_blank, is_other_space}
 use Rattle.cc_lex.specs.Faults.{begins_nothing}
 use Rattle.cc_lex.specs.Scan.{class_of}
 use Rattle.cc_lex.proofs.Booleans.{eq-true}

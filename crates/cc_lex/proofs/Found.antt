@@ -11,7 +11,8 @@ use Rattle.cc_lex.specs.declared.token.Kind.{Kind}
 use Rattle.cc_lex.specs.declared.token.Kind.TheVariants as kind
 use Rattle.cc_lex.specs.declared.token.Mark.{Mark}
 use Rattle.cc_lex.specs.declared.token.Mark.TheVariants as mark
-use Rattle.cc_lex.specs.Bytes.{is_word, is_in_line}
+use Rattle.cc_words.specs.Names.{is_letter, is_letter_or_digit}
+use Rattle.cc_lex.specs.Bytes.{is_in_line}
 use Rattle.cc_lex.specs.Identifiers.{IsIdentifier, name_kind}
 use Rattle.cc_lex.specs.Literals.{IsContent, IsElement, IsBadEscape}
 use Rattle.cc_lex.specs.Marks.{spelling_of, IsLongestMark, HasNoMark}
@@ -30,7 +31,7 @@ use Rattle.cc_lex.proofs.Escapes.{ElementIs, element-is, WholeIs, all-element, w
 use Rattle.cc_lex.proofs.Elements.{has-bytes, has-bad}
 use Rattle.cc_lex.proofs.SkippedLines.{skipped-found, none-skipped}
 use Rattle.cc_lex.proofs.Pieces.{apostrophe, quotation}
-use Rattle.cc_lex.proofs.Booleans.{or-false, eq-true, eq-same, eq-other}
+use Rattle.cc_lex.proofs.Booleans.{and-true, or-false, eq-true, eq-same, eq-other}
 
 -- ---- separators
 
@@ -58,12 +59,13 @@ gap-found fresh after w rest (ALine c _ h k s) at =
 
 -- ---- names and numbers
 
-name-found : (fresh : Bool) (at : ℕ) (w rest : List ℕ) → IsIdentifier w → begins_with is_word rest ≡ false → piece_at fresh at (w ++ rest) ≡ Ok (piece.Spelled (length w) (name_kind w))
+name-found : (fresh : Bool) (at : ℕ) (w rest : List ℕ) → IsIdentifier w → begins_with is_letter_or_digit rest ≡ false → piece_at fresh at (w ++ rest) ≡ Ok (piece.Spelled (length w) (name_kind w))
 unfolding piece_at
-name-found fresh at [] rest h k = absurd h
+name-found fresh at [] rest h k = absurd (cc)
 name-found fresh at (c ∷ cs) rest h k =
+    let e = and-true (is_letter c) (list_all is_letter_or_digit cs) h in
     let n : 1 + length cs ≡ suc (length cs) = omega arith in
-    rw (letter-class c h.0, h.0, front-len is_word cs rest h.1 k, n, take-front cs rest) refl
+    rw (letter-class c e.0, e.0, front-len is_letter_or_digit cs rest e.1 k, n, take-front cs rest) refl
 
 run-found : (at c : ℕ) (cs rest : List ℕ) → all_go_on c cs ≡ true → stops (last_of c cs) rest ≡ true → number_at at (c ∷ (cs ++ rest)) ≡ numbered at (suc (length cs)) (number_of (c ∷ cs))
 run-found at c cs rest h k = rw (run-len c cs rest h k, take-front cs rest) refl

@@ -11,7 +11,8 @@ use Rattle.cc_lex.specs.declared.token.Kind.{Kind}
 use Rattle.cc_lex.specs.declared.token.Mark.{Mark}
 use Rattle.cc_lex.specs.declared.token.Mark.TheVariants as mark
 use Rattle.cc_lex.specs.declared.token.Suffix.{Suffix}
-use Rattle.cc_lex.specs.Bytes.{is_word, is_in_line}
+use Rattle.cc_words.specs.Names.{is_letter, is_letter_or_digit}
+use Rattle.cc_lex.specs.Bytes.{is_in_line}
 use Rattle.cc_lex.specs.Forms.{HasForm, NameForm, RunForm, CharacterForm, TextForm, MarkForm, IsLongest}
 use Rattle.cc_lex.specs.Identifiers.{IsIdentifier}
 use Rattle.cc_lex.specs.Literals.{IsContent}
@@ -49,10 +50,11 @@ run-within before (b ∷ bs) rest h =
 
 name-finds : (fresh : Bool) (at : ℕ) (w behind : List ℕ) → IsIdentifier w → Finds (length w) (piece_at fresh at (w ++ behind))
 unfolding piece_at
-name-finds fresh at [] behind h = absurd h
+name-finds fresh at [] behind h = absurd (cc)
 name-finds fresh at (c ∷ cs) behind h =
-    let f = front-within is_word cs behind h.1 in
-    rw (letter-class c h.0, h.0) (omega (arith, f))
+    let e = and-true (is_letter c) (list_all is_letter_or_digit cs) h in
+    let f = front-within is_letter_or_digit cs behind e.1 in
+    rw (letter-class c e.0, e.0) (omega (arith, f))
 
 numbered-finds : (at n size : ℕ) (r : Option (ℕ × Suffix)) → n ≤ size → Finds n (numbered at size r)
 numbered-finds at n size None h = tt

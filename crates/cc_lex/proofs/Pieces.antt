@@ -1,7 +1,7 @@
 -- What the scanner says is at a place is there: by the class of the first byte, what it answers names a
 -- separator, a spelling or a fault of the grammar.
 use Rattle.std.proofs.Common.{◌≡◌, ℕ, suc, ◌+◌, ◌<◌, ◌≤◌, Bool, true, false, cond, eqb, List, [], ◌∷◌, ◌++◌, length, take, drop, Option, Some, None, Result, Ok, Err, refl, ap, sym, ◌∙◌, subst, arith, append_assoc, add-one, length-take, length-append}
-use Rattle.std.specs.List.{prefix_len}
+use Rattle.std.specs.List.{list_all, prefix_len}
 use Rattle.std.proofs.Math.ListN.{take-append-drop}
 use Rattle.std.proofs.lemmas.List.Sums.{prefix_len-le-length}
 use Rattle.cc_lex.specs.declared.byte.Class.{Class}
@@ -13,7 +13,8 @@ use Rattle.cc_lex.specs.declared.token.Kind.TheVariants as kind
 use Rattle.cc_lex.specs.declared.token.Mark.{Mark}
 use Rattle.cc_lex.specs.declared.token.Mark.TheVariants as mark
 use Rattle.cc_lex.specs.declared.token.Suffix.{Suffix}
-use Rattle.cc_lex.specs.Bytes.{is_letter, is_digit, is_word, is_in_line}
+use Rattle.cc_words.specs.Names.{is_letter, is_digit, is_letter_or_digit}
+use Rattle.cc_lex.specs.Bytes.{is_in_line}
 use Rattle.cc_lex.specs.Identifiers.{name_kind}
 use Rattle.cc_lex.specs.Literals.{IsContent}
 use Rattle.cc_lex.specs.Marks.{spelling_of, IsLongestMark, HasNoMark}
@@ -31,7 +32,7 @@ use Rattle.cc_lex.proofs.Constants.{number-integer, no-integer}
 use Rattle.cc_lex.proofs.Escapes.{ElementIs, element-is, all-element, whole-element, whole-bad, element-some, bad-some}
 use Rattle.cc_lex.proofs.Elements.{BytesAre, bytes-are}
 use Rattle.cc_lex.proofs.SkippedLines.{skipped-is, not-skipped}
-use Rattle.cc_lex.proofs.Booleans.{or-true, eq-true, eq-false, eq-other}
+use Rattle.cc_lex.proofs.Booleans.{both-true, or-true, eq-true, eq-false, eq-other}
 
 -- a text that begins with w, and what is behind it
 pub record Cut (text : List ℕ) (n : ℕ) (P : List ℕ → List ℕ → Type 0) : Type 0 where
@@ -61,15 +62,15 @@ cut-at b bs n P h k = record {
 
 -- ---- names
 
-word-len : (b : ℕ) (bs : List ℕ) → is_letter b ≡ true → prefix_len is_word (b ∷ bs) ≡ suc (prefix_len is_word bs)
+word-len : (b : ℕ) (bs : List ℕ) → is_letter b ≡ true → prefix_len is_letter_or_digit (b ∷ bs) ≡ suc (prefix_len is_letter_or_digit bs)
 word-len b bs h = rw h (omega arith)
 
 pub name-is : (fresh : Bool) (at b : ℕ) (bs : List ℕ) → is_letter b ≡ true → IsPiece fresh at (b ∷ bs) (name_at (b ∷ bs))
 name-is fresh at b bs h =
-    let n = prefix_len is_word bs in
+    let n = prefix_len is_letter_or_digit bs in
     subst (λ (k : ℕ). IsPiece fresh at (b ∷ bs) (Ok (piece.Spelled k (name_kind (take k (b ∷ bs)))))) (sym (word-len b bs h))
-    (cut-at b bs n (λ w rest. Spells w rest (name_kind (b ∷ take n bs))) (prefix_len-le-length is_word bs)
-    (AName (b ∷ take n bs) (drop n bs) (h, front-all is_word bs) (front-stops is_word bs)))
+    (cut-at b bs n (λ w rest. Spells w rest (name_kind (b ∷ take n bs))) (prefix_len-le-length is_letter_or_digit bs)
+    (AName (b ∷ take n bs) (drop n bs) (both-true (is_letter b) (list_all is_letter_or_digit (take n bs)) h (front-all is_letter_or_digit bs)) (front-stops is_letter_or_digit bs)))
 
 -- ---- numbers
 

@@ -25,7 +25,7 @@ gap-some fresh after w rest (ALineComment _ c _ h k) = omega arith
 gap-some fresh after w rest (ALine c _ h k s) = omega arith
 
 name-some : (w : List ℕ) → IsIdentifier w → 0 < length w
-name-some [] h = absurd h
+name-some [] h = absurd (cc)
 name-some (c ∷ cs) h = omega arith
 
 spelling-some : (w rest : List ℕ) (k : Kind) → Spells w rest k → 0 < length w

@@ -1,6 +1,7 @@
--- What a byte is (C99 5.2.1, 6.4).
-use Rattle.std.specs.Prelude.{ℕ, Bool, ◌&&◌, ◌||◌, nat_le, ◌==◌, not}
+-- What a byte is (C99 5.2.1, 6.4). Letters and digits stand in cc_words, with the names that they make.
+use Rattle.std.specs.Prelude.{ℕ, Bool, ◌||◌, ◌==◌, not}
 use Rattle.std.specs.Str.{byte}
+use Rattle.cc_words.specs.Names.{is_between}
 
 -- the bytes that the grammar names (C99 5.2.1)
 abbrev pub line_feed : ℕ
@@ -32,20 +33,6 @@ numeral_zero = byte "0"
 
 abbrev pub backslash : ℕ
 backslash = byte "\\"
-
-abbrev pub is_between : ℕ → ℕ → ℕ → Bool
-is_between low high b = nat_le low b && nat_le b high
-
-abbrev pub is_digit : ℕ → Bool
-is_digit b = is_between (byte "0") (byte "9") b
-
--- a letter or `_`
-abbrev pub is_letter : ℕ → Bool
-is_letter b = is_between (byte "a") (byte "z") b || is_between (byte "A") (byte "Z") b || b == byte "_"
-
--- what an identifier goes on with
-abbrev pub is_word : ℕ → Bool
-is_word b = is_letter b || is_digit b
 
 -- space and tab
 abbrev pub is_blank : ℕ → Bool

@@ -5,7 +5,8 @@ use Rattle.cc_lex.specs.declared.fault.LexFault.{LexFault}
 use Rattle.cc_lex.specs.declared.fault.LexFault.TheVariants as fault
 use Rattle.cc_lex.specs.declared.token.Kind.{Kind}
 use Rattle.cc_lex.specs.declared.token.Suffix.{Suffix}
-use Rattle.cc_lex.specs.Bytes.{line_feed, quotation, hash, apostrophe, star, slash, is_letter, is_digit, is_blank, is_other_space, is_in_line}
+use Rattle.cc_words.specs.Names.{is_letter, is_digit}
+use Rattle.cc_lex.specs.Bytes.{line_feed, quotation, hash, apostrophe, star, slash, is_blank, is_other_space, is_in_line}
 use Rattle.cc_lex.specs.Literals.{IsContent, IsElement, IsBadEscape, HasBadEscape}
 use Rattle.cc_lex.specs.Marks.{HasNoMark}
 use Rattle.cc_lex.specs.Numbers.{IsInteger, IsRun, stops, last_of}

@@ -2,7 +2,8 @@
 use Rattle.std.specs.Prelude.{◌≡◌, ◌≢◌, ℕ, ◌+◌, ◌-◌, ◌*◌, ◌^◌, ◌≤◌, Bool, true, false, ◌&&◌, ◌||◌, not, nat_lt, ◌==◌, if◌then◌else◌, List, [], ◌∷◌, ◌++◌, codes}
 use Rattle.std.specs.Str.{byte}
 use Rattle.cc_lex.specs.declared.token.Suffix.{Suffix}
-use Rattle.cc_lex.specs.Bytes.{point, numeral_zero, is_between, is_digit, is_word}
+use Rattle.cc_words.specs.Names.{is_between, is_digit, is_letter_or_digit}
+use Rattle.cc_lex.specs.Bytes.{point, numeral_zero}
 
 -- ---- integer constants
 
@@ -80,7 +81,7 @@ is_sign b = b == byte "+" || b == byte "-"
 
 -- a run goes on with letters, digits, `_`, `.`, and a sign right after e, E, p or P
 abbrev pub goes_on : ℕ → ℕ → Bool
-goes_on before b = is_word b || b == point || (is_sign b && is_exponent before)
+goes_on before b = is_letter_or_digit b || b == point || (is_sign b && is_exponent before)
 
 -- each byte goes on with the run behind `before`
 abbrev pub all_go_on : ℕ → List ℕ → Bool

@@ -13,7 +13,8 @@ use Rattle.cc_lex.specs.declared.token.Mark.{Mark}
 use Rattle.cc_lex.specs.declared.token.Mark.TheVariants as mark
 use Rattle.cc_lex.specs.declared.token.Suffix.{Suffix}
 use Rattle.cc_lex.specs.declared.token.Token.{Token}
-use Rattle.cc_lex.specs.Bytes.{is_letter, is_digit, is_word, is_blank, is_other_space, is_in_line}
+use Rattle.cc_words.specs.Names.{is_letter, is_digit, is_letter_or_digit}
+use Rattle.cc_lex.specs.Bytes.{is_blank, is_other_space, is_in_line}
 use Rattle.cc_lex.specs.Identifiers.{name_kind}
 use Rattle.cc_lex.specs.Marks.{spelling_of}
 use Rattle.cc_lex.specs.Numbers.{goes_on, begins_fraction}
@@ -75,7 +76,7 @@ abbrev pub Reading : Type 0
 Reading = Result Piece LexFault
 
 abbrev pub name_at : List ℕ → Reading
-name_at text = Ok (piece.Spelled (prefix_len is_word text) (name_kind (take (prefix_len is_word text) text)))
+name_at text = Ok (piece.Spelled (prefix_len is_letter_or_digit text) (name_kind (take (prefix_len is_letter_or_digit text) text)))
 
 abbrev pub numbered : ℕ → ℕ → Option (ℕ × Suffix) → Reading
 numbered at n None = Err (fault.BadNumber at)

@@ -5,7 +5,8 @@ use Rattle.std.specs.Prelude.{ℕ, ◌+◌, ◌*◌, Bool, true, false, ◌&&◌
 use Rattle.std.specs.List.{list_all, prefix_len}
 use Rattle.std.specs.Str.{byte, bytes_eq}
 use Rattle.cc_lex.specs.declared.token.Suffix.{Suffix}
-use Rattle.cc_lex.specs.Bytes.{line_feed, quotation, apostrophe, point, backslash, is_digit, is_word, is_blank}
+use Rattle.cc_words.specs.Names.{is_digit, is_letter_or_digit}
+use Rattle.cc_lex.specs.Bytes.{line_feed, quotation, apostrophe, point, backslash, is_blank}
 use Rattle.cc_lex.specs.Numbers.{digit_value, is_digit_in, is_x, is_b, greatest}
 use Rattle.cc_lex.specs.Separators.{begins_with}
 
@@ -118,7 +119,7 @@ past_blanks text = drop (prefix_len is_blank text) text
 
 -- the longest front of letters, digits and `_`
 abbrev pub front_word : List ℕ → List ℕ
-front_word text = take (prefix_len is_word text) text
+front_word text = take (prefix_len is_letter_or_digit text) text
 
 -- decimal digits
 abbrev pub is_decimal : List ℕ → Bool
@@ -130,7 +131,7 @@ abbrev pub is_decimal_front : List ℕ → List ℕ → Bool
 is_decimal_front word behind = is_decimal word && not (begins_with (λ b. b == point) behind)
 
 abbrev pub begins_with_decimal : List ℕ → Bool
-begins_with_decimal text = is_decimal_front (front_word text) (drop (prefix_len is_word text) text)
+begins_with_decimal text = is_decimal_front (front_word text) (drop (prefix_len is_letter_or_digit text) text)
 
 -- a word that is not `pack`
 abbrev pub is_other_pragma : List ℕ → Bool
@@ -148,4 +149,4 @@ is_skipped_word word behind =
 unfoldable pub is_skipped : List ℕ → Bool
 is_skipped behind =
     let text = past_blanks behind in
-    begins_with_decimal text || is_skipped_word (front_word text) (drop (prefix_len is_word text) text)
+    begins_with_decimal text || is_skipped_word (front_word text) (drop (prefix_len is_letter_or_digit text) text)

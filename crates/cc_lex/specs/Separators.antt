@@ -2,7 +2,8 @@
 -- 6.10.4, 6.10.6).
 use Rattle.std.specs.Prelude.{◌≡◌, ◌≢◌, ℕ, Bool, true, false, ◌&&◌, ◌||◌, ◌==◌, List, [], ◌∷◌, ◌++◌, codes}
 use Rattle.std.specs.List.{list_all}
-use Rattle.cc_lex.specs.Bytes.{line_feed, hash, star, slash, numeral_zero, is_word, is_blank, is_other_space, is_in_line}
+use Rattle.cc_words.specs.Names.{is_letter_or_digit}
+use Rattle.cc_lex.specs.Bytes.{line_feed, hash, star, slash, numeral_zero, is_blank, is_other_space, is_in_line}
 use Rattle.cc_lex.specs.Identifiers.{IsIdentifier}
 use Rattle.cc_lex.specs.Numbers.{AreDigits, stops}
 
@@ -32,7 +33,7 @@ pub data IsSkipped : List ℕ → Type 0 where
   -- `line` and a number
   ALineNumber : (blanks text : List ℕ) → AreBlanks blanks → BeginsWithNumber text → IsSkipped (codes "line" ++ (blanks ++ text))
   -- `pragma` and a word other than `pack`
-  APragma : (blanks word behind : List ℕ) → AreBlanks blanks → IsIdentifier word → word ≢ codes "pack" → begins_with is_word behind ≡ false → IsSkipped (codes "pragma" ++ (blanks ++ (word ++ behind)))
+  APragma : (blanks word behind : List ℕ) → AreBlanks blanks → IsIdentifier word → word ≢ codes "pack" → begins_with is_letter_or_digit behind ≡ false → IsSkipped (codes "pragma" ++ (blanks ++ (word ++ behind)))
   -- the same behind a blank
   BehindBlank : (b : ℕ) (text : List ℕ) → is_blank b ≡ true → IsSkipped text → IsSkipped (b ∷ text)
 

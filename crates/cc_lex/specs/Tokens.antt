@@ -6,7 +6,8 @@ use Rattle.cc_lex.specs.declared.token.Kind.TheVariants as kind
 use Rattle.cc_lex.specs.declared.token.Mark.{Mark}
 use Rattle.cc_lex.specs.declared.token.Suffix.{Suffix}
 use Rattle.cc_lex.specs.declared.token.Token.{Token}
-use Rattle.cc_lex.specs.Bytes.{quotation, apostrophe, is_word}
+use Rattle.cc_words.specs.Names.{is_letter_or_digit}
+use Rattle.cc_lex.specs.Bytes.{quotation, apostrophe}
 use Rattle.cc_lex.specs.Identifiers.{IsIdentifier, name_kind}
 use Rattle.cc_lex.specs.Literals.{IsContent, IsElement, HasBytes}
 use Rattle.cc_lex.specs.Marks.{spelling_of, IsLongestMark}
@@ -15,7 +16,7 @@ use Rattle.cc_lex.specs.Separators.{begins_with, Separates, begins_comment}
 
 -- A spelling, what stands behind it, and what it is.
 pub data Spells : List ℕ → List ℕ → Kind → Type 0 where
-  AName : (w rest : List ℕ) → IsIdentifier w → begins_with is_word rest ≡ false → Spells w rest (name_kind w)
+  AName : (w rest : List ℕ) → IsIdentifier w → begins_with is_letter_or_digit rest ≡ false → Spells w rest (name_kind w)
   ANumber : (c : ℕ) (cs rest : List ℕ) (n : ℕ) (s : Suffix) → IsRun (c ∷ cs) → stops (last_of c cs) rest ≡ true → IsInteger (c ∷ cs) n s → Spells (c ∷ cs) rest (kind.Number n s)
   ACharacter : (c rest : List ℕ) (v : ℕ) → IsContent apostrophe c → IsElement c [] v → Spells (apostrophe ∷ (c ++ apostrophe ∷ [])) rest (kind.Character v)
   AText : (c rest vs : List ℕ) → IsContent quotation c → HasBytes c vs → Spells (quotation ∷ (c ++ quotation ∷ [])) rest (kind.Text vs)

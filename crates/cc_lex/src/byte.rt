@@ -1,6 +1,7 @@
 ghost use Rattle.std.specs.Prelude.{◌≡◌};
 ghost use Rattle.cc_lex.specs.Scan.{class_of};
-ghost use Rattle.cc_lex.specs.Bytes.{is_word as is_word_byte, is_digit as is_digit_byte, is_blank as is_blank_byte};
+ghost use Rattle.cc_words.specs.Names.{is_digit as is_digit_byte};
+ghost use Rattle.cc_lex.specs.Bytes.{is_blank as is_blank_byte};
 
 /// What a byte begins, where it stands at the front of a separator or a token.
 #[derive(Clone, Copy)]
@@ -35,12 +36,6 @@ pub fn classify(b: u8) -> Class
         b'#' => Class::Hash,
         _ => Class::Other,
     }
-}
-
-pub fn is_word(b: u8) -> bool
-    ensures { result ≡ is_word_byte b }
-{
-    matches!(b, b'a'..=b'z' | b'A'..=b'Z' | b'_' | b'0'..=b'9')
 }
 
 pub fn is_digit(b: u8) -> bool

@@ -13,7 +13,8 @@ mod scan;
 mod separators;
 mod token;
 
+pub use cc_words::Word;
 pub use fault::LexFault;
 pub use laws::{spellings_are_longest, texts_have_tokens_or_a_fault};
 pub use lexer::lex;
-pub use token::{Kind, Mark, Suffix, Token, Word};
+pub use token::{Kind, Mark, Suffix, Token};

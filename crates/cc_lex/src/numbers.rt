@@ -6,14 +6,14 @@ ghost use Rattle.cc_lex.specs.Numbers.{goes_on as continues, digit_value as valu
 ghost use Rattle.cc_lex.specs.ScanParts.{value_of, base_of as base_and_start, suffix_of as unsigned_and_longs, valued as constant, number_of as number_of_run};
 ghost use Rattle.cc_lex.specs.Scan.{run_len as len_of_run};
 
-use crate::byte::is_word;
 use crate::token::Suffix;
+use cc_words::is_letter_or_digit;
 
 /// Whether a run goes on with a byte behind another.
 fn goes_on(before: u8, b: u8) -> bool
     ensures { result ≡ continues before b }
 {
-    is_word(b)
+    is_letter_or_digit(b)
         || b == b'.'
         || (matches!(b, b'+' | b'-') && matches!(before, b'e' | b'E' | b'p' | b'P'))
 }

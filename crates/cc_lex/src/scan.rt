@@ -7,13 +7,14 @@ ghost use Rattle.cc_lex.specs.Scan.{Gives, size_of, run_of as len_of_run, name_a
 
 use crate::byte::{Class, classify, is_digit};
 use crate::fault::LexFault;
-use crate::identifiers::{word_len, word_of};
+use crate::identifiers::word_len;
 use crate::literals::{content_len, element_of, text_bytes};
 use crate::marks::{mark_of, spelling};
 use crate::numbers::{number_of, run_len};
 use crate::separators::{close_len, is_skipped, line_len};
 use crate::token::Kind;
 use cc_num::List;
+use cc_words::word_of;
 use std::alloc::Global;
 
 /// What stands at a place of the text.

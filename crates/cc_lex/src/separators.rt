@@ -3,7 +3,8 @@
 
 ghost use Rattle.std.specs.Prelude.{◌≡◌, ◌≤◌, length, false, IfSome};
 ghost use Rattle.std.specs.List.{prefix_len, list_all};
-ghost use Rattle.cc_lex.specs.Bytes.{is_in_line, is_blank as is_blank_byte, is_digit as is_digit_byte};
+ghost use Rattle.cc_words.specs.Names.{is_digit as is_digit_byte};
+ghost use Rattle.cc_lex.specs.Bytes.{is_in_line, is_blank as is_blank_byte};
 ghost use Rattle.cc_lex.specs.ScanParts.{past_blanks as behind_blanks, is_decimal as is_decimal_word, begins_with_decimal as begins_decimal, is_other_pragma as is_other_word, is_skipped_word as skips_word, is_skipped as skips};
 ghost use Rattle.cc_lex.specs.Scan.{close_len as len_to_close};
 

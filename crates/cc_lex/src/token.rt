@@ -1,4 +1,5 @@
 use cc_num::{List, Name};
+use cc_words::Word;
 
 /// A token, and where it stands: its spelling is the `len` bytes of the text from byte `at` on.
 #[derive(Debug, Drop)]
@@ -21,45 +22,6 @@ pub enum Kind {
     /// A string literal: its bytes, without the zero that ends it.
     Text(List<u8>),
     Punct(Mark),
-}
-
-/// A keyword (C99 6.4.1), and the two words of GNU C that are read. A form with double underscores
-/// is the plain word's variant.
-#[derive(Clone, Copy, Debug, PartialEq, Eq)]
-pub enum Word {
-    Auto,
-    Break,
-    Case,
-    Char,
-    Const,
-    Continue,
-    Default,
-    Do,
-    Else,
-    Enum,
-    Extern,
-    For,
-    If,
-    Inline,
-    Int,
-    Long,
-    Register,
-    Restrict,
-    Return,
-    Short,
-    Signed,
-    Sizeof,
-    Static,
-    Struct,
-    Switch,
-    Typedef,
-    Unsigned,
-    Void,
-    Volatile,
-    While,
-    Bool,
-    Extension,
-    Attribute,
 }
 
 /// What decides the type of an integer constant (C99 6.4.4.1, 5).

@@ -1,6 +1,6 @@
 ghost use Rattle.std.specs.Prelude.{◌++◌, [], ◌∷◌, ◌&&◌, nat_le, map, IsTrue};
 ghost use Rattle.std.specs.List.{list_all};
-ghost use Rattle.cc_num.specs.Names.{is_name, are_distinct};
+ghost use Rattle.cc_words.specs.Names.{is_name, are_distinct};
 
 mod copies;
 

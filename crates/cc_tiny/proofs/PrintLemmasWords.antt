@@ -12,9 +12,10 @@ use Rattle.cc_lex.specs.declared.token.Kind.{Kind}
 use Rattle.cc_lex.specs.declared.token.Kind.TheVariants as kind
 use Rattle.cc_lex.specs.declared.token.Suffix.{Suffix}
 use Rattle.cc_lex.specs.declared.token.Token.{Token}
-use Rattle.cc_lex.specs.declared.token.Word.{Word as Keyword}
-use Rattle.cc_lex.specs.Bytes.{is_word}
-use Rattle.cc_lex.specs.Identifiers.{IsIdentifier, name_kind, named, word_of as keyword_named}
+use Rattle.cc_words.specs.declared.word.Word.{Word as Keyword}
+use Rattle.cc_words.specs.Names.{is_letter_or_digit}
+use Rattle.cc_words.specs.Words.{word_of as keyword_named}
+use Rattle.cc_lex.specs.Identifiers.{IsIdentifier, name_kind, named}
 use Rattle.cc_lex.specs.Numbers.{stops}
 use Rattle.cc_lex.specs.Separators.{begins_with, ABlank, ALineFeed}
 use Rattle.cc_lex.specs.Tokens.{Spells, AName, ANumber, ACharacter, AText, AMark, TokensFrom, NoToken, Separated, Spelled}
@@ -90,18 +91,18 @@ token_then bytes rest k x ws s e t = record {
 
 -- a word of letters, with no letter behind it
 abbrev pub is_alone : Fixed → List ℕ → Bool
-is_alone x rest = is_letters x && not (begins_with is_word rest)
+is_alone x rest = is_letters x && not (begins_with is_letter_or_digit rest)
 
 pub letters_then : (x : Fixed) {rest : List ℕ} {ws : Words} → is_alone x rest ≡ true → IsText rest ws → IsText (spelling_of x ++ rest) (fixed x ∷ ws)
 letters_then x {rest} {ws} h t =
-    let p = and_parts (is_letters x) (not (begins_with is_word rest)) h in
-    token_then (spelling_of x) rest (name_kind (spelling_of x)) (fixed x) ws (letters-spell x rest p.0 (not-true (begins_with is_word rest) p.1)) (letters-word x p.0) t
+    let p = and_parts (is_letters x) (not (begins_with is_letter_or_digit rest)) h in
+    token_then (spelling_of x) rest (name_kind (spelling_of x)) (fixed x) ws (letters-spell x rest p.0 (not-true (begins_with is_letter_or_digit rest) p.1)) (letters-word x p.0) t
 
 -- a mark
 pub sign_then : (x : Fixed) {rest : List ℕ} {ws : Words} → is_sign x rest ≡ true → IsText rest ws → IsText (spelling_of x ++ rest) (fixed x ∷ ws)
 sign_then x {rest} {ws} h t = token_then (spelling_of x) rest (kind.Punct (mark_spelled x)) (fixed x) ws (sign-spells x rest h) (sign-word x rest h) t
 
-pub name_then : (x : List ℕ) {rest : List ℕ} {ws : Words} → IsName x → begins_with is_word rest ≡ false → IsText rest ws → IsText (x ++ rest) (word.Name x ∷ ws)
+pub name_then : (x : List ℕ) {rest : List ℕ} {ws : Words} → IsName x → begins_with is_letter_or_digit rest ≡ false → IsText rest ws → IsText (x ++ rest) (word.Name x ∷ ws)
 name_then x {rest} {ws} n h t = token_then x rest (name_kind x) (word.Name x) ws (name-spells x rest n h) (name-word x n) t
 
 pub number_then : (n : ℕ) {rest : List ℕ} {ws : Words} → n ≤ 255 → stops 48 rest ≡ true → IsText rest ws → IsText (decimal n ++ rest) (word.Number n ∷ ws)

@@ -8,8 +8,9 @@ use Rattle.cc_lex.specs.declared.token.Kind.TheVariants as kind
 use Rattle.cc_lex.specs.declared.token.Mark.{Mark}
 use Rattle.cc_lex.specs.declared.token.Mark.TheVariants as mark
 use Rattle.cc_lex.specs.declared.token.Suffix.{Suffix}
-use Rattle.cc_lex.specs.Bytes.{is_word, is_digit, is_letter}
-use Rattle.cc_lex.specs.Identifiers.{IsIdentifier, name_kind, named, word_of as keyword_named}
+use Rattle.cc_words.specs.Names.{is_letter_or_digit, is_digit, is_letter}
+use Rattle.cc_words.specs.Words.{word_of as keyword_named}
+use Rattle.cc_lex.specs.Identifiers.{IsIdentifier, name_kind, named}
 use Rattle.cc_lex.specs.Marks.{spelling_of as mark_spelling, IsLongestMark}
 use Rattle.cc_lex.specs.Numbers.{goes_on, all_go_on, stops, last_of, is_exponent, digit_value, is_digit_in, FromDigit}
 use Rattle.cc_lex.specs.ScanParts.{valued, number_of, value_of}
@@ -60,21 +61,21 @@ is_letters _ = true
 
 letters-identifier : (x : Fixed) → is_letters x ≡ true → IsIdentifier (spelling_of x)
 unfolding spelling_of
-letters-identifier f.Attribute h = (refl, refl)
-letters-identifier f.Break h = (refl, refl)
-letters-identifier f.Char h = (refl, refl)
-letters-identifier f.Else h = (refl, refl)
-letters-identifier f.Extern h = (refl, refl)
-letters-identifier f.If h = (refl, refl)
-letters-identifier f.Int h = (refl, refl)
-letters-identifier f.Main h = (refl, refl)
-letters-identifier f.IrqOff h = (refl, refl)
-letters-identifier f.IrqOn h = (refl, refl)
-letters-identifier f.Static h = (refl, refl)
-letters-identifier f.Unsigned h = (refl, refl)
-letters-identifier f.Void h = (refl, refl)
-letters-identifier f.Volatile h = (refl, refl)
-letters-identifier f.While h = (refl, refl)
+letters-identifier f.Attribute h = refl
+letters-identifier f.Break h = refl
+letters-identifier f.Char h = refl
+letters-identifier f.Else h = refl
+letters-identifier f.Extern h = refl
+letters-identifier f.If h = refl
+letters-identifier f.Int h = refl
+letters-identifier f.Main h = refl
+letters-identifier f.IrqOff h = refl
+letters-identifier f.IrqOn h = refl
+letters-identifier f.Static h = refl
+letters-identifier f.Unsigned h = refl
+letters-identifier f.Void h = refl
+letters-identifier f.Volatile h = refl
+letters-identifier f.While h = refl
 letters-identifier _ h = absurd (cc)
 
 pub letters-word : (x : Fixed) → is_letters x ≡ true → word_of (name_kind (spelling_of x)) ≡ Some (word.Fixed x)
@@ -96,7 +97,7 @@ letters-word f.Volatile h = refl
 letters-word f.While h = refl
 letters-word _ h = absurd (cc)
 
-pub letters-spell : (x : Fixed) (rest : List ℕ) → is_letters x ≡ true → begins_with is_word rest ≡ false → Spells (spelling_of x) rest (name_kind (spelling_of x))
+pub letters-spell : (x : Fixed) (rest : List ℕ) → is_letters x ≡ true → begins_with is_letter_or_digit rest ≡ false → Spells (spelling_of x) rest (name_kind (spelling_of x))
 letters-spell x rest h k = AName (spelling_of x) rest (letters-identifier x h) k
 
 -- ---- marks
@@ -168,7 +169,7 @@ pub record IsName (name : List ℕ) : Type 0 where
 pub name-word : (name : List ℕ) → IsName name → word_of (name_kind name) ≡ Some (word.Name name)
 name-word name h = ap (λ o. word_of (named o name)) h.no_keyword ∙ h.is_name
 
-pub name-spells : (name rest : List ℕ) → IsName name → begins_with is_word rest ≡ false → Spells name rest (name_kind name)
+pub name-spells : (name rest : List ℕ) → IsName name → begins_with is_letter_or_digit rest ≡ false → Spells name rest (name_kind name)
 name-spells name rest h k = AName name rest h.identifier k
 
 -- ---- numbers

@@ -9,8 +9,8 @@ use Rattle.cc_lex.specs.declared.token.Mark.{Mark}
 use Rattle.cc_lex.specs.declared.token.Mark.TheVariants as mark
 use Rattle.cc_lex.specs.declared.token.Suffix.{Suffix}
 use Rattle.cc_lex.specs.declared.token.Token.{Token}
-use Rattle.cc_lex.specs.declared.token.Word.{Word as Keyword}
-use Rattle.cc_lex.specs.declared.token.Word.TheVariants as keyword
+use Rattle.cc_words.specs.declared.word.Word.{Word as Keyword}
+use Rattle.cc_words.specs.declared.word.Word.TheVariants as keyword
 use Rattle.cc_tiny.specs.declared.word.Fixed.{Fixed}
 use Rattle.cc_tiny.specs.declared.word.Fixed.TheVariants as fixed
 use Rattle.cc_tiny.specs.declared.word.Word.{Word}

@@ -2,7 +2,7 @@
 -- are read, given that expressions, specifiers and declarators do.
 use Rattle.std.proofs.Common.{◌≡◌, ◌≤◌, ℕ, suc, Bool, true, false, List, [], ◌∷◌, ◌++◌, Option, Some, None, refl, ap, sym, ◌∙◌, subst, max, arith}
 use Rattle.cc_lex.specs.declared.token.Mark.TheVariants as m
-use Rattle.cc_lex.specs.declared.token.Word.TheVariants as w
+use Rattle.cc_words.specs.declared.word.Word.TheVariants as w
 use Rattle.cc_tree.specs.declared.at.At.{At}
 use Rattle.cc_tree.specs.declared.tree.Tree.{Tree}
 use Rattle.cc_tree.specs.declared.unit.Decl.{Decl}

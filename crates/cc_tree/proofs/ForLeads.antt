@@ -1,7 +1,7 @@
 -- A `for` leads the machine from where it is wanted to where it is read, given that its parts do (C99 6.8.5.3).
 use Rattle.std.proofs.Common.{◌≡◌, ◌≤◌, ℕ, suc, true, false, List, ◌∷◌, Option, Some, None, Ok, refl, ap, ◌∙◌, subst, length, take, max, arith}
 use Rattle.cc_lex.specs.declared.token.Mark.TheVariants as m
-use Rattle.cc_lex.specs.declared.token.Word.TheVariants as w
+use Rattle.cc_words.specs.declared.word.Word.TheVariants as w
 use Rattle.cc_tree.specs.declared.at.At.{At}
 use Rattle.cc_tree.specs.declared.state.Control.TheVariants as control
 use Rattle.cc_tree.specs.declared.state.Frame.{Frame}

@@ -5,7 +5,7 @@ use Rattle.cc_lex.specs.declared.token.Kind.{Kind}
 use Rattle.cc_lex.specs.declared.token.Kind.TheVariants as kind
 use Rattle.cc_lex.specs.declared.token.Mark.TheVariants as m
 use Rattle.cc_lex.specs.declared.token.Token.{Token}
-use Rattle.cc_lex.specs.declared.token.Word.{Word}
+use Rattle.cc_words.specs.declared.word.Word.{Word}
 use Rattle.cc_tree.specs.declared.stop.Stop.{Stop}
 use Rattle.cc_tree.specs.ReadTypes.{texts, texts_at, qualifiers, qualifiers_at, qualifier_in_front}
 use Rattle.cc_tree.specs.Terms.{is_qualifier}

@@ -1,6 +1,6 @@
 -- The name of a declarator, a variant at a time; and no declarator has a typedef name of its scope.
 use Rattle.std.proofs.Common.{◌≡◌, Bool, true, false, List, Option, Some, None, ap, ◌∙◌, sym, subst}
-use Rattle.cc_lex.specs.declared.token.Word.{Word}
+use Rattle.cc_words.specs.declared.word.Word.{Word}
 use Rattle.cc_tree.specs.declared.at.At.{At}
 use Rattle.cc_tree.specs.declared.tree.Declr as declr
 use Rattle.cc_tree.specs.declared.tree.Declr.{Declr, fold-roll-Declr}

@@ -2,7 +2,7 @@
 -- unfinished sentence.
 use Rattle.std.proofs.Common.{◌≡◌, ◌≤◌, ℕ, suc, List, ◌∷◌, Some, refl, ap, sym, ◌∙◌, arith, max}
 use Rattle.cc_lex.specs.declared.token.Mark.TheVariants as m
-use Rattle.cc_lex.specs.declared.token.Word.TheVariants as w
+use Rattle.cc_words.specs.declared.word.Word.TheVariants as w
 use Rattle.cc_tree.specs.declared.at.At.{At}
 use Rattle.cc_tree.specs.declared.state.Frame.{Frame}
 use Rattle.cc_tree.specs.declared.state.Frame.TheVariants as frame

@@ -1,8 +1,8 @@
 -- A list of parameters that is `void` alone is spelled by that word.
 use Rattle.std.proofs.Common.{◌≡◌, Bool, true, false, List, [], ◌∷◌, ◌++◌, refl, ap, sym, ◌∙◌, subst, arith}
 use Rattle.std.proofs.lemmas.Bool.{and_parts}
-use Rattle.cc_lex.specs.declared.token.Word.{Word}
-use Rattle.cc_lex.specs.declared.token.Word.TheVariants as w
+use Rattle.cc_words.specs.declared.word.Word.{Word}
+use Rattle.cc_words.specs.declared.word.Word.TheVariants as w
 use Rattle.cc_tree.specs.declared.at.At.{At}
 use Rattle.cc_tree.specs.declared.tree.Declr.{Declr}
 use Rattle.cc_tree.specs.declared.tree.Param.{Param}

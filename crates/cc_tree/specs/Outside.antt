@@ -1,18 +1,13 @@
--- The words of C and GNU C that are outside the subset: their tokens, the first of which is answered.
+-- The tokens that are outside the subset: words of C and GNU C, `L` in front of a literal, and `...`; the
+-- first of them is answered.
 use Rattle.std.specs.Prelude.{ℕ, Bool, true, false, ◌||◌, ◌&&◌, List, [], ◌∷◌, Option, Some, None, codes}
-use Rattle.std.specs.List.{list_any}
 use Rattle.std.specs.Borrow.{Bor}
+use Rattle.cc_words.specs.Words.{is_outside}
 use Rattle.cc_lex.specs.declared.token.Kind.{Kind}
 use Rattle.cc_lex.specs.declared.token.Kind.TheVariants as kind
 use Rattle.cc_lex.specs.declared.token.Mark.TheVariants as m
 use Rattle.cc_tree.specs.Scopes.{same_name}
 use Rattle.cc_tree.specs.Tokens.{Tokens, Name}
-
-abbrev pub outside_names : List Name
-outside_names = codes "asm" ∷ codes "__asm" ∷ codes "__asm__" ∷ codes "goto" ∷ codes "float" ∷ codes "double"
-    ∷ codes "_Complex" ∷ codes "__complex__" ∷ codes "_Imaginary" ∷ codes "union" ∷ codes "typeof" ∷ codes "__typeof__"
-    ∷ codes "__builtin_va_list" ∷ codes "__int128" ∷ codes "_Atomic" ∷ codes "_Generic" ∷ codes "_Static_assert"
-    ∷ codes "_Alignas" ∷ []
 
 -- a literal stands first
 abbrev pub begins_literal : Tokens → Bool
@@ -25,7 +20,7 @@ named false x = None
 
 -- the outside word that a token is, given those behind it: `L` is one in front of a literal
 abbrev pub outside_word : Kind → Tokens → Option Name
-outside_word (kind.Ident x) ts = named (list_any (same_name x) outside_names || (same_name x (codes "L") && begins_literal ts)) x
+outside_word (kind.Ident x) ts = named (is_outside x || (same_name x (codes "L") && begins_literal ts)) x
 outside_word (kind.Punct m.Dots) ts = Some (codes "...")
 outside_word _ ts = None
 

@@ -2,7 +2,7 @@
 -- declaration stands and the scope behind it are two indices; what a block declares ends with it.
 use Rattle.std.specs.Prelude.{◌≡◌, Bool, true, false, List, [], ◌∷◌, ◌++◌, Option, Some, None}
 use Rattle.cc_lex.specs.declared.token.Mark.TheVariants as m
-use Rattle.cc_lex.specs.declared.token.Word.TheVariants as w
+use Rattle.cc_words.specs.declared.word.Word.TheVariants as w
 use Rattle.cc_tree.specs.declared.at.At.{At}
 use Rattle.cc_tree.specs.declared.tree.Attr.{Attr}
 use Rattle.cc_tree.specs.declared.tree.Declr.{Declr}

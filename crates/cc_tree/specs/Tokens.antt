@@ -5,7 +5,7 @@ use Rattle.cc_lex.specs.declared.token.Kind.TheVariants as kind
 use Rattle.cc_lex.specs.declared.token.Mark.{Mark}
 use Rattle.cc_lex.specs.declared.token.Suffix.{Suffix}
 use Rattle.cc_lex.specs.declared.token.Token.{Token}
-use Rattle.cc_lex.specs.declared.token.Word.{Word}
+use Rattle.cc_words.specs.declared.word.Word.{Word}
 use Rattle.cc_tree.specs.declared.at.At.{At}
 
 abbrev pub Tokens : Type 0
