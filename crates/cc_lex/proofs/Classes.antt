@@ -5,7 +5,7 @@ use Rattle.cc_lex.specs.declared.byte.Class.{Class}
 use Rattle.cc_lex.specs.declared.byte.Class.TheVariants as class
 use Rattle.cc_words.specs.Names.{is_letter, is_digit}
 use Rattle.cc_lex.specs.Bytes.{is_blank, is_other_space}
-use Rattle.cc_lex.specs.Faults.{begins_nothing}
+use Rattle.cc_lex.specs.Faults.{begins_at_most_a_mark}
 use Rattle.cc_lex.specs.Scan.{class_of}
 use Rattle.cc_lex.proofs.Booleans.{eq-true}
 
@@ -21,7 +21,7 @@ IsClass class.LineFeed b = b ≡ 10
 IsClass class.OtherSpace b = is_other_space b ≡ true
 IsClass class.Slash b = b ≡ 47
 IsClass class.Hash b = b ≡ 35
-IsClass class.Other b = (begins_nothing b ≡ true) × (eqb b 46 ≡ false) × (eqb b 47 ≡ false)
+IsClass class.Other b = (begins_at_most_a_mark b ≡ true) × (eqb b 46 ≡ false) × (eqb b 47 ≡ false) × (is_digit b ≡ false)
 
 is-cond : (b : ℕ) (t : Bool) (x y : Class) → (t ≡ true → IsClass x b) → (t ≡ false → IsClass y b) → IsClass (cond t x y) b
 is-cond b true x y h k = h refl
@@ -39,7 +39,7 @@ class-is b =
     is-cond b (eqb b 10) _ _ (λ h. eq-true b 10 h) (λ h7.
     is-cond b (is_other_space b) _ _ (λ h. h) (λ h8.
     is-cond b (eqb b 47) _ _ (λ h. eq-true b 47 h) (λ h9.
-    is-cond b (eqb b 35) _ _ (λ h. eq-true b 35 h) (λ h10. (rw (h1, h2, h6, h7, h8, h4, h5, h10) refl, h3, h9)))))))))))
+    is-cond b (eqb b 35) _ _ (λ h. eq-true b 35 h) (λ h10. (rw (h1, h2, h6, h7, h8, h4, h5, h10) refl, h3, h9, h2)))))))))))
 
 pub letter-class : (b : ℕ) → is_letter b ≡ true → class_of b ≡ class.Letter
 unfolding class_of
@@ -71,7 +71,7 @@ none-of false false false false false false true _ k = absurd (cc)
 none-of false false false false false false false true k = absurd (cc)
 none-of false false false false false false false false k = (refl, refl, refl, refl, refl, refl, refl, refl)
 
-pub nothing-class : (b : ℕ) → begins_nothing b ≡ true → eqb b 46 ≡ false → eqb b 47 ≡ false → class_of b ≡ class.Other
+pub nothing-class : (b : ℕ) → begins_at_most_a_mark b ≡ true → eqb b 46 ≡ false → eqb b 47 ≡ false → class_of b ≡ class.Other
 unfolding class_of
 nothing-class b h i j =
     let n = none-of (is_letter b) (is_digit b) (is_blank b) (eqb b 10) (is_other_space b) (eqb b 39) (eqb b 34) (eqb b 35) h in

@@ -6,8 +6,8 @@ use Rattle.std.proofs.lemmas.Bool.Decides.{nat_tests}
 use Rattle.std.proofs.lemmas.List.Folds.{list_all-append}
 use Rattle.std.proofs.lemmas.List.Sums.{fold-append, prefix_len-le-length}
 use Rattle.cc_lex.specs.declared.token.Suffix.{Suffix}
+use Rattle.cc_lex.specs.Bytes.{begins_with}
 use Rattle.cc_lex.specs.Numbers.{digit_value, is_digit_in, AreDigits, OneDigit, OneMore, is_x, is_b, IsConstant, ADecimal, AnOctal, AHexadecimal, ABinary, IsUnsigned, SmallU, CapitalU, IsLong, SmallL, CapitalL, SmallTwo, CapitalTwo, IsSuffix, NoSuffix, JustUnsigned, JustLong, UnsignedLong, LongUnsigned, greatest, IsInteger, AnInteger}
-use Rattle.cc_lex.specs.Separators.{begins_with}
 use Rattle.cc_lex.specs.ScanParts.{value_of, base_of, is_u, is_l, suffix_of, valued, integer_in, number_of}
 use Rattle.cc_lex.proofs.Booleans.{and-true, eq-true, eq-false, eq-other}
 use Rattle.cc_lex.proofs.Fronts.{take-front, drop-front, front-len, front-all}

@@ -6,9 +6,9 @@ use Rattle.std.proofs.lemmas.Bool.Decides.{nat_tests}
 use Rattle.std.proofs.lemmas.Bool.{cases_lt}
 use Rattle.std.proofs.lemmas.List.{length-take-le}
 use Rattle.std.proofs.lemmas.List.Sums.{prefix_len-le-length}
+use Rattle.cc_lex.specs.Bytes.{begins_with}
 use Rattle.cc_lex.specs.Literals.{IsContent, NoByte, OneByte, Escaped, IsSimple, AnApostrophe, AQuotation, AQuestionMark, ABackslash, AnAlert, ABackspace, AFormFeed, ANewLine, ACarriageReturn, ATab, AVerticalTab, IsEscape, ASimpleEscape, AnOctalEscape, AHexadecimalEscape, IsElement, AByte, AnEscape, IsBadEscape, ALargeEscape, AnUnknown}
 use Rattle.cc_lex.specs.Numbers.{is_digit_in, AreDigits}
-use Rattle.cc_lex.specs.Separators.{begins_with}
 use Rattle.cc_lex.specs.ScanParts.{value_of, simple_escape, byte_of, octal_escape, hexadecimal_escape, escape_of, behind_backslash, element_of}
 use Rattle.cc_lex.proofs.Booleans.{and-true, true-false, eq-true, eq-false, eq-other}
 use Rattle.cc_lex.proofs.Constants.{Digits, digits-are, digits-found}

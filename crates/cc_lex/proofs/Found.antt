@@ -12,18 +12,19 @@ use Rattle.cc_lex.specs.declared.token.Kind.TheVariants as kind
 use Rattle.cc_lex.specs.declared.token.Mark.{Mark}
 use Rattle.cc_lex.specs.declared.token.Mark.TheVariants as mark
 use Rattle.cc_words.specs.Names.{is_letter, is_letter_or_digit}
-use Rattle.cc_lex.specs.Bytes.{is_in_line}
+use Rattle.cc_lex.specs.Bytes.{is_in_line, begins_with}
 use Rattle.cc_lex.specs.Identifiers.{IsIdentifier, name_kind}
 use Rattle.cc_lex.specs.Literals.{IsContent, IsElement, IsBadEscape}
 use Rattle.cc_lex.specs.Marks.{spelling_of, IsLongestMark, HasNoMark}
-use Rattle.cc_lex.specs.Numbers.{IsRun, FromDigit, FromPoint, all_go_on, stops, last_of, begins_with_digit, begins_fraction}
-use Rattle.cc_lex.specs.Separators.{begins_with, has_close, Separates, ABlank, ALineFeed, AnotherSpace, AComment, ALineComment, ALine, begins_comment}
+use Rattle.cc_lex.specs.Numbers.{IsPreprocessingNumber, IsLongestNumber}
+use Rattle.cc_lex.specs.Separators.{has_close, Separates, ABlank, ALineFeed, AnotherSpace, AComment, ALineComment, ALine, begins_comment}
 use Rattle.cc_lex.specs.Tokens.{Spells, AName, ANumber, ACharacter, AText, AMark}
 use Rattle.cc_lex.specs.Faults.{Fails, ABadByte, ALateHash, ADirective, AnOpenComment, ABadNumber, AnOpenCharacter, AnOpenText, AWrongLength, ABadCharacter, ABadEscape}
-use Rattle.cc_lex.specs.ScanParts.{number_of, element_of, is_skipped}
+use Rattle.cc_lex.specs.ScanParts.{begins_fraction, number_of, element_of, is_skipped}
 use Rattle.cc_lex.specs.Scan.{class_of, content_len, close_len, numbered, number_at, marked, mark_at, one_element, character_at, bytes_of, text_of, text_at, comment_in, slash_at, by_class, piece_at}
 use Rattle.cc_lex.proofs.Classes.{IsClass, class-is, letter-class, digit-class, blank-class, other_space-class, nothing-class, point-class, apostrophe-class, quote-class, line_feed-class, slash-class, hash-class}
-use Rattle.cc_lex.proofs.Fronts.{take-front, front-len, run-len}
+use Rattle.cc_lex.proofs.Fronts.{take-front, front-len}
+use Rattle.cc_lex.proofs.Runs.{IsRun, FromDigit, FromPoint, all_go_on, stops, last_of, fraction-found, run-len, number-run, longest-stops, no-fraction}
 use Rattle.cc_lex.proofs.Closing.{IsQuote, ClosesAt, content-len, content-closes-is, pair_len, close_len-is, close-len, no-close}
 use Rattle.cc_lex.proofs.LongestMark.{no-mark, the-mark}
 use Rattle.cc_lex.proofs.Constants.{integer-number, no-number}
@@ -70,14 +71,13 @@ name-found fresh at (c ∷ cs) rest h k =
 run-found : (at c : ℕ) (cs rest : List ℕ) → all_go_on c cs ≡ true → stops (last_of c cs) rest ≡ true → number_at at (c ∷ (cs ++ rest)) ≡ numbered at (suc (length cs)) (number_of (c ∷ cs))
 run-found at c cs rest h k = rw (run-len c cs rest h k, take-front cs rest) refl
 
-pub fraction-found : (cs rest : List ℕ) → begins_with_digit cs ≡ true → begins_with_digit (cs ++ rest) ≡ true
-fraction-found [] rest h = absurd (cc)
-fraction-found (d ∷ ds) rest h = h
-
-number-found : (fresh : Bool) (at c : ℕ) (cs rest : List ℕ) → IsRun (c ∷ cs) → stops (last_of c cs) rest ≡ true → piece_at fresh at (c ∷ (cs ++ rest)) ≡ numbered at (suc (length cs)) (number_of (c ∷ cs))
+number-by : (fresh : Bool) (at : ℕ) (w rest : List ℕ) → IsRun w → IsLongestNumber w rest → piece_at fresh at (w ++ rest) ≡ numbered at (length w) (number_of w)
 unfolding piece_at
-number-found fresh at c cs rest (FromDigit _ _ h g) k = rw (digit-class c h) (run-found at c cs rest g k)
-number-found fresh at c cs rest (FromPoint _ h g) k = rw (point-class, fraction-found cs rest h) (run-found at 46 cs rest g k)
+number-by fresh at w rest (FromDigit c cs h g) l = rw (digit-class c h) (run-found at c cs rest g (longest-stops c cs rest (FromDigit c cs h g) l))
+number-by fresh at w rest (FromPoint cs h g) l = rw (point-class, fraction-found cs rest h) (run-found at 46 cs rest g (longest-stops 46 cs rest (FromPoint cs h g) l))
+
+number-found : (fresh : Bool) (at : ℕ) (w rest : List ℕ) → IsPreprocessingNumber w → IsLongestNumber w rest → piece_at fresh at (w ++ rest) ≡ numbered at (length w) (number_of w)
+number-found fresh at w rest h l = number-by fresh at w rest (number-run w h) l
 
 -- ---- literals
 
@@ -222,11 +222,11 @@ mark-found fresh at m rest h f c = mark-by fresh at (spelling_of m) rest (mark-f
 pub spelling-found : (w rest : List ℕ) (k : Kind) → Spells w rest k → (fresh : Bool) (at : ℕ) → piece_at fresh at (w ++ rest) ≡ Ok (piece.Spelled (length w) k)
 unfolding piece_at
 spelling-found w rest k (AName _ _ h j) fresh at = name-found fresh at w rest h j
-spelling-found w rest k (ANumber c cs _ n s h j e) fresh at = number-found fresh at c cs rest h j ∙ ap (numbered at (suc (length cs))) (integer-number (c ∷ cs) n s e)
+spelling-found w rest k (ANumber _ _ n s h l e) fresh at = number-found fresh at w rest h l ∙ ap (numbered at (length w)) (integer-number w n s e)
 spelling-found w rest k (ACharacter c _ v h j) fresh at = rw apostrophe-class (ap (λ (x : List ℕ). character_at at (39 ∷ x)) (append_assoc c (39 ∷ []) rest) ∙ character-found at c rest v h j)
 spelling-found w rest k (AText c _ vs h j) fresh at =
     rw quote-class (ap (λ (x : List ℕ). text_at at (34 ∷ x)) (append_assoc c (34 ∷ []) rest) ∙ closed-text at c rest h ∙ ap (text_of (length c)) (has-bytes c vs j (at + 1)) ∙ ap (λ (n : ℕ). Ok (piece.Spelled n (kind.Text vs))) (literal-len 34 c))
-spelling-found w rest k (AMark m _ h f c) fresh at = mark-found fresh at m rest h f c
+spelling-found w rest k (AMark m _ h f c) fresh at = mark-found fresh at m rest h (no-fraction (spelling_of m ++ rest) f) c
 
 -- ---- faults
 
@@ -243,7 +243,7 @@ fault-found fresh at text e (ABadByte _ _ b rest h k) =
 fault-found fresh at text e (ALateHash _ rest) = rw hash-class refl
 fault-found fresh at text e (ADirective _ c rest h k s) = rw (hash-class, line-found c rest h k, take-front c rest, none-skipped c (is_skipped c) refl s) refl
 fault-found fresh at text e (AnOpenComment _ _ rest h) = rw slash-class (ap (comment_in at) (close_len-is rest ∙ no-close rest h))
-fault-found fresh at text e (ABadNumber _ _ c cs rest h k n) = number-found fresh at c cs rest h k ∙ ap (numbered at (suc (length cs))) (no-number (c ∷ cs) n)
+fault-found fresh at text e (ABadNumber _ _ w rest h l n) = number-found fresh at w rest h l ∙ ap (numbered at (length w)) (no-number w n)
 fault-found fresh at text e (AnOpenCharacter _ _ rest h) = rw (apostrophe-class, open-found 39 apostrophe rest h) refl
 fault-found fresh at text e (AnOpenText _ _ rest h) = rw (quote-class, open-found 34 quotation rest h) refl
 fault-found fresh at text e (AWrongLength _ _ c rest h k i) = rw apostrophe-class (closed-character at c rest h ∙ wrong-length-by at c h (k, i))

@@ -3,6 +3,7 @@ pub mod Loops
 pub mod Contents
 pub mod Classes
 pub mod Fronts
+pub mod Runs
 pub mod Closing
 pub mod LongestMark
 pub mod LongestForm

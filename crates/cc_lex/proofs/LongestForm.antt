@@ -13,17 +13,17 @@ use Rattle.cc_lex.specs.declared.token.Mark.TheVariants as mark
 use Rattle.cc_lex.specs.declared.token.Suffix.{Suffix}
 use Rattle.cc_words.specs.Names.{is_letter, is_letter_or_digit}
 use Rattle.cc_lex.specs.Bytes.{is_in_line}
-use Rattle.cc_lex.specs.Forms.{HasForm, NameForm, RunForm, CharacterForm, TextForm, MarkForm, IsLongest}
+use Rattle.cc_lex.specs.Forms.{HasForm, NameForm, NumberForm, CharacterForm, TextForm, MarkForm, IsLongest}
 use Rattle.cc_lex.specs.Identifiers.{IsIdentifier}
 use Rattle.cc_lex.specs.Literals.{IsContent}
 use Rattle.cc_lex.specs.Marks.{spelling_of}
-use Rattle.cc_lex.specs.Numbers.{IsRun, FromDigit, FromPoint, goes_on, all_go_on, begins_fraction}
 use Rattle.cc_lex.specs.Tokens.{Spells, AName, ANumber, ACharacter, AText, AMark}
-use Rattle.cc_lex.specs.ScanParts.{number_of, element_of}
+use Rattle.cc_lex.specs.ScanParts.{begins_fraction, number_of, element_of}
 use Rattle.cc_lex.specs.Scan.{class_of, run_len, close_len, mark_of, Reading, numbered, number_at, marked, mark_at, one_element, bytes_of, text_of, comment_in, slash_at, by_class, piece_at}
 use Rattle.cc_lex.proofs.Classes.{letter-class, digit-class, point-class, apostrophe-class, quote-class}
 use Rattle.cc_lex.proofs.LongestMark.{MarkIs, mark-is}
-use Rattle.cc_lex.proofs.Found.{spelling-found, closed-character, closed-text, fraction-found, IsMarkClass, mark-front}
+use Rattle.cc_lex.proofs.Found.{spelling-found, closed-character, closed-text, IsMarkClass, mark-front}
+use Rattle.cc_lex.proofs.Runs.{IsRun, FromDigit, FromPoint, all_go_on, fraction-found, run-within, number-run}
 use Rattle.cc_lex.proofs.Booleans.{and-true}
 
 -- what is found at the text has at least n bytes
@@ -39,13 +39,6 @@ front-within p [] rest h = omega arith
 front-within p (b ∷ bs) rest h =
     let e = and-true (p b) (list_all p bs) h in
     let f = front-within p bs rest e.1 in
-    rw e.0 (omega (arith, f))
-
-run-within : (before : ℕ) (w rest : List ℕ) → all_go_on before w ≡ true → length w ≤ run_len before (w ++ rest)
-run-within before [] rest h = omega arith
-run-within before (b ∷ bs) rest h =
-    let e = and-true (goes_on before b) (all_go_on b bs) h in
-    let f = run-within b bs rest e.1 in
     rw e.0 (omega (arith, f))
 
 name-finds : (fresh : Bool) (at : ℕ) (w behind : List ℕ) → IsIdentifier w → Finds (length w) (piece_at fresh at (w ++ behind))
@@ -156,14 +149,14 @@ mark-finds fresh at m behind =
 
 form-finds : (fresh : Bool) (at : ℕ) (w behind : List ℕ) → HasForm w → Finds (length w) (piece_at fresh at (w ++ behind))
 form-finds fresh at w behind (NameForm _ h) = name-finds fresh at w behind h
-form-finds fresh at w behind (RunForm _ h) = run-finds fresh at w behind h
+form-finds fresh at w behind (NumberForm _ h) = run-finds fresh at w behind (number-run w h)
 form-finds fresh at w behind (CharacterForm c h) = literal-finds fresh at 39 c behind (character-finds fresh at c behind h)
 form-finds fresh at w behind (TextForm c h) = literal-finds fresh at 34 c behind (text-finds fresh at c behind h)
 form-finds fresh at w behind (MarkForm m) = mark-finds fresh at m behind
 
 form-of : (w rest : List ℕ) (k : Kind) → Spells w rest k → HasForm w
 form-of w rest k (AName _ _ h j) = NameForm w h
-form-of w rest k (ANumber c cs _ n s h j e) = RunForm (c ∷ cs) h
+form-of w rest k (ANumber _ _ n s h l e) = NumberForm w h
 form-of w rest k (ACharacter c _ v h j) = CharacterForm c h
 form-of w rest k (AText c _ vs h j) = TextForm c h
 form-of w rest k (AMark m _ h f c) = MarkForm m

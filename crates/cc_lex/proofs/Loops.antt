@@ -5,8 +5,8 @@ use Rattle.std.proofs.Common.{inl, inr}
 use Rattle.std.proofs.lemmas.Bool.{cases_lt}
 use Rattle.std.proofs.Math.Nat.{le-mul_of_pos_right, mul-le-mul_right}
 use Rattle.std.proofs.lemmas.List.Sums.{fold_more}
-use Rattle.cc_lex.specs.Numbers.{goes_on, digit_value}
-use Rattle.cc_lex.specs.ScanParts.{value_of}
+use Rattle.cc_lex.specs.Numbers.{digit_value}
+use Rattle.cc_lex.specs.ScanParts.{goes_on, value_of}
 use Rattle.cc_lex.specs.Scan.{run_len, one_more, close_len, content_len}
 
 -- ---- runs

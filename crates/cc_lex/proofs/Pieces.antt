@@ -18,21 +18,22 @@ use Rattle.cc_lex.specs.Bytes.{is_in_line}
 use Rattle.cc_lex.specs.Identifiers.{name_kind}
 use Rattle.cc_lex.specs.Literals.{IsContent}
 use Rattle.cc_lex.specs.Marks.{spelling_of, IsLongestMark, HasNoMark}
-use Rattle.cc_lex.specs.Numbers.{IsRun, FromDigit, FromPoint, goes_on, begins_with_digit, begins_fraction}
+use Rattle.cc_lex.specs.Numbers.{HasNoNumber}
 use Rattle.cc_lex.specs.Separators.{Separates, ABlank, ALineFeed, AnotherSpace, AComment, ALineComment, ALine, begins_comment}
-use Rattle.cc_lex.specs.Tokens.{Spells, AName, ANumber, ACharacter, AText, AMark}
-use Rattle.cc_lex.specs.Faults.{Fails, ABadByte, ALateHash, ADirective, AnOpenComment, ABadNumber, AnOpenCharacter, AnOpenText, AWrongLength, ABadCharacter, ABadEscape, begins_nothing}
-use Rattle.cc_lex.specs.ScanParts.{number_of, element_of, is_skipped}
+use Rattle.cc_lex.specs.Tokens.{Spells, AName, ACharacter, AText, AMark}
+use Rattle.cc_lex.specs.Faults.{Fails, ABadByte, ALateHash, ADirective, AnOpenComment, ABadNumber, AnOpenCharacter, AnOpenText, AWrongLength, ABadCharacter, ABadEscape, begins_at_most_a_mark}
+use Rattle.cc_lex.specs.ScanParts.{goes_on, begins_with_digit, begins_fraction, number_of, element_of, is_skipped}
 use Rattle.cc_lex.specs.Scan.{class_of, run_len, content_len, close_len, mark_of, Reading, numbered, number_at, marked, mark_at, one_element, character_in, character_at, bytes_of, text_of, text_in, text_at, comment_in, slash_at, line_at, by_class, piece_at, name_at}
 use Rattle.cc_lex.proofs.Classes.{IsClass, class-is}
-use Rattle.cc_lex.proofs.Fronts.{take-front, front-all, front-stops, run-all, run-stops}
+use Rattle.cc_lex.proofs.Fronts.{take-front, front-all, front-stops}
+use Rattle.cc_lex.proofs.Runs.{IsRun, FromDigit, FromPoint, run-all, run-stops, digit-goes-on, run-number, run-longest, run-spells, no-number-front}
 use Rattle.cc_lex.proofs.Closing.{IsQuote, Closes, ClosesAt, content-closes-is, pair_len, close_len-is, EndsAt, close-ends}
 use Rattle.cc_lex.proofs.LongestMark.{MarkIs, mark-is, mark-some}
 use Rattle.cc_lex.proofs.Constants.{number-integer, no-integer}
 use Rattle.cc_lex.proofs.Escapes.{ElementIs, element-is, all-element, whole-element, whole-bad, element-some, bad-some}
 use Rattle.cc_lex.proofs.Elements.{BytesAre, bytes-are}
 use Rattle.cc_lex.proofs.SkippedLines.{skipped-is, not-skipped}
-use Rattle.cc_lex.proofs.Booleans.{both-true, or-true, eq-true, eq-false, eq-other}
+use Rattle.cc_lex.proofs.Booleans.{both-true, eq-true, eq-false, eq-other}
 
 -- a text that begins with w, and what is behind it
 pub record Cut (text : List ℕ) (n : ℕ) (P : List ℕ → List ℕ → Type 0) : Type 0 where
@@ -86,20 +87,20 @@ number-by : (fresh : Bool) (at b : ℕ) (bs : List ℕ) (r : Option (ℕ × Suff
 number-by fresh at b bs None h e =
     let n = run_len b bs in
     subst (λ (x : List ℕ). Fails fresh at (b ∷ x) (fault.BadNumber at)) (take-append-drop n bs)
-    (ABadNumber fresh at b (take n bs) (drop n bs) h (run-stops b bs) (no-integer (b ∷ take n bs) e))
+    (ABadNumber fresh at (b ∷ take n bs) (drop n bs) (run-number (b ∷ take n bs) h) (run-longest b (take n bs) (drop n bs) h (run-stops b bs)) (no-integer (b ∷ take n bs) e))
 number-by fresh at b bs (Some (v, s)) h e =
     let n = run_len b bs in
     cut-at b bs n (λ w rest. Spells w rest (kind.Number v s)) (run-within b bs)
-    (ANumber b (take n bs) (drop n bs) v s h (run-stops b bs) (number-integer (b ∷ take n bs) v s e))
+    (run-spells b (take n bs) (drop n bs) v s h (run-stops b bs) (number-integer (b ∷ take n bs) v s e))
 
 pub number-is : (fresh : Bool) (at b : ℕ) (bs : List ℕ) → IsRun (b ∷ take (run_len b bs) bs) → IsPiece fresh at (b ∷ bs) (number_at at (b ∷ bs))
 number-is fresh at b bs h = number-by fresh at b bs (number_of (b ∷ take (run_len b bs) bs)) h refl
 
 -- ---- marks
 
-mark-by : (fresh : Bool) (at b : ℕ) (bs : List ℕ) (r : Option Mark) → ((HasNoMark (b ∷ bs)) → begins_nothing b ≡ true) → begins_fraction (b ∷ bs) ≡ false → begins_comment (b ∷ bs) ≡ false → MarkIs (b ∷ bs) r → IsPiece fresh at (b ∷ bs) (marked at r)
-mark-by fresh at b bs None h i j k = ABadByte fresh at b bs (h k) k
-mark-by fresh at b bs (Some m) h i j k =
+mark-by : (fresh : Bool) (at b : ℕ) (bs : List ℕ) (r : Option Mark) → ((HasNoMark (b ∷ bs)) → begins_at_most_a_mark b ≡ true) → is_digit b ≡ false → begins_fraction (b ∷ bs) ≡ false → begins_comment (b ∷ bs) ≡ false → MarkIs (b ∷ bs) r → IsPiece fresh at (b ∷ bs) (marked at r)
+mark-by fresh at b bs None h d i j k = ABadByte fresh at b bs (h k) k
+mark-by fresh at b bs (Some m) h d i j k =
     let rest = drop (length (spelling_of m)) (b ∷ bs) in
     record {
       front = spelling_of m;
@@ -107,26 +108,23 @@ mark-by fresh at b bs (Some m) h i j k =
       whole = k.0;
       size = refl;
       some = omega (arith, mark-some m);
-      is = AMark m rest (subst (IsLongestMark m) k.0 k.1) (subst (λ (x : List ℕ). begins_fraction x ≡ false) k.0 i) (subst (λ (x : List ℕ). begins_comment x ≡ false) k.0 j);
+      is = AMark m rest (subst (IsLongestMark m) k.0 k.1) (subst (λ (x : List ℕ). HasNoNumber x) k.0 (no-number-front b bs d i)) (subst (λ (x : List ℕ). begins_comment x ≡ false) k.0 j);
     }
 
-pub mark-at-is : (fresh : Bool) (at b : ℕ) (bs : List ℕ) → ((HasNoMark (b ∷ bs)) → begins_nothing b ≡ true) → begins_fraction (b ∷ bs) ≡ false → begins_comment (b ∷ bs) ≡ false → IsPiece fresh at (b ∷ bs) (mark_at at (b ∷ bs))
-mark-at-is fresh at b bs h i j = mark-by fresh at b bs (mark_of (b ∷ bs)) h i j (mark-is (b ∷ bs))
+pub mark-at-is : (fresh : Bool) (at b : ℕ) (bs : List ℕ) → ((HasNoMark (b ∷ bs)) → begins_at_most_a_mark b ≡ true) → is_digit b ≡ false → begins_fraction (b ∷ bs) ≡ false → begins_comment (b ∷ bs) ≡ false → IsPiece fresh at (b ∷ bs) (mark_at at (b ∷ bs))
+mark-at-is fresh at b bs h d i j = mark-by fresh at b bs (mark_of (b ∷ bs)) h d i j (mark-is (b ∷ bs))
 
 -- ---- what begins with a point
 
 fraction-run : (bs : List ℕ) → begins_with_digit bs ≡ true → begins_with_digit (take (run_len 46 bs) bs) ≡ true
 fraction-run [] h = h
 fraction-run (d ∷ ds) h =
-    let e : goes_on 46 d ≡ true = digit-goes-on d h in
+    let e : goes_on 46 d ≡ true = digit-goes-on d h 46 in
     rw e h
-  where
-    digit-goes-on : (d : ℕ) → is_digit d ≡ true → goes_on 46 d ≡ true
-    digit-goes-on d h = rw (h, or-true (is_letter d)) refl
 
 point-by : (fresh : Bool) (at : ℕ) (bs : List ℕ) (t : Bool) → begins_with_digit bs ≡ t → IsPiece fresh at (46 ∷ bs) (cond t (number_at at (46 ∷ bs)) (mark_at at (46 ∷ bs)))
 point-by fresh at bs true h = number-is fresh at 46 bs (FromPoint (take (run_len 46 bs) bs) (fraction-run bs h) (run-all 46 bs))
-point-by fresh at bs false h = mark-at-is fresh at 46 bs (λ k. absurd (k mark.Dot bs refl)) h (no-comment bs)
+point-by fresh at bs false h = mark-at-is fresh at 46 bs (λ k. absurd (k mark.Dot bs refl)) refl h (no-comment bs)
   where
     no-comment : (bs : List ℕ) → begins_comment (46 ∷ bs) ≡ false
     no-comment [] = refl
@@ -233,10 +231,10 @@ slash-by fresh at c cs true star e f = subst (λ (x : ℕ). IsPiece fresh at (47
 slash-by fresh at c cs false true e f =
     subst (λ (x : ℕ). IsPiece fresh at (47 ∷ x ∷ cs) (comment_in at (close_len false cs))) (sym (eq-true c 42 f))
     (subst (λ (r : Option ℕ). IsPiece fresh at (47 ∷ 42 ∷ cs) (comment_in at r)) (sym (close_len-is cs)) (comment-by fresh at cs (pair_len cs) (close-ends cs)))
-slash-by fresh at c cs false false e f = mark-at-is fresh at 47 (c ∷ cs) (λ k. absurd (k mark.Slash (c ∷ cs) refl)) refl (rw (e, f) refl)
+slash-by fresh at c cs false false e f = mark-at-is fresh at 47 (c ∷ cs) (λ k. absurd (k mark.Slash (c ∷ cs) refl)) refl refl (rw (e, f) refl)
 
 slash-is : (fresh : Bool) (at : ℕ) (bs : List ℕ) → IsPiece fresh at (47 ∷ bs) (slash_at at (47 ∷ bs))
-slash-is fresh at [] = mark-at-is fresh at 47 [] (λ k. absurd (k mark.Slash [] refl)) refl refl
+slash-is fresh at [] = mark-at-is fresh at 47 [] (λ k. absurd (k mark.Slash [] refl)) refl refl refl
 slash-is fresh at (c ∷ cs) = slash-by fresh at c cs (eqb c 47) (eqb c 42) refl refl
 
 -- ---- lines
@@ -279,7 +277,7 @@ by-class fresh at b bs class.LineFeed h = subst (λ (x : ℕ). Cut (x ∷ bs) 1 
 by-class fresh at b bs class.OtherSpace h = one-byte b bs (λ w rest. Separates fresh w rest false) (AnotherSpace fresh b bs h)
 by-class fresh at b bs class.Slash h = subst (λ (x : ℕ). IsPiece fresh at (x ∷ bs) (slash_at at (x ∷ bs))) (sym h) (slash-is fresh at bs)
 by-class fresh at b bs class.Hash h = subst (λ (x : ℕ). IsPiece fresh at (x ∷ bs) (line_at fresh at (x ∷ bs))) (sym h) (line-is fresh at bs)
-by-class fresh at b bs class.Other h = mark-at-is fresh at b bs (λ _. h.0) (other-fraction b bs h.1) (other-comment b bs h.2)
+by-class fresh at b bs class.Other h = mark-at-is fresh at b bs (λ _. h.0) h.3 (other-fraction b bs h.1) (other-comment b bs h.2)
 
 pub piece-is : (fresh : Bool) (at b : ℕ) (bs : List ℕ) → IsPiece fresh at (b ∷ bs) (piece_at fresh at (b ∷ bs))
 unfolding piece_at

@@ -7,13 +7,14 @@ use Rattle.std.specs.Cmp.Lexicographic.{bytes_decides}
 use Rattle.std.proofs.Math.ListN.{take-append-drop}
 use Rattle.std.proofs.lemmas.Bool.Decides.{nat_tests}
 use Rattle.cc_words.specs.Names.{is_digit, is_letter, is_letter_or_digit}
-use Rattle.cc_lex.specs.Bytes.{is_blank}
+use Rattle.cc_lex.specs.Bytes.{is_blank, begins_with}
 use Rattle.cc_lex.specs.Identifiers.{IsIdentifier}
-use Rattle.cc_lex.specs.Numbers.{is_digit_in, stops, goes_on, is_sign, is_exponent}
-use Rattle.cc_lex.specs.Separators.{begins_with, BeginsWithNumber, ANumeral, AreBlanks, Blanks, IsSkipped, ALineMarker, ALineNumber, APragma, BehindBlank}
-use Rattle.cc_lex.specs.ScanParts.{past_blanks, front_word, is_decimal_front, begins_with_decimal, is_other_pragma, is_skipped_word, is_skipped, value_of}
+use Rattle.cc_lex.specs.Numbers.{is_digit_in, IsLongestNumber, is_sign}
+use Rattle.cc_lex.specs.Separators.{BeginsWithNumber, ANumeral, AreBlanks, Blanks, IsSkipped, ALineMarker, ALineNumber, APragma, BehindBlank}
+use Rattle.cc_lex.specs.ScanParts.{goes_on, is_exponent, past_blanks, front_word, is_decimal_front, begins_with_decimal, is_other_pragma, is_skipped_word, is_skipped, value_of}
 use Rattle.cc_lex.proofs.Booleans.{and-true, both-true, and-false, or-true, or-false, not-true, true-false}
 use Rattle.cc_lex.proofs.Constants.{Digits, digits-are, digits-found}
+use Rattle.cc_lex.proofs.Runs.{stops, last_of, run-longest, longest-stops, digit-no-exponent, digits-run, last-digit}
 use Rattle.cc_lex.proofs.Fronts.{take-front, drop-front, front-len, front-all, front-stops}
 
 -- ---- bytes
@@ -43,27 +44,27 @@ all-more p q h [] k = refl
 all-more p q h (b ∷ bs) k = let e = and-true (p b) (list_all p bs) k in rw (h b e.0, all-more p q h bs e.1) refl
 
 -- what stands behind a number goes on neither with a word nor with a point
-number-stops : (behind : List ℕ) → stops 48 behind ≡ true → (begins_with is_letter_or_digit behind ≡ false) × (begins_with (λ b. eqb b 46) behind ≡ false)
-number-stops [] h = (refl, refl)
-number-stops (b ∷ bs) h =
-    let e = or-false (is_letter_or_digit b || eqb b 46) (is_sign b && is_exponent 48) (not-true (goes_on 48 b) h) in
+number-stops : (last : ℕ) (behind : List ℕ) → stops last behind ≡ true → (begins_with is_letter_or_digit behind ≡ false) × (begins_with (λ b. eqb b 46) behind ≡ false)
+number-stops last [] h = (refl, refl)
+number-stops last (b ∷ bs) h =
+    let e = or-false (is_letter_or_digit b || eqb b 46) (is_sign b && is_exponent last) (not-true (goes_on last b) h) in
     or-false (is_letter_or_digit b) (eqb b 46) e.0
 
-stops-number : (behind : List ℕ) → begins_with is_letter_or_digit behind ≡ false → begins_with (λ b. eqb b 46) behind ≡ false → stops 48 behind ≡ true
-stops-number [] h k = refl
-stops-number (b ∷ bs) h k = rw (h, k, and-false (is_sign b)) refl
+stops-number : (last : ℕ) (behind : List ℕ) → is_exponent last ≡ false → begins_with is_letter_or_digit behind ≡ false → begins_with (λ b. eqb b 46) behind ≡ false → stops last behind ≡ true
+stops-number last [] x h k = refl
+stops-number last (b ∷ bs) x h k = rw (h, k, x, and-false (is_sign b)) refl
 
 -- ---- numbers
 
 number-found : (text : List ℕ) → BeginsWithNumber text → begins_with_decimal text ≡ true
-number-found text (ANumeral ds behind n h s) = by-digits ds (digits-found 10 ds n h)
+number-found text (ANumeral ds behind n h l) = by-digits ds (digits-found 10 ds n h) l
   where
-    by-digits : (ds : List ℕ) → Digits 10 ds n → begins_with_decimal (ds ++ behind) ≡ true
-    by-digits [] d = absurd (omega (arith, d.some))
-    by-digits (c ∷ cs) d =
+    by-digits : (ds : List ℕ) → Digits 10 ds n → IsLongestNumber ds behind → begins_with_decimal (ds ++ behind) ≡ true
+    by-digits [] d l = absurd (omega (arith, d.some))
+    by-digits (c ∷ cs) d l =
         let digits : list_all is_digit (c ∷ cs) ≡ true = sym (all-same (is_digit_in 10) is_digit digit-ten (c ∷ cs)) ∙ d.all in
         let words : list_all is_letter_or_digit (c ∷ cs) ≡ true = all-more is_digit is_letter_or_digit digit-word (c ∷ cs) digits in
-        let end = number-stops behind s in
+        let end = number-stops (last_of c cs) behind (longest-stops c cs behind (digits-run c cs digits) l) in
         let len = front-len is_letter_or_digit (c ∷ cs) behind words end.0 in
         ap (λ (n : ℕ). is_decimal_front (take n ((c ∷ cs) ++ behind)) (drop n ((c ∷ cs) ++ behind))) len
         ∙ ap (λ (w : List ℕ). is_decimal_front w (drop (length (c ∷ cs)) ((c ∷ cs) ++ behind))) (take-front (c ∷ cs) behind)
@@ -75,14 +76,15 @@ decimal-is [] behind h k = absurd (cc)
 decimal-is (d ∷ ds) behind h k =
     let e = and-true (list_all is_digit (d ∷ ds)) (not (begins_with (λ b. eqb b 46) behind)) h in
     let digits : list_all (is_digit_in 10) (d ∷ ds) ≡ true = all-same (is_digit_in 10) is_digit digit-ten (d ∷ ds) ∙ e.0 in
-    ANumeral (d ∷ ds) behind (value_of 10 (d ∷ ds)) (digits-are 10 d ds digits) (stops-number behind k (not-true (begins_with (λ b. eqb b 46) behind) e.1))
+    let end = stops-number (last_of d ds) behind (digit-no-exponent (last_of d ds) (last-digit d ds e.0)) k (not-true (begins_with (λ b. eqb b 46) behind) e.1) in
+    ANumeral (d ∷ ds) behind (value_of 10 (d ∷ ds)) (digits-are 10 d ds digits) (run-longest d ds behind (digits-run d ds e.0) end)
 
 number-is : (text : List ℕ) → begins_with_decimal text ≡ true → BeginsWithNumber text
 number-is text h = subst BeginsWithNumber (take-append-drop (prefix_len is_letter_or_digit text) text) (decimal-is (front_word text) (drop (prefix_len is_letter_or_digit text) text) h (front-stops is_letter_or_digit text))
 
 -- a number begins with a byte of a word
 number-first : (text : List ℕ) → BeginsWithNumber text → begins_with is_letter_or_digit text ≡ true
-number-first text (ANumeral ds behind n h s) = by-digits ds (digits-found 10 ds n h)
+number-first text (ANumeral ds behind n h l) = by-digits ds (digits-found 10 ds n h)
   where
     by-digits : (ds : List ℕ) → Digits 10 ds n → begins_with is_letter_or_digit (ds ++ behind) ≡ true
     by-digits [] d = absurd (omega (arith, d.some))

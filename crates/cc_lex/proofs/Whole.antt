@@ -11,6 +11,7 @@ use Rattle.cc_lex.specs.Tokens.{Spells, AName, ANumber, ACharacter, AText, AMark
 use Rattle.cc_lex.specs.Faults.{Fails, ABadByte, ALateHash, ADirective, AnOpenComment, ABadNumber, AnOpenCharacter, AnOpenText, AWrongLength, ABadCharacter, ABadEscape, HasFault, FaultFrom, FirstFault, BehindSeparator, BehindSpelling}
 use Rattle.cc_lex.specs.Scan.{Reading, piece_at, put_token, tokens_of, size_of}
 use Rattle.cc_lex.proofs.LongestMark.{mark-some}
+use Rattle.cc_lex.proofs.Runs.{number-some}
 use Rattle.cc_lex.proofs.Pieces.{Cut, IsPiece, piece-is}
 use Rattle.cc_lex.proofs.Found.{gap-found, spelling-found, fault-found}
 
@@ -30,7 +31,7 @@ name-some (c ∷ cs) h = omega arith
 
 spelling-some : (w rest : List ℕ) (k : Kind) → Spells w rest k → 0 < length w
 spelling-some w rest k (AName _ _ h j) = name-some w h
-spelling-some w rest k (ANumber c cs _ n s h j e) = omega arith
+spelling-some w rest k (ANumber _ _ n s h l e) = number-some w h
 spelling-some w rest k (ACharacter c _ v h j) = omega arith
 spelling-some w rest k (AText c _ vs h j) = omega arith
 spelling-some w rest k (AMark m _ h f c) = omega (arith, mark-some m)
@@ -75,7 +76,7 @@ fails-some fresh at text e (ABadByte _ _ b rest h k) = omega arith
 fails-some fresh at text e (ALateHash _ rest) = omega arith
 fails-some fresh at text e (ADirective _ c rest h k s) = omega arith
 fails-some fresh at text e (AnOpenComment _ _ rest h) = omega arith
-fails-some fresh at text e (ABadNumber _ _ c cs rest h k n) = omega arith
+fails-some fresh at text e (ABadNumber _ _ w rest h l n) = omega (arith, number-some w h, length-append w rest)
 fails-some fresh at text e (AnOpenCharacter _ _ rest h) = omega arith
 fails-some fresh at text e (AnOpenText _ _ rest h) = omega arith
 fails-some fresh at text e (AWrongLength _ _ c rest h k i) = omega arith

@@ -1,5 +1,5 @@
 -- What a byte is (C99 5.2.1, 6.4). Letters and digits stand in cc_words, with the names that they make.
-use Rattle.std.specs.Prelude.{ℕ, Bool, ◌||◌, ◌==◌, not}
+use Rattle.std.specs.Prelude.{ℕ, Bool, false, ◌||◌, ◌==◌, not, List, [], ◌∷◌}
 use Rattle.std.specs.Str.{byte}
 use Rattle.cc_words.specs.Names.{is_between}
 
@@ -45,3 +45,8 @@ is_other_space b = is_between 11 13 b
 -- lines end at a line feed alone
 abbrev pub is_in_line : ℕ → Bool
 is_in_line b = not (b == line_feed)
+
+-- whether the first byte passes
+abbrev pub begins_with : (ℕ → Bool) → List ℕ → Bool
+begins_with p [] = false
+begins_with p (b ∷ bs) = p b

@@ -5,11 +5,11 @@ use Rattle.cc_lex.specs.Bytes.{quotation, apostrophe}
 use Rattle.cc_lex.specs.Identifiers.{IsIdentifier}
 use Rattle.cc_lex.specs.Literals.{IsContent}
 use Rattle.cc_lex.specs.Marks.{spelling_of}
-use Rattle.cc_lex.specs.Numbers.{IsRun}
+use Rattle.cc_lex.specs.Numbers.{IsPreprocessingNumber}
 
 pub data HasForm : List ℕ → Type 0 where
   NameForm : (w : List ℕ) → IsIdentifier w → HasForm w
-  RunForm : (w : List ℕ) → IsRun w → HasForm w
+  NumberForm : (w : List ℕ) → IsPreprocessingNumber w → HasForm w
   CharacterForm : (c : List ℕ) → IsContent apostrophe c → HasForm (apostrophe ∷ (c ++ apostrophe ∷ []))
   TextForm : (c : List ℕ) → IsContent quotation c → HasForm (quotation ∷ (c ++ quotation ∷ []))
   MarkForm : (m : Mark) → HasForm (spelling_of m)

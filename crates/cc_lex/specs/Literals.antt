@@ -1,9 +1,11 @@
 -- Character constants and string literals: how they close, and what they hold (C99 6.4.4.4, 6.4.5).
+-- Universal character names (C99 6.4.3) are no part of the subset: in a literal a backslash and `u` or `U`
+-- are an element without a value, as with any other byte that begins no escape; and outside of literals
+-- no token has a backslash.
 use Rattle.std.specs.Prelude.{◌≡◌, ◌≢◌, ℕ, ◌+◌, ◌<◌, ◌≤◌, ◌⊎◌, false, List, [], ◌∷◌, ◌++◌, length, codes}
 use Rattle.std.specs.Str.{byte}
-use Rattle.cc_lex.specs.Bytes.{tab, line_feed, quotation, apostrophe, backslash}
+use Rattle.cc_lex.specs.Bytes.{tab, line_feed, quotation, apostrophe, backslash, begins_with}
 use Rattle.cc_lex.specs.Numbers.{is_digit_in, AreDigits}
-use Rattle.cc_lex.specs.Separators.{begins_with}
 
 -- what may stand between two quotes on one line: a backslash takes the byte behind it along
 pub data IsContent : ℕ → List ℕ → Type 0 where

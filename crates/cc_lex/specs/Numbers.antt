@@ -1,8 +1,9 @@
--- Integer constants, and the runs of bytes that preprocessing numbers are (C99 6.4.4.1, 6.4.8).
-use Rattle.std.specs.Prelude.{◌≡◌, ◌≢◌, ℕ, ◌+◌, ◌-◌, ◌*◌, ◌^◌, ◌≤◌, Bool, true, false, ◌&&◌, ◌||◌, not, nat_lt, ◌==◌, if◌then◌else◌, List, [], ◌∷◌, ◌++◌, codes}
+-- Integer constants (C99 6.4.4.1), and preprocessing numbers (C99 6.4.8): a number of a text is a
+-- preprocessing number that is an integer constant.
+use Rattle.std.specs.Prelude.{◌≡◌, ◌≢◌, ℕ, ◌+◌, ◌-◌, ◌*◌, ◌^◌, ◌≤◌, Bool, true, false, ◌||◌, nat_lt, ◌==◌, if◌then◌else◌, List, [], ◌∷◌, ◌++◌, length, codes}
 use Rattle.std.specs.Str.{byte}
 use Rattle.cc_lex.specs.declared.token.Suffix.{Suffix}
-use Rattle.cc_words.specs.Names.{is_between, is_digit, is_letter_or_digit}
+use Rattle.cc_words.specs.Names.{is_between, is_digit, is_letter}
 use Rattle.cc_lex.specs.Bytes.{point, numeral_zero}
 
 -- ---- integer constants
@@ -71,43 +72,36 @@ pub data IsInteger : List ℕ → ℕ → Suffix → Type 0 where
   AnInteger : (w s : List ℕ) (decimal unsigned : Bool) (n longs : ℕ) → IsConstant w decimal n → IsSuffix s unsigned longs → n ≤ greatest decimal unsigned →
       IsInteger (w ++ s) n (record { decimal = decimal; unsigned = unsigned; longs = longs })
 
--- ---- runs
-
-abbrev pub is_exponent : ℕ → Bool
-is_exponent b = b == byte "e" || b == byte "E" || b == byte "p" || b == byte "P"
+-- ---- preprocessing numbers
 
 abbrev pub is_sign : ℕ → Bool
 is_sign b = b == byte "+" || b == byte "-"
 
--- a run goes on with letters, digits, `_`, `.`, and a sign right after e, E, p or P
-abbrev pub goes_on : ℕ → ℕ → Bool
-goes_on before b = is_letter_or_digit b || b == point || (is_sign b && is_exponent before)
+-- pp-number, a constructor a production
+pub data IsPreprocessingNumber : List ℕ → Type 0 where
+  -- digit
+  ADigit : (d : ℕ) → is_digit d ≡ true → IsPreprocessingNumber (d ∷ [])
+  -- . digit
+  APointAndDigit : (d : ℕ) → is_digit d ≡ true → IsPreprocessingNumber (point ∷ d ∷ [])
+  -- pp-number digit
+  AndDigit : (w : List ℕ) (d : ℕ) → IsPreprocessingNumber w → is_digit d ≡ true → IsPreprocessingNumber (w ++ d ∷ [])
+  -- pp-number identifier-nondigit
+  AndLetter : (w : List ℕ) (b : ℕ) → IsPreprocessingNumber w → is_letter b ≡ true → IsPreprocessingNumber (w ++ b ∷ [])
+  -- pp-number e sign
+  AndSmallE : (w : List ℕ) (s : ℕ) → IsPreprocessingNumber w → is_sign s ≡ true → IsPreprocessingNumber (w ++ byte "e" ∷ s ∷ [])
+  -- pp-number E sign
+  AndCapitalE : (w : List ℕ) (s : ℕ) → IsPreprocessingNumber w → is_sign s ≡ true → IsPreprocessingNumber (w ++ byte "E" ∷ s ∷ [])
+  -- pp-number p sign
+  AndSmallP : (w : List ℕ) (s : ℕ) → IsPreprocessingNumber w → is_sign s ≡ true → IsPreprocessingNumber (w ++ byte "p" ∷ s ∷ [])
+  -- pp-number P sign
+  AndCapitalP : (w : List ℕ) (s : ℕ) → IsPreprocessingNumber w → is_sign s ≡ true → IsPreprocessingNumber (w ++ byte "P" ∷ s ∷ [])
+  -- pp-number .
+  AndPoint : (w : List ℕ) → IsPreprocessingNumber w → IsPreprocessingNumber (w ++ point ∷ [])
 
--- each byte goes on with the run behind `before`
-abbrev pub all_go_on : ℕ → List ℕ → Bool
-all_go_on before [] = true
-all_go_on before (b ∷ bs) = goes_on before b && all_go_on b bs
+-- no preprocessing number at the front of w and the rest is longer than w (C99 6.4, 4)
+abbrev pub IsLongestNumber : List ℕ → List ℕ → Type 0
+IsLongestNumber w rest = (other behind : List ℕ) → IsPreprocessingNumber other → w ++ rest ≡ other ++ behind → length other ≤ length w
 
-abbrev pub begins_with_digit : List ℕ → Bool
-begins_with_digit [] = false
-begins_with_digit (b ∷ bs) = is_digit b
-
--- a point and a digit: with a digit, what starts a run
-abbrev pub begins_fraction : List ℕ → Bool
-begins_fraction [] = false
-begins_fraction (b ∷ bs) = b == point && begins_with_digit bs
-
--- a run, whatever follows it
-pub data IsRun : List ℕ → Type 0 where
-  FromDigit : (c : ℕ) (cs : List ℕ) → is_digit c ≡ true → all_go_on c cs ≡ true → IsRun (c ∷ cs)
-  FromPoint : (cs : List ℕ) → begins_with_digit cs ≡ true → all_go_on point cs ≡ true → IsRun (point ∷ cs)
-
--- the last byte of a run whose first is `before`
-abbrev pub last_of : ℕ → List ℕ → ℕ
-last_of before [] = before
-last_of before (b ∷ bs) = last_of b bs
-
--- the text doesn't go on with a run whose last byte is `before`
-abbrev pub stops : ℕ → List ℕ → Bool
-stops before [] = true
-stops before (b ∷ bs) = not (goes_on before b)
+-- no preprocessing number is at the front of the text
+abbrev pub HasNoNumber : List ℕ → Type 0
+HasNoNumber text = (w behind : List ℕ) → IsPreprocessingNumber w → text ≡ w ++ behind → ⊥

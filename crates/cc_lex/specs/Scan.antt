@@ -17,8 +17,7 @@ use Rattle.cc_words.specs.Names.{is_letter, is_digit, is_letter_or_digit}
 use Rattle.cc_lex.specs.Bytes.{is_blank, is_other_space, is_in_line}
 use Rattle.cc_lex.specs.Identifiers.{name_kind}
 use Rattle.cc_lex.specs.Marks.{spelling_of}
-use Rattle.cc_lex.specs.Numbers.{goes_on, begins_fraction}
-use Rattle.cc_lex.specs.ScanParts.{element_of, number_of, is_skipped}
+use Rattle.cc_lex.specs.ScanParts.{goes_on, begins_fraction, element_of, number_of, is_skipped}
 
 -- what a byte begins, where it stands at the front of a separator or a token
 unfoldable pub class_of : ℕ → Class

@@ -1,14 +1,31 @@
--- The scanner's parts as functions on lists, a twin of the code: integer constants, elements of
--- literals and lines that are skipped. Not their meaning, which stands in Numbers, Literals and
+-- The scanner's parts as functions on lists, a twin of the code: preprocessing numbers, integer
+-- constants, elements of literals and lines that are skipped. Not their meaning, which stands in Numbers, Literals and
 -- Separators.
 use Rattle.std.specs.Prelude.{ℕ, ◌+◌, ◌*◌, Bool, true, false, ◌&&◌, ◌||◌, not, nat_lt, ◌==◌, if◌then◌else◌, List, [], ◌∷◌, take, drop, fold, min, Option, Some, None, codes}
 use Rattle.std.specs.List.{list_all, prefix_len}
 use Rattle.std.specs.Str.{byte, bytes_eq}
 use Rattle.cc_lex.specs.declared.token.Suffix.{Suffix}
 use Rattle.cc_words.specs.Names.{is_digit, is_letter_or_digit}
-use Rattle.cc_lex.specs.Bytes.{line_feed, quotation, apostrophe, point, backslash, is_blank}
-use Rattle.cc_lex.specs.Numbers.{digit_value, is_digit_in, is_x, is_b, greatest}
-use Rattle.cc_lex.specs.Separators.{begins_with}
+use Rattle.cc_lex.specs.Bytes.{line_feed, quotation, apostrophe, point, backslash, is_blank, begins_with}
+use Rattle.cc_lex.specs.Numbers.{digit_value, is_digit_in, is_x, is_b, greatest, is_sign}
+
+-- ---- preprocessing numbers
+
+abbrev pub is_exponent : ℕ → Bool
+is_exponent b = b == byte "e" || b == byte "E" || b == byte "p" || b == byte "P"
+
+-- a number goes on with letters, digits, `_`, `.`, and a sign right after e, E, p or P
+abbrev pub goes_on : ℕ → ℕ → Bool
+goes_on before b = is_letter_or_digit b || b == point || (is_sign b && is_exponent before)
+
+abbrev pub begins_with_digit : List ℕ → Bool
+begins_with_digit [] = false
+begins_with_digit (b ∷ bs) = is_digit b
+
+-- a point and a digit: with a digit, what starts a number
+abbrev pub begins_fraction : List ℕ → Bool
+begins_fraction [] = false
+begins_fraction (b ∷ bs) = b == point && begins_with_digit bs
 
 -- ---- integer constants
 

@@ -3,14 +3,9 @@
 use Rattle.std.specs.Prelude.{◌≡◌, ◌≢◌, ℕ, Bool, true, false, ◌&&◌, ◌||◌, ◌==◌, List, [], ◌∷◌, ◌++◌, codes}
 use Rattle.std.specs.List.{list_all}
 use Rattle.cc_words.specs.Names.{is_letter_or_digit}
-use Rattle.cc_lex.specs.Bytes.{line_feed, hash, star, slash, numeral_zero, is_blank, is_other_space, is_in_line}
+use Rattle.cc_lex.specs.Bytes.{line_feed, hash, star, slash, is_blank, is_other_space, is_in_line, begins_with}
 use Rattle.cc_lex.specs.Identifiers.{IsIdentifier}
-use Rattle.cc_lex.specs.Numbers.{AreDigits, stops}
-
--- whether the first byte passes
-abbrev pub begins_with : (ℕ → Bool) → List ℕ → Bool
-begins_with p [] = false
-begins_with p (b ∷ bs) = p b
+use Rattle.cc_lex.specs.Numbers.{AreDigits, IsLongestNumber}
 
 -- whether `*/` stands in the text
 abbrev pub has_close : List ℕ → Bool
@@ -18,9 +13,9 @@ has_close [] = false
 has_close (a ∷ []) = false
 has_close (a ∷ b ∷ rest) = (a == star && b == slash) || has_close (b ∷ rest)
 
--- decimal digits with which a text begins, and behind them nothing that goes on with a number
+-- a preprocessing number that is decimal digits, and what stands behind it
 pub data BeginsWithNumber : List ℕ → Type 0 where
-  ANumeral : (ds behind : List ℕ) (n : ℕ) → AreDigits 10 ds n → stops numeral_zero behind ≡ true → BeginsWithNumber (ds ++ behind)
+  ANumeral : (ds behind : List ℕ) (n : ℕ) → AreDigits 10 ds n → IsLongestNumber ds behind → BeginsWithNumber (ds ++ behind)
 
 -- one blank or more
 pub data AreBlanks : List ℕ → Type 0 where

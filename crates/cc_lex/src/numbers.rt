@@ -2,8 +2,8 @@
 
 ghost use Rattle.std.specs.Prelude.{◌≡◌, ◌+◌, ◌≤◌, ◌<◌, ◌^◌, ◌==◌, length, min};
 ghost use Rattle.std.specs.List.{prefix_len};
-ghost use Rattle.cc_lex.specs.Numbers.{goes_on as continues, digit_value as value_of_digit, is_digit_in as is_digit_of, greatest as greatest_of};
-ghost use Rattle.cc_lex.specs.ScanParts.{value_of, base_of as base_and_start, suffix_of as unsigned_and_longs, valued as constant, number_of as number_of_run};
+ghost use Rattle.cc_lex.specs.Numbers.{digit_value as value_of_digit, is_digit_in as is_digit_of, greatest as greatest_of};
+ghost use Rattle.cc_lex.specs.ScanParts.{goes_on as continues, value_of, base_of as base_and_start, suffix_of as unsigned_and_longs, valued as constant, number_of as number_of_run};
 ghost use Rattle.cc_lex.specs.Scan.{run_len as len_of_run};
 
 use crate::token::Suffix;

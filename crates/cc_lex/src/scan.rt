@@ -1,8 +1,7 @@
 //! What stands at a place of the text.
 
 ghost use Rattle.std.specs.Prelude.{◌≡◌, ◌+◌, ◌≤◌, ◌<◌, ◌^◌, length, IfOk};
-ghost use Rattle.cc_lex.specs.Numbers.{begins_fraction as is_fraction};
-ghost use Rattle.cc_lex.specs.ScanParts.{element_of as element_of_content};
+ghost use Rattle.cc_lex.specs.ScanParts.{begins_fraction as is_fraction, element_of as element_of_content};
 ghost use Rattle.cc_lex.specs.Scan.{Gives, size_of, run_of as len_of_run, name_at as name_in, number_at as number_in, mark_at as mark_in, one_element, character_at as character_in, text_at as text_in, slash_at as slash_in, line_at as line_in_text, piece_at as piece_in};
 
 use crate::byte::{Class, classify, is_digit};

@@ -15,9 +15,10 @@ use Rattle.cc_lex.specs.declared.token.Token.{Token}
 use Rattle.cc_words.specs.declared.word.Word.{Word as Keyword}
 use Rattle.cc_words.specs.Names.{is_letter_or_digit}
 use Rattle.cc_words.specs.Words.{word_of as keyword_named}
+use Rattle.cc_lex.specs.Bytes.{begins_with}
 use Rattle.cc_lex.specs.Identifiers.{IsIdentifier, name_kind, named}
-use Rattle.cc_lex.specs.Numbers.{stops}
-use Rattle.cc_lex.specs.Separators.{begins_with, ABlank, ALineFeed}
+use Rattle.cc_lex.proofs.Runs.{stops}
+use Rattle.cc_lex.specs.Separators.{ABlank, ALineFeed}
 use Rattle.cc_lex.specs.Tokens.{Spells, AName, ANumber, ACharacter, AText, AMark, TokensFrom, NoToken, Separated, Spelled}
 use Rattle.cc_tiny.specs.declared.word.Fixed.{Fixed}
 use Rattle.cc_tiny.specs.declared.word.Fixed.TheVariants as f
@@ -157,7 +158,7 @@ number_good n s x e = number_by n (s.unsigned || ltb 0 s.longs) (ltb 255 n) x re
 
 spelled_good : (w rest : List ℕ) (k : Kind) (x : Word) → Spells w rest k → word_of k ≡ Some x → IsGood x
 spelled_good w rest k x (AName _ _ i _) e = named_good w (keyword_named w) x i refl e
-spelled_good w rest k x (ANumber _ _ _ n s _ _ _) e = number_good n s x e
+spelled_good w rest k x (ANumber _ _ n s _ _ _) e = number_good n s x e
 spelled_good w rest k x (ACharacter _ _ _ _ _) e = absurd (cc)
 spelled_good w rest k x (AText _ _ _ _ _) e = absurd (cc)
 spelled_good w rest k x (AMark m _ _ _ _) e = fixed_good (fixed_of_mark m) x e

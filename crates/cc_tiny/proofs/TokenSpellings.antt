@@ -10,14 +10,16 @@ use Rattle.cc_lex.specs.declared.token.Mark.TheVariants as mark
 use Rattle.cc_lex.specs.declared.token.Suffix.{Suffix}
 use Rattle.cc_words.specs.Names.{is_letter_or_digit, is_digit, is_letter}
 use Rattle.cc_words.specs.Words.{word_of as keyword_named}
+use Rattle.cc_lex.specs.Bytes.{begins_with}
 use Rattle.cc_lex.specs.Identifiers.{IsIdentifier, name_kind, named}
 use Rattle.cc_lex.specs.Marks.{spelling_of as mark_spelling, IsLongestMark}
-use Rattle.cc_lex.specs.Numbers.{goes_on, all_go_on, stops, last_of, is_exponent, digit_value, is_digit_in, FromDigit}
-use Rattle.cc_lex.specs.ScanParts.{valued, number_of, value_of}
+use Rattle.cc_lex.specs.Numbers.{digit_value, is_digit_in}
+use Rattle.cc_lex.specs.ScanParts.{goes_on, is_exponent, valued, number_of, value_of}
 use Rattle.cc_lex.proofs.Constants.{number-integer}
+use Rattle.cc_lex.proofs.Runs.{FromDigit, all_go_on, last_of, stops, run-spells, no-number-front}
 use Rattle.cc_lex.specs.Scan.{mark_of}
-use Rattle.cc_lex.specs.Separators.{begins_with, begins_comment}
-use Rattle.cc_lex.specs.Tokens.{Spells, AName, ANumber, AMark}
+use Rattle.cc_lex.specs.Separators.{begins_comment}
+use Rattle.cc_lex.specs.Tokens.{Spells, AName, AMark}
 use Rattle.cc_lex.proofs.LongestMark.{MarkIs, mark-is}
 use Rattle.cc_tiny.specs.declared.word.Fixed.{Fixed}
 use Rattle.cc_tiny.specs.declared.word.Fixed.TheVariants as f
@@ -150,12 +152,12 @@ no-comment a (b ∷ rest) h = rw h refl
 
 pub sign-spells : (x : Fixed) (rest : List ℕ) → is_sign x rest ≡ true → Spells (spelling_of x) rest (kind.Punct (mark_spelled x))
 unfolding spelling_of
-sign-spells f.LParen rest h = AMark mark.LParen rest (sign-longest mark.LParen (40 ∷ rest) (sign-found f.LParen rest h)) refl (no-comment 40 rest refl)
-sign-spells f.RParen rest h = AMark mark.RParen rest (sign-longest mark.RParen (41 ∷ rest) (sign-found f.RParen rest h)) refl (no-comment 41 rest refl)
-sign-spells f.LBrace rest h = AMark mark.LBrace rest (sign-longest mark.LBrace (123 ∷ rest) (sign-found f.LBrace rest h)) refl (no-comment 123 rest refl)
-sign-spells f.RBrace rest h = AMark mark.RBrace rest (sign-longest mark.RBrace (125 ∷ rest) (sign-found f.RBrace rest h)) refl (no-comment 125 rest refl)
-sign-spells f.Assign rest h = AMark mark.Assign rest (sign-longest mark.Assign (61 ∷ rest) (sign-found f.Assign rest h)) refl (no-comment 61 rest refl)
-sign-spells f.Semi rest h = AMark mark.Semi rest (sign-longest mark.Semi (59 ∷ rest) (sign-found f.Semi rest h)) refl (no-comment 59 rest refl)
+sign-spells f.LParen rest h = AMark mark.LParen rest (sign-longest mark.LParen (40 ∷ rest) (sign-found f.LParen rest h)) (no-number-front 40 rest refl refl) (no-comment 40 rest refl)
+sign-spells f.RParen rest h = AMark mark.RParen rest (sign-longest mark.RParen (41 ∷ rest) (sign-found f.RParen rest h)) (no-number-front 41 rest refl refl) (no-comment 41 rest refl)
+sign-spells f.LBrace rest h = AMark mark.LBrace rest (sign-longest mark.LBrace (123 ∷ rest) (sign-found f.LBrace rest h)) (no-number-front 123 rest refl refl) (no-comment 123 rest refl)
+sign-spells f.RBrace rest h = AMark mark.RBrace rest (sign-longest mark.RBrace (125 ∷ rest) (sign-found f.RBrace rest h)) (no-number-front 125 rest refl refl) (no-comment 125 rest refl)
+sign-spells f.Assign rest h = AMark mark.Assign rest (sign-longest mark.Assign (61 ∷ rest) (sign-found f.Assign rest h)) (no-number-front 61 rest refl refl) (no-comment 61 rest refl)
+sign-spells f.Semi rest h = AMark mark.Semi rest (sign-longest mark.Semi (59 ∷ rest) (sign-found f.Semi rest h)) (no-number-front 59 rest refl refl) (no-comment 59 rest refl)
 sign-spells _ rest h = absurd (cc)
 
 -- ---- names
@@ -208,7 +210,7 @@ digit-goes_on a d h = let e = no-letter d h in rw (e, h) refl
 digits-number : (c : ℕ) (cs : List ℕ) (n : ℕ) (is_decimal : Bool) → is_digit c ≡ true → all_go_on c cs ≡ true → is_digit (last_of c cs) ≡ true → number_of (c ∷ cs) ≡ Some (n, plain is_decimal) → IsNumber (c ∷ cs) n
 digits-number c cs n is_decimal h k l e = record {
   is_decimal = is_decimal;
-  spells = λ rest s. ANumber c cs rest n (plain is_decimal) (FromDigit c cs h k) (digit-stops (last_of c cs) rest l s) (number-integer (c ∷ cs) n (plain is_decimal) e);
+  spells = λ rest s. run-spells c cs rest n (plain is_decimal) (FromDigit c cs h k) (digit-stops (last_of c cs) rest l s) (number-integer (c ∷ cs) n (plain is_decimal) e);
 }
 
 digit-is : (d : ℕ) → d < 10 → is_digit (48 + d) ≡ true
