@@ -56,8 +56,8 @@ module _ (p : Program) where
     high = let h = e.high in omega (arith, h);
   }
     where
-    before : ℕ
-    before = fold (end_with p) 0 (take i p.objects)
+      before : ℕ
+      before = fold (end_with p) 0 (take i p.objects)
 
   end_high : (i end : ℕ) (o : Object) (l : Layout) → l ≡ layout_in p o → IsSmall o.ctype p.structures p.target → end ≤ i * 4294967295 → aligned l.align end + l.size ≤ (i + 1) * 4294967295
   end_high i end o l e small high =

@@ -7,7 +7,7 @@ use Rattle.cc_program.specs.declared.object.Object.{Object}
 use Rattle.cc_program.specs.declared.program.Program.{Program}
 use Rattle.cc_program.specs.declared.program.Roles.{Roles}
 use Rattle.cc_program.specs.declared.types.CType.{CType}
-use Rattle.cc_program.specs.declared.types.Shape.{Shape, Int}
+use Rattle.cc_program.specs.declared.types.Shape.{Shape, Int, Pointer, Array}
 use Rattle.cc_syntax.specs.Examples.{wide}
 use Rattle.cc_layout.specs.declared.seats.Seat.{Seat}
 
@@ -45,6 +45,15 @@ three = with_objects
 abbrev pub const_between : Program
 const_between = with_objects
     (object (codes "a") (qualified false false (Int int.Char)) ∷ object (codes "b") (qualified true false (Int int.Int)) ∷ object (codes "c") (qualified false false (Int int.Char)) ∷ [])
+
+abbrev pub constant_char : CType
+constant_char = qualified true false (Int int.Char)
+
+-- const char a[3]; const char *b; const char *const c; volatile char d[2];
+abbrev pub qualified_parts : Program
+qualified_parts = with_objects
+    (object (codes "a") (qualified false false (Array constant_char 3)) ∷ object (codes "b") (qualified false false (Pointer constant_char))
+    ∷ object (codes "c") (qualified true false (Pointer constant_char)) ∷ object (codes "d") (qualified false false (Array (qualified false true (Int int.Char)) 2)) ∷ [])
 
 abbrev pub seat : ℕ → ℕ → ℕ → Seat
 seat object at size = record { object = object; at = at; size = size }

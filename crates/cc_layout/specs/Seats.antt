@@ -1,5 +1,6 @@
 -- Where the static objects of a program lie in RAM: those that are not const, in the program's order,
--- each at its alignment behind the one before.
+-- each at its alignment behind the one before. The code is a twin of `ram` and `seats`; `laws` says of them
+-- that seats lie apart, each at its alignment, and that none could lie lower.
 use Rattle.std.specs.Prelude.{ℕ, ◌+◌, not, List, [], ◌∷◌, fold, filter, map, if◌then◌else◌}
 use Rattle.std.specs.List.{enumerate_from}
 use Rattle.cc_program.specs.Qualifiers.{is_const}

@@ -1,5 +1,5 @@
 ghost use Rattle.std.specs.Prelude.{◌≡◌, ◌+◌, ℕ, List, [], ◌∷◌, fold, map};
-ghost use Rattle.cc_layout.specs.Examples.{three, const_between, seat};
+ghost use Rattle.cc_layout.specs.Examples.{three, const_between, qualified_parts, seat};
 ghost use Rattle.cc_layout.specs.Seats.{ram, seats, in_ram, layouts};
 ghost use Rattle.cc_program.specs.declared.program.Program.{Program};
 ghost use Rattle.cc_syntax.specs.Layout.{ArePlaced, NoneAbove};
@@ -17,10 +17,13 @@ pub fn laws()
     // The RAM is the end of the last seat.
     ensures last { (p : Program) → fold (λ end s. s.at + s.size) 0 (seats p) ≡ ram p }
 
-    // char, int, char at `int` 4 and the greatest alignment 4; and a const object between two others.
+    // char, int, char at `int` 4 and the greatest alignment 4.
     ensures three_seats { seats three ≡ seat 0 0 1 ∷ seat 1 4 4 ∷ seat 2 8 1 ∷ [] }
     ensures three_ram { ram three ≡ 9 }
+
+    // A const object between two others has no seat. An array of const elements is const, a pointer to const is not.
     ensures const_seats { seats const_between ≡ seat 0 0 1 ∷ seat 2 1 1 ∷ [] }
     ensures const_ram { ram const_between ≡ 2 }
-{
-}
+    ensures part_seats { seats qualified_parts ≡ seat 1 0 2 ∷ seat 3 2 2 ∷ [] }
+    ensures part_ram { ram qualified_parts ≡ 4 }
+{}

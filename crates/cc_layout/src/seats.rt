@@ -9,12 +9,14 @@ use cc_num::NoMemory;
 use cc_syntax::{Object, Program, layout_of};
 use std::alloc::Global;
 
-/// Where a static object lies, and how many bytes it takes.
+/// Where a static object lies in RAM.
 #[derive(Clone, Copy)]
 pub struct Seat {
     /// The object, by id.
     pub object: u32,
+    /// Its first byte, counted from 0.
     pub at: u64,
+    /// How many bytes it has.
     pub size: u64,
 }
 
@@ -26,7 +28,8 @@ fn takes_ram(object: &Object) -> bool
 }
 
 /// How many bytes of RAM the static objects of a program take: the end of the last one that is not
-/// const, where they lie in the program's order, each at its alignment.
+/// const, where they lie in the program's order, each at its alignment. A string literal is const, and a
+/// device is no object.
 pub fn ram(p: &Program) -> u64
     requires { HasSizes p.now }
     ensures { result ≡ ram_of p.now }
@@ -41,7 +44,8 @@ pub fn ram(p: &Program) -> u64
     end
 }
 
-/// The seats of the static objects that are not const, in the program's order.
+/// The seats of the static objects that are not const, in the program's order. The only error is want of
+/// memory.
 pub fn places(alloc: Global, p: &Program) -> Result<Vec<Seat>, NoMemory>
     requires { HasSizes p.now }
     ensures { IfOk result (λ seats. seats.items ≡ seats_of p.now) }

@@ -1,5 +1,5 @@
 -- Induction over statements and cases: a claim holds of all where it holds of each one whose parts it
--- holds of.
+-- holds of. A proof goes by cases on one level, and a fold opens at it by `fold-roll-Stmt`.
 use Rattle.std.proofs.Common.{List, subst}
 use Rattle.cc_program.specs.declared.stmt.Case.{Case, roll-Case, ind-Case, map-Case}
 use Rattle.cc_program.specs.declared.stmt.Stmt.{Stmt, roll-Stmt, ind-Stmt, map-Stmt}

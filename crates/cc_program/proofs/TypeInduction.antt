@@ -1,4 +1,5 @@
--- Induction over types: a claim holds of all where it holds of each one whose parts it holds of.
+-- Induction over types: a claim holds of all where it holds of each one whose parts it holds of. A proof
+-- goes by cases on one level, and a fold opens at it by `fold_out-CType` and `fold_out-Shape`.
 use Rattle.std.proofs.Common.{Bool, subst}
 use Rattle.cc_program.specs.declared.types.CType.{CType, roll-CType, ind-CType, map-CType}
 use Rattle.cc_program.specs.declared.types.Shape.{Shape, roll-Shape, map-Shape}

@@ -14,7 +14,7 @@ pub enum Place {
     Static(u32),
     /// A device, by id.
     Device(u32),
-    /// An element of the array that a place holds.
+    /// An element of the array that a place holds (C99 6.5.2.1), by its subscript.
     Element(Boxed<Place>, Boxed<Expr>),
     /// A member of the structure that a place holds (C99 6.5.2.3), by position.
     Member(Boxed<Place>, u32),
@@ -45,23 +45,26 @@ pub enum Expr {
     Null(CType),
     /// A pointer to a function, by id.
     FuncAddr(u32),
-    /// The value of a scalar.
+    /// The value of a scalar (C99 6.3.2.1, 2).
     Load(Place),
-    /// A pointer to a place.
+    /// A pointer to a place (C99 6.5.3.2). The value of an array is one to its first element (6.3.2.1, 3).
     AddrOf(Place),
-    /// An operator in the type of its operand.
+    /// An operator in the type to which its operand was promoted (C99 6.5.3.3).
     Un(UnOp, IntType, Boxed<Expr>),
-    /// An operator in the type to which its operands were brought, of a shift its first one.
+    /// An operator in the type to which its operands were brought (C99 6.3.1.8), or for a shift its first one
+    /// (6.5.7).
     Bin(BinOp, IntType, Boxed<Expr>, Boxed<Expr>),
     /// A conversion of an integer.
     Conv(IntType, Boxed<Expr>),
-    /// A cast of a pointer that adds qualifiers (C99 6.5.4). The value is the operand's.
+    /// A cast of a pointer to a type with the same qualifiers or more (C99 6.5.4). The value is the operand's.
+    /// Where no cast stands, qualifiers that are added (6.3.2.3, 2) leave nothing.
     Qualify(CType, Boxed<Expr>),
     /// A pointer moved by an integer (C99 6.5.6, 8), back where the flag is set.
     Move(Boxed<Expr>, Boxed<Expr>, bool),
     /// The difference of two pointers (C99 6.5.6, 9).
     Gap(Boxed<Expr>, Boxed<Expr>),
-    /// A comparison of two pointers (C99 6.5.8, 6.5.9).
+    /// A comparison of two pointers (C99 6.5.8, 6.5.9). `!` of a pointer is one by `==` with a null, and its
+    /// conversion to `_Bool` converts one by `!=`.
     Compare(BinOp, Boxed<Expr>, Boxed<Expr>),
     /// `&&` (C99 6.5.13).
     Both(Boxed<Expr>, Boxed<Expr>),
@@ -78,7 +81,7 @@ pub enum Expr {
     After(Place, bool),
     /// A call of what a pointer to a function points to (C99 6.5.2.2).
     Call(Boxed<Expr>, List<Expr>),
-    /// A call of an intrinsic, of `Restore` with its operand.
+    /// A call of an intrinsic. `Restore` has an operand, the others have none.
     Intr(Intr, Option<Boxed<Expr>>),
     /// A comma (C99 6.5.17).
     Seq(Boxed<Expr>, Boxed<Expr>),

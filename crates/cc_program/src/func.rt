@@ -19,7 +19,7 @@ pub struct Func {
     pub sig: Sig,
     /// Set where the function is an interrupt handler.
     pub entry: Option<Entry>,
-    /// How many of the first locals are parameters.
+    /// How many of the first locals are parameters. They keep the qualifiers of their own.
     pub params: u32,
     /// The objects of an activation, with their types and qualifiers.
     pub locals: List<(Name, CType)>,

@@ -1,7 +1,7 @@
 use crate::{CType, Leaf};
 use cc_num::{IntType, List, Name};
 
-/// A register of the chip: a name, or an address where it has none. Each access to it is volatile.
+/// A register of the chip: a name, or an address where it has none. Each access to it is volatile (C99 6.7.3, 6).
 #[derive(Debug, Drop)]
 pub struct Device {
     pub name: Option<Name>,

@@ -30,7 +30,8 @@ pub struct Roles {
 pub struct Program {
     pub target: Target,
     pub roles: Roles,
-    /// Those that are only named come first; another comes before each that contains it.
+    /// Those that are only named come first, the others in the order in which they are complete; so one comes
+    /// before each that contains it.
     pub structures: List<Structure>,
     pub devices: List<Device>,
     pub objects: List<Object>,

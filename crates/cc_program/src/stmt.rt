@@ -6,32 +6,34 @@ use cc_num::List;
 pub use comparisons::same_stmts;
 pub use copies::{copy_optional, copy_stmts};
 
-/// A statement (C99 6.8). A body that is a block is the list of the block's statements.
+/// A statement (C99 6.8). A body that is a block is the list of the block's statements. An initialiser of a local
+/// (6.7.8) is an assignment where it stands, one for each scalar.
 #[cycle(statements)]
 #[derive(Drop)]
 pub enum Stmt {
-    /// An expression statement.
+    /// An expression statement (C99 6.8.3).
     Do(Expr),
-    /// `if`, with the statements of both its arms.
+    /// `if`, with the statements of both its arms (C99 6.8.4.1).
     If(Expr, List<Stmt>, List<Stmt>),
     While(Expr, List<Stmt>),
     DoWhile(List<Stmt>, Expr),
-    /// `for`: what is done first, the test, what is done behind each turn, and the body.
+    /// `for`: what is done first, the test, what is done behind each turn, and the body (C99 6.8.5.3).
     For(Option<Expr>, Option<Expr>, Option<Expr>, List<Stmt>),
     Switch(Expr, List<Case>),
     Break,
     Continue,
     Return(Option<Expr>),
-    /// `;`
+    /// `;` (C99 6.8.3, 3).
     Empty,
     Block(List<Stmt>),
 }
 
-/// What stands behind labels of a `switch`, up to the next ones. It falls through into the next case.
+/// What stands behind labels of a `switch` (C99 6.8.4.2), up to the next ones. It falls through into the next case.
 #[cycle(statements)]
 #[derive(Drop)]
 pub struct Case {
     /// The constants of the labels, in order; `None` is `default`.
     pub labels: List<Option<i128>>,
+    /// The statements, but for an empty one right behind the labels.
     pub body: List<Stmt>,
 }

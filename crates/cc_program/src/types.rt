@@ -38,7 +38,7 @@ pub struct Sig {
 }
 
 /// A structure (C99 6.7.2.1): its tag and its members, in order. It has none exactly where it is
-/// only named, and so incomplete.
+/// only named, and so incomplete (6.2.5, 22).
 #[derive(Drop)]
 pub struct Structure {
     pub tag: Name,

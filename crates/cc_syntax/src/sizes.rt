@@ -7,7 +7,8 @@ ghost use Rattle.cc_syntax.specs.Layout.{scalar as scalar_of, aligned as aligned
 use cc_num::{Name, Target};
 use cc_program::{CType, Shape, Structure};
 
-/// How many bytes an object takes, and what divides the addresses at which it may stand.
+/// How many bytes an object takes, and what divides the addresses at which it may stand (C99 3.2): 1, 2
+/// or 4.
 #[derive(Clone, Copy)]
 pub struct Layout {
     pub size: u64,
@@ -36,7 +37,8 @@ fn aligned(align: u64, n: u64) -> u64
 }
 
 /// How many bytes an object of the type takes (C99 6.5.3.4). The type is a complete object type over
-/// structures of which each contains only those before it.
+/// structures of which each contains only those before it and has fewer than 2^32 members. Each type of an
+/// element or a member in it has at most 4,294,967,295 bytes.
 pub fn size_of(t: &CType, structures: &[Structure], target: &Target) -> u64
     requires { HasSize t.now structures.now target.now }
     ensures { result ≡ size_is t.now structures.now target.now }

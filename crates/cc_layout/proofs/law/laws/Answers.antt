@@ -1,4 +1,4 @@
-use Rattle.cc_layout.proofs.ExampleSeats.{three_seats, three_ram, const_seats, const_ram}
+use Rattle.cc_layout.proofs.ExampleSeats.{three_seats, three_ram, const_seats, const_ram, part_seats, part_ram}
 use Rattle.cc_layout.proofs.SeatLaws.{seat_numbers, seat_sizes, seats_placed, seats_lowest, ram_is_last}
 use Rattle.cc_layout.proofs.law.laws.Goals as goal
 
@@ -28,3 +28,9 @@ returns-clause-const_seats c = const_seats
 
 pub returns-clause-const_ram : goal.returns-clause-const_ram
 returns-clause-const_ram c = const_ram
+
+pub returns-clause-part_seats : goal.returns-clause-part_seats
+returns-clause-part_seats c = part_seats
+
+pub returns-clause-part_ram : goal.returns-clause-part_ram
+returns-clause-part_ram c = part_ram

@@ -34,12 +34,12 @@ loop-i-preserved c =
     let g = object_at c.all-object-items.result.now p.objects c.all-object-items.ensures i o c.object-item.is c.loop-i-test.true in
     elim c.if-takes_ram.branch [
       | then-takes_ram+in_ok-push w ↦
-      let layout = w.layout_of-layout.result in
-      let l = layout_is p w.all.result.now w.all.ensures o layout w.layout_of-layout.ensures in
-      let more = seated_more p i end c.loop-i.seats.items o layout l g (const_where (is_const o.ctype) (sym c.takes_ram.ensures ∙ w.if-takes_ram.true)) (object_small p c.requires i o g) c.loop-i.invariant in
-      rw (w.end-is, w.seats-is, w.in_ok-push.ensures.items, w.place_behind-at.ensures) more
+          let layout = w.layout_of-layout.result in
+          let l = layout_is p w.all.result.now w.all.ensures o layout w.layout_of-layout.ensures in
+          let more = seated_more p i end c.loop-i.seats.items o layout l g (const_where (is_const o.ctype) (sym c.takes_ram.ensures ∙ w.if-takes_ram.true)) (object_small p c.requires i o g) c.loop-i.invariant in
+          rw (w.end-is, w.seats-is, w.in_ok-push.ensures.items, w.place_behind-at.ensures) more
       | else-takes_ram w ↦
-      rw (w.end-is, w.seats-is) (seated_const p i end c.loop-i.seats.items o g (not_const_where (is_const o.ctype) (sym c.takes_ram.ensures ∙ w.if-takes_ram.false)) c.loop-i.invariant)
+          rw (w.end-is, w.seats-is) (seated_const p i end c.loop-i.seats.items o g (not_const_where (is_const o.ctype) (sym c.takes_ram.ensures ∙ w.if-takes_ram.false)) c.loop-i.invariant)
     ]
 
 pub returns : goal.returns

@@ -31,10 +31,10 @@ loop-object-preserved c =
     let g = object_at c.all-object-items.result.now p.objects c.all-object-items.ensures i o c.object-item.is c.loop-object-test.true in
     elim c.if-takes_ram.branch [
       | then-takes_ram w ↦
-      let layout = w.layout_of-layout.result in
-      let l = layout_is p w.all.result.now w.all.ensures o layout w.layout_of-layout.ensures in
-      subst (λ n. Ends p (i + 1) n) (sym (w.end-is ∙ ap (λ n. n + layout.size) w.place_behind.ensures))
-      (ends_more p i end o layout l g (const_where (is_const o.ctype) (sym c.takes_ram.ensures ∙ w.if-takes_ram.true)) (object_small p c.requires i o g) c.loop-object.invariant)
+          let layout = w.layout_of-layout.result in
+          let l = layout_is p w.all.result.now w.all.ensures o layout w.layout_of-layout.ensures in
+          subst (λ n. Ends p (i + 1) n) (sym (w.end-is ∙ ap (λ n. n + layout.size) w.place_behind.ensures))
+          (ends_more p i end o layout l g (const_where (is_const o.ctype) (sym c.takes_ram.ensures ∙ w.if-takes_ram.true)) (object_small p c.requires i o g) c.loop-object.invariant)
       | else-takes_ram w ↦ subst (λ n. Ends p (i + 1) n) (sym w.end-is) (ends_const p i end o g (not_const_where (is_const o.ctype) (sym c.takes_ram.ensures ∙ w.if-takes_ram.false)) c.loop-object.invariant)
     ]
 
