@@ -1,0 +1,4 @@
+pub mod Examples
+pub mod Packed
+pub mod Placing
+pub mod Search
