@@ -3,3 +3,4 @@ pub mod NormalNames
 pub mod Induction
 pub mod NormalStmts
 pub mod NormalLemmas
+pub mod RamLemmas

@@ -39,7 +39,7 @@ pub struct Func {
     pub body: List<Stmt>,
 }
 
-/// A whole program.
+/// A tiny program.
 #[derive(Debug, Drop)]
 pub struct Program {
     pub target: Target,

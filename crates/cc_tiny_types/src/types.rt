@@ -8,7 +8,7 @@ pub struct CType {
     pub shape: Shape,
 }
 
-/// A type without its qualifiers.
+/// A type without its qualifiers: that of a scalar, or what a function without a result returns.
 #[derive(Debug, Drop)]
 pub enum Shape {
     Void,
