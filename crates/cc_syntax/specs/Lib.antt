@@ -1,3 +1,17 @@
 pub mod Examples
 pub mod Layout
 pub mod Types
+pub mod Pairs
+pub mod SameTypes
+pub mod Kinds
+pub mod Values
+pub mod Operators
+pub mod Expressions
+pub mod Statements
+pub mod Initial
+pub mod Names
+pub mod Sound
+pub mod Folding
+pub mod Registers
+pub mod Forms
+pub mod Normal

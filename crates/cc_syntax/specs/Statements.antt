@@ -1,0 +1,102 @@
+-- Statements of a sound program (C99 6.8).
+use Rattle.std.specs.Prelude.{ℤ, Bool, true, false, not, ◌&&◌, List, [], ◌∷◌, Option, Some, None, is_some}
+use Rattle.std.specs.List.{list_all, list_any, flat_map}
+use Rattle.std.specs.Ordering.{int_eq}
+use Rattle.cc_num.specs.declared.int_type.IntType.{IntType}
+use Rattle.cc_num.specs.declared.target.Target.{Target}
+use Rattle.cc_num.specs.Integers.{is_value_of}
+use Rattle.cc_num.specs.Promotions.{promoted}
+use Rattle.cc_program.specs.declared.expr.Expr.{Expr}
+use Rattle.cc_program.specs.declared.func.Func.{Func}
+use Rattle.cc_program.specs.declared.program.Program.{Program}
+use Rattle.cc_program.specs.declared.stmt.Case.{Case, out-Case}
+use Rattle.cc_program.specs.declared.stmt.Stmt.{Stmt, fold-Stmt}
+use Rattle.cc_program.specs.declared.stmt.Stmt.TheOpen as is
+use Rattle.cc_program.specs.declared.types.Sig.{out-Sig}
+use Rattle.cc_syntax.specs.Expressions.{type_of}
+use Rattle.cc_syntax.specs.Values.{ValueType, NoValue, Integer, ToObject, ToFunction, is_scalar, is_void, scalar_value, takes_some}
+
+-- no label stands twice in a switch (6.8.4.2, 3); None is `default`
+abbrev pub same_label : Option ℤ → Option ℤ → Bool
+same_label None None = true
+same_label (Some m) (Some n) = int_eq m n
+same_label None (Some n) = false
+same_label (Some m) None = false
+
+abbrev pub are_apart : List (Option ℤ) → Bool
+are_apart [] = true
+are_apart (l ∷ ls) = not (list_any (same_label l) ls) && are_apart ls
+
+-- a label is a value of the operand's promoted type (6.8.4.2, 5)
+abbrev pub label_fits : Target → IntType → Option ℤ → Bool
+label_fits target t None = true
+label_fits target t (Some n) = is_value_of (promoted t target) target n
+
+abbrev pub labels_fit : Target → List (Option ℤ) → Option ValueType → Bool
+labels_fit target labels None = false
+labels_fit target labels (Some NoValue) = false
+labels_fit target labels (Some (Integer t)) = list_all (label_fits target t) labels
+labels_fit target labels (Some (ToObject constant volatile to)) = false
+labels_fit target labels (Some (ToFunction sig)) = false
+
+abbrev pub is_condition : Option ValueType → Bool
+is_condition None = false
+is_condition (Some v) = is_scalar v
+
+-- where a statement stands: whether `break` and `continue` may stand there (6.8.6.2, 6.8.6.3)
+abbrev pub Test : Type 0
+Test = Bool → Bool → Bool
+
+-- a case: its labels, of which there are some, and whether its statements are sound
+pub record Labelled : Type 0 where
+  pub labels : List (Option ℤ)
+  pub body : Test
+
+abbrev pub labels_of : List Case → List (Option ℤ)
+labels_of cases = flat_map (λ c. (out-Case c).labels) cases
+
+abbrev pub has_label : List (Option ℤ) → Bool
+has_label [] = false
+has_label (l ∷ ls) = true
+
+module _ (p : Program) (f : Func) where
+  abbrev pub typed : Expr → Option ValueType
+  typed e = type_of p f.locals e
+
+  abbrev pub is_typed : Option Expr → Bool
+  is_typed None = true
+  is_typed (Some e) = is_some (typed e)
+
+  abbrev pub is_test : Option Expr → Bool
+  is_test None = true
+  is_test (Some e) = is_condition (typed e)
+
+  -- a value exactly where the function has a result, and of its type (6.8.6.4, 1 and 3)
+  abbrev pub returns : Option Expr → Bool
+  returns None = is_void (out-Sig f.sig).result
+  returns (Some e) = takes_some (scalar_value (out-Sig f.sig).result) (typed e)
+
+  abbrev pub sound_step : is.Stmt-F Test Labelled → Test
+  sound_step (is.Do e) = λ breaks continues. is_some (typed e)
+  sound_step (is.If e a b) = λ breaks continues. is_condition (typed e) && (list_all (λ s. s breaks continues) a && list_all (λ s. s breaks continues) b)
+  sound_step (is.While e a) = λ breaks continues. is_condition (typed e) && list_all (λ s. s true true) a
+  sound_step (is.DoWhile a e) = λ breaks continues. is_condition (typed e) && list_all (λ s. s true true) a
+  sound_step (is.For first test step a) = λ breaks continues. is_typed first && (is_test test && (is_typed step && list_all (λ s. s true true) a))
+  sound_step (is.Switch e cases) = λ breaks continues.
+      labels_fit p.target (flat_map (λ c. c.labels) cases) (typed e)
+      && (are_apart (flat_map (λ c. c.labels) cases) && (list_all (λ c. has_label c.labels) cases && list_all (λ c. c.body true continues) cases))
+  sound_step is.Break = λ breaks continues. breaks
+  sound_step is.Continue = λ breaks continues. continues
+  sound_step (is.Return e) = λ breaks continues. returns e
+  sound_step is.Empty = λ breaks continues. true
+  sound_step (is.Block a) = λ breaks continues. list_all (λ s. s breaks continues) a
+
+  abbrev pub sound_case : is.Case-F Test Labelled → Labelled
+  sound_case c = record { labels = c.labels; body = λ breaks continues. list_all (λ s. s breaks continues) c.body }
+
+  -- a statement of the function
+  abbrev pub is_sound_stmt : Stmt → Test
+  is_sound_stmt s = fold-Stmt Test Labelled sound_step sound_case s
+
+  abbrev pub is_sound_body : List Stmt → Bool
+  is_sound_body body = list_all (λ s. is_sound_stmt s false false) body
