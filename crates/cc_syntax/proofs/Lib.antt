@@ -8,3 +8,7 @@ pub mod Members
 pub mod Shapes
 pub mod Places
 pub mod ExampleLayouts
+pub mod KindRolls
+pub mod PartLemmas
+pub mod SizeLemmas
+pub mod StructureLemmas

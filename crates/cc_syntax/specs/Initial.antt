@@ -65,6 +65,13 @@ abbrev pub names : ValueType → ℕ → ℕ → Option PlaceType → Bool
 names to index count None = false
 names to index count (Some a) = names_element to index count a || names_whole to index count a
 
+-- zero or null
+abbrev pub is_zero : Leaf → Bool
+is_zero (leaf.Int n) = int_eq n (pos 0)
+is_zero (leaf.Place address.Null) = true
+is_zero (leaf.Place (address.Func f)) = false
+is_zero (leaf.Place (address.At object path index count)) = false
+
 module _ (p : Program) where
   abbrev pub static_place : Root → Option PlaceType
   static_place (root.Static i) = option_map (λ o. object_place o.ctype) (slice_get p.objects i)
@@ -92,13 +99,6 @@ module _ (p : Program) where
     pub data AreMembers : List Named → List Leaf → List Leaf → Type 0 where
       NoMember : (rest : List Leaf) → AreMembers [] rest rest
       Member : (m : Named) (ms : List Named) (leaves between rest : List Leaf) → AreLeaves m.1 leaves between → AreMembers ms between rest → AreMembers (m ∷ ms) leaves rest
-
-  -- zero or null
-  abbrev pub is_zero : Leaf → Bool
-  is_zero (leaf.Int n) = int_eq n (pos 0)
-  is_zero (leaf.Place address.Null) = true
-  is_zero (leaf.Place (address.Func f)) = false
-  is_zero (leaf.Place (address.At object path index count)) = false
 
   -- there are leaves exactly where one of them is not zero (6.7.8, 10)
   abbrev pub IsInitial : CType → List Leaf → Type 0

@@ -15,3 +15,4 @@ pub mod Folding
 pub mod Registers
 pub mod Forms
 pub mod Normal
+pub mod Sizes

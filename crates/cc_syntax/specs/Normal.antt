@@ -1,6 +1,6 @@
 -- Programs in normal form: each statement has at most one access to a cell that is no register, its operands
 -- are pure, and the printed text gives the program back.
-use Rattle.std.specs.Prelude.{◌≡◌, ℕ, ◌+◌, pos, Bool, true, false, not, ◌&&◌, ◌||◌, nat_eq, nat_lt, List, [], ◌∷◌, ◌++◌, length, Option, Some, None, is_some, if◌then◌else◌}
+use Rattle.std.specs.Prelude.{◌≡◌, ℕ, ◌+◌, pos, Bool, true, false, not, ◌&&◌, ◌||◌, nat_eq, nat_lt, List, [], ◌∷◌, ◌++◌, length, Option, Some, None, is_some, if◌then◌else◌, map}
 use Rattle.std.specs.List.{list_all, flat_map, filter}
 use Rattle.std.specs.Ordering.{int_eq}
 use Rattle.cc_num.specs.declared.int_type.IntType.TheVariants as int
@@ -19,6 +19,25 @@ use Rattle.cc_syntax.specs.Forms.{Form, ConstantForm, FunctionForm, LoadForm, As
 use Rattle.cc_syntax.specs.Registers.{is_register}
 use Rattle.cc_syntax.specs.SameTypes.{same_int}
 use Rattle.cc_syntax.specs.Sound.{IsSound, is_numbered}
+
+-- of a place with pure operands: it is a register, it is another
+abbrev pub is_register_in : Option Bool → Bool
+is_register_in None = false
+is_register_in (Some register) = register
+
+abbrev pub is_other_in : Option Bool → Bool
+is_other_in None = false
+is_other_in (Some register) = not register
+
+-- `1` of type int
+abbrev pub is_one : Form → Bool
+is_one (ConstantForm n t) = int_eq n (pos 1) && same_int t int.Int
+is_one FunctionForm = false
+is_one (LoadForm a) = false
+is_one (AssignForm a e) = false
+is_one (CallForm g args) = false
+is_one (IntrinsicForm a) = false
+is_one OtherForm = false
 
 module _ (target : Target) (f : Func) where
   -- a pure expression: operators over constants, nulls, addresses and registers. What it is as a constant
@@ -64,14 +83,6 @@ module _ (target : Target) (f : Func) where
 
   abbrev pub is_pure : Expr → Bool
   is_pure e = is_some (pure_of e)
-
-  abbrev pub is_register_in : Option Bool → Bool
-  is_register_in None = false
-  is_register_in (Some register) = register
-
-  abbrev pub is_other_in : Option Bool → Bool
-  is_other_in None = false
-  is_other_in (Some register) = not register
 
   abbrev pub is_pure_operand : Option Expr → Bool
   is_pure_operand None = true
@@ -123,16 +134,6 @@ module _ (target : Target) (f : Func) where
   is_effect (ConstantForm n t) = false
   is_effect OtherForm = false
 
-  -- `1` of type int
-  abbrev pub is_one : Form → Bool
-  is_one (ConstantForm n t) = int_eq n (pos 1) && same_int t int.Int
-  is_one FunctionForm = false
-  is_one (LoadForm a) = false
-  is_one (AssignForm a e) = false
-  is_one (CallForm g args) = false
-  is_one (IntrinsicForm a) = false
-  is_one OtherForm = false
-
   -- a statement in normal form; of loops there is `while (1)` alone, and no statement is a block or empty
   abbrev pub normal_step : is.Stmt-F Bool Bool → Bool
   normal_step (is.Do e) = is_effect (form_of e)
@@ -149,6 +150,9 @@ module _ (target : Target) (f : Func) where
 
   abbrev pub is_normal_stmt : Stmt → Bool
   is_normal_stmt s = fold-Stmt Bool Bool normal_step (λ c. list_all (λ b. b) c.body) s
+
+abbrev pub is_normal_body : Target → Func → Bool
+is_normal_body target f = list_all (λ b. b) (map (is_normal_stmt target f) f.body)
 
 -- devices in the order of the text: those with names are declared first, the others are numbered where they
 -- first stand in a function
@@ -203,8 +207,11 @@ devices_step (is.Block a) = flat_map (λ ds. ds) a
 abbrev pub devices_of : Stmt → List ℕ
 devices_of s = fold-Stmt (List ℕ) (List ℕ) devices_step (λ c. flat_map (λ ds. ds) c.body) s
 
+abbrev pub devices_in : List Stmt → List ℕ
+devices_in list = flat_map (λ ds. ds) (map devices_of list)
+
 abbrev pub devices_in_text : Program → List ℕ
-devices_in_text p = flat_map (λ f. flat_map devices_of f.body) p.funcs
+devices_in_text p = flat_map (λ f. devices_in f.body) p.funcs
 
 -- numbers in the order of their first appearance: each is below `next`, and so was there before, or is it;
 -- what is next behind all of them
@@ -221,5 +228,5 @@ devices_in_order p = names_before_numbers p.devices && is_number (length p.devic
 
 pub record IsNormal (p : Program) : Type 0 where
   pub sound : IsSound p
-  pub bodies : list_all (λ f. list_all (is_normal_stmt p.target f) f.body) p.funcs ≡ true
+  pub bodies : list_all (λ f. is_normal_body p.target f) p.funcs ≡ true
   pub devices : devices_in_order p ≡ true

@@ -1,5 +1,5 @@
 -- Sound programs: what reading C makes, and what each pass is given.
-use Rattle.std.specs.Prelude.{◌≡◌, ℕ, ◌*◌, ◌^◌, Bool, true, false, not, ◌&&◌, ◌||◌, nat_eq, nat_lt, List, [], ◌∷◌, ◌++◌, All, length, drop, Option, Some, None, slice_get, codes, if◌then◌else◌}
+use Rattle.std.specs.Prelude.{◌≡◌, ℕ, ◌*◌, ◌^◌, Bool, true, false, not, ◌&&◌, ◌||◌, nat_eq, nat_lt, List, [], ◌∷◌, ◌++◌, All, length, drop, Option, Some, None, slice_get, codes, if◌then◌else◌, map}
 use Rattle.std.specs.List.{list_all, list_any}
 use Rattle.std.specs.Str.{bytes_eq}
 use Rattle.cc_num.specs.declared.int_type.IntType.TheVariants as int
@@ -63,6 +63,55 @@ abbrev pub devices_differ : List Device → Bool
 devices_differ [] = true
 devices_differ (d ∷ ds) = not (list_any (is_same_device d) ds) && devices_differ ds
 
+-- functions
+abbrev pub takes_nothing : Func → Bool
+takes_nothing f = nat_eq (length (out-Sig f.sig).params) 0
+
+abbrev pub is_plain_void : CType → Bool
+is_plain_void t = is_unqualified t && is_void t
+
+abbrev pub is_int_shape : shape.Shape-F Shape CType Sig → Bool
+is_int_shape (shape.Int t) = same_int t int.Int
+is_int_shape shape.Void = false
+is_int_shape (shape.Pointer to) = false
+is_int_shape (shape.Array of n) = false
+is_int_shape (shape.Struct s) = false
+is_int_shape (shape.Func sig) = false
+
+abbrev pub is_plain_int : CType → Bool
+is_plain_int t = is_unqualified t && is_int_shape (out-Shape t.shape)
+
+-- main is `int main(void)` or `void main(void)` (5.1.2.2.1); a handler is `void f(void)` and not main
+abbrev pub main_name : List ℕ
+main_name = codes "main"
+
+abbrev pub is_main : Func → Bool
+is_main f = bytes_eq f.name main_name
+
+abbrev pub is_handler : Option Entry → Bool
+is_handler None = false
+is_handler (Some entry.Signal) = true
+is_handler (Some entry.Interrupt) = true
+is_handler (Some entry.Listed) = true
+
+abbrev pub form_fits : Func → Bool
+form_fits f =
+    if is_main f then not (is_handler f.entry) && (takes_nothing f && (is_plain_int (out-Sig f.sig).result || is_plain_void (out-Sig f.sig).result))
+    else (if is_handler f.entry then takes_nothing f && is_plain_void (out-Sig f.sig).result else true)
+
+abbrev pub is_main_there : Option Func → Bool
+is_main_there None = false
+is_main_there (Some f) = is_main f
+
+-- the first locals are the parameters, with their types (6.9.1, 7 and 9); a local that is none is not const
+abbrev pub are_parameters : List CType → List Named → Bool
+are_parameters [] locals = true
+are_parameters (t ∷ ts) [] = false
+are_parameters (t ∷ ts) (l ∷ ls) = same_shape t.shape l.1.shape && are_parameters ts ls
+
+abbrev pub is_automatic : Named → Bool
+is_automatic l = not (is_const l.1)
+
 module _ (p : Program) where
   abbrev pub kind_in : CType → Option Kind
   kind_in t = kind_of p.structures (length p.structures) p.target t
@@ -81,63 +130,12 @@ module _ (p : Program) where
   entry_fits f (Some entry.Interrupt) = true
   entry_fits f (Some entry.Listed) = is_handler_name f.name
 
-  abbrev pub has_name : List ℕ → Func → Bool
-  has_name name f = bytes_eq name f.name
-
   -- each handler of the roles is a function of the program
   abbrev pub handlers_are_there : Bool
-  handlers_are_there = list_all (λ h. list_any (has_name h) p.funcs) p.roles.handlers
-
-  abbrev pub takes_nothing : Func → Bool
-  takes_nothing f = nat_eq (length (out-Sig f.sig).params) 0
-
-  abbrev pub is_plain_void : CType → Bool
-  is_plain_void t = is_unqualified t && is_void t
-
-  abbrev pub is_int_shape : shape.Shape-F Shape CType Sig → Bool
-  is_int_shape (shape.Int t) = same_int t int.Int
-  is_int_shape shape.Void = false
-  is_int_shape (shape.Pointer to) = false
-  is_int_shape (shape.Array of n) = false
-  is_int_shape (shape.Struct s) = false
-  is_int_shape (shape.Func sig) = false
-
-  abbrev pub is_plain_int : CType → Bool
-  is_plain_int t = is_unqualified t && is_int_shape (out-Shape t.shape)
-
-  -- main is `int main(void)` or `void main(void)` (5.1.2.2.1); a handler is `void f(void)` and not main
-  abbrev pub main_name : List ℕ
-  main_name = codes "main"
-
-  abbrev pub is_main : Func → Bool
-  is_main f = bytes_eq f.name main_name
-
-  abbrev pub is_handler : Option Entry → Bool
-  is_handler None = false
-  is_handler (Some entry.Signal) = true
-  is_handler (Some entry.Interrupt) = true
-  is_handler (Some entry.Listed) = true
-
-  abbrev pub form_fits : Func → Bool
-  form_fits f =
-      if is_main f then not (is_handler f.entry) && (takes_nothing f && (is_plain_int (out-Sig f.sig).result || is_plain_void (out-Sig f.sig).result))
-      else (if is_handler f.entry then takes_nothing f && is_plain_void (out-Sig f.sig).result else true)
-
-  abbrev pub is_main_there : Option Func → Bool
-  is_main_there None = false
-  is_main_there (Some f) = is_main f
-
-  -- the first locals are the parameters, with their types (6.9.1, 7 and 9); a local that is none is not const
-  abbrev pub are_parameters : List CType → List Named → Bool
-  are_parameters [] locals = true
-  are_parameters (t ∷ ts) [] = false
-  are_parameters (t ∷ ts) (l ∷ ls) = same_shape t.shape l.1.shape && are_parameters ts ls
+  handlers_are_there = list_all (λ h. list_any (bytes_eq h) (map (λ f. f.name) p.funcs)) p.roles.handlers
 
   abbrev pub is_local : Named → Bool
   is_local l = is_object_type (kind_in l.1)
-
-  abbrev pub is_automatic : Named → Bool
-  is_automatic l = not (is_const l.1)
 
   pub record IsFunc (f : Func) : Type 0 where
     pub result : is_result (kind_in (out-Sig f.sig).result) ≡ true

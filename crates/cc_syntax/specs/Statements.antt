@@ -1,5 +1,5 @@
 -- Statements of a sound program (C99 6.8).
-use Rattle.std.specs.Prelude.{ℤ, Bool, true, false, not, ◌&&◌, List, [], ◌∷◌, Option, Some, None, is_some}
+use Rattle.std.specs.Prelude.{ℤ, Bool, true, false, not, ◌&&◌, List, [], ◌∷◌, Option, Some, None, is_some, map}
 use Rattle.std.specs.List.{list_all, list_any, flat_map}
 use Rattle.std.specs.Ordering.{int_eq}
 use Rattle.cc_num.specs.declared.int_type.IntType.{IntType}
@@ -99,4 +99,4 @@ module _ (p : Program) (f : Func) where
   is_sound_stmt s = fold-Stmt Test Labelled sound_step sound_case s
 
   abbrev pub is_sound_body : List Stmt → Bool
-  is_sound_body body = list_all (λ s. is_sound_stmt s false false) body
+  is_sound_body body = list_all (λ g. g false false) (map is_sound_stmt body)

@@ -6,11 +6,14 @@ ghost use Rattle.cc_program.specs.declared.types.Shape.{Array, Struct};
 ghost use Rattle.cc_program.specs.declared.types.Structure.{Structure};
 ghost use Rattle.cc_syntax.specs.declared.sizes.Layout.{Layout};
 ghost use Rattle.cc_syntax.specs.Examples.{wide, packed, char, integer, array, struct, mixed, nested, both};
-ghost use Rattle.cc_syntax.specs.Layout.{IsAlign, ArePlaced, NoneAbove, places_from, structure, layout_of, size_of, align_of, member_layouts};
+ghost use Rattle.cc_syntax.specs.Layout.{IsAlign, ArePlaced, NoneAbove, places_from, structure, layout_of, size_of, align_of, member_layouts, HasSizes};
+ghost use Rattle.cc_program.specs.declared.program.Program.{Program};
+ghost use Rattle.cc_syntax.specs.Normal.{IsNormal};
+ghost use Rattle.cc_syntax.specs.Sound.{IsSound};
 ghost use Rattle.cc_syntax.specs.Types.{IsInOrder};
 
-/// What the definition of sizes and alignments keeps of C: laws over all types and targets, and layouts
-/// that are known. The call does nothing.
+/// What the definitions of sizes, of sound programs and of normal form keep: laws over all types, targets
+/// and programs, and layouts that are known. The call does nothing.
 pub fn laws()
     // An array's elements stand at their alignment, which is 1, 2 or 4.
     ensures size_is_multiple { (t : CType) (s : List Structure) (c : OfTarget) → size_of t s c % align_of t s c ≡ 0 }
@@ -26,6 +29,10 @@ pub fn laws()
     ensures placed { (n : ℕ) (objects : List Layout) → All (λ o. IsAlign o.align) objects → ArePlaced n objects (places_from n objects) }
     ensures lowest { (n : ℕ) (objects : List Layout) (places : List ℕ) → All (λ o. IsAlign o.align) objects →
         ArePlaced n objects places → NoneAbove (places_from n objects) places }
+
+    // A program in normal form is sound, and the objects of a sound program have sizes.
+    ensures normal_is_sound { (p : Program) → IsNormal p → IsSound p }
+    ensures sound_has_sizes { (p : Program) → IsSound p → HasSizes p }
 
     // char, int, char at the greatest alignment 4 and at 1.
     ensures offsets { places_from 0 (member_layouts mixed.members [] wide) ≡ 0 ∷ 4 ∷ 8 ∷ [] }

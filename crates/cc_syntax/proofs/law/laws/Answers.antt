@@ -4,6 +4,7 @@ use Rattle.cc_syntax.specs.Layout.{IsAlign}
 use Rattle.cc_syntax.proofs.ExampleLayouts.{offsets, padded, unpadded, array_of_structures, nested_offsets, large}
 use Rattle.cc_syntax.proofs.Places.{each_from_all, placed, lowest}
 use Rattle.cc_syntax.proofs.Shapes.{layout-Array, layout-structure}
+use Rattle.cc_syntax.proofs.StructureLemmas.{sound_sizes}
 use Rattle.cc_syntax.proofs.Whole.{whole}
 use Rattle.cc_syntax.proofs.law.laws.Goals as goal
 
@@ -24,6 +25,12 @@ returns-clause-placed c = λ n objects all. placed n objects (each_from_all (λ 
 
 pub returns-clause-lowest : goal.returns-clause-lowest
 returns-clause-lowest c = λ n objects places all h. lowest n objects places (each_from_all (λ (o : Layout). IsAlign o.align) objects all) h
+
+pub returns-clause-normal_is_sound : goal.returns-clause-normal_is_sound
+returns-clause-normal_is_sound c = λ p h. h.sound
+
+pub returns-clause-sound_has_sizes : goal.returns-clause-sound_has_sizes
+returns-clause-sound_has_sizes c = sound_sizes
 
 pub returns-clause-offsets : goal.returns-clause-offsets
 returns-clause-offsets c = offsets
