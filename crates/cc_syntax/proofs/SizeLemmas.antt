@@ -166,8 +166,8 @@ module _ (structures : List Structure) (count : ℕ) (target : Target) (sized : 
   pub has_bytes : (t : CType) → Claim t
   has_bytes = by_type Claim (λ s. Unit {0})
       (λ constant volatile x h k n e b.
-          let u = unqualified (constant || volatile) (shape_kind structures count target (parts_kind structures count target x)) k n (sym (kind-roll structures count target constant volatile x) ∙ e) b in
-          shape_bytes constant volatile x h u.0 n u.1 u.2)
+      let u = unqualified (constant || volatile) (shape_kind structures count target (parts_kind structures count target x)) k n (sym (kind-roll structures count target constant volatile x) ∙ e) b in
+      shape_bytes constant volatile x h u.0 n u.1 u.2)
       (λ x h. tt)
 
   -- what the code of sizes asks of a structure type

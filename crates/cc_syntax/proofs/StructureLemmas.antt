@@ -178,8 +178,8 @@ module _ (count : ℕ) (target : Target) where
       are_structures (take i structures) count target (drop i structures) ≡ (is_structure (take i structures) count target s && are_structures (take (i + 1) structures) count target (drop (i + 1) structures))
   structures_from structures i s h e =
       rw add-one (
-        ap (are_structures (take i structures) count target) (dropped structures i s h e)
-        ∙ ap (λ ss. is_structure (take i structures) count target s && are_structures ss count target (drop (suc i) structures)) (taken structures i s h e)
+      ap (are_structures (take i structures) count target) (dropped structures i s h e)
+      ∙ ap (λ ss. is_structure (take i structures) count target s && are_structures ss count target (drop (suc i) structures)) (taken structures i s h e)
       )
 
 -- what has a size

@@ -1,5 +1,5 @@
 -- The first values of static objects (C99 6.7.8, 6.6).
-use Rattle.std.specs.Prelude.{◌≡◌, ℕ, suc, ℤ, pos, Bool, true, false, ◌&&◌, ◌||◌, ◌⊎◌, nat_eq, nat_le, nat_lt, List, [], ◌∷◌, Option, Some, None, option_map, slice_get, if◌then◌else◌}
+use Rattle.std.specs.Prelude.{◌≡◌, ℕ, suc, ℤ, pos, Bool, true, false, ◌&&◌, ◌||◌, ◌⊎◌, nat_eq, nat_le, nat_lt, List, [], ◌∷◌, Option, Some, None, option_map, slice_get, if◌then◌else◌, not}
 use Rattle.std.specs.List.{list_all}
 use Rattle.std.specs.Ordering.{int_eq}
 use Rattle.cc_num.specs.declared.int_type.IntType.{IntType}
@@ -54,16 +54,23 @@ abbrev pub place_at : List Structure → List Part → PlaceType → Option Plac
 place_at structures [] a = Some a
 place_at structures (step ∷ path) a = of_one (step_into structures step a) (place_at structures path)
 
--- an address behind a place: of an element of the array there, or of what is there, an array of one
+-- an address behind a place: of an element of the array there, or of what is there, an array of one where it
+-- is no element itself (6.5.6, 7)
+abbrev pub leads_to_element : List Part → Bool
+leads_to_element [] = false
+leads_to_element (part.Index i ∷ []) = true
+leads_to_element (part.Member m ∷ []) = false
+leads_to_element (step ∷ next ∷ path) = leads_to_element (next ∷ path)
+
 abbrev pub names_element : ValueType → ℕ → ℕ → PlaceType → Bool
 names_element to index count a = is_bound count (bound_of a) && (nat_le index count && takes_some (Some to) (of_one (element_of a) address_of))
 
-abbrev pub names_whole : ValueType → ℕ → ℕ → PlaceType → Bool
-names_whole to index count a = nat_eq count 1 && (nat_le index 1 && takes_some (Some to) (address_of a))
+abbrev pub names_whole : ValueType → List Part → ℕ → ℕ → PlaceType → Bool
+names_whole to path index count a = not (leads_to_element path) && (nat_eq count 1 && (nat_le index 1 && takes_some (Some to) (address_of a)))
 
-abbrev pub names : ValueType → ℕ → ℕ → Option PlaceType → Bool
-names to index count None = false
-names to index count (Some a) = names_element to index count a || names_whole to index count a
+abbrev pub names : ValueType → List Part → ℕ → ℕ → Option PlaceType → Bool
+names to path index count None = false
+names to path index count (Some a) = names_element to index count a || names_whole to path index count a
 
 -- zero or null
 abbrev pub is_zero : Leaf → Bool
@@ -81,7 +88,7 @@ module _ (p : Program) where
   abbrev pub is_address : ValueType → Address → Bool
   is_address to address.Null = true
   is_address to (address.Func f) = takes_some (Some to) (function_type (slice_get p.funcs f))
-  is_address to (address.At object path index count) = names to index count (of_one (static_place object) (place_at p.structures path))
+  is_address to (address.At object path index count) = names to path index count (of_one (static_place object) (place_at p.structures path))
 
   mutual
     -- leaves for the scalars of a type, in order of path, in front of further ones

@@ -112,7 +112,7 @@ first_of (Some a) b = Some a
 abbrev pub null_type : Program → CType → Option ValueType
 null_type p t = first_of (void_pointer_in (is_unqualified t) (out-Shape t.shape)) (pointer_type p t)
 
--- the address of a function, which no handler's is taken of
+-- the address of a function; that of a handler is never taken
 abbrev pub unless_entry : Option Entry → Sig → Option ValueType
 unless_entry None sig = Some (ToFunction sig)
 unless_entry (Some entry) sig = None
@@ -184,7 +184,8 @@ gap_type target a b = when (point_alike a b) (Integer (difference_type target))
 abbrev pub comparison_type : BinOp → ValueType → ValueType → Option ValueType
 comparison_type o a b = when (is_comparison o && point_alike a b) (Integer int.Int)
 
--- conditions (6.5.13 to 6.5.15); where two arms have no common type, nothing uses what they give
+-- conditions (6.5.13 to 6.5.15); a cast to void leaves no node, so the arms of a `?:` whose value nothing uses
+-- may have any types
 abbrev pub logical_type : ValueType → ValueType → Option ValueType
 logical_type a b = when (is_scalar a && is_scalar b) (Integer int.Int)
 

@@ -5,7 +5,6 @@ use Rattle.std.specs.Ordering.{int_eq}
 use Rattle.cc_num.specs.declared.int_type.IntType.{IntType}
 use Rattle.cc_num.specs.declared.target.Target.{Target}
 use Rattle.cc_num.specs.Integers.{is_value_of}
-use Rattle.cc_num.specs.Promotions.{promoted}
 use Rattle.cc_program.specs.declared.expr.Expr.{Expr}
 use Rattle.cc_program.specs.declared.func.Func.{Func}
 use Rattle.cc_program.specs.declared.program.Program.{Program}
@@ -14,6 +13,7 @@ use Rattle.cc_program.specs.declared.stmt.Stmt.{Stmt, fold-Stmt}
 use Rattle.cc_program.specs.declared.stmt.Stmt.TheOpen as is
 use Rattle.cc_program.specs.declared.types.Sig.{out-Sig}
 use Rattle.cc_syntax.specs.Expressions.{type_of}
+use Rattle.cc_syntax.specs.Operators.{is_promoted}
 use Rattle.cc_syntax.specs.Values.{ValueType, NoValue, Integer, ToObject, ToFunction, is_scalar, is_void, scalar_value, takes_some}
 
 -- no label stands twice in a switch (6.8.4.2, 3); None is `default`
@@ -27,15 +27,15 @@ abbrev pub are_apart : List (Option ℤ) → Bool
 are_apart [] = true
 are_apart (l ∷ ls) = not (list_any (same_label l) ls) && are_apart ls
 
--- a label is a value of the operand's promoted type (6.8.4.2, 5)
+-- the operand is promoted, and a label is a value of its type (6.8.4.2, 5)
 abbrev pub label_fits : Target → IntType → Option ℤ → Bool
 label_fits target t None = true
-label_fits target t (Some n) = is_value_of (promoted t target) target n
+label_fits target t (Some n) = is_value_of t target n
 
 abbrev pub labels_fit : Target → List (Option ℤ) → Option ValueType → Bool
 labels_fit target labels None = false
 labels_fit target labels (Some NoValue) = false
-labels_fit target labels (Some (Integer t)) = list_all (label_fits target t) labels
+labels_fit target labels (Some (Integer t)) = is_promoted target t && list_all (label_fits target t) labels
 labels_fit target labels (Some (ToObject constant volatile to)) = false
 labels_fit target labels (Some (ToFunction sig)) = false
 
