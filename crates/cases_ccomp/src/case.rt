@@ -11,8 +11,8 @@ const SOURCE: &str = "s.c";
 /// The name of the output.
 const OUTPUT: &str = "o.c";
 
-/// The most bytes of an output that is printed.
-const OUTPUT_LIMIT: u64 = 1 << 20;
+/// The most bytes of a file that is printed.
+const FILE_LIMIT: u64 = 1 << 20;
 
 /// What the command is run over.
 #[derive(Drop)]
@@ -84,13 +84,34 @@ impl Case {
         }
         println!(rt; "calls {} faults {}", store.calls, store.faults)?;
         store.failing.clear();
-        match read_whole(alloc, &mut store, OUTPUT, OUTPUT_LIMIT) {
+        match read_whole(alloc, &mut store, OUTPUT, FILE_LIMIT) {
             Ok(text) => {
                 println!(rt; "output")?;
+                io::writer(rt).write_all(&text)?;
+            }
+            Err(_) => println!(rt; "no output")?,
+        }
+        let Some(table) = table(&words) else {
+            return Ok(());
+        };
+        match read_whole(alloc, &mut store, table, FILE_LIMIT) {
+            Ok(text) => {
+                println!(rt; "table")?;
                 io::writer(rt).write_all(&text)
             }
-            Err(_) => println!(rt; "no output"),
+            Err(_) => println!(rt; "no table"),
         }
+    }
+}
+
+/// The table, where the words name one.
+fn table(words: &[String]) -> Option<&str> {
+    match words {
+        [_, _, _, table, _, _] => match table.as_str() {
+            "-" => None,
+            name => Some(name),
+        },
+        _ => None,
     }
 }
 

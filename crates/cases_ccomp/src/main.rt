@@ -8,7 +8,8 @@
 //!     run WORD..        does what the words say
 //!
 //! and of a run it prints the status, the line that explains it, the calls of the store and its faults,
-//! and what the output `o.c` holds then. A quoted text ends at the last quote of its line.
+//! and what the output `o.c` holds then, and the table where the words name one. A quoted text ends at the
+//! last quote of its line.
 #![tactic(auto)]
 
 mod case;

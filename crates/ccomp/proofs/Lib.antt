@@ -1,1 +1,4 @@
+pub mod CommandLaws
+pub mod Counts
+pub mod OutputLemmas
 pub mod PackLaws

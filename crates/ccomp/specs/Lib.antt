@@ -1,3 +1,4 @@
 pub mod Command
 pub mod Headline
+pub mod Outputs
 pub mod Statuses

@@ -2,6 +2,7 @@
 #![tactic(auto)]
 
 mod command;
+mod outputs;
 mod pack;
 mod source;
 mod status;

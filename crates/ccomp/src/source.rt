@@ -17,6 +17,7 @@ pub fn read(alloc: Global, text: &[u8]) -> Result<Option<Program>, ReadRefusal>
     requires { length text.now < 2 ^ 32 }
     ensures found { IfOk result (λ r. IfSome r (λ p. IsTinyText text.now p)) }
     ensures only { IfOk result (λ r. (p : ProgramOf) → IsTinyText text.now p → r ≡ Some p) }
+    ensures few { IfOk result (λ r. IfSome r (λ p. length p.objects < 2 ^ 32)) }
     ensures sentence { IfOk result (λ _. HasSentence text.now) }
     ensures refused { IfErr result (IsRefused text.now) }
 {
