@@ -12,3 +12,4 @@ pub mod KindRolls
 pub mod PartLemmas
 pub mod SizeLemmas
 pub mod StructureLemmas
+pub mod ExamplePrograms

@@ -10,7 +10,7 @@ use Rattle.cc_syntax.specs.Kinds.{Kind, bytes_in, is_small, is_object_kind, is_o
 use Rattle.cc_program.specs.declared.program.Program.{Program}
 use Rattle.cc_syntax.specs.Layout.{size_of, HasSmallParts, IsSmall, HasSizes}
 use Rattle.cc_syntax.specs.Names.{are_names, local_names}
-use Rattle.cc_syntax.specs.Sound.{is_few, is_member, is_structure, are_structures, is_object, IsSound}
+use Rattle.cc_syntax.specs.Sound.{have_ids, is_member, is_structure, are_structures, is_object, IsSound}
 use Rattle.cc_syntax.specs.Types.{Named, is_complete}
 use Rattle.cc_syntax.specs.declared.sizes.Layout.{Layout}
 use Rattle.cc_syntax.proofs.Prefixes.{both_true, layout-taken, complete-taken}
@@ -49,7 +49,7 @@ below_or_at (suc k) (suc i) h = elim (below_or_at k i (omega (arith, h))) [ inl 
 small_of : (n : ℕ) → is_small n ≡ true → n ≤ 4294967295
 small_of n h = grind arith
 
-few_of : (n : ℕ) → is_few n ≡ true → n < 2 ^ 32
+few_of : (n : ℕ) → have_ids n ≡ true → n < 2 ^ 32
 few_of n h = grind arith
 
 some_same : {A : Type 0} → {x y : A} → Some x ≡ Some y → x ≡ y
@@ -95,11 +95,11 @@ module _ (structures : List Structure) (count : ℕ) (target : Target) (sized : 
 
 module _ (structures : List Structure) (i : ℕ) (s : Structure) (count : ℕ) (target : Target) (sized : AreSized (take i structures) target)
     (last : slice_get structures i ≡ Some s) (long : length structures ≡ i + 1) (good : is_structure (take i structures) count target s ≡ true) where
-  few : is_few (length s.members) ≡ true
-  few = (both_true (is_few (length s.members)) _ good).0
+  few : have_ids (length s.members) ≡ true
+  few = (both_true (have_ids (length s.members)) _ good).0
 
   members : list_all (is_member (take i structures) count target) s.members ≡ true
-  members = (both_true (are_names (local_names s.members)) _ (both_true (is_few (length s.members)) _ good).1).1
+  members = (both_true (are_names (local_names s.members)) _ (both_true (have_ids (length s.members)) _ good).1).1
 
   -- over the structures before it, what its members are
   member_objects : All (λ m. IsObject (take i structures) target m.1) s.members
@@ -151,7 +151,7 @@ module _ (structures : List Structure) (i : ℕ) (s : Structure) (count : ℕ) (
 
 -- one more structure behind others, and all of them
 module _ (count : ℕ) (target : Target) where
-  none_sized : AreSized [] target
+  pub none_sized : AreSized [] target
   none_sized = record {
     in_order = λ k r g. absurd (cc);
     short = λ k d b. absurd (omega (arith, b));
@@ -181,6 +181,13 @@ module _ (count : ℕ) (target : Target) where
       ap (are_structures (take i structures) count target) (dropped structures i s h e)
       ∙ ap (λ ss. is_structure (take i structures) count target s && are_structures ss count target (drop (suc i) structures)) (taken structures i s h e)
       )
+
+  pub sized_more : (structures : List Structure) (i : ℕ) (s : Structure) → i < length structures → s ≡ get_or structures i s → AreSized (take i structures) target → is_structure (take i structures) count target s ≡ true → AreSized (take (i + 1) structures) target
+  sized_more structures i s h e sized good = rw add-one (subst (λ ss. AreSized ss target) (taken structures i s h e) (one_more (take i structures) s sized good))
+
+  -- an object of a type that has passed the test has a complete type
+  pub object_complete : (structures : List Structure) (t : CType) → AreSized structures target → is_object_type (kind_of structures count target t) ≡ true → is_complete structures t ≡ true
+  object_complete structures t sized h = (object_tested structures count target sized t h).complete
 
 -- what has a size
 pub object_sized : (t : CType) (structures : List Structure) (target : Target) → AreSized structures target → IsObject structures target t → IsSmall t structures target

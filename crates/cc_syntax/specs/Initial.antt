@@ -19,9 +19,10 @@ use Rattle.cc_program.specs.declared.value.Part.TheVariants as part
 use Rattle.cc_program.specs.declared.value.Root.{Root}
 use Rattle.cc_program.specs.declared.value.Root.TheVariants as root
 use Rattle.cc_syntax.specs.Expressions.{of_one}
+use Rattle.cc_syntax.specs.Lists.{is_count}
 use Rattle.cc_syntax.specs.Operators.{function_type}
 use Rattle.cc_syntax.specs.Types.{Named}
-use Rattle.cc_syntax.specs.Values.{ValueType, PlaceType, DevicePlace, ObjectPlace, FunctionPlace, object_place, pointer_to, address_of, element_of, member_of, takes_some}
+use Rattle.cc_syntax.specs.Values.{ValueType, PlaceType, DevicePlace, ObjectPlace, FunctionPlace, object_place, pointer_to, address_of, element_of, member_of, is_assignable_some}
 
 -- how many elements an array has
 abbrev pub bound_shape : shape.Shape-F Shape CType Sig → Option ℕ
@@ -41,10 +42,6 @@ abbrev pub is_below : ℕ → Option ℕ → Bool
 is_below i None = false
 is_below i (Some n) = nat_lt i n
 
-abbrev pub is_bound : ℕ → Option ℕ → Bool
-is_bound count None = false
-is_bound count (Some n) = nat_eq count n
-
 -- the place to which a path leads
 abbrev pub step_into : List Structure → Part → PlaceType → Option PlaceType
 step_into structures (part.Member m) a = member_of structures m a
@@ -63,10 +60,10 @@ leads_to_element (part.Member m ∷ []) = false
 leads_to_element (step ∷ next ∷ path) = leads_to_element (next ∷ path)
 
 abbrev pub names_element : ValueType → ℕ → ℕ → PlaceType → Bool
-names_element to index count a = is_bound count (bound_of a) && (nat_le index count && takes_some (Some to) (of_one (element_of a) address_of))
+names_element to index count a = is_count count (bound_of a) && (nat_le index count && is_assignable_some (Some to) (of_one (element_of a) address_of))
 
 abbrev pub names_whole : ValueType → List Part → ℕ → ℕ → PlaceType → Bool
-names_whole to path index count a = not (leads_to_element path) && (nat_eq count 1 && (nat_le index 1 && takes_some (Some to) (address_of a)))
+names_whole to path index count a = not (leads_to_element path) && (nat_eq count 1 && (nat_le index 1 && is_assignable_some (Some to) (address_of a)))
 
 abbrev pub names : ValueType → List Part → ℕ → ℕ → Option PlaceType → Bool
 names to path index count None = false
@@ -87,7 +84,7 @@ module _ (p : Program) where
   -- an address constant of a pointer type (6.6, 9): null, a function that is no handler, or an address in a static object
   abbrev pub is_address : ValueType → Address → Bool
   is_address to address.Null = true
-  is_address to (address.Func f) = takes_some (Some to) (function_type (slice_get p.funcs f))
+  is_address to (address.Func f) = is_assignable_some (Some to) (function_type (slice_get p.funcs f))
   is_address to (address.At object path index count) = names to path index count (of_one (static_place object) (place_at p.structures path))
 
   mutual

@@ -1,8 +1,9 @@
 -- What kind of type each type is, where it may stand in a program at all (C99 6.2.5, 6.7.5).
-use Rattle.std.specs.Prelude.{ℕ, ◌*◌, Bool, true, false, not, ◌&&◌, ◌||◌, nat_le, nat_lt, List, Option, Some, None, unwrap_or, slice_get, if◌then◌else◌}
+use Rattle.std.specs.Prelude.{ℕ, ◌*◌, Bool, true, false, not, ◌&&◌, ◌||◌, nat_le, nat_lt, List, length, Option, Some, None, unwrap_or, slice_get, if◌then◌else◌}
 use Rattle.std.specs.List.{list_all}
 use Rattle.cc_num.specs.declared.target.Target.{Target}
 use Rattle.cc_num.specs.Integers.{bytes_of}
+use Rattle.cc_program.specs.declared.program.Program.{Program}
 use Rattle.cc_program.specs.declared.types.CType.{CType, fold-CType}
 use Rattle.cc_program.specs.declared.types.Shape.TheOpen as shape
 use Rattle.cc_program.specs.declared.types.Sig.{Sig, fold-Sig}
@@ -59,7 +60,7 @@ with_qualifiers q (IsArray n) = if q then None else Some (IsArray n)
 with_qualifiers q IsIncomplete = Some IsIncomplete
 with_qualifiers q IsFunction = if q then None else Some IsFunction
 
--- a function returns void or a scalar, and takes scalars without qualifiers of their own (6.7.5.3, 1 and 15)
+-- a function returns void or a scalar, and takes plain scalars (6.7.5.3, 1 and 15)
 abbrev pub is_result : Option Kind → Bool
 is_result None = false
 is_result (Some IsVoid) = true
@@ -69,14 +70,15 @@ is_result (Some (IsArray n)) = false
 is_result (Some IsIncomplete) = false
 is_result (Some IsFunction) = false
 
-abbrev pub is_parameter : Option Kind → Bool
-is_parameter None = false
-is_parameter (Some IsVoid) = false
-is_parameter (Some (IsScalar qualified n)) = not qualified
-is_parameter (Some (IsStructure n)) = false
-is_parameter (Some (IsArray n)) = false
-is_parameter (Some IsIncomplete) = false
-is_parameter (Some IsFunction) = false
+-- a scalar type without qualifiers of its own
+abbrev pub is_plain_scalar : Option Kind → Bool
+is_plain_scalar None = false
+is_plain_scalar (Some IsVoid) = false
+is_plain_scalar (Some (IsScalar qualified n)) = not qualified
+is_plain_scalar (Some (IsStructure n)) = false
+is_plain_scalar (Some (IsArray n)) = false
+is_plain_scalar (Some IsIncomplete) = false
+is_plain_scalar (Some IsFunction) = false
 
 -- over the structures that are complete by then, of `count` structures in all
 module _ (structures : List Structure) (count : ℕ) (target : Target) where
@@ -102,7 +104,7 @@ module _ (structures : List Structure) (count : ℕ) (target : Target) where
   type_kind t = qualified_kind (t.constant || t.volatile) t.shape
 
   abbrev pub is_signature : shape.Sig-F (Option Kind) (Option Kind) Bool → Bool
-  is_signature s = is_result s.result && list_all is_parameter s.params
+  is_signature s = is_result s.result && list_all is_plain_scalar s.params
 
   -- the kind of a type, where it may stand in a program
   unfoldable pub kind_of : CType → Option Kind
@@ -110,6 +112,9 @@ module _ (structures : List Structure) (count : ℕ) (target : Target) where
 
   unfoldable pub is_sig : Sig → Bool
   is_sig s = fold-Sig (Option Kind) (Option Kind) Bool shape_kind type_kind is_signature s
+
+abbrev pub kind_in : Program → CType → Option Kind
+kind_in p t = kind_of p.structures (length p.structures) p.target t
 
 -- the type of an object, a member or an element: complete, and small enough
 abbrev pub is_object_kind : Option ℕ → Bool

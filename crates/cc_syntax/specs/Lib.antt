@@ -2,6 +2,7 @@ pub mod Examples
 pub mod Layout
 pub mod Types
 pub mod Pairs
+pub mod Lists
 pub mod SameTypes
 pub mod Kinds
 pub mod Values
@@ -13,6 +14,7 @@ pub mod Names
 pub mod Sound
 pub mod Folding
 pub mod Registers
+pub mod Effects
 pub mod Forms
 pub mod Normal
 pub mod Sizes

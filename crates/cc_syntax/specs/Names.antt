@@ -7,14 +7,15 @@ use Rattle.cc_program.specs.declared.program.Program.{Program}
 use Rattle.cc_program.specs.declared.program.Roles.{Roles}
 use Rattle.cc_syntax.specs.Types.{Named}
 
-abbrev pub name_of : Option (List ℕ) → List (List ℕ) → List (List ℕ)
-name_of None names = names
-name_of (Some name) names = name ∷ names
+-- the name of a device, where it has one, in front of others
+abbrev pub with_name : Option (List ℕ) → List (List ℕ) → List (List ℕ)
+with_name None names = names
+with_name (Some name) names = name ∷ names
 
--- devices with a name
+-- the names of devices
 abbrev pub device_names : List Device → List (List ℕ)
 device_names [] = []
-device_names (d ∷ ds) = name_of d.name (device_names ds)
+device_names (d ∷ ds) = with_name d.name (device_names ds)
 
 abbrev pub intrinsic_names : Roles → List (List ℕ)
 intrinsic_names roles = roles.off ∷ roles.on ∷ roles.save ∷ roles.restore ∷ []

@@ -1,7 +1,7 @@
 -- The type of each expression from those of its parts (C99 6.5). None where a rule of types is broken, as
 -- they stand in a program: each conversion of integers is written out, and the pointed-to types of two
 -- pointers that meet are one, outermost qualifiers aside.
-use Rattle.std.specs.Prelude.{ℤ, Bool, true, false, not, ◌&&◌, ◌||◌, nat_le, List, length, Option, Some, None, if◌then◌else◌}
+use Rattle.std.specs.Prelude.{ℤ, Bool, true, false, not, ◌&&◌, ◌||◌, nat_le, List, Option, Some, None, is_some, if◌then◌else◌}
 use Rattle.cc_num.specs.declared.int_type.IntType.{IntType}
 use Rattle.cc_num.specs.declared.int_type.IntType.TheVariants as int
 use Rattle.cc_num.specs.declared.op.BinOp.{BinOp}
@@ -14,7 +14,6 @@ use Rattle.cc_num.specs.Promotions.{promoted, usual_of}
 use Rattle.cc_num.specs.Results.{is_shift}
 use Rattle.cc_program.specs.declared.expr.Intr.{Intr}
 use Rattle.cc_program.specs.declared.expr.Intr.TheVariants as intr
-use Rattle.cc_program.specs.declared.func.Entry.{Entry}
 use Rattle.cc_program.specs.declared.func.Func.{Func}
 use Rattle.cc_program.specs.declared.program.Program.{Program}
 use Rattle.cc_program.specs.declared.types.CType.{CType}
@@ -22,10 +21,10 @@ use Rattle.cc_program.specs.declared.types.Shape.{Shape, out-Shape}
 use Rattle.cc_program.specs.declared.types.Shape.TheOpen as shape
 use Rattle.cc_program.specs.declared.types.Sig.{Sig, out-Sig}
 use Rattle.cc_program.specs.declared.types.Structure.{Structure}
-use Rattle.cc_syntax.specs.Kinds.{Kind, kind_of, is_parameter}
+use Rattle.cc_syntax.specs.Kinds.{kind_in, is_plain_scalar}
 use Rattle.cc_syntax.specs.SameTypes.{same_int, same_sig, alike}
 use Rattle.cc_syntax.specs.Types.{is_complete}
-use Rattle.cc_syntax.specs.Values.{ValueType, NoValue, Integer, ToObject, ToFunction, PlaceType, pointer_to, result_value, is_scalar, is_void, point_alike, takes, all_taken, element_of}
+use Rattle.cc_syntax.specs.Values.{ValueType, NoValue, Integer, ToObject, ToFunction, PlaceType, pointer_to, result_value, is_scalar, is_void, point_alike, is_assignable, are_assignable, element_of}
 
 abbrev pub when : {A : Type 0} → Bool → A → Option A
 when b x = if b then Some x else None
@@ -48,23 +47,24 @@ is_comparison op.Xor = false
 is_comparison op.Shl = false
 is_comparison op.Shr = false
 
-abbrev pub moves : BinOp → Bool
-moves op.Add = true
-moves op.Sub = true
-moves op.Mul = false
-moves op.Div = false
-moves op.Rem = false
-moves op.And = false
-moves op.Or = false
-moves op.Xor = false
-moves op.Shl = false
-moves op.Shr = false
-moves op.Lt = false
-moves op.Le = false
-moves op.Gt = false
-moves op.Ge = false
-moves op.Eq = false
-moves op.Ne = false
+-- addition and subtraction (6.5.6)
+abbrev pub is_additive : BinOp → Bool
+is_additive op.Add = true
+is_additive op.Sub = true
+is_additive op.Mul = false
+is_additive op.Div = false
+is_additive op.Rem = false
+is_additive op.And = false
+is_additive op.Or = false
+is_additive op.Xor = false
+is_additive op.Shl = false
+is_additive op.Shr = false
+is_additive op.Lt = false
+is_additive op.Le = false
+is_additive op.Gt = false
+is_additive op.Ge = false
+is_additive op.Eq = false
+is_additive op.Ne = false
 
 -- a type that the integer promotions leave as it is (6.3.1.1, 2)
 abbrev pub is_promoted : Target → IntType → Bool
@@ -78,9 +78,6 @@ difference_type target = if nat_le target.pointer_bytes target.int_bytes then in
 abbrev pub constant_type : Target → ℤ → IntType → Option ValueType
 constant_type target n t = when (is_value_of t target n) (Integer t)
 
-abbrev pub is_plain_scalar : Option Kind → Bool
-is_plain_scalar kind = is_parameter kind
-
 abbrev pub pointer_in : Bool → shape.Shape-F Shape CType Sig → Option ValueType
 pointer_in good (shape.Pointer to) = when good (pointer_to to)
 pointer_in good shape.Void = None
@@ -91,7 +88,7 @@ pointer_in good (shape.Func sig) = None
 
 -- a pointer type without qualifiers of its own
 abbrev pub pointer_type : Program → CType → Option ValueType
-pointer_type p t = pointer_in (is_plain_scalar (kind_of p.structures (length p.structures) p.target t)) (out-Shape t.shape)
+pointer_type p t = pointer_in (is_plain_scalar (kind_in p t)) (out-Shape t.shape)
 
 abbrev pub is_unqualified : CType → Bool
 is_unqualified t = not (t.constant || t.volatile)
@@ -112,14 +109,13 @@ first_of (Some a) b = Some a
 abbrev pub null_type : Program → CType → Option ValueType
 null_type p t = first_of (void_pointer_in (is_unqualified t) (out-Shape t.shape)) (pointer_type p t)
 
--- the address of a function; that of a handler is never taken
-abbrev pub unless_entry : Option Entry → Sig → Option ValueType
-unless_entry None sig = Some (ToFunction sig)
-unless_entry (Some entry) sig = None
+abbrev pub is_handler : Func → Bool
+is_handler f = is_some f.entry
 
+-- the address of a function; that of a handler is never taken
 abbrev pub function_type : Option Func → Option ValueType
 function_type None = None
-function_type (Some f) = unless_entry f.entry f.sig
+function_type (Some f) = when (not (is_handler f)) (ToFunction f.sig)
 
 -- integers (6.5.3.3, 6.5.5 to 6.5.12)
 abbrev pub is_of : IntType → ValueType → Bool
@@ -162,12 +158,12 @@ abbrev pub conversion_type : IntType → ValueType → Option ValueType
 conversion_type t a = when (is_integer a) (Integer t)
 
 -- pointers (6.5.4, 6.5.6, 6.5.8, 6.5.9)
-abbrev pub when_taken : Option ValueType → ValueType → Option ValueType
-when_taken None a = None
-when_taken (Some to) a = when (takes to a) to
+abbrev pub when_assignable : Option ValueType → ValueType → Option ValueType
+when_assignable None a = None
+when_assignable (Some to) a = when (is_assignable to a) to
 
 abbrev pub qualified_type : Program → CType → ValueType → Option ValueType
-qualified_type p t a = when_taken (pointer_type p t) a
+qualified_type p t a = when_assignable (pointer_type p t) a
 
 abbrev pub points_to_object : List Structure → ValueType → Bool
 points_to_object structures NoValue = false
@@ -190,18 +186,27 @@ abbrev pub logical_type : ValueType → ValueType → Option ValueType
 logical_type a b = when (is_scalar a && is_scalar b) (Integer int.Int)
 
 abbrev pub common_type : Target → ValueType → ValueType → ValueType
+common_type target NoValue b = NoValue
+common_type target (Integer s) NoValue = NoValue
 common_type target (Integer s) (Integer t) = if same_int s t && is_promoted target s then Integer s else NoValue
+common_type target (Integer s) (ToObject constant volatile t) = NoValue
+common_type target (Integer s) (ToFunction sig) = NoValue
+common_type target (ToObject constant volatile t) NoValue = NoValue
+common_type target (ToObject constant volatile t) (Integer s) = NoValue
 common_type target (ToObject constant volatile t) (ToObject constant' volatile' u) =
     if alike t u && not (is_void t) then ToObject (constant || constant') (volatile || volatile') t else NoValue
+common_type target (ToObject constant volatile t) (ToFunction sig) = NoValue
+common_type target (ToFunction s) NoValue = NoValue
+common_type target (ToFunction s) (Integer t) = NoValue
+common_type target (ToFunction s) (ToObject constant volatile t) = NoValue
 common_type target (ToFunction s) (ToFunction t) = if same_sig s t then ToFunction s else NoValue
-common_type target _ _ = NoValue
 
 abbrev pub choice_type : Target → ValueType → ValueType → ValueType → Option ValueType
 choice_type target c a b = when (is_scalar c) (common_type target a b)
 
 -- assignments (6.5.16, 6.5.2.4, 6.5.3.1): the place's type, and the value's
 abbrev pub assignment_type : ValueType → ValueType → Option ValueType
-assignment_type to e = when (takes to e) to
+assignment_type to e = when (is_assignable to e) to
 
 abbrev pub changes_by : Target → IntType → BinOp → IntType → ValueType → Bool
 changes_by target s o t e =
@@ -210,7 +215,7 @@ changes_by target s o t e =
 abbrev pub change_type : List Structure → Target → BinOp → IntType → ValueType → ValueType → Option ValueType
 change_type structures target o t NoValue e = None
 change_type structures target o t (Integer s) e = when (not (is_comparison o) && changes_by target s o t e) (Integer s)
-change_type structures target o t (ToObject constant volatile to) e = when (moves o && (is_complete structures to && is_of t e)) (ToObject constant volatile to)
+change_type structures target o t (ToObject constant volatile to) e = when (is_additive o && (is_complete structures to && is_of t e)) (ToObject constant volatile to)
 change_type structures target o t (ToFunction sig) e = None
 
 abbrev pub after_type : List Structure → ValueType → Option ValueType
@@ -221,7 +226,7 @@ abbrev pub call_type : ValueType → List (Option ValueType) → Option ValueTyp
 call_type NoValue args = None
 call_type (Integer t) args = None
 call_type (ToObject constant volatile t) args = None
-call_type (ToFunction sig) args = if all_taken (out-Sig sig).params args then result_value (out-Sig sig).result else None
+call_type (ToFunction sig) args = if are_assignable (out-Sig sig).params args then result_value (out-Sig sig).result else None
 
 -- intrinsics: irq_save gives unsigned char, which irq_restore takes
 abbrev pub intrinsic_type : Intr → Option (Option ValueType) → Option ValueType

@@ -1,6 +1,7 @@
 -- Sound programs: what reading C makes, and what each pass is given.
 use Rattle.std.specs.Prelude.{◌≡◌, ℕ, ◌*◌, ◌^◌, Bool, true, false, not, ◌&&◌, ◌||◌, nat_eq, nat_lt, List, [], ◌∷◌, ◌++◌, All, length, drop, Option, Some, None, slice_get, codes, if◌then◌else◌, map}
 use Rattle.std.specs.List.{list_all, list_any}
+use Rattle.std.specs.Option.{is_none}
 use Rattle.std.specs.Str.{bytes_eq}
 use Rattle.cc_num.specs.declared.int_type.IntType.TheVariants as int
 use Rattle.cc_num.specs.declared.target.Target.{Target}
@@ -12,52 +13,47 @@ use Rattle.cc_program.specs.declared.object.Device.{Device}
 use Rattle.cc_program.specs.declared.object.Object.{Object}
 use Rattle.cc_program.specs.declared.program.Program.{Program}
 use Rattle.cc_program.specs.declared.types.CType.{CType}
-use Rattle.cc_program.specs.declared.types.Shape.{Shape, out-Shape}
-use Rattle.cc_program.specs.declared.types.Shape.TheOpen as shape
-use Rattle.cc_program.specs.declared.types.Sig.{Sig, out-Sig}
+use Rattle.cc_program.specs.declared.types.Shape.{out-Shape}
+use Rattle.cc_program.specs.declared.types.Sig.{out-Sig}
 use Rattle.cc_program.specs.declared.types.Structure.{Structure}
 use Rattle.cc_syntax.specs.Initial.{IsInitial}
-use Rattle.cc_syntax.specs.Kinds.{Kind, kind_of, is_result, is_parameter, is_object_type}
+use Rattle.cc_syntax.specs.Kinds.{kind_of, kind_in, is_result, is_plain_scalar, is_object_type}
+use Rattle.cc_syntax.specs.Lists.{come_first}
 use Rattle.cc_syntax.specs.Names.{are_names, file_names, tags, local_names}
-use Rattle.cc_syntax.specs.Operators.{is_unqualified}
-use Rattle.cc_syntax.specs.SameTypes.{same_int, same_flag, same_shape}
+use Rattle.cc_syntax.specs.Operators.{is_unqualified, is_handler}
+use Rattle.cc_syntax.specs.SameTypes.{same_int, same_flag, same_shape, is_int_shape}
 use Rattle.cc_syntax.specs.Statements.{is_sound_body}
 use Rattle.cc_syntax.specs.Types.{Named}
 use Rattle.cc_syntax.specs.Values.{is_void}
 
--- an id is of 32 bits
-abbrev pub is_few : ℕ → Bool
-is_few n = nat_lt n 4294967296
+-- so many things have ids, which are of 32 bits
+abbrev pub have_ids : ℕ → Bool
+have_ids n = nat_lt n 4294967296
 
 -- structures: those that are only named come first; a member has a complete object type over the structures
 -- before its own (6.7.2.1, 2), and a name that no other has (6.7.2.1, 13)
 abbrev pub is_only_named : Structure → Bool
 is_only_named s = nat_eq (length s.members) 0
 
-abbrev pub named_first : List Structure → Bool
-named_first [] = true
-named_first (s ∷ rest) = if is_only_named s then named_first rest else not (list_any is_only_named rest)
-
 abbrev pub is_member : List Structure → ℕ → Target → Named → Bool
 is_member before count target m = is_object_type (kind_of before count target m.1)
 
 abbrev pub is_structure : List Structure → ℕ → Target → Structure → Bool
-is_structure before count target s = is_few (length s.members) && (are_names (local_names s.members) && list_all (is_member before count target) s.members)
+is_structure before count target s = have_ids (length s.members) && (are_names (local_names s.members) && list_all (is_member before count target) s.members)
 
 abbrev pub are_structures : List Structure → ℕ → Target → List Structure → Bool
 are_structures before count target [] = true
 are_structures before count target (s ∷ rest) = is_structure before count target s && are_structures (before ++ s ∷ []) count target rest
 
 -- devices: a named one has no number, the number of another is an address; no two without names are equal
-abbrev pub is_numbered : Option (List ℕ) → Bool
-is_numbered None = true
-is_numbered (Some name) = false
+abbrev pub is_numbered : Device → Bool
+is_numbered d = is_none d.name
 
 abbrev pub is_device : Target → Device → Bool
-is_device target d = if is_numbered d.name then nat_lt d.number (2 ^ (8 * target.pointer_bytes)) else nat_eq d.number 0
+is_device target d = if is_numbered d then nat_lt d.number (2 ^ (8 * target.pointer_bytes)) else nat_eq d.number 0
 
 abbrev pub is_same_device : Device → Device → Bool
-is_same_device d e = is_numbered d.name && (is_numbered e.name && (nat_eq d.number e.number && (same_int d.int e.int && same_flag d.constant e.constant)))
+is_same_device d e = is_numbered d && (is_numbered e && (nat_eq d.number e.number && (same_int d.int e.int && same_flag d.constant e.constant)))
 
 abbrev pub devices_differ : List Device → Bool
 devices_differ [] = true
@@ -70,16 +66,8 @@ takes_nothing f = nat_eq (length (out-Sig f.sig).params) 0
 abbrev pub is_plain_void : CType → Bool
 is_plain_void t = is_unqualified t && is_void t
 
-abbrev pub is_int_shape : shape.Shape-F Shape CType Sig → Bool
-is_int_shape (shape.Int t) = same_int t int.Int
-is_int_shape shape.Void = false
-is_int_shape (shape.Pointer to) = false
-is_int_shape (shape.Array of n) = false
-is_int_shape (shape.Struct s) = false
-is_int_shape (shape.Func sig) = false
-
 abbrev pub is_plain_int : CType → Bool
-is_plain_int t = is_unqualified t && is_int_shape (out-Shape t.shape)
+is_plain_int t = is_unqualified t && is_int_shape int.Int (out-Shape t.shape)
 
 -- main is `int main(void)` or `void main(void)` (5.1.2.2.1); a handler is `void f(void)` and not main
 abbrev pub main_name : List ℕ
@@ -88,16 +76,10 @@ main_name = codes "main"
 abbrev pub is_main : Func → Bool
 is_main f = bytes_eq f.name main_name
 
-abbrev pub is_handler : Option Entry → Bool
-is_handler None = false
-is_handler (Some entry.Signal) = true
-is_handler (Some entry.Interrupt) = true
-is_handler (Some entry.Listed) = true
-
 abbrev pub form_fits : Func → Bool
 form_fits f =
-    if is_main f then not (is_handler f.entry) && (takes_nothing f && (is_plain_int (out-Sig f.sig).result || is_plain_void (out-Sig f.sig).result))
-    else (if is_handler f.entry then takes_nothing f && is_plain_void (out-Sig f.sig).result else true)
+    if is_main f then not (is_handler f) && (takes_nothing f && (is_plain_int (out-Sig f.sig).result || is_plain_void (out-Sig f.sig).result))
+    else (if is_handler f then takes_nothing f && is_plain_void (out-Sig f.sig).result else true)
 
 abbrev pub is_main_there : Option Func → Bool
 is_main_there None = false
@@ -113,12 +95,9 @@ abbrev pub is_automatic : Named → Bool
 is_automatic l = not (is_const l.1)
 
 module _ (p : Program) where
-  abbrev pub kind_in : CType → Option Kind
-  kind_in t = kind_of p.structures (length p.structures) p.target t
-
   -- static objects
   abbrev pub is_object : Object → Bool
-  is_object o = is_object_type (kind_in o.ctype)
+  is_object o = is_object_type (kind_in p o.ctype)
 
   -- handlers: a function is one by its attribute, or where the roles name it
   abbrev pub is_handler_name : List ℕ → Bool
@@ -135,16 +114,16 @@ module _ (p : Program) where
   handlers_are_there = list_all (λ h. list_any (bytes_eq h) (map (λ f. f.name) p.funcs)) p.roles.handlers
 
   abbrev pub is_local : Named → Bool
-  is_local l = is_object_type (kind_in l.1)
+  is_local l = is_object_type (kind_in p l.1)
 
   pub record IsFunc (f : Func) : Type 0 where
-    pub result : is_result (kind_in (out-Sig f.sig).result) ≡ true
-    pub parameters : list_all (λ t. is_parameter (kind_in t)) (out-Sig f.sig).params ≡ true
+    pub result : is_result (kind_in p (out-Sig f.sig).result) ≡ true
+    pub parameters : list_all (λ t. is_plain_scalar (kind_in p t)) (out-Sig f.sig).params ≡ true
     pub form : form_fits f ≡ true
     pub entry : entry_fits f f.entry ≡ true
     pub count : nat_eq f.params (length (out-Sig f.sig).params) ≡ true
     pub first : are_parameters (out-Sig f.sig).params f.locals ≡ true
-    pub few : is_few (length f.locals) ≡ true
+    pub few : have_ids (length f.locals) ≡ true
     pub locals : list_all is_local f.locals ≡ true
     pub automatic : list_all is_automatic (drop f.params f.locals) ≡ true
     pub names : are_names (local_names f.locals ++ file_names p) ≡ true
@@ -152,18 +131,18 @@ module _ (p : Program) where
 
   pub record IsSound : Type 0 where
     -- ids are of 32 bits
-    pub few_structures : is_few (length p.structures) ≡ true
-    pub few_devices : is_few (length p.devices) ≡ true
-    pub few_objects : is_few (length p.objects) ≡ true
-    pub few_funcs : is_few (length p.funcs) ≡ true
+    pub few_structures : have_ids (length p.structures) ≡ true
+    pub few_devices : have_ids (length p.devices) ≡ true
+    pub few_objects : have_ids (length p.objects) ≡ true
+    pub few_funcs : have_ids (length p.funcs) ≡ true
     -- names and tags
     pub tag_names : are_names (tags p) ≡ true
     pub names : are_names (file_names p) ≡ true
     -- what they name
-    pub order : named_first p.structures ≡ true
+    pub order : come_first is_only_named p.structures ≡ true
     pub structures : are_structures [] (length p.structures) p.target p.structures ≡ true
     pub devices : list_all (is_device p.target) p.devices ≡ true
-    pub numbers : devices_differ p.devices ≡ true
+    pub distinct_devices : devices_differ p.devices ≡ true
     pub objects : list_all is_object p.objects ≡ true
     pub initial : All (λ o. IsInitial p o.ctype o.init) p.objects
     pub funcs : All IsFunc p.funcs

@@ -14,7 +14,7 @@ use Rattle.cc_program.specs.declared.stmt.Stmt.TheOpen as is
 use Rattle.cc_program.specs.declared.types.Sig.{out-Sig}
 use Rattle.cc_syntax.specs.Expressions.{type_of}
 use Rattle.cc_syntax.specs.Operators.{is_promoted}
-use Rattle.cc_syntax.specs.Values.{ValueType, NoValue, Integer, ToObject, ToFunction, is_scalar, is_void, scalar_value, takes_some}
+use Rattle.cc_syntax.specs.Values.{ValueType, NoValue, Integer, ToObject, ToFunction, is_scalar, is_void, scalar_value, is_assignable_some}
 
 -- no label stands twice in a switch (6.8.4.2, 3); None is `default`
 abbrev pub same_label : Option ℤ → Option ℤ → Bool
@@ -43,14 +43,14 @@ abbrev pub is_condition : Option ValueType → Bool
 is_condition None = false
 is_condition (Some v) = is_scalar v
 
--- where a statement stands: whether `break` and `continue` may stand there (6.8.6.2, 6.8.6.3)
-abbrev pub Test : Type 0
-Test = Bool → Bool → Bool
+-- whether a statement is sound, by where it stands: whether `break` and `continue` may stand there (6.8.6.2, 6.8.6.3)
+abbrev pub SoundWhere : Type 0
+SoundWhere = Bool → Bool → Bool
 
 -- a case: its labels, of which there are some, and whether its statements are sound
 pub record Labelled : Type 0 where
   pub labels : List (Option ℤ)
-  pub body : Test
+  pub body : SoundWhere
 
 abbrev pub labels_of : List Case → List (Option ℤ)
 labels_of cases = flat_map (λ c. (out-Case c).labels) cases
@@ -58,6 +58,9 @@ labels_of cases = flat_map (λ c. (out-Case c).labels) cases
 abbrev pub has_label : List (Option ℤ) → Bool
 has_label [] = false
 has_label (l ∷ ls) = true
+
+abbrev pub sound_case : is.Case-F SoundWhere Labelled → Labelled
+sound_case c = record { labels = c.labels; body = λ breaks continues. list_all (λ s. s breaks continues) c.body }
 
 module _ (p : Program) (f : Func) where
   abbrev pub typed : Expr → Option ValueType
@@ -67,21 +70,21 @@ module _ (p : Program) (f : Func) where
   is_typed None = true
   is_typed (Some e) = is_some (typed e)
 
-  abbrev pub is_test : Option Expr → Bool
-  is_test None = true
-  is_test (Some e) = is_condition (typed e)
+  abbrev pub is_optional_condition : Option Expr → Bool
+  is_optional_condition None = true
+  is_optional_condition (Some e) = is_condition (typed e)
 
   -- a value exactly where the function has a result, and of its type (6.8.6.4, 1 and 3)
   abbrev pub returns : Option Expr → Bool
   returns None = is_void (out-Sig f.sig).result
-  returns (Some e) = takes_some (scalar_value (out-Sig f.sig).result) (typed e)
+  returns (Some e) = is_assignable_some (scalar_value (out-Sig f.sig).result) (typed e)
 
-  abbrev pub sound_step : is.Stmt-F Test Labelled → Test
+  abbrev pub sound_step : is.Stmt-F SoundWhere Labelled → SoundWhere
   sound_step (is.Do e) = λ breaks continues. is_some (typed e)
   sound_step (is.If e a b) = λ breaks continues. is_condition (typed e) && (list_all (λ s. s breaks continues) a && list_all (λ s. s breaks continues) b)
   sound_step (is.While e a) = λ breaks continues. is_condition (typed e) && list_all (λ s. s true true) a
   sound_step (is.DoWhile a e) = λ breaks continues. is_condition (typed e) && list_all (λ s. s true true) a
-  sound_step (is.For first test step a) = λ breaks continues. is_typed first && (is_test test && (is_typed step && list_all (λ s. s true true) a))
+  sound_step (is.For first test step a) = λ breaks continues. is_typed first && (is_optional_condition test && (is_typed step && list_all (λ s. s true true) a))
   sound_step (is.Switch e cases) = λ breaks continues.
       labels_fit p.target (flat_map (λ c. c.labels) cases) (typed e)
       && (are_apart (flat_map (λ c. c.labels) cases) && (list_all (λ c. has_label c.labels) cases && list_all (λ c. c.body true continues) cases))
@@ -91,12 +94,9 @@ module _ (p : Program) (f : Func) where
   sound_step is.Empty = λ breaks continues. true
   sound_step (is.Block a) = λ breaks continues. list_all (λ s. s breaks continues) a
 
-  abbrev pub sound_case : is.Case-F Test Labelled → Labelled
-  sound_case c = record { labels = c.labels; body = λ breaks continues. list_all (λ s. s breaks continues) c.body }
-
   -- a statement of the function
-  abbrev pub is_sound_stmt : Stmt → Test
-  is_sound_stmt s = fold-Stmt Test Labelled sound_step sound_case s
+  abbrev pub is_sound_stmt : Stmt → SoundWhere
+  is_sound_stmt s = fold-Stmt SoundWhere Labelled sound_step sound_case s
 
   abbrev pub is_sound_body : List Stmt → Bool
   is_sound_body body = list_all (λ g. g false false) (map is_sound_stmt body)

@@ -130,25 +130,42 @@ member_of structures m (FunctionPlace sig) = None
 
 -- two pointers to one type, outermost qualifiers aside
 abbrev pub point_alike : ValueType → ValueType → Bool
+point_alike NoValue b = false
+point_alike (Integer t) b = false
+point_alike (ToObject constant volatile t) NoValue = false
+point_alike (ToObject constant volatile t) (Integer s) = false
 point_alike (ToObject constant volatile t) (ToObject constant' volatile' u) = alike t u
+point_alike (ToObject constant volatile t) (ToFunction sig) = false
+point_alike (ToFunction s) NoValue = false
+point_alike (ToFunction s) (Integer t) = false
+point_alike (ToFunction s) (ToObject constant volatile t) = false
 point_alike (ToFunction s) (ToFunction t) = same_sig s t
-point_alike _ _ = false
 
 abbrev pub implies : Bool → Bool → Bool
 implies a b = not a || b
 
 -- a value can be assigned to what has the first type: it has that type, or is a pointer that loses no
 -- qualifier (6.5.16.1, 1)
-abbrev pub takes : ValueType → ValueType → Bool
-takes (Integer s) (Integer t) = same_int s t
-takes (ToObject constant volatile t) (ToObject constant' volatile' u) = alike t u && (implies constant' constant && implies volatile' volatile)
-takes (ToFunction s) (ToFunction t) = same_sig s t
-takes _ _ = false
+abbrev pub is_assignable : ValueType → ValueType → Bool
+is_assignable NoValue from = false
+is_assignable (Integer s) NoValue = false
+is_assignable (Integer s) (Integer t) = same_int s t
+is_assignable (Integer s) (ToObject constant volatile t) = false
+is_assignable (Integer s) (ToFunction sig) = false
+is_assignable (ToObject constant volatile t) NoValue = false
+is_assignable (ToObject constant volatile t) (Integer s) = false
+is_assignable (ToObject constant volatile t) (ToObject constant' volatile' u) = alike t u && (implies constant' constant && implies volatile' volatile)
+is_assignable (ToObject constant volatile t) (ToFunction sig) = false
+is_assignable (ToFunction s) NoValue = false
+is_assignable (ToFunction s) (Integer t) = false
+is_assignable (ToFunction s) (ToObject constant volatile t) = false
+is_assignable (ToFunction s) (ToFunction t) = same_sig s t
 
-abbrev pub takes_some : Option ValueType → Option ValueType → Bool
-takes_some (Some to) (Some from) = takes to from
-takes_some _ _ = false
+abbrev pub is_assignable_some : Option ValueType → Option ValueType → Bool
+is_assignable_some None from = false
+is_assignable_some (Some to) None = false
+is_assignable_some (Some to) (Some from) = is_assignable to from
 
 -- arguments of the parameters' types (6.5.2.2, 2)
-abbrev pub all_taken : List CType → List (Option ValueType) → Bool
-all_taken params args = all_pairs (λ t v. takes_some (scalar_value t) v) params args
+abbrev pub are_assignable : List CType → List (Option ValueType) → Bool
+are_assignable params args = all_pairs (λ t v. is_assignable_some (scalar_value t) v) params args

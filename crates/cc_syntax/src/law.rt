@@ -1,14 +1,22 @@
-ghost use Rattle.std.specs.Prelude.{◌≡◌, ◌≤◌, ◌*◌, ◌%◌, ℕ, List, [], ◌∷◌, Some, slice_get};
+ghost use Rattle.std.specs.Prelude.{◌≡◌, ◌≤◌, ◌*◌, ◌%◌, ℕ, pos, true, false, List, [], ◌∷◌, Some, None, slice_get};
 ghost use Rattle.std.specs.List.{All};
+ghost use Rattle.cc_num.specs.declared.int_type.IntType.TheVariants as int;
+ghost use Rattle.cc_num.specs.declared.op.BinOp.TheVariants as op;
 ghost use Rattle.cc_num.specs.declared.target.Target.{Target as OfTarget};
 ghost use Rattle.cc_program.specs.declared.types.CType.{CType};
-ghost use Rattle.cc_program.specs.declared.types.Shape.{Array, Struct};
+ghost use Rattle.cc_program.specs.declared.types.Shape.{Array, Pointer, Struct};
 ghost use Rattle.cc_program.specs.declared.types.Structure.{Structure};
 ghost use Rattle.cc_syntax.specs.declared.sizes.Layout.{Layout};
-ghost use Rattle.cc_syntax.specs.Examples.{wide, packed, char, integer, array, struct, mixed, nested, both};
+ghost use Rattle.cc_syntax.specs.Examples.{wide, packed, plain, char, integer, array, struct, mixed, nested, both};
 ghost use Rattle.cc_syntax.specs.Layout.{IsAlign, ArePlaced, NoneAbove, places_from, structure, layout_of, size_of, align_of, member_layouts, HasSizes};
 ghost use Rattle.cc_program.specs.declared.program.Program.{Program};
-ghost use Rattle.cc_syntax.specs.Normal.{IsNormal};
+ghost use Rattle.cc_program.specs.declared.value.Part.TheVariants as part;
+ghost use Rattle.cc_syntax.specs.Folding.{Value, Traps, binary_constant, both_constant};
+ghost use Rattle.cc_syntax.specs.Initial.{names_whole};
+ghost use Rattle.cc_syntax.specs.Kinds.{kind_of, is_object_type};
+ghost use Rattle.cc_syntax.specs.Normal.{IsNormal, next_of};
+ghost use Rattle.cc_syntax.specs.Operators.{choice_type, changes_by};
+ghost use Rattle.cc_syntax.specs.Values.{ValueType, PlaceType, NoValue, Integer};
 ghost use Rattle.cc_syntax.specs.Sound.{IsSound};
 ghost use Rattle.cc_syntax.specs.Types.{IsInOrder};
 
@@ -41,4 +49,20 @@ pub fn laws()
     ensures array_of_structures { size_of (array (struct 0) 3) both wide ≡ 36 }
     ensures nested_offsets { places_from 0 (member_layouts nested.members both wide) ≡ 0 ∷ 4 ∷ 16 ∷ [] }
     ensures large { size_of (array (array char 65535) 65535) [] wide ≡ 4294836225 }
+
+    // An element is named by its array and its index alone, and not as an array of one.
+    ensures element_by_path { (to : ValueType) (a : PlaceType) → names_whole to (part.Index 3 ∷ []) 0 1 a ≡ false }
+    // `struct s { struct s *m; }` stands, and `struct s { struct s m[2]; }` does not.
+    ensures pointer_to_own_structure { is_object_type (kind_of [] 1 wide (plain (Pointer (struct 0)))) ≡ true }
+    ensures array_of_own_structure { is_object_type (kind_of [] 1 wide (array (struct 0) 2)) ≡ false }
+    // `c ? i : l` has no value that may be used; the sum in `c += l` is taken in long.
+    ensures arms_of_two_types { choice_type wide (Integer int.Int) (Integer int.Int) (Integer int.Long) ≡ Some NoValue }
+    ensures sum_in_long { changes_by wide int.SChar op.Add int.Long (Integer int.Long) ≡ true }
+    ensures sum_in_char { changes_by wide int.SChar op.Add int.SChar (Integer int.SChar) ≡ false }
+    // `1 / 0` traps, and `0 && 1 / 0` is 0.
+    ensures division_traps { binary_constant wide op.Div int.Int (Value (pos 1)) (Value (pos 0)) ≡ Traps }
+    ensures division_not_evaluated { both_constant (Value (pos 0)) Traps ≡ Value (pos 0) }
+    // Devices that the text accesses in the order 0, 1, 0, and in the order 1, 0.
+    ensures in_order { next_of 0 (0 ∷ 1 ∷ 0 ∷ []) ≡ Some 2 }
+    ensures out_of_order { next_of 0 (1 ∷ 0 ∷ []) ≡ None }
 {}

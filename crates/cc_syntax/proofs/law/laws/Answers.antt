@@ -2,6 +2,7 @@ use Rattle.std.proofs.Common.{ap}
 use Rattle.cc_syntax.specs.declared.sizes.Layout.{Layout}
 use Rattle.cc_syntax.specs.Layout.{IsAlign}
 use Rattle.cc_syntax.proofs.ExampleLayouts.{offsets, padded, unpadded, array_of_structures, nested_offsets, large}
+use Rattle.cc_syntax.proofs.ExamplePrograms.{element_by_path, pointer_to_own_structure, array_of_own_structure, arms_of_two_types, sum_in_long, sum_in_char, division_traps, division_not_evaluated, in_order, out_of_order}
 use Rattle.cc_syntax.proofs.Places.{each_from_all, placed, lowest}
 use Rattle.cc_syntax.proofs.Shapes.{layout-Array, layout-structure}
 use Rattle.cc_syntax.proofs.StructureLemmas.{sound_sizes}
@@ -49,3 +50,33 @@ returns-clause-nested_offsets c = nested_offsets
 
 pub returns-clause-large : goal.returns-clause-large
 returns-clause-large c = large
+
+pub returns-clause-element_by_path : goal.returns-clause-element_by_path
+returns-clause-element_by_path c = element_by_path
+
+pub returns-clause-pointer_to_own_structure : goal.returns-clause-pointer_to_own_structure
+returns-clause-pointer_to_own_structure c = pointer_to_own_structure
+
+pub returns-clause-array_of_own_structure : goal.returns-clause-array_of_own_structure
+returns-clause-array_of_own_structure c = array_of_own_structure
+
+pub returns-clause-arms_of_two_types : goal.returns-clause-arms_of_two_types
+returns-clause-arms_of_two_types c = arms_of_two_types
+
+pub returns-clause-sum_in_long : goal.returns-clause-sum_in_long
+returns-clause-sum_in_long c = sum_in_long
+
+pub returns-clause-sum_in_char : goal.returns-clause-sum_in_char
+returns-clause-sum_in_char c = sum_in_char
+
+pub returns-clause-division_traps : goal.returns-clause-division_traps
+returns-clause-division_traps c = division_traps
+
+pub returns-clause-division_not_evaluated : goal.returns-clause-division_not_evaluated
+returns-clause-division_not_evaluated c = division_not_evaluated
+
+pub returns-clause-in_order : goal.returns-clause-in_order
+returns-clause-in_order c = in_order
+
+pub returns-clause-out_of_order : goal.returns-clause-out_of_order
+returns-clause-out_of_order c = out_of_order

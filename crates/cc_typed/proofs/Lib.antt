@@ -1,0 +1,5 @@
+pub mod PairLemmas
+pub mod ListLemmas
+pub mod KindLemmas
+pub mod CallLemmas
+pub mod SwitchLemmas
