@@ -1,0 +1,3 @@
+pub mod IntValues
+pub mod Joins
+pub mod Parts

@@ -1,0 +1,23 @@
+-- Each part that was compared is below the other; at the end these are all parts.
+use Rattle.std.proofs.Common.{◌<◌, length, refl, arith}
+use Rattle.std.proofs.lemmas.List.Elements.{length_all_zip}
+use Rattle.cc_lattice.proofs.Parts.{zip_more, zip_all}
+use Rattle.cc_lattice.proofs.table.all_below.Goals as goal
+
+pub loop-at-preserved : goal.loop-at-preserved
+loop-at-preserved g c =
+    let m = g.L.Lattice in
+    let xs = c.args.parts.now in
+    let ys = c.args.others.now in
+    let same = length_all_zip m.AreAlike xs ys c.requires in
+    let lx : c.loop-at.at < length xs = omega (arith, c.loop-at-test.true) in
+    let ly : c.loop-at.at < length ys = omega arith in
+    zip_more m.IsBelow xs ys c.loop-at.at c.index-parts-at.result c.index-others-at.result lx ly c.index-parts-at.is c.index-others-at.is c.loop-at.invariant (c.if-not-below.ensures.0 refl)
+
+pub returns : goal.returns
+returns g c =
+    let m = g.L.Lattice in
+    let xs = c.args.parts.now in
+    let ys = c.args.others.now in
+    let same = length_all_zip m.AreAlike xs ys c.requires in
+    ((λ e. zip_all m.IsBelow xs ys c.loop-at.at (omega arith) same c.loop-at.invariant), (λ h. refl))

@@ -1,0 +1,63 @@
+-- What domains of sets of numbers are asked: which numbers may stand in them, what the operands of an
+-- operator are, and which numbers pass a comparison.
+use Rattle.std.specs.Prelude.{ℕ, ◌^◌, ◌<◌, ◌≡◌, Bool, true, false, not, ℤ, pos, neg_ℤ, ◌<ℤ◌, ◌≤ℤ◌, int_lt, int_le, List, slice_get, Some}
+use Rattle.std.specs.Ordering.{int_eq}
+use Rattle.cc_num.specs.declared.int_type.IntType.{IntType}
+use Rattle.cc_num.specs.declared.target.Target.{Target}
+use Rattle.cc_num.specs.declared.op.BinOp.{BinOp}
+use Rattle.cc_num.specs.declared.op.BinOp.TheVariants as op
+use Rattle.cc_num.specs.Integers.{IsValueOf}
+use Rattle.cc_num.specs.Promotions.{promoted}
+use Rattle.cc_num.specs.Results.{is_shift}
+
+-- a value of some integer type of some target
+pub record IsIntValue (v : ℤ) : Type 0 where
+  pub least : neg_ℤ (pos (2 ^ 63)) ≤ℤ v
+  pub most : v <ℤ pos (2 ^ 64)
+
+-- what a second operand may be: of a shift a value of any type, else one of the operator's type
+abbrev pub IsSecond : Bool → IntType → Target → ℤ → Type 0
+IsSecond true t target v = IsIntValue v
+IsSecond false t target v = IsValueOf t target v
+
+-- sets of operands of an operator in the promoted type t
+pub record AreOperands {D : Type 0} (has : D → ℤ → Type 0) (op : BinOp) (a b : D) (t : IntType) (target : Target) : Type 0 where
+  pub promotion : promoted t target ≡ t
+  pub first : (v : ℤ) → has a v → IsValueOf t target v
+  pub second : (v : ℤ) → has b v → IsSecond (is_shift op) t target v
+
+-- a set of operands of an operator of one operand in the promoted type t
+pub record AreOperandsOne {D : Type 0} (has : D → ℤ → Type 0) (a : D) (t : IntType) (target : Target) : Type 0 where
+  pub promotion : promoted t target ≡ t
+  pub first : (v : ℤ) → has a v → IsValueOf t target v
+
+-- whether the operator compares (C99 6.5.8, 6.5.9)
+abbrev pub is_comparison : BinOp → Bool
+is_comparison op.Lt = true
+is_comparison op.Le = true
+is_comparison op.Gt = true
+is_comparison op.Ge = true
+is_comparison op.Eq = true
+is_comparison op.Ne = true
+is_comparison _ = false
+
+-- whether two numbers pass a comparison
+abbrev pub passes : BinOp → ℤ → ℤ → Bool
+passes op.Lt v w = int_lt v w
+passes op.Le v w = int_le v w
+passes op.Gt v w = int_lt w v
+passes op.Ge v w = int_le w v
+passes op.Eq v w = int_eq v w
+passes op.Ne v w = not (int_eq v w)
+passes _ v w = false
+
+-- each number is less than those behind it
+abbrev pub Ascends : List ℤ → Type 0
+Ascends vs = (i j : ℕ) (v w : ℤ) → i < j → slice_get vs i ≡ Some v → slice_get vs j ≡ Some w → v <ℤ w
+
+-- the least and the greatest member of a set
+pub record AreEnds (has : ℤ → Type 0) (ends : ℤ × ℤ) : Type 0 where
+  pub low_in : has ends.0
+  pub high_in : has ends.1
+  pub low : (v : ℤ) → has v → ends.0 ≤ℤ v
+  pub high : (v : ℤ) → has v → v ≤ℤ ends.1

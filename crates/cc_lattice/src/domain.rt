@@ -1,0 +1,154 @@
+ghost use Rattle.std.specs.Prelude.{◌≡◌, ◌≢◌, ◌↔◌, ◌≤◌, ◌<◌, ◌^◌, ℕ, ℤ, List, Option, Some, None, true, IsTrue, IfSome};
+ghost use Rattle.std.specs.List.{Contains};
+ghost use Rattle.std.specs.Option.{option_copied};
+ghost use Rattle.cc_num.specs.declared.int_type.IntType.{IntType};
+ghost use Rattle.cc_num.specs.declared.target.Target.{Target};
+ghost use Rattle.cc_num.specs.declared.op.BinOp.{BinOp};
+ghost use Rattle.cc_num.specs.declared.op.UnOp.{UnOp};
+ghost use Rattle.cc_num.specs.Integers.{IsValueOf, converted};
+ghost use Rattle.cc_num.specs.Results.{result_of, unary_result_of};
+ghost use Rattle.cc_lattice.specs.Domains.{IsIntValue, AreOperands, AreOperandsOne, is_comparison, passes, Ascends, AreEnds};
+
+use crate::Lattice;
+use cc_num::{BinOp, IntType, Target, UnOp};
+
+/// Sets of numbers.
+pub trait Concrete {
+    /// The members of the set.
+    ghost Has: { Self → ℤ → Type 0 };
+
+    /// Whether the number is a member.
+    fn has(&self, v: i128) -> bool
+        ensures { IsTrue result ↔ Has self.now v };
+}
+
+/// A lattice of sets of numbers, over which C's operators are worked (C99 6.5).
+///
+/// All values are of one kind. A value may have more members than the results that it stands for,
+/// never fewer. An operator's operands are of its type, which is promoted; a shift's count may be of
+/// any type.
+pub trait IntDomain: Lattice + Concrete {
+    /// `OpGives op a b t c r`: `op` of a and b gives r.
+    ghost OpGives: { BinOp → Self → Self → IntType → Target → Self → Type 0 };
+
+    /// `OpOneGives op a t c r`: `op_one` of a gives r.
+    ghost OpOneGives: { UnOp → Self → IntType → Target → Self → Type 0 };
+
+    /// `ToGives a t c r`: `to` of a gives r.
+    ghost ToGives: { Self → IntType → Target → Self → Type 0 };
+
+    /// `KeepGives test a b r`: `keep` of a by b gives r.
+    ghost KeepGives: { BinOp → Self → Self → Self → Type 0 };
+
+    /// The members of an explicit set, ascending.
+    ghost members_of: { Self → Option (List ℤ) };
+
+    /// The least and the greatest member.
+    ghost bounds_of: { Self → Option (ℤ × ℤ) };
+
+    /// How often the value can still rise, at the most.
+    ghost room_of: { Self → ℕ };
+
+    /// The empty set.
+    fn none() -> Self
+        ensures empty { (v : ℤ) → Self.Has result v → ⊥ }
+        ensures least { (x : Self) → Self.IsBelow result x };
+
+    /// The set of one number.
+    fn one(v: i128) -> Self
+        requires { IsIntValue v }
+        ensures has { (w : ℤ) → Self.Has result w ↔ w ≡ v }
+        ensures least { (x : Self) → Self.Has x v → Self.IsBelow result x };
+
+    /// The set of all values of a type.
+    fn whole(t: IntType, target: &Target) -> Self
+        ensures { (v : ℤ) → Self.Has result v ↔ IsValueOf t target.now v };
+
+    /// The results of `v op w`, of members v and w, in the type t.
+    fn op(op: BinOp, a: &Self, b: &Self, t: IntType, target: &Target) -> Self
+        requires { AreOperands Self.Has op a.now b.now t target.now }
+        ensures { OpGives op a.now b.now t target.now result };
+
+    /// The results of an operator of one operand, in the type t.
+    fn op_one(op: UnOp, a: &Self, t: IntType, target: &Target) -> Self
+        requires { AreOperandsOne Self.Has a.now t target.now }
+        ensures { OpOneGives op a.now t target.now result };
+
+    /// The members, converted to a type.
+    fn to(&self, t: IntType, target: &Target) -> Self
+        ensures { ToGives self.now t target.now result };
+
+    /// The members that may pass a comparison with a member of the other set.
+    fn keep(&self, test: BinOp, other: &Self) -> Self
+        requires { is_comparison test ≡ true }
+        ensures { KeepGives test self.now other.now result };
+
+    /// The members of an explicit set, ascending. `None` for a range.
+    fn members(&self) -> Option<&[i128]>
+        ensures { option_copied result ≡ members_of self.now };
+
+    /// The least and the greatest member. `None` for the empty set.
+    fn bounds(&self) -> Option<(i128, i128)>
+        ensures { result ≡ bounds_of self.now };
+
+    /// How often the value can still rise, at the most.
+    fn room(&self) -> u128
+        ensures { result ≡ room_of self.now };
+
+    /// All values are of one kind.
+    ghost all_alike: { (x y : Self) → Self.AreAlike x y };
+
+    /// A value has every member of a value below it.
+    ghost below_has: { (x y : Self) → Self.IsBelow x y → (v : ℤ) → Self.Has x v → Self.Has y v };
+
+    /// `op` has every result that does not trap.
+    ghost op_has: { (op : BinOp) (a b r : Self) (t : IntType) (c : Target) → AreOperands Self.Has op a b t c → OpGives op a b t c r →
+        (v w z : ℤ) → Self.Has a v → Self.Has b w → result_of op v w t c ≡ Some z → Self.Has r z };
+
+    /// `op` gives more for more.
+    ghost op_grows: { (op : BinOp) (a b r x y s : Self) (t : IntType) (c : Target) → AreOperands Self.Has op x y t c →
+        OpGives op a b t c r → OpGives op x y t c s → Self.IsBelow a x → Self.IsBelow b y → Self.IsBelow r s };
+
+    /// `op_one` has every result that does not trap.
+    ghost op_one_has: { (op : UnOp) (a r : Self) (t : IntType) (c : Target) → AreOperandsOne Self.Has a t c → OpOneGives op a t c r →
+        (v z : ℤ) → Self.Has a v → unary_result_of op v t c ≡ Some z → Self.Has r z };
+
+    /// `op_one` gives more for more.
+    ghost op_one_grows: { (op : UnOp) (a r x s : Self) (t : IntType) (c : Target) → AreOperandsOne Self.Has x t c →
+        OpOneGives op a t c r → OpOneGives op x t c s → Self.IsBelow a x → Self.IsBelow r s };
+
+    /// `to` has every member, converted.
+    ghost to_has: { (a r : Self) (t : IntType) (c : Target) → ToGives a t c r → (v : ℤ) → Self.Has a v → Self.Has r (converted v t c) };
+
+    /// `to` gives more for more.
+    ghost to_grows: { (a r x s : Self) (t : IntType) (c : Target) → ToGives a t c r → ToGives x t c s → Self.IsBelow a x → Self.IsBelow r s };
+
+    /// `keep` keeps each member that passes against some member of the other.
+    ghost keep_has: { (test : BinOp) (a b r : Self) → is_comparison test ≡ true → KeepGives test a b r →
+        (v w : ℤ) → Self.Has a v → Self.Has b w → passes test v w ≡ true → Self.Has r v };
+
+    /// `keep` keeps no more than there was.
+    ghost keep_below: { (test : BinOp) (a b r : Self) → is_comparison test ≡ true → KeepGives test a b r → Self.IsBelow r a };
+
+    /// `keep` gives more for more.
+    ghost keep_grows: { (test : BinOp) (a b r x y s : Self) → is_comparison test ≡ true → KeepGives test a b r → KeepGives test x y s →
+        Self.IsBelow a x → Self.IsBelow b y → Self.IsBelow r s };
+
+    /// Explicit members ascend.
+    ghost members_ascend: { (x : Self) → IfSome (members_of x) Ascends };
+
+    /// Explicit members are the members.
+    ghost members_all: { (x : Self) → IfSome (members_of x) (λ vs. (v : ℤ) → Contains vs v ↔ Self.Has x v) };
+
+    /// There are no bounds exactly where there is no member.
+    ghost bounds_none: { (x : Self) → (bounds_of x ≡ None) ↔ ((v : ℤ) → Self.Has x v → ⊥) };
+
+    /// The bounds are the least and the greatest member.
+    ghost bounds_ends: { (x : Self) → IfSome (bounds_of x) (AreEnds (Self.Has x)) };
+
+    /// The room has a bound.
+    ghost room_bound: { (x : Self) → room_of x ≤ 2 ^ 70 };
+
+    /// A value strictly above another has less room.
+    ghost room_falls: { (x y : Self) → Self.IsBelow x y → x ≢ y → room_of y < room_of x };
+}
