@@ -21,6 +21,8 @@ pub struct Case {
     source: Option<Vec<u8>>,
     /// The numbers of the store's calls that are to fail.
     failing: Vec<u64>,
+    /// The numbers of the sink's calls that are to fail.
+    deaf: Vec<u64>,
 }
 
 impl Case {
@@ -28,6 +30,7 @@ impl Case {
         Case {
             source: None,
             failing: Vec::new(alloc),
+            deaf: Vec::new(alloc),
         }
     }
 
@@ -51,6 +54,7 @@ impl Case {
             }
             ("times", Some(text), Some(times)) => self.put(alloc, text, times)?,
             ("failing", None, Some(call)) => self.failing.push(u64::from(call))?,
+            ("deaf", None, Some(call)) => self.deaf.push(u64::from(call))?,
             _ => return Ok(false),
         }
         Ok(true)
@@ -77,12 +81,14 @@ impl Case {
         };
         let words = split(alloc, words)?;
         let mut sink = MemorySink::new(alloc);
+        sink.failing.extend_from_slice(&self.deaf)?;
         let status = ccomp(alloc, &words, &mut store, &mut sink);
         println!(rt; "status {}", number(&status))?;
         if let Ok(line) = explain(alloc, &status) {
             io::writer(rt).write_all(&line)?;
         }
         println!(rt; "calls {} faults {}", store.calls, store.faults)?;
+        print_said(rt, &sink)?;
         store.failing.clear();
         match read_whole(alloc, &mut store, OUTPUT, FILE_LIMIT) {
             Ok(text) => {
@@ -112,6 +118,19 @@ fn table(words: &[String]) -> Option<&str> {
             name => Some(name),
         },
         _ => None,
+    }
+}
+
+/// Prints what was said, where there was something to say, and ends its last line.
+fn print_said(rt: &(impl Print + AllocGlobal), sink: &MemorySink) -> io::Result<()> {
+    if sink.calls == 0 {
+        return Ok(());
+    }
+    println!(rt; "said, with {} faults", sink.faults)?;
+    io::writer(rt).write_all(&sink.said)?;
+    match sink.said.last() {
+        None | Some(b'\n') => Ok(()),
+        Some(_) => println!(rt; ""),
     }
 }
 

@@ -5,11 +5,12 @@
 //!     line "TEXT"       puts a text and a line feed there
 //!     times N "TEXT"    puts a text there so many times
 //!     failing N         has the store's call of this number fail
+//!     deaf N            has the sink's call of this number fail
 //!     run WORD..        does what the words say
 //!
-//! and of a run it prints the status, the line that explains it, the calls of the store and its faults,
-//! and what the output `o.c` holds then, and the table where the words name one. A quoted text ends at the
-//! last quote of its line.
+//! and of a run it prints the status, the line that explains it, the calls of the store and its faults, what was
+//! said and the faults of the sink where there was anything to say, and what the output `o.c` holds then, and the
+//! table where the words name one. A quoted text ends at the last quote of its line.
 #![tactic(auto)]
 
 mod case;

@@ -1,5 +1,5 @@
 -- A text has no fewer bytes than tokens, and a tiny text no fewer than its program has objects.
-use Rattle.std.proofs.Common.{arith, ◌≡◌, ◌≤◌, ◌<◌, ◌+◌, ◌^◌, ℕ, List, [], ◌∷◌, ◌++◌, Bool, Option, Some, None, IfSome, length, length-append, map, sym, ap, ◌∙◌}
+use Rattle.std.proofs.Common.{arith, ◌≡◌, ◌≤◌, ◌<◌, ◌+◌, ◌^◌, ℕ, List, [], ◌∷◌, ◌++◌, Bool, Option, Some, None, IfSome, length, length-append, sym, ap, ◌∙◌}
 use Rattle.std.proofs.lemmas.List.{length-map}
 use Rattle.cc_lex.specs.Identifiers.{IsIdentifier}
 use Rattle.cc_lex.specs.Tokens.{Tokens, Spells, AName, ANumber, ACharacter, AText, AMark, TokensFrom, NoToken, Separated, Spelled}

@@ -1,4 +1,5 @@
 pub mod CommandLaws
 pub mod Counts
+pub mod Numbers
 pub mod OutputLemmas
 pub mod PackLaws

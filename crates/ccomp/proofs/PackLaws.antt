@@ -1,5 +1,5 @@
 -- What a run of `pack` leaves, from what its parts say: the source was read, and then the outputs were written.
-use Rattle.std.proofs.Common.{◌≡◌, ◌≤◌, ℕ, Bool, IsTrue, List, [], Option, Some, None, unwrap_or, refl, sym, ap, ◌∙◌, subst, ◌⊎◌, inl, inr, IfSome, IsSomeAnd, arith}
+use Rattle.std.proofs.Common.{◌≡◌, ◌≤◌, ℕ, Bool, IsTrue, List, [], Option, Some, None, unwrap_or, sym, ap, ◌∙◌, subst, ◌⊎◌, inl, inr, IfSome, IsSomeAnd, arith}
 use Rattle.cc_tiny_types.specs.declared.program.Program.{Program}
 use Rattle.cc_tiny_types.specs.Layout.{ram}
 use Rattle.cc_table.specs.Table.{table_text}

@@ -1,4 +1,5 @@
 pub mod Command
 pub mod Headline
+pub mod Make
 pub mod Outputs
 pub mod Statuses

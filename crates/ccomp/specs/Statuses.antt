@@ -8,7 +8,9 @@ use Rattle.cc_lex.specs.declared.fault.LexFault.TheVariants as fault
 use Rattle.ccomp.specs.declared.status.ReadRefusal.{ReadRefusal}
 use Rattle.ccomp.specs.declared.status.ReadRefusal.TheVariants.{Lex, Gram}
 use Rattle.ccomp.specs.declared.status.Status.{Status}
-use Rattle.ccomp.specs.declared.status.Status.TheVariants.{Done, Usage, ReadFault, TooLong, Refused, WriteFault, NoMemory, Later}
+use Rattle.ccomp.specs.declared.status.What.{What}
+use Rattle.ccomp.specs.declared.status.What.TheVariants.{Count}
+use Rattle.ccomp.specs.declared.status.Status.TheVariants.{Done, Usage, ReadFault, TooLong, Refused, Limit, WriteFault, NoMemory, Later}
 
 abbrev pub number_of : Status → ℕ
 number_of Done = 0
@@ -16,6 +18,7 @@ number_of (Usage word) = 2
 number_of (ReadFault name) = 3
 number_of (TooLong name) = 4
 number_of (Refused name why) = 5
+number_of (Limit what number) = 10
 number_of (WriteFault name) = 11
 number_of NoMemory = 12
 number_of (Later name) = 13
@@ -65,12 +68,17 @@ abbrev pub cause_of : ReadRefusal → List ℕ
 cause_of (Lex e) = fault_name e ++ offset_text (fault_offset e)
 cause_of (Gram e) = gram_name e ++ (gram_word e ++ offset_text (gram_offset e))
 
+-- what stands in front of the number that is above a limit
+abbrev pub limit_text : What → List ℕ
+limit_text Count = codes "limit count "
+
 abbrev pub text_of : Status → List ℕ
 text_of Done = []
 text_of (Usage word) = codes "usage: " ++ word
 text_of (ReadFault name) = codes "cannot read " ++ name
 text_of (TooLong name) = name ++ codes " is too long"
 text_of (Refused name why) = name ++ (codes ": " ++ cause_of why)
+text_of (Limit what number) = limit_text what ++ decimal number
 text_of (WriteFault name) = codes "cannot write " ++ name
 text_of NoMemory = codes "out of memory"
 text_of (Later name) = name ++ codes ": later"
@@ -80,7 +88,7 @@ abbrev pub line_of : Status → List ℕ
 line_of Done = []
 line_of status = codes "ccomp: " ++ (text_of status ++ codes "\n")
 
--- whether the output may have been begun
+-- whether the output may have been begun: a file, or what is said
 abbrev pub may_write : Status → Bool
 may_write Done = true
 may_write (WriteFault name) = true
@@ -88,5 +96,6 @@ may_write (Usage word) = false
 may_write (ReadFault name) = false
 may_write (TooLong name) = false
 may_write (Refused name why) = false
+may_write (Limit what number) = false
 may_write NoMemory = false
 may_write (Later name) = false

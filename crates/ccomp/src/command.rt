@@ -2,7 +2,9 @@
 
 ghost use Rattle.std.specs.Prelude.{◌≡◌, option_map, nat_eq};
 ghost use Rattle.std.specs.Cmp.Lexicographic.{pointwise};
-ghost use Rattle.ccomp.specs.Command.{command_of, asked_of, texts, is_dash as is_dash_of, is_pack as is_pack_of, named as named_of, pack_asked, AreApart};
+ghost use Rattle.ccomp.specs.Command.{command_of, asked_of, texts, is_dash as is_dash_of, is_pack as is_pack_of, is_make as is_make_of, named as named_of, pack_asked, pack_of, make_of, IsMeant};
+
+use crate::make;
 
 /// What words ask for.
 #[derive(Clone, Copy)]
@@ -13,6 +15,11 @@ pub enum Asked<'w> {
         out: &'w str,
         table: Option<&'w str>,
         source: &'w str,
+    },
+    /// To say the source of so many counters, drawn from a seed.
+    Make {
+        seed: u64,
+        count: u32,
     },
     /// Nothing: they are no command, for this word.
     Wrong(&'w str),
@@ -28,6 +35,12 @@ fn is_pack(word: &str) -> bool
     ensures { result ≡ is_pack_of word.now }
 {
     word.as_bytes() == b"pack".as_slice()
+}
+
+fn is_make(word: &str) -> bool
+    ensures { result ≡ is_make_of word.now }
+{
+    word.as_bytes() == b"make".as_slice()
 }
 
 fn is_same(word: &str, other: &str) -> bool
@@ -65,21 +78,45 @@ fn pack<'w>(
     }
 }
 
-/// What the words ask for: `pack - OUT TABLE - SOURCE` is the only command, where TABLE may be `-`.
+/// What `pack` asks for with the words behind it.
+fn pack_words<'w>(command: &'w str, rest: &'w [String]) -> Asked<'w>
+    ensures { asked_of result ≡ pack_of command.now (texts rest.now) }
+{
+    match rest {
+        [profile, out, table, certificate, source] => {
+            pack(profile, out, table, certificate, source)
+        }
+        _ => Asked::Wrong(command),
+    }
+}
+
+/// What `make` asks for with the words behind it.
+fn make_words<'w>(command: &'w str, rest: &'w [String]) -> Asked<'w>
+    ensures { asked_of result ≡ make_of command.now (texts rest.now) }
+{
+    match rest {
+        [seed, count] => make::asked(seed, count),
+        _ => Asked::Wrong(command),
+    }
+}
+
+/// What the words ask for: the commands are `pack - OUT TABLE - SOURCE`, where TABLE may be `-`, and
+/// `make SEED COUNT`.
 #[tactic(auto, using(crate::proofs::CommandLaws::of_commands))]
 pub fn command(words: &[String]) -> Asked<'_>
     ensures asked { asked_of result ≡ command_of (texts words.now) }
-    ensures apart { AreApart (asked_of result) }
+    ensures meant { IsMeant (asked_of result) }
 {
     match words {
         [] => Asked::Wrong(""),
-        [command, profile, out, table, certificate, source] => {
+        [command, rest @ ..] => {
             if is_pack(command) {
-                pack(profile, out, table, certificate, source)
+                pack_words(command, rest)
+            } else if is_make(command) {
+                make_words(command, rest)
             } else {
                 Asked::Wrong(command)
             }
         }
-        [command, ..] => Asked::Wrong(command),
     }
 }

@@ -2,10 +2,11 @@
 #![tactic(auto)]
 
 mod command;
+mod make;
 mod outputs;
 mod pack;
 mod source;
 mod status;
 
 pub use pack::ccomp;
-pub use status::{ReadRefusal, Status, explain, number};
+pub use status::{ReadRefusal, Status, What, explain, number};

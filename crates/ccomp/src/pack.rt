@@ -1,17 +1,20 @@
 //! The top call.
 
-ghost use Rattle.std.specs.Prelude.{◌≡◌, ◌≤◌, ◌<◌, ◌^◌, ◌⊎◌, ℕ, IsTrue, IfOk, IfErr, IfSome, IfNone, IsSomeAnd, Some, None, List as ListOf, true, false, length, option_map, unwrap_or, []};
+ghost use Rattle.std.specs.Prelude.{◌≡◌, ◌≤◌, ◌<◌, ◌^◌, ◌⊎◌, ◌++◌, ℕ, take, codes, IsTrue, IfOk, IfErr, IfSome, IfNone, IsSomeAnd, Some, None, List as ListOf, true, false, length, option_map, unwrap_or, []};
 ghost use Rattle.cc_edge.specs.Faults.{Rose, raised};
 ghost use Rattle.cc_edge.specs.Files.{KeepsFiles, KeepsOthers};
 ghost use Rattle.ccomp.specs.declared.status.ReadRefusal.{ReadRefusal as ReadRefusalOf};
-ghost use Rattle.ccomp.specs.Command.{Command, Pack, Wrong, ForPack, IsApart, command_of, texts};
+ghost use Rattle.cc_make.specs.Source.{made};
+ghost use Rattle.ccomp.specs.declared.status.What.{What as WhatOf};
+ghost use Rattle.ccomp.specs.Command.{Command, Pack, Make, Wrong, ForPack, ForMake, ForEither, IsApart, says, command_of, texts};
 ghost use Rattle.ccomp.specs.Headline.{Packs, IsAtFault, IsPackedText, IsNoTinyText, HasSentence, HasCause, IsRefused, is_for_memory as is_for_memory_of};
 ghost use Rattle.ccomp.specs.Statuses.{may_write};
 
 use crate::command::{Asked, command};
+use crate::make::make;
 use crate::outputs::{Texts, Unwritten, write};
 use crate::source::read;
-use crate::status::{ReadRefusal, Status};
+use crate::status::{ReadRefusal, Status, What};
 use cc_edge::{ReadEnd, Sink, Store, read_whole};
 use cc_gram::GramFault;
 use cc_lex::LexFault;
@@ -98,6 +101,7 @@ fn pack<F: Store>(
     ensures told { F.told store.new ≡ F.told store.old }
     ensures later_faults { F.faults store.old ≤ F.faults store.new }
     ensures usage { (word : ListOf ℕ) → result ≡ Status.Usage word → ⊥ }
+    ensures no_limit { (what : WhatOf) (number : ℕ) → result ≡ Status.Limit what number → ⊥ }
     ensures headline { result ≡ Status.Done → IsTrue (F.told store.old) → Packs out.now (option_map (λ t. t.now) table.entry) source.now (F.files store.old) (F.files store.new) }
     ensures read_fault { (name : ListOf ℕ) → result ≡ Status.ReadFault name →
         (name ≡ source.now) × (Rose (F.faults store.old) (F.faults store.new) ⊎ (IsTrue (F.told store.old) × (F.files store.old source.now ≡ None))) }
@@ -155,9 +159,16 @@ pub fn ccomp<F: Store, O: Sink>(
     ensures usage { (word : ListOf ℕ) → command_of (texts words.now) ≡ Wrong word → (result ≡ Status.Usage word) ⊎ (result ≡ Status.NoMemory) }
 
     // The output does what the source does, in no more RAM, the table, where it is named, tells the RAM of both, and
-    // nothing else has changed.
+    // nothing else has changed. Of `make`, nothing has.
     ensures headline { result ≡ Status.Done → IsTrue (F.told store.old) →
-        ForPack (command_of (texts words.now)) (λ out table source. Packs out table source (F.files store.old) (F.files store.new)) }
+        ForEither (command_of (texts words.now)) (λ out table source. Packs out table source (F.files store.old) (F.files store.new)) (λ seed count. KeepsFiles (F.files store.old) (F.files store.new)) }
+    // `make` says exactly the made source.
+    ensures said { result ≡ Status.Done → IsTrue (O.told sink.old) →
+        ForEither (command_of (texts words.now)) (λ out table source. O.said sink.new ≡ O.said sink.old) (λ seed count. O.said sink.new ≡ O.said sink.old ++ made seed count) }
+    // Limit comes exactly where the count of `make` is above 1,000, and with it.
+    ensures limit { (seed count : ℕ) → command_of (texts words.now) ≡ Make seed count → 1000 < count → result ≡ Status.Limit What.Count count }
+    ensures above { (what : WhatOf) (number : ℕ) → result ≡ Status.Limit what number →
+        ForMake (command_of (texts words.now)) (λ seed count. (what ≡ What.Count) × (number ≡ count) × (1000 < count)) }
 
     ensures read_fault { (name : ListOf ℕ) → result ≡ Status.ReadFault name →
         ForPack (command_of (texts words.now)) (λ out table source. (name ≡ source) × (Rose (F.faults store.old) (F.faults store.new) ⊎ (IsTrue (F.told store.old) × (F.files store.old source ≡ None)))) }
@@ -174,22 +185,29 @@ pub fn ccomp<F: Store, O: Sink>(
     ensures later { (name : ListOf ℕ) → result ≡ Status.Later name →
         ForPack (command_of (texts words.now)) (λ out table source. (name ≡ source) × (IsTrue (F.told store.old) → IsSomeAnd (F.files store.old source) (λ text. HasSentence text × IsNoTinyText text))) }
     // WriteFault names the file that was not written whole. Where it is the output, the table is as it was; where it is
-    // the table, the output is whole.
+    // the table, the output is whole. `-` is the sink, to which the first bytes of a made source were said.
     ensures write_fault { (name : ListOf ℕ) → result ≡ Status.WriteFault name →
-        ForPack (command_of (texts words.now)) (λ out table source. Rose (F.faults store.old) (F.faults store.new) × IsAtFault name out table source (F.told store.old) (F.files store.old) (F.files store.new)) }
+        ForEither (command_of (texts words.now)) (λ out table source. Rose (F.faults store.old) (F.faults store.new) × IsAtFault name out table source (F.told store.old) (F.files store.old) (F.files store.new))
+        (λ seed count. (name ≡ codes "-") × Rose (O.faults sink.old) (O.faults sink.new)
+        × (IsTrue (F.told store.old) → KeepsFiles (F.files store.old) (F.files store.new))
+        × (IsTrue (O.told sink.old) → (n : ℕ) × (O.said sink.new ≡ O.said sink.old ++ take n (made seed count)))) }
 
     // After any other answer than Done and WriteFault the files are as they were.
     ensures unchanged { may_write result ≡ false → IsTrue (F.told store.old) → KeepsFiles (F.files store.old) (F.files store.new) }
 
-    // Nothing is said.
-    ensures silent { O.said sink.new ≡ O.said sink.old }
-    ensures no_fault { O.faults sink.new ≡ O.faults sink.old }
+    // Nothing is said but by `make`, and by it only once the source is whole.
+    ensures silent { says (command_of (texts words.now)) ≡ false → O.said sink.new ≡ O.said sink.old }
+    ensures no_fault { says (command_of (texts words.now)) ≡ false → O.faults sink.new ≡ O.faults sink.old }
+    ensures not_begun { may_write result ≡ false → O.said sink.new ≡ O.said sink.old }
+    ensures told_sink { O.told sink.new ≡ O.told sink.old }
+    ensures later_sink { O.faults sink.old ≤ O.faults sink.new }
 {
     match command(words) {
         Asked::Wrong(word) => match copy_name(alloc, word.as_bytes()) {
             Ok(word) => Status::Usage(word),
             Err(NoMemory) => Status::NoMemory,
         },
+        Asked::Make { seed, count } => make(alloc, seed, count, sink),
         Asked::Pack { out, table, source } => pack(alloc, out, table, source, store),
     }
 }

@@ -3,7 +3,8 @@
 ghost use Rattle.std.specs.Prelude.{◌≡◌, ◌++◌, IfOk, codes};
 ghost use Rattle.cc_lex.specs.declared.fault.LexFault.TheVariants as fault;
 ghost use Rattle.ccomp.specs.declared.status.ReadRefusal.TheVariants.{Lex, Gram};
-ghost use Rattle.ccomp.specs.Statuses.{number_of, line_of, cause_of, offset_text, fault_name as fault_text, fault_offset, gram_name as gram_text, gram_word, gram_offset};
+ghost use Rattle.ccomp.specs.Statuses.{number_of, line_of, cause_of, offset_text, fault_name as fault_text, fault_offset, gram_name as gram_text, gram_word, gram_offset, limit_text};
+ghost use Rattle.ccomp.specs.declared.status.Status.TheVariants.{Limit};
 
 use cc_gram::GramFault;
 use cc_lex::LexFault;
@@ -43,6 +44,13 @@ impl From<NoMemory> for ReadRefusal {
     }
 }
 
+/// Which limit a number passes.
+#[derive(Clone, Copy, Debug)]
+pub enum What {
+    /// That of the counters of a made source.
+    Count,
+}
+
 /// How a command ended.
 #[derive(Debug, Drop)]
 pub enum Status {
@@ -56,7 +64,9 @@ pub enum Status {
     TooLong(Name),
     /// The source of this name is refused, for this cause.
     Refused(Name, ReadRefusal),
-    /// The file of this name was not written whole.
+    /// A number is above the limit of this: the number.
+    Limit(What, u64),
+    /// The file of this name was not written whole; `-` is the standard output.
     WriteFault(Name),
     /// Memory ran out.
     NoMemory,
@@ -74,6 +84,7 @@ pub fn number(status: &Status) -> u8
         Status::ReadFault(_) => 3,
         Status::TooLong(_) => 4,
         Status::Refused(_, _) => 5,
+        Status::Limit(_, _) => 10,
         Status::WriteFault(_) => 11,
         Status::NoMemory => 12,
         Status::Later(_) => 13,
@@ -210,6 +221,23 @@ fn cause(alloc: Global, why: &ReadRefusal) -> Result<Vec<u8>, NoMemory>
     }
 }
 
+/// What stands in front of the number that is above a limit.
+fn limit_front(what: What) -> &'static [u8]
+    ensures { result.now ≡ limit_text what }
+{
+    match what {
+        What::Count => b"limit count ",
+    }
+}
+
+/// The line of a number that is above a limit.
+fn limit_line(alloc: Global, what: What, number: u64) -> Result<Vec<u8>, NoMemory>
+    ensures { IfOk result (λ v. v.items ≡ line_of (Limit what number)) }
+{
+    let number = format!(in alloc; "{number}")?;
+    line(alloc, limit_front(what), number.as_bytes(), b"")
+}
+
 /// The line that tells a status, with its line feed; nothing where the work is done.
 pub fn explain(alloc: Global, status: &Status) -> Result<Vec<u8>, NoMemory>
     ensures { IfOk result (λ v. v.items ≡ line_of status.now) }
@@ -220,6 +248,7 @@ pub fn explain(alloc: Global, status: &Status) -> Result<Vec<u8>, NoMemory>
         Status::ReadFault(name) => Ok(line(alloc, b"cannot read ", name.all(), b"")?),
         Status::TooLong(name) => Ok(line(alloc, b"", name.all(), b" is too long")?),
         Status::Refused(name, why) => Ok(line(alloc, b"", name.all(), &cause(alloc, why)?)?),
+        Status::Limit(what, number) => limit_line(alloc, *what, *number),
         Status::WriteFault(name) => Ok(line(alloc, b"cannot write ", name.all(), b"")?),
         Status::NoMemory => Ok(line(alloc, b"out of memory", b"", b"")?),
         Status::Later(name) => Ok(line(alloc, b"", name.all(), b": later")?),
