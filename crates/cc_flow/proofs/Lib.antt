@@ -1,0 +1,12 @@
+pub mod Cases
+pub mod Functions
+pub mod Heads
+pub mod Inside
+pub mod Joins
+pub mod Lists
+pub mod Pairs
+pub mod Paths
+pub mod PieceInduction
+pub mod Pieces
+pub mod Starts
+pub mod Tests

@@ -1,0 +1,4 @@
+pub mod Laws
+pub mod Next
+pub mod Points
+pub mod View
