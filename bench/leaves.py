@@ -1,0 +1,61 @@
+#!/usr/bin/env python3
+"""Time of calls that no command makes yet, by the programs of cases.
+
+It builds each program by `rt run` in its crate's folder, which proves it, and prints a row a case: the time of the
+program, its start and the making of what it works on included. It ends with status 1 where a case takes a second.
+"""
+import os
+import subprocess
+import sys
+import time
+
+TOP = os.path.dirname(os.path.dirname(os.path.abspath(__file__)))
+MOST = 1.0
+
+# the program, the setting, the case, and what its answer begins with
+ROWS = (
+    ("cases_leaves", "many", "65536 8 8", "65536 words, 65536 fields"),
+    ("cases_leaves", "many", "65536 5 3", "32768 words, 65536 fields"),
+    ("cases_leaves", "many", "65536 5 4", "49152 words, 65536 fields"),
+    ("cases_leaves", "many", "65536 1 1", "8192 words, 65536 fields"),
+    ("cases_leaves", "many", "65536 9 7", "32768 words, 65536 fields"),
+    ("cases_leaves", "many", "65536 16 1", "4096 words, 32768 fields"),
+    ("cases_flow", "many", "65535 1", "65536 points"),
+    ("cases_flow", "many", "65535 128", "65536 points"),
+)
+
+
+def built(crate):
+    """The program of a crate."""
+    folder = os.path.join(TOP, "crates", crate)
+    if subprocess.run(["rt", "run"], cwd=folder, stdin=subprocess.DEVNULL, capture_output=True).returncode:
+        sys.exit(f"{crate} was not built")
+    return os.path.join(folder, "out", crate)
+
+
+def measured(program, setting, case, wanted):
+    """The least time of nine runs in seconds."""
+    script = f"== a case\n$ {setting}\n{case}\n"
+    best = None
+    for _ in range(9):
+        begun = time.monotonic()
+        run = subprocess.run([program], input=script, text=True, capture_output=True)
+        took = time.monotonic() - begun
+        if run.returncode or f"{case} => {wanted}" not in run.stdout:
+            sys.exit(f"{case}: the program ended with {run.returncode} and wrote {run.stdout[:300]}")
+        best = took if best is None else min(best, took)
+    return best
+
+
+def main():
+    programs = {crate: built(crate) for crate in sorted({row[0] for row in ROWS})}
+    failed = False
+    for crate, setting, case, wanted in ROWS:
+        took = measured(programs[crate], setting, case, wanted)
+        print(f"{crate}, {setting} {case}: {took:.3f} s")
+        failed = failed or took >= MOST
+    sys.exit(1 if failed else 0)
+
+
+if __name__ == "__main__":
+    main()
