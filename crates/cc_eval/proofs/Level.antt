@@ -1,0 +1,32 @@
+-- What an expression does next, opened at its top.
+use Rattle.std.proofs.Common.{◌≡◌, refl, ap, sym, ◌∙◌, List, map, Result, Ok, Err, IfOk}
+use Rattle.cc_program.specs.declared.expr.Expr.{Expr, Both, Either, Call, roll-Expr, map-Expr}
+use Rattle.cc_program.specs.declared.expr.Expr.TheVariants.{rolls-Both, rolls-Either, rolls-Call}
+use Rattle.cc_program.specs.declared.expr.Expr.TheOpen as one
+use Rattle.cc_program.specs.declared.expr.Place.{Place}
+use Rattle.cc_eval.specs.declared.mark.Mark.{Mark}
+use Rattle.cc_eval.specs.Context.{Context}
+use Rattle.cc_syntax.specs.Effects.{Registers}
+use Rattle.cc_eval.specs.Eval.{Meaning, Designation, expr_meaning, meaning, designation, both, either, called}
+use Rattle.cc_eval.proofs.Links.{level}
+
+-- an outcome that is the same as another one
+pub same_outcome : {A E B : Type 0} (r : Result A E) (f : A → B) (x y : B) → x ≡ y → IfOk r (λ s. f s ≡ x) → IfOk r (λ s. f s ≡ y)
+same_outcome (Ok a) f x y e h = h ∙ e
+same_outcome (Err a) f x y e h = tt
+
+module _ (c : Context) where
+  opened : (e : Expr) (x : one.Expr-F Expr Place) → e ≡ roll-Expr x → meaning c e ≡ expr_meaning c (map-Expr Expr Place Meaning Designation (meaning c) (designation c) x)
+  opened e x h = ap (meaning c) h ∙ level c x
+
+  pub both_level : (e a b : Expr) → e ≡ Both a b → (later : Registers) (ms : List Mark) →
+      both ((meaning c e).effects.pure later) (meaning c a) (meaning c b) later ms ≡ (meaning c e).next later ms
+  both_level e a b h later ms = rw (opened e (one.Both a b) (h ∙ sym (rolls-Both a b))) refl
+
+  pub either_level : (e a b : Expr) → e ≡ Either a b → (later : Registers) (ms : List Mark) →
+      either ((meaning c e).effects.pure later) (meaning c a) (meaning c b) later ms ≡ (meaning c e).next later ms
+  either_level e a b h later ms = rw (opened e (one.Either a b) (h ∙ sym (rolls-Either a b))) refl
+
+  pub call_level : (e f : Expr) (args : List Expr) → e ≡ Call f args → (later : Registers) (ms : List Mark) →
+      called (meaning c f) (map (meaning c) args) later ms ≡ (meaning c e).next later ms
+  call_level e f args h later ms = rw (opened e (one.Call f args) (h ∙ sym (rolls-Call f args))) refl

@@ -1,0 +1,5 @@
+pub mod Context
+pub mod Eval
+pub mod Marks
+pub mod Progress
+pub mod View

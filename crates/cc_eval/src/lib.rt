@@ -1,0 +1,21 @@
+//! What full expressions do next, from what their steps have given so far (C99 6.5).
+#![tactic(auto)]
+
+mod accesses;
+mod action;
+mod context;
+mod effects;
+mod eval;
+mod law;
+mod mark;
+mod operations;
+mod progress;
+mod spots;
+
+pub use action::{Action, Manner};
+pub use context::Context;
+pub use eval::next_of;
+pub use law::laws;
+pub use mark::Mark;
+pub use progress::Stage;
+pub use spots::object_type;
