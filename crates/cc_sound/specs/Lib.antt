@@ -1,0 +1,4 @@
+pub mod Spaces
+pub mod Cases
+pub mod Leaves
+pub mod Functions

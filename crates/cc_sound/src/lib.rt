@@ -1,0 +1,9 @@
+//! Whether a program is sound: what reading C makes, and what each pass is given.
+#![tactic(auto)]
+
+mod initial;
+mod names;
+mod program;
+mod statements;
+
+pub use program::{is_numbered, is_sound};
