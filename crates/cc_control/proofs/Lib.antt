@@ -1,0 +1,3 @@
+pub mod Begun
+pub mod CaseLemmas
+pub mod LevelLemmas
