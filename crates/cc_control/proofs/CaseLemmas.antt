@@ -30,5 +30,3 @@ module _ (has : List (Option ℤ) → Bool) where
   pub label_behind : (n m : ℕ) (c : Case) (cases left : List Case) → left ≡ c ∷ cases → counted (n + length c.body) ≡ counted m → has c.labels ≡ false →
       option_map counted_at (from_label has n left) ≡ option_map counted_at (from_label has m cases)
   label_behind n m c cases left e h k = rw (e, k) (same_count cases (n + length c.body) m h)
-
-pub ruleset of_cases = (label_here, label_behind)

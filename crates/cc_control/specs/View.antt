@@ -1,12 +1,12 @@
 -- What the code's levels stand for.
-use Rattle.std.specs.Prelude.{ℕ, Bool, true, false, List, [], ◌∷◌, ◌++◌, map, reverse, Option, Some, None}
+use Rattle.std.specs.Prelude.{ℕ, ℤ, Bool, true, false, List, [], ◌∷◌, ◌++◌, map, reverse, Option, Some, None}
 use Rattle.cc_program.specs.declared.stmt.Case.{Case}
 use Rattle.cc_program.specs.declared.stmt.Stmt.{Stmt}
 use Rattle.cc_control.specs.declared.level.Left.{Left}
 use Rattle.cc_control.specs.declared.level.Level.{Level as LevelAt}
 use Rattle.cc_control.specs.declared.level.Control.{Control as ControlAt}
 use Rattle.std.specs.Borrow.{Bor}
-use Rattle.cc_control.specs.Control.{Level, Control, level, bodies, counted}
+use Rattle.cc_control.specs.Control.{Level, Control, level, bodies, counted, is_label, is_default}
 
 -- all statements that are left
 abbrev pub left_of : Left → List Stmt
@@ -41,3 +41,8 @@ counted_at at = (counted at.0, at.1)
 
 abbrev pub found_of : ℕ × Bor (List Case) → ℕ × List Stmt
 found_of found = (found.0, bodies found.1.now)
+
+-- the labels that are wanted: a constant, or `default` for none
+abbrev pub is_wanted : Option ℤ → Option ℤ → Bool
+is_wanted None = is_default
+is_wanted (Some v) = is_label v

@@ -12,7 +12,6 @@ use std::alloc::Global;
 
 /// Begins the first statement of a list, which has this position there, inside these levels, the body's first. A block
 /// and a `do` that are not empty are entered without a step (C99 6.8.2, 6.8.5.2). The one error is want of memory.
-#[tactic(auto, using(crate::proofs::LevelLemmas::of_levels))]
 pub fn begin<'p>(
     alloc: Global,
     left: Left<'p>,

@@ -42,13 +42,17 @@ pub fn settled<'p>(list: &'p [Stmt], cases: &'p [Case]) -> Left<'p>
     ensures same { left_of result ≡ list.now ++ bodies cases.now }
     ensures first { is_settled result ≡ true }
 {
-    match list {
-        [_, ..] => Left { list, cases },
-        [] => match cases {
-            [] => Left { list, cases },
-            [case, cases @ ..] => settled(case.body.all(), cases),
-        },
+    let mut left = Left { list, cases };
+    while left.list.is_empty() {
+        let Some((case, cases)) = left.cases.split_first() else {
+            return left;
+        };
+        left = Left {
+            list: case.body.all(),
+            cases,
+        };
     }
+    left
 }
 
 /// What is left behind the first statement.
@@ -110,7 +114,6 @@ pub fn around_list<'p>(at: Level<'p>) -> Level<'p>
 }
 
 /// The innermost level, and those around it.
-#[tactic(auto, using(crate::proofs::LevelLemmas::of_levels))]
 pub fn innermost<'l, 'p>(levels: &'l [Level<'p>]) -> Option<(&'l Level<'p>, &'l [Level<'p>])>
     ensures parts { MatchOption result (levels_of levels.now ≡ []) (λ p. levels_of levels.now ≡ level_of p.0.now ∷ levels_of p.1.now) }
     ensures fewer { IfSome result (λ p. length p.1.now < length levels.now) }
