@@ -1,0 +1,124 @@
+//! Statements.
+
+use crate::builder::{Builder, last_few};
+use cc_num::List;
+use cc_syntax::{Case, Expr, Stmt};
+use std::mem;
+
+fn begin(b: &mut Builder) -> Option<()> {
+    let before = mem::replace(&mut b.list, Vec::new(b.alloc));
+    b.open.push(before).ok()
+}
+
+fn end(b: &mut Builder) -> Option<()> {
+    let before = b.open.pop()?;
+    let list = List::of(mem::replace(&mut b.list, before));
+    b.ended.push(list).ok()
+}
+
+fn label(word: &str) -> Option<Option<i128>> {
+    if word == "default" {
+        Some(None)
+    } else {
+        Some(Some(word.parse().ok()?))
+    }
+}
+
+fn case(b: &mut Builder, rest: &str) -> Option<()> {
+    let mut labels = Vec::new(b.alloc);
+    for word in rest.split(',') {
+        if !word.is_empty() {
+            labels.push(label(word)?).ok()?;
+        }
+    }
+    let labels = List::of(labels);
+    let body = b.ended.pop()?;
+    b.cases.push(Case { labels, body }).ok()
+}
+
+fn branch(b: &mut Builder) -> Option<Stmt> {
+    let second = b.ended.pop()?;
+    let first = b.ended.pop()?;
+    Some(Stmt::If(b.exprs.pop()?, first, second))
+}
+
+/// A `for`, with all its expressions or with none.
+fn counted(b: &mut Builder) -> Option<Stmt> {
+    let body = b.ended.pop()?;
+    let step = b.exprs.pop();
+    let test = b.exprs.pop();
+    let first = b.exprs.pop();
+    Some(Stmt::For(first, test, step, body))
+}
+
+fn switch(b: &mut Builder, rest: &str) -> Option<Stmt> {
+    let cases = last_few(&mut b.cases, rest.parse().ok()?)?;
+    Some(Stmt::Switch(b.exprs.pop()?, cases))
+}
+
+fn value(b: &mut Builder, rest: &str) -> Option<Option<Expr>> {
+    if rest == "1" {
+        Some(Some(b.exprs.pop()?))
+    } else {
+        Some(None)
+    }
+}
+
+fn is_loop(head: &str) -> bool {
+    matches!(head, "while" | "dowhile" | "for" | "switch" | "if")
+}
+
+fn compound(b: &mut Builder, head: &str, rest: &str) -> Option<Stmt> {
+    match head {
+        "while" => {
+            let body = b.ended.pop()?;
+            Some(Stmt::While(b.exprs.pop()?, body))
+        }
+        "dowhile" => {
+            let body = b.ended.pop()?;
+            Some(Stmt::DoWhile(body, b.exprs.pop()?))
+        }
+        "for" => counted(b),
+        "switch" => switch(b, rest),
+        _ => branch(b),
+    }
+}
+
+fn is_simple(head: &str) -> bool {
+    matches!(
+        head,
+        "do" | "break" | "continue" | "return" | "empty" | "block"
+    )
+}
+
+fn simple(b: &mut Builder, head: &str, rest: &str) -> Option<Stmt> {
+    match head {
+        "do" => Some(Stmt::Do(b.exprs.pop()?)),
+        "break" => Some(Stmt::Break),
+        "continue" => Some(Stmt::Continue),
+        "return" => Some(Stmt::Return(value(b, rest)?)),
+        "block" => Some(Stmt::Block(b.ended.pop()?)),
+        _ => Some(Stmt::Empty),
+    }
+}
+
+/// Reads a word of statements; whether it is one.
+pub fn read(b: &mut Builder, head: &str, rest: &str) -> Option<bool> {
+    if is_loop(head) {
+        let s = compound(b, head, rest)?;
+        b.list.push(s).ok()?;
+        return Some(true);
+    }
+    if is_simple(head) {
+        let s = simple(b, head, rest)?;
+        b.list.push(s).ok()?;
+        return Some(true);
+    }
+    match head {
+        "{" => begin(b)?,
+        "}" => end(b)?,
+        "case" => case(b, rest)?,
+        _ => return Some(false),
+    }
+    Some(true)
+}

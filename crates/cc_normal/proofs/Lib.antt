@@ -1,0 +1,3 @@
+pub mod DeviceLemmas
+pub mod NormalLemmas
+pub mod Ranges
