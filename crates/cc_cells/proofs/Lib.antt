@@ -1,0 +1,4 @@
+pub mod CellLemmas
+pub mod CountLemmas
+pub mod ScalarLemmas
+pub mod StructureLemmas
