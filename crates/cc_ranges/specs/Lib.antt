@@ -1,0 +1,5 @@
+pub mod Ends
+pub mod Keep
+pub mod Rules
+pub mod laws
+pub mod Spans
