@@ -2,7 +2,7 @@
 
 use crate::words::split_first;
 use cc_lex::lex;
-use cc_meaning::{Machine, Took, start};
+use cc_tiny_meaning::{Machine, Took, start};
 use cc_tiny_types::Program;
 use std::alloc::Global;
 use std::io;

@@ -3,7 +3,7 @@ use Rattle.std.proofs.Common.{◌≡◌, ◌≤◌, ℕ, Bool, IsTrue, List, [],
 use Rattle.cc_tiny_types.specs.declared.program.Program.{Program}
 use Rattle.cc_tiny_types.specs.Layout.{ram}
 use Rattle.cc_table.specs.Table.{table_text}
-use Rattle.cc_meaning.proofs.RunLaws.{Follows-refl, Answers-refl}
+use Rattle.cc_tiny_meaning.proofs.RunLaws.{Follows-refl, Answers-refl}
 use Rattle.cc_edge.specs.Faults.{Rose}
 use Rattle.cc_edge.specs.Files.{Files, KeepsFiles, KeepsOthers, HoldsPrefix}
 use Rattle.cc_tiny.specs.Tiny.{IsTinyText}

@@ -10,7 +10,7 @@ use Rattle.cc_lex.specs.Faults.{HasFault}
 use Rattle.cc_lex.specs.Tokens.{Tokens}
 use Rattle.cc_tiny_types.specs.declared.program.Program.{Program}
 use Rattle.cc_tiny_types.specs.Layout.{ram}
-use Rattle.cc_meaning.specs.Runs.{Follows, Answers}
+use Rattle.cc_tiny_meaning.specs.Runs.{Follows, Answers}
 use Rattle.cc_edge.specs.Files.{Files, KeepsOthers, HoldsPrefix}
 use Rattle.cc_table.specs.Table.{table_text}
 use Rattle.ccomp.specs.declared.status.ReadRefusal.{ReadRefusal}
