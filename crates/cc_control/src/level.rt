@@ -69,8 +69,8 @@ pub fn behind_first<'p>(left: Left<'p>) -> Left<'p>
     }
 }
 
-/// The first statement, where there is one.
-fn first<'p>(left: Left<'p>) -> Option<&'p Stmt>
+/// The first statement that is left, where there is one.
+pub fn first<'p>(left: Left<'p>) -> Option<&'p Stmt>
     ensures { option_copied result ≡ first_of (left_of left.entry) }
 {
     match settled(left.list, left.cases).list {

@@ -10,6 +10,6 @@ mod statements;
 
 pub use goes_on::{arm, behind, broken, close, continued};
 pub use labels::{by_default, by_label};
-pub use level::{Control, Left, Level, around_list};
+pub use level::{Control, Left, Level, around_list, first};
 pub use phase::Phase;
 pub use statements::counted;
