@@ -1,0 +1,37 @@
+-- What the code's values stand for.
+use Rattle.std.specs.Prelude.{List, map, reverse, Option, Some, None}
+use Rattle.cc_cells.specs.Cells.{cells_of}
+use Rattle.cc_control.specs.Control.{Control}
+use Rattle.cc_control.specs.View.{level_of, levels_of}
+use Rattle.cc_meaning.specs.declared.activation.Activation.{Activation}
+use Rattle.cc_meaning.specs.declared.machine.Machine.{Machine}
+use Rattle.cc_meaning.specs.State.{Active, State}
+use Rattle.cc_meaning.specs.Step.{moved}
+
+abbrev pub active_of : Activation → Active
+active_of a = record {
+  number = a.number;
+  func = a.func;
+  handler = a.handler;
+  locals = cells_of a.locals.items;
+  here = level_of a.here;
+  around = levels_of a.around.items;
+  marks = a.marks.items;
+}
+
+-- the activations of a stack, the last one first
+unfoldable pub actives_of : List Activation → List Active
+actives_of stack = reverse (map active_of stack)
+
+abbrev pub state_of : Machine → State
+state_of m = record {
+  memory = record { flag = m.flag; statics = cells_of m.statics.items; inputs = reverse m.inputs.items; trace = m.trace.items };
+  stack = actives_of m.stack.items;
+  opened = m.opened;
+  end = m.end;
+}
+
+-- at a place of the function, where there is one to go to
+abbrev pub moved_if : Active → Option Control → Active
+moved_if a None = a
+moved_if a (Some at) = moved a at

@@ -1,0 +1,12 @@
+//! The meaning of whole programs: states, steps, turns and runs, as definitions in `specs/`, and a machine that is proved
+//! to take those steps. Handlers may enter between any two steps.
+#![tactic(auto)]
+
+mod activation;
+mod event;
+mod machine;
+mod progress;
+
+pub use activation::Activation;
+pub use event::{End, Event, Took};
+pub use machine::Machine;
