@@ -1,1 +1,4 @@
 pub mod FirstLemmas
+pub mod InputLemmas
+pub mod NewestLemmas
+pub mod StackLemmas

@@ -3,15 +3,9 @@
 use Rattle.std.specs.Prelude.{ℕ, ◌==◌, Bool, true, false, List, [], ◌∷◌, Option, Some, None, if◌then◌else◌}
 use Rattle.cc_program.specs.declared.value.Value.{Value}
 use Rattle.cc_cells.specs.Cells.{scalar_in, with_scalar}
+use Rattle.cc_meaning.specs.declared.content.Content.{Content}
+use Rattle.cc_meaning.specs.declared.content.Content.TheVariants.{Gone, Unwritten, Holds}
 use Rattle.cc_meaning.specs.State.{Active}
-
--- what a cell holds
-pub data Content : Type 0 where
-  -- its activation has ended
-  Gone : Content
-  -- it was never written
-  Unwritten : Content
-  Holds : Value → Content
 
 abbrev pub content : Option (Option Value) → Content
 content None = Unwritten

@@ -35,7 +35,9 @@ use Rattle.cc_eval.specs.declared.mark.Mark.TheVariants.{Gave, Did, Chose}
 use Rattle.cc_control.specs.declared.phase.Phase.{Phase}
 use Rattle.cc_control.specs.declared.phase.Phase.TheVariants.{First, Test, Again}
 use Rattle.cc_cells.specs.Cells.{scalar_in, with_scalar}
-use Rattle.cc_meaning.specs.Access.{Content, Gone, Unwritten, Holds, local_content, is_open, with_local}
+use Rattle.cc_meaning.specs.declared.content.Content.{Content}
+use Rattle.cc_meaning.specs.declared.content.Content.TheVariants.{Gone, Unwritten, Holds}
+use Rattle.cc_meaning.specs.Access.{local_content, is_open, with_local}
 use Rattle.cc_eval.specs.Context.{object_type}
 use Rattle.cc_control.specs.Control.{Level, Control, level, counted, close, behind, broken, continued, around_list, arm, from_label, is_label, is_default}
 use Rattle.cc_eval.specs.Eval.{next_of}

@@ -1,5 +1,5 @@
 -- What the code's values stand for.
-use Rattle.std.specs.Prelude.{List, map, reverse, Option, Some, None}
+use Rattle.std.specs.Prelude.{◌≡◌, ◌≢◌, ◌<◌, ℕ, suc, List, [], ◌∷◌, length, drop, get_or, map, reverse, Option, Some, None}
 use Rattle.cc_cells.specs.Cells.{cells_of}
 use Rattle.cc_control.specs.Control.{Control}
 use Rattle.cc_control.specs.View.{level_of, levels_of}
@@ -35,3 +35,14 @@ state_of m = record {
 abbrev pub moved_if : Active → Option Control → Active
 moved_if a None = a
 moved_if a (Some at) = moved a at
+
+-- none of the activations has the number
+abbrev pub NoneHas : ℕ → List Activation → Type 0
+NoneHas number [] = Unit {0}
+NoneHas number (a ∷ stack) = (a.number ≢ number) × NoneHas number stack
+
+-- the newest activation that has the number stands there
+pub record IsNewest (stack : List Activation) (number i : ℕ) : Type 0 where
+  pub within : i < length stack
+  pub here : (d : Activation) → (get_or stack i d).number ≡ number
+  pub above : NoneHas number (drop (suc i) stack)

@@ -2,11 +2,15 @@
 //! to take those steps. Handlers may enter between any two steps.
 #![tactic(auto)]
 
+mod accesses;
 mod activation;
+mod content;
 mod event;
 mod machine;
 mod progress;
+mod stack;
 
 pub use activation::Activation;
+pub use content::Content;
 pub use event::{End, Event, Took};
 pub use machine::Machine;
