@@ -2,6 +2,8 @@
 use Rattle.std.specs.Prelude.{ℕ, ℤ, Bool, List, [], ◌∷◌, Option, Some, None, map, length, replicate}
 use Rattle.cc_program.specs.declared.object.Object.{Object}
 use Rattle.cc_program.specs.declared.program.Program.{Program}
+use Rattle.cc_program.specs.declared.types.CType.{CType}
+use Rattle.cc_program.specs.declared.types.Structure.{Structure}
 use Rattle.cc_program.specs.declared.value.Leaf.{Leaf}
 use Rattle.cc_program.specs.declared.value.Leaf.TheVariants as leaf
 use Rattle.cc_program.specs.declared.value.Value.{Value}
@@ -52,11 +54,13 @@ values_or (l ∷ ls) others = map first_value (l ∷ ls)
 abbrev pub first_values : Program → Object → List Value
 first_values p o = values_or o.init (zeros p.structures o.ctype)
 
--- the locals of an activation: arguments in the first, and nothing written in the others
-abbrev pub unwritten : Program → Named → List (Option Value)
-unwritten p local = replicate (length (zeros p.structures local.1)) None
+-- the scalars of a local: of one that an argument is written to, and of another, of which nothing is written
+abbrev pub local_with : List Structure → Option Value → CType → List (Option Value)
+local_with structures None local = replicate (length (zeros structures local)) None
+local_with structures (Some v) local = Some v ∷ []
 
+-- the locals of an activation: arguments in the first, and nothing written in the others
 abbrev pub locals_with : Program → List Value → List Named → List (List (Option Value))
 locals_with p args [] = []
-locals_with p [] (local ∷ locals) = unwritten p local ∷ locals_with p [] locals
-locals_with p (v ∷ args) (local ∷ locals) = (Some v ∷ []) ∷ locals_with p args locals
+locals_with p [] (local ∷ locals) = local_with p.structures None local.1 ∷ locals_with p [] locals
+locals_with p (v ∷ args) (local ∷ locals) = local_with p.structures (Some v) local.1 ∷ locals_with p args locals

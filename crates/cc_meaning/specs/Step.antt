@@ -307,14 +307,15 @@ module _ (p : Program) where
   call s (address.Func f) args = opened_if s f args (slice_get p.funcs f)
   call s (address.At object path index count) args = stopped s Trap
 
-  abbrev pub return_mark : Active → Value → Mark
-  return_mark a v = if gives_nothing (slice_get p.funcs a.func) then Did else Gave (Some v)
+  -- what the return of a function is for its caller
+  abbrev pub return_mark : ℕ → Value → Mark
+  return_mark id v = if gives_nothing (slice_get p.funcs id) then Did else Gave (Some v)
 
   -- a return: what a caller waits for is given; a handler's turns the flag on; that of the first activation ends the run
   abbrev pub returned : State → Active → List Active → Value → State
   returned s a [] v = stopped (with_stack s []) (Exit (number_in v))
   returned s a (b ∷ below) v =
-      if a.handler then with_flag (with_stack s (b ∷ below)) true else with_stack s (marked b (return_mark a v) ∷ below)
+      if a.handler then with_flag (with_stack s (b ∷ below)) true else with_stack s (marked b (return_mark a.func v) ∷ below)
 
   -- the end of a function: one that gives nothing returns, main gives 0 (5.1.2.2.3), and another traps
   abbrev pub fallen : State → Active → List Active → State

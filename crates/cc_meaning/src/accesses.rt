@@ -5,9 +5,10 @@ ghost use Rattle.std.specs.Option.{option_copied};
 ghost use Rattle.cc_cells.specs.Counts.{counted};
 ghost use Rattle.cc_eval.specs.declared.mark.Mark.TheVariants as mark;
 ghost use Rattle.cc_program.specs.declared.value.Cell.TheVariants as cell;
+ghost use Rattle.cc_program.specs.declared.value.Root.TheVariants as root;
 ghost use Rattle.cc_syntax.specs.Sizes.{AreSized};
 ghost use Rattle.cc_meaning.specs.declared.event.Event.TheVariants as event;
-ghost use Rattle.cc_meaning.specs.Step.{stopped, with_event, static_content as static_content_of, content_at as content_at_of, cell_position, did, has_read as has_read_of, read as read_of, write as write_of};
+ghost use Rattle.cc_meaning.specs.Step.{stopped, with_event, static_content as static_content_of, content_at as content_at_of, cell_position, did, has_read as has_read_of, read as read_of, has_written, written, write as write_of};
 ghost use Rattle.cc_meaning.specs.View.{state_of};
 
 use crate::content::Content;
@@ -27,6 +28,14 @@ fn static_content(alloc: Global, v: Option<&Value>) -> Result<Content, NoMemory>
         None => Ok(Content::Gone),
         Some(v) => Ok(Content::Holds(v.copy(alloc)?)),
     }
+}
+
+/// A local of an activation.
+#[derive(Clone, Copy)]
+struct Auto {
+    activation: u64,
+    func: u32,
+    local: u32,
 }
 
 impl<'p> Machine<'p> {
@@ -188,5 +197,115 @@ impl<'p> Machine<'p> {
         mark_top(alloc, self.program, &mut self.stack, Mark::Did)?;
         self.trace.push(Event::Write(Cell::Device(d), value))?;
         Ok(())
+    }
+
+    fn write_static(
+        &mut self,
+        alloc: Global,
+        to: Cell,
+        i: u32,
+        position: usize,
+        is_event: bool,
+        value: Value,
+    ) -> Result<(), NoMemory>
+        requires { AreSized self.old.program.now.structures self.old.program.now.target }
+        ensures program { self.new.program ≡ self.old.program }
+        ensures ok { OnOk result ((n : ℕ) → counted n ≡ position → state_of self.new ≡ has_written self.old.program.now to is_event value (state_of self.old) (written (state_of self.old) (root.Static i) n value)) }
+        ensures err { OnErr result (state_of self.new ≡ state_of self.old) }
+    {
+        let seen = value.copy(alloc)?;
+        self.trace.reserve(1)?;
+        mark_top(alloc, self.program, &mut self.stack, Mark::Did)?;
+        write_scalar(&mut self.statics, i, position, value);
+        if is_event {
+            self.trace.push(Event::Write(to, seen))?;
+        }
+        Ok(())
+    }
+
+    #[tactic(auto, using(crate::proofs::WriteLemmas::of_writes))]
+    fn write_auto(
+        &mut self,
+        alloc: Global,
+        to: Cell,
+        object: Auto,
+        position: usize,
+        is_event: bool,
+        value: Value,
+    ) -> Result<(), NoMemory>
+        requires { AreSized self.old.program.now.structures self.old.program.now.target }
+        ensures program { self.new.program ≡ self.old.program }
+        ensures ok { OnOk result ((n : ℕ) → counted n ≡ position → state_of self.new ≡ has_written self.old.program.now to is_event value (state_of self.old) (written (state_of self.old) (root.Auto object.activation object.func object.local) n value)) }
+        ensures err { OnErr result (state_of self.new ≡ state_of self.old) }
+    {
+        if !is_open(&self.stack, object.activation) {
+            self.end = End::Trap;
+            return Ok(());
+        }
+        let seen = value.copy(alloc)?;
+        self.trace.reserve(1)?;
+        mark_top(alloc, self.program, &mut self.stack, Mark::Did)?;
+        write_local(
+            &mut self.stack,
+            object.activation,
+            object.local,
+            position,
+            value,
+        );
+        if is_event {
+            self.trace.push(Event::Write(to, seen))?;
+        }
+        Ok(())
+    }
+
+    fn write_object(
+        &mut self,
+        alloc: Global,
+        object: Root,
+        path: List<Part>,
+        is_event: bool,
+        value: Value,
+    ) -> Result<(), NoMemory>
+        requires { AreSized self.old.program.now.structures self.old.program.now.target }
+        ensures program { self.new.program ≡ self.old.program }
+        ensures ok { OnOk result (state_of self.new ≡ write_of self.old.program.now (state_of self.old) (cell.At object path) is_event value) }
+        ensures err { OnErr result (state_of self.new ≡ state_of self.old) }
+    {
+        let position = self.position_of(object, path.all());
+        let to = Cell::At { object, path };
+        match object {
+            Root::Static(i) => self.write_static(alloc, to, i, position, is_event, value),
+            Root::Auto {
+                activation,
+                func,
+                local,
+            } => {
+                let object = Auto {
+                    activation,
+                    func,
+                    local,
+                };
+                self.write_auto(alloc, to, object, position, is_event, value)
+            }
+        }
+    }
+
+    /// Writes a cell.
+    pub(crate) fn write(
+        &mut self,
+        alloc: Global,
+        to: Cell,
+        is_event: bool,
+        value: Value,
+    ) -> Result<(), NoMemory>
+        requires { AreSized self.old.program.now.structures self.old.program.now.target }
+        ensures program { self.new.program ≡ self.old.program }
+        ensures ok { OnOk result (state_of self.new ≡ write_of self.old.program.now (state_of self.old) to is_event value) }
+        ensures err { OnErr result (state_of self.new ≡ state_of self.old) }
+    {
+        match to {
+            Cell::Device(d) => self.write_device(alloc, d, value),
+            Cell::At { object, path } => self.write_object(alloc, object, path, is_event, value),
+        }
     }
 }

@@ -4,6 +4,8 @@
 
 mod accesses;
 mod activation;
+mod calls;
+mod choices;
 mod content;
 mod event;
 mod machine;

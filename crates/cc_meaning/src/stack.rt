@@ -22,17 +22,18 @@ use std::alloc::Global;
 pub fn mark_top<'p>(
     alloc: Global,
     p: &'p Program,
-    stack: &mut Vec<Activation<'p>>,
+    stack: &mut [Activation<'p>],
     mark: Mark,
 ) -> Result<(), NoMemory>
     requires { AreSized p.now.structures p.now.target }
-    ensures ok { OnOk result (actives_of stack.new.items ≡ on_top p.now (actives_of stack.old.items) mark) }
-    ensures err { OnErr result (actives_of stack.new.items ≡ actives_of stack.old.items) }
+    ensures ok { OnOk result (actives_of stack.new ≡ on_top p.now (actives_of stack.old) mark) }
+    ensures err { OnErr result (actives_of stack.new ≡ actives_of stack.old) }
 {
-    match stack.last_mut() {
-        None => Ok(()),
-        Some(a) => a.mark(alloc, p, mark),
+    let n = stack.len();
+    if n == 0 {
+        return Ok(());
     }
+    stack[n - 1].mark(alloc, p, mark)
 }
 
 /// Where the newest activation with a number stands.
