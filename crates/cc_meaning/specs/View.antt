@@ -6,7 +6,9 @@ use Rattle.cc_control.specs.View.{level_of, levels_of}
 use Rattle.cc_meaning.specs.declared.activation.Activation.{Activation}
 use Rattle.cc_meaning.specs.declared.machine.Machine.{Machine}
 use Rattle.cc_meaning.specs.State.{Active, State}
-use Rattle.cc_meaning.specs.Step.{moved}
+use Rattle.cc_program.specs.declared.program.Program.{Program}
+use Rattle.cc_program.specs.declared.value.Value.{Value}
+use Rattle.cc_meaning.specs.Step.{moved, returned}
 
 abbrev pub active_of : Activation → Active
 active_of a = record {
@@ -46,3 +48,8 @@ pub record IsNewest (stack : List Activation) (number i : ℕ) : Type 0 where
   pub within : i < length stack
   pub here : (d : Activation) → (get_or stack i d).number ≡ number
   pub above : NoneHas number (drop (suc i) stack)
+
+-- the first activation, where there is one, returns
+abbrev pub returned_first : Program → State → List Active → Value → State
+returned_first p s [] v = s
+returned_first p s (a ∷ below) v = returned p s a below v

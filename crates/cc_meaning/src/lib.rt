@@ -10,6 +10,7 @@ mod content;
 mod event;
 mod machine;
 mod progress;
+mod returns;
 mod stack;
 
 pub use activation::Activation;
