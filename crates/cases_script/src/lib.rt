@@ -11,7 +11,9 @@
 mod bytes;
 mod line;
 mod page;
+mod script;
 
 pub use bytes::bytes_of;
 pub use line::{Line, line_of, split};
 pub use page::Page;
+pub use script::{Cases, run};

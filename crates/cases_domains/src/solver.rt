@@ -1,0 +1,92 @@
+//! Systems of constraints: what the solver makes of the chain.
+
+use crate::chain::{Chain, Truth};
+use cases_script::Page;
+use cc_fix::least;
+use cc_lattice::{Lattice, System, Table, copied};
+use cc_num::NoMemory;
+use std::alloc::Global;
+use std::cell::Cell;
+
+/// How many parts are yes.
+fn yes_in(facts: &Table<u32, Truth>) -> usize {
+    facts
+        .parts
+        .all()
+        .iter()
+        .filter(|truth| matches!(truth, Truth::Yes))
+        .count()
+}
+
+/// Writes what the solver makes of the chain.
+fn write_least(alloc: Global, page: &mut Page) -> Result<(), NoMemory> {
+    let chain = Chain {
+        calls: Cell::new(0),
+    };
+    let facts = least(alloc, &chain)?;
+    page.show(yes_in(&facts));
+    page.put(" of ");
+    page.show(facts.keys.all().len());
+    page.put(" are yes, after ");
+    page.put(if chain.calls.get() <= 8000 {
+        "at most"
+    } else {
+        "more than"
+    });
+    page.put(" 8000 calls");
+    Ok(())
+}
+
+/// Writes how the lowest facts of the chain and its least solution are ordered, joined and copied.
+#[tactic(auto, using(crate::specs::ChainLaws::chains_alike))]
+fn write_order(alloc: Global, page: &mut Page) -> Result<(), NoMemory> {
+    let chain = Chain {
+        calls: Cell::new(0),
+    };
+    let lowest = chain.lowest(alloc)?;
+    let solution = least(alloc, &chain)?;
+    page.debug(lowest.below(&solution));
+    page.put(", the other way ");
+    page.debug(solution.below(&lowest));
+    page.put("; yes in the join ");
+    page.show(yes_in(&lowest.join(alloc, &solution)?));
+    page.put(", in a copy of the lowest ");
+    page.show(yes_in(&copied(alloc, &lowest)?));
+    page.put("; rooms ");
+    page.show(chain.room(&lowest));
+    page.put(" and ");
+    page.show(chain.room(&solution));
+    Ok(())
+}
+
+/// Writes which constraint of the chain the two facts meet.
+fn write_met(alloc: Global, page: &mut Page) -> Result<(), NoMemory> {
+    let chain = Chain {
+        calls: Cell::new(0),
+    };
+    let lowest = chain.lowest(alloc)?;
+    let solution = least(alloc, &chain)?;
+    page.put("of part 0 ");
+    page.debug(chain.met(alloc, 0, &lowest)?);
+    page.put(", of part 999 ");
+    page.debug(chain.met(alloc, 499, &lowest)?);
+    page.put(", in the solution ");
+    page.debug(chain.met(alloc, 499, &solution)?);
+    Ok(())
+}
+
+/// Writes what a case gives.
+pub fn write_outcome(alloc: Global, page: &mut Page, case: &str) {
+    let outcome = match case {
+        "least" => write_least(alloc, page),
+        "order" => write_order(alloc, page),
+        "met" => write_met(alloc, page),
+        _ => {
+            page.put("unclear");
+            Ok(())
+        }
+    };
+    if outcome.is_err() {
+        page.put("no memory");
+    }
+}
