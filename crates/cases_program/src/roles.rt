@@ -48,7 +48,36 @@ fn ticking(alloc: Global) -> Option<Roles> {
     })
 }
 
-/// The roles, with the handler `tick` or without.
-pub fn roles(alloc: Global, ticks: bool) -> Option<Roles> {
-    if ticks { ticking(alloc) } else { plain(alloc) }
+/// The levels of `tick` and `tock`.
+fn two_levels(alloc: Global) -> Option<List<(Name, u8)>>
+    ensures { IfSome result (λ levels. levels ≡ (codes "tick", 1) ∷ (codes "tock", 2) ∷ []) }
+{
+    let mut levels = Vec::new(alloc);
+    levels.push((name(alloc, "tick")?, 1)).ok()?;
+    levels.push((name(alloc, "tock")?, 2)).ok()?;
+    Some(List::of(levels))
+}
+
+/// No handlers, and two levels.
+#[tactic(auto, using(crate::proofs::RoleLemmas::of_roles))]
+fn levelled(alloc: Global) -> Option<Roles> {
+    Some(Roles {
+        handlers: List::of(Vec::new(alloc)),
+        off: name(alloc, "irq_off")?,
+        on: name(alloc, "irq_on")?,
+        save: name(alloc, "irq_save")?,
+        restore: name(alloc, "irq_restore")?,
+        levels: two_levels(alloc)?,
+    })
+}
+
+/// The roles, with the handler `tick` or without, or with levels.
+pub fn roles(alloc: Global, ticks: bool, levels: bool) -> Option<Roles> {
+    if levels {
+        levelled(alloc)
+    } else if ticks {
+        ticking(alloc)
+    } else {
+        plain(alloc)
+    }
 }

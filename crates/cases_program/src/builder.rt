@@ -29,6 +29,7 @@ pub struct Builder {
     pub funcs: Vec<Func>,
     pub main: Option<u32>,
     pub ticks: bool,
+    pub levels: bool,
     pub target: Target,
 }
 
@@ -82,6 +83,7 @@ impl Builder {
             funcs: Vec::new(alloc),
             main: None,
             ticks: false,
+            levels: false,
             target: target(false),
         }
     }
@@ -117,7 +119,7 @@ impl Builder {
         }
         let last = u32::try_from(self.funcs.len().saturating_sub(1)).ok()?;
         let main = self.main.unwrap_or(last);
-        let roles = roles::roles(self.alloc, self.ticks)?;
+        let roles = roles::roles(self.alloc, self.ticks, self.levels)?;
         let Builder {
             target,
             structures,

@@ -42,12 +42,21 @@ fn branch(b: &mut Builder) -> Option<Stmt> {
     Some(Stmt::If(b.exprs.pop()?, first, second))
 }
 
-/// A `for`, with all its expressions or with none.
-fn counted(b: &mut Builder) -> Option<Stmt> {
+/// An expression of a `for`, which is missing where the mark is 0.
+fn clause(b: &mut Builder, mark: Option<&u8>) -> Option<Expr> {
+    if mark == Some(&b'0') {
+        None
+    } else {
+        b.exprs.pop()
+    }
+}
+
+fn counted(b: &mut Builder, rest: &str) -> Option<Stmt> {
+    let marks = rest.as_bytes();
     let body = b.ended.pop()?;
-    let step = b.exprs.pop();
-    let test = b.exprs.pop();
-    let first = b.exprs.pop();
+    let step = clause(b, marks.get(2));
+    let test = clause(b, marks.get(1));
+    let first = clause(b, marks.first());
     Some(Stmt::For(first, test, step, body))
 }
 
@@ -78,7 +87,7 @@ fn compound(b: &mut Builder, head: &str, rest: &str) -> Option<Stmt> {
             let body = b.ended.pop()?;
             Some(Stmt::DoWhile(body, b.exprs.pop()?))
         }
-        "for" => counted(b),
+        "for" => counted(b, rest),
         "switch" => switch(b, rest),
         _ => branch(b),
     }

@@ -130,6 +130,7 @@ pub fn read(b: &mut Builder, head: &str, rest: &str) -> Option<bool> {
         "interrupt" => b.entry = Some(Entry::Interrupt),
         "listed" => b.entry = Some(Entry::Listed),
         "ticks" => b.ticks = true,
+        "levels" => b.levels = true,
         "small" => b.target = target(true),
         "start" => b.main = Some(rest.parse().ok()?),
         _ => return Some(false),
