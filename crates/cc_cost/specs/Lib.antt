@@ -1,0 +1,8 @@
+pub mod Rows
+pub mod Numbers
+pub mod Keys
+pub mod Settings
+pub mod Rules
+pub mod Given
+pub mod Outcomes
+pub mod Sets
