@@ -1,0 +1,86 @@
+ghost use Rattle.std.specs.Prelude.{◌≡◌, ◌↔◌, ◌≤◌, ◌⊎◌, ℤ, List, [], ◌∷◌, true, false, IsTrue, length};
+ghost use Rattle.std.specs.List.{Contains};
+ghost use Rattle.cc_lattice.specs.Domains.{Ascends};
+ghost use Rattle.cc_explicit.specs.Sets.{most_members, IsInReach, AreInReach, list_ends};
+
+use crate::search::search;
+use arrayvec::ArrayVec;
+
+/// The most members of an explicit set.
+pub const MOST_MEMBERS: usize = 64;
+
+/// A set of at most 64 numbers, in ascending order. Each has at most 65 bits in two's complement.
+#[derive(Drop)]
+pub struct Explicit {
+    pub items: ArrayVec<i128, 64>,
+    pub ghost ascending: { Ascends items.items },
+    pub ghost few: { length items.items ≤ most_members },
+    pub ghost reach: { AreInReach items.items },
+}
+
+impl Explicit {
+    /// The empty set.
+    pub fn none() -> Explicit
+        ensures { result.items.items ≡ [] }
+    {
+        Explicit {
+            items: ArrayVec::new(),
+        }
+    }
+
+    /// The members, ascending.
+    pub fn members(&self) -> &[i128]
+        ensures { result.now ≡ self.now.items.items }
+    {
+        self.items.as_slice()
+    }
+
+    /// Whether a number is a member.
+    pub fn has(&self, v: i128) -> bool
+        ensures { IsTrue result ↔ Contains self.now.items.items v }
+    {
+        search(self.items.as_slice(), v).is_ok()
+    }
+
+    /// The least and the greatest member. `None` for the empty set.
+    pub fn ends(&self) -> Option<(i128, i128)>
+        ensures { result ≡ list_ends self.now.items.items }
+    {
+        let members = self.items.as_slice();
+        if members.is_empty() {
+            None
+        } else {
+            Some((members[0], members[members.len() - 1]))
+        }
+    }
+
+    /// Whether each member is a member of the other set.
+    pub fn is_within(&self, other: &Explicit) -> bool
+        ensures { IsTrue result ↔ ((v : ℤ) → Contains self.now.items.items v → Contains other.now.items.items v) }
+    {
+        for v in self.items.as_slice() {
+            if !other.has(*v) {
+                return false;
+            }
+        }
+        true
+    }
+
+    /// Adds a number, and says whether it is a member now: a set of 64 members takes no further one.
+    pub fn insert(&mut self, v: i128) -> bool
+        requires { IsInReach v }
+        ensures inserted { result ≡ true → (w : ℤ) → Contains self.new.items.items w ↔ ((w ≡ v) ⊎ Contains self.old.items.items w) }
+        ensures stays { result ≡ false → self.new.items.items ≡ self.old.items.items }
+        ensures full { result ≡ false → length self.old.items.items ≡ most_members }
+        ensures absent { result ≡ false → Contains self.old.items.items v → ⊥ }
+    {
+        match search(self.items.as_slice(), v) {
+            Ok(_) => true,
+            Err(_) if self.items.is_full() => false,
+            Err(at) => {
+                self.items.insert(at, v);
+                true
+            }
+        }
+    }
+}

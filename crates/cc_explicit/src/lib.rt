@@ -1,0 +1,7 @@
+//! Explicit sets of numbers: at most 64 of them, in the value itself.
+#![tactic(auto)]
+
+mod explicit;
+mod search;
+
+pub use explicit::{Explicit, MOST_MEMBERS};
