@@ -1,0 +1,5 @@
+pub mod Gatherings
+pub mod Ranges
+pub mod Results
+pub mod laws
+pub mod Rungs

@@ -1,0 +1,52 @@
+ghost use Rattle.std.specs.Prelude.{◌≡◌, ◌↔◌, ◌⊎◌, ℤ, pos};
+ghost use Rattle.cc_num.specs.Integers.{IsValueOf};
+ghost use Rattle.cc_explicit.specs.Sets.{IsInReach};
+ghost use Rattle.cc_sets.specs.Rungs.{ValsHas, IsHull};
+
+use crate::gathered::Gathered;
+use crate::{Range, Vals};
+use cc_explicit::Explicit;
+use cc_num::{IntType, Target};
+
+/// The set of one number.
+pub(crate) fn one(v: i128) -> Vals
+    requires { IsInReach v }
+    ensures { (w : ℤ) → ValsHas result w ↔ w ≡ v }
+{
+    let mut few = Explicit::none();
+    few.insert(v);
+    Vals::Few(few)
+}
+
+/// The set of all values of a type.
+pub(crate) fn whole(t: IntType, target: &Target) -> Vals
+    ensures { (v : ℤ) → ValsHas result v ↔ IsValueOf t target.now v }
+{
+    match t {
+        IntType::Bool => truths(),
+        _ => Vals::Many(Range {
+            signed: t.is_signed(target),
+            bits: t.bits(target),
+        }),
+    }
+}
+
+/// 0 and 1.
+fn truths() -> Vals
+    ensures { (v : ℤ) → ValsHas result v ↔ ((v ≡ pos 0) ⊎ (v ≡ pos 1)) }
+{
+    let mut few = Explicit::none();
+    few.insert(0);
+    few.insert(1);
+    Vals::Few(few)
+}
+
+/// The least set that has the members of both.
+pub(crate) fn joined(a: &Vals, b: &Vals) -> Vals
+    ensures { IsHull (λ v. ValsHas a.now v ⊎ ValsHas b.now v) result }
+{
+    let mut gathered = Gathered::nothing();
+    gathered.add_all(a);
+    gathered.add_all(b);
+    gathered.hull()
+}
