@@ -1,0 +1,4 @@
+pub mod Pieces
+pub mod Constants
+pub mod Declarators
+pub mod View

@@ -1,0 +1,96 @@
+//! A text is made from its end: each piece is put in front of those that follow it, as the definitions have it.
+
+ghost use Rattle.std.specs.Prelude.{◌≡◌, ◌∷◌, OnOk};
+ghost use Rattle.cc_pieces.specs.Declarators.{two_words as two_words_of};
+ghost use Rattle.cc_pieces.specs.Pieces.{punct, keyword, ident, number as number_of, space, opening, closing};
+ghost use Rattle.cc_pieces.specs.View.{piece_of, pieces_of};
+
+use crate::piece::Piece;
+use cc_lex::{Mark, Suffix};
+use cc_num::NoMemory;
+use cc_words::Word;
+
+/// Puts a piece in front.
+#[tactic(auto, using(crate::proofs::PieceLemmas::of_pieces))]
+pub fn put<'p>(out: &mut Vec<Piece<'p>>, piece: Piece<'p>) -> Result<(), NoMemory>
+    ensures { OnOk result (pieces_of out.new.items ≡ piece_of piece.entry ∷ pieces_of out.old.items) }
+{
+    out.push(piece)?;
+    Ok(())
+}
+
+/// Puts a mark in front.
+pub fn mark(out: &mut Vec<Piece>, mark: Mark) -> Result<(), NoMemory>
+    ensures { OnOk result (pieces_of out.new.items ≡ punct mark ∷ pieces_of out.old.items) }
+{
+    put(out, Piece::Punct(mark))
+}
+
+/// Puts a mark between two spaces in front.
+pub fn spaced_mark(out: &mut Vec<Piece>, mark: Mark) -> Result<(), NoMemory>
+    ensures { OnOk result (pieces_of out.new.items ≡ space ∷ punct mark ∷ space ∷ pieces_of out.old.items) }
+{
+    put(out, Piece::Space)?;
+    put(out, Piece::Punct(mark))?;
+    put(out, Piece::Space)
+}
+
+/// Puts a keyword in front.
+pub fn word(out: &mut Vec<Piece>, word: Word) -> Result<(), NoMemory>
+    ensures { OnOk result (pieces_of out.new.items ≡ keyword word ∷ pieces_of out.old.items) }
+{
+    put(out, Piece::Keyword(word))
+}
+
+/// Puts two keywords in front, with a space between them.
+pub fn two_words(out: &mut Vec<Piece>, first: Word, second: Word) -> Result<(), NoMemory>
+    ensures { OnOk result (pieces_of out.new.items ≡ two_words_of first second (pieces_of out.old.items)) }
+{
+    put(out, Piece::Keyword(second))?;
+    put(out, Piece::Space)?;
+    put(out, Piece::Keyword(first))
+}
+
+/// Puts an identifier in front.
+pub fn name<'p>(out: &mut Vec<Piece<'p>>, name: &'p [u8]) -> Result<(), NoMemory>
+    ensures { OnOk result (pieces_of out.new.items ≡ ident name.now ∷ pieces_of out.old.items) }
+{
+    put(out, Piece::Name(name))
+}
+
+/// Puts a number in front, with the letters of its suffix: whether it has `u`, and how often `l`.
+pub fn number(
+    out: &mut Vec<Piece>,
+    number: u128,
+    unsigned: bool,
+    longs: u8,
+) -> Result<(), NoMemory>
+    ensures { OnOk result (pieces_of out.new.items ≡ number_of number unsigned longs ∷ pieces_of out.old.items) }
+{
+    let suffix = Suffix {
+        decimal: number != 0,
+        unsigned,
+        longs,
+    };
+    put(out, Piece::Number(number, suffix))
+}
+
+/// Puts an opening parenthesis in front, where there is one.
+pub fn open(out: &mut Vec<Piece>, is_there: bool) -> Result<(), NoMemory>
+    ensures { OnOk result (pieces_of out.new.items ≡ opening is_there (pieces_of out.old.items)) }
+{
+    if is_there {
+        put(out, Piece::Punct(Mark::LParen))?;
+    }
+    Ok(())
+}
+
+/// Puts a closing parenthesis in front, where there is one.
+pub fn close(out: &mut Vec<Piece>, is_there: bool) -> Result<(), NoMemory>
+    ensures { OnOk result (pieces_of out.new.items ≡ closing is_there (pieces_of out.old.items)) }
+{
+    if is_there {
+        put(out, Piece::Punct(Mark::RParen))?;
+    }
+    Ok(())
+}
