@@ -9,10 +9,10 @@ use arrayvec::ArrayVec;
 /// The most members of an explicit set.
 pub const MOST_MEMBERS: usize = 64;
 
-/// A set of at most 64 numbers, in ascending order. Each has at most 65 bits in two's complement.
+/// A set of at most `MOST_MEMBERS` numbers, in ascending order. Each has at most 65 bits in two's complement.
 #[derive(Drop)]
 pub struct Explicit {
-    pub items: ArrayVec<i128, 64>,
+    pub items: ArrayVec<i128, MOST_MEMBERS>,
     pub ghost ascending: { Ascends items.items },
     pub ghost few: { length items.items ≤ most_members },
     pub ghost reach: { AreInReach items.items },
@@ -66,7 +66,7 @@ impl Explicit {
         true
     }
 
-    /// Adds a number, and says whether it is a member now: a set of 64 members takes no further one.
+    /// Adds a number, and says whether it is a member now: a full set takes no further one.
     pub fn insert(&mut self, v: i128) -> bool
         requires { IsInReach v }
         ensures inserted { result ≡ true → (w : ℤ) → Contains self.new.items.items w ↔ ((w ≡ v) ⊎ Contains self.old.items.items w) }

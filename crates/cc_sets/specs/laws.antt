@@ -1,10 +1,4 @@
-pub mod Adding
-pub mod Bounds
 pub mod Ends
-pub mod Exact
-pub mod Gathering
-pub mod LeastRange
 pub mod RungLaws
 pub mod Runs
 pub mod SetLaws
-pub mod Values

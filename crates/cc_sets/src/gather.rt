@@ -4,7 +4,7 @@ ghost use Rattle.std.specs.List.{Contains, slice_index_or};
 ghost use Rattle.cc_ranges.specs.Ends.{EndsHave};
 ghost use Rattle.cc_explicit.specs.Sets.{most_members, IsInReach, AreInReach};
 ghost use Rattle.cc_sets.specs.declared.vals.Vals.{Vals as Set};
-ghost use Rattle.cc_sets.specs.laws.LeastRange.{AreLeastBits};
+ghost use Rattle.cc_sets.specs.Ranges.{AreLeastBits};
 ghost use Rattle.cc_sets.specs.Rungs.{ValsHas, ValsBelow, low_of, high_of};
 ghost use Rattle.cc_sets.specs.Gatherings.{Holds, Adds, gathered_ends, wider_low, wider_high};
 

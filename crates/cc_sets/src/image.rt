@@ -10,7 +10,7 @@ ghost use Rattle.cc_sets.specs.Rungs.{IsHull};
 
 use crate::Vals;
 use crate::gathered::{Gathered, Spread};
-use cc_explicit::Explicit;
+use cc_explicit::{Explicit, MOST_MEMBERS};
 use cc_num::{BinOp, IntType, Target, UnOp, apply, apply_one, convert};
 
 impl Gathered {
@@ -101,7 +101,7 @@ pub(crate) fn hull_between(low: i128, high: i128) -> Vals
 {
     if high < low {
         Gathered::nothing().hull()
-    } else if high - low < 64 {
+    } else if high - low < MOST_MEMBERS as i128 {
         hull_of_run(low, (high - low) as u32 + 1)
     } else {
         hull_of_spread(Spread { low, high })

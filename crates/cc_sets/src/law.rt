@@ -5,7 +5,7 @@ ghost use Rattle.cc_num.specs.declared.target.Target.{Target};
 ghost use Rattle.cc_sets.specs.declared.vals.Vals.{Vals as Set};
 ghost use Rattle.cc_sets.specs.Results.{OpResult, IsKept};
 ghost use Rattle.cc_sets.specs.Rungs.{ValsHas, IsHull, vals_members, vals_ends};
-ghost use Rattle.cc_sets.specs.laws.Runs.{run};
+ghost use Rattle.cc_sets.specs.Ranges.{numbers_from};
 
 /// What the definitions that this crate's contracts cite give of some sets. The call does nothing.
 pub fn laws()
@@ -18,6 +18,6 @@ pub fn laws()
         IsHull (IsKept BinOp.Ne a b) r → vals_members r ≡ Some (pos 1 ∷ []) }
 
     // More than 64 members make a range: 0 to 63 and 80.
-    ensures too_many { (a b r : Set) → vals_members a ≡ Some (run (pos 0) 64) → vals_members b ≡ Some (pos 80 ∷ []) →
+    ensures too_many { (a b r : Set) → vals_members a ≡ Some (numbers_from (pos 0) 64) → vals_members b ≡ Some (pos 80 ∷ []) →
         IsHull (λ v. ValsHas a v ⊎ ValsHas b v) r → vals_ends r ≡ Some (pos 0, pos 127) }
 {}

@@ -4,25 +4,21 @@ use Rattle.std.specs.List.{Contains}
 use Rattle.std.proofs.lemmas.Int.{ints, by_lt_z}
 use Rattle.cc_explicit.specs.Sets.{most_members}
 use Rattle.cc_explicit.specs.declared.explicit.Explicit.{Explicit}
+use Rattle.cc_sets.specs.Ranges.{numbers_from}
 use Rattle.cc_explicit.proofs.Lists.{In, Rises, in_list, rises, no_longer}
 
--- n numbers from low on
-abbrev pub run : ℤ → ℕ → List ℤ
-run low zero = []
-run low (suc n) = low ∷ run (low +ℤ pos 1) n
-
-pub run_between : (low : ℤ) (n : ℕ) (v : ℤ) → In v (run low n) → (low ≤ℤ v) × (v <ℤ (low +ℤ pos n))
+pub run_between : (low : ℤ) (n : ℕ) (v : ℤ) → In v (numbers_from low n) → (low ≤ℤ v) × (v <ℤ (low +ℤ pos n))
 run_between low zero v h = absurd h
 run_between low (suc n) v h = ⊎_elim
     (λ (e : low ≡ v). (omega (arith, ints), omega (arith, ints)))
-    (λ (t : In v (run (low +ℤ pos 1) n)). let r = run_between (low +ℤ pos 1) n v t in let a = r.0 in let b = r.1 in (omega (arith, ints), omega (arith, ints)))
+    (λ (t : In v (numbers_from (low +ℤ pos 1) n)). let r = run_between (low +ℤ pos 1) n v t in let a = r.0 in let b = r.1 in (omega (arith, ints), omega (arith, ints)))
     h
 
-pub run_rises : (low : ℤ) (n : ℕ) → Rises (run low n)
+pub run_rises : (low : ℤ) (n : ℕ) → Rises (numbers_from low n)
 run_rises low zero = tt
 run_rises low (suc n) = (λ v t. let r = run_between (low +ℤ pos 1) n v t in let a = r.0 in omega (arith, ints), run_rises (low +ℤ pos 1) n)
 
-pub length_run : (low : ℤ) (n : ℕ) → length (run low n) ≡ n
+pub length_run : (low : ℤ) (n : ℕ) → length (numbers_from low n) ≡ n
 length_run low zero = refl
 length_run low (suc n) = ap suc (length_run (low +ℤ pos 1) n)
 
@@ -31,7 +27,7 @@ pub too_wide : (low high : ℤ) (s : Explicit) → (low +ℤ pos most_members) �
 too_wide low high s wide h =
     let few = s.few in
     let n = length_run low 65 in
-    let l = no_longer (run low 65) s.items.items (run_rises low 65) (rises s.items.items s.ascending)
+    let l = no_longer (numbers_from low 65) s.items.items (run_rises low 65) (rises s.items.items s.ascending)
     (λ v t. let r = run_between low 65 v t in let a = r.0 in let b = r.1 in in_list s.items.items v (h v a (omega (arith, ints)))) in
     omega (arith, l, n, few)
 

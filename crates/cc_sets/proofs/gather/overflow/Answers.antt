@@ -9,7 +9,7 @@ use Rattle.cc_explicit.specs.declared.explicit.Explicit.{Explicit}
 use Rattle.cc_explicit.proofs.Lists.{rises}
 use Rattle.cc_explicit.proofs.Reach.{reach_same, read_same}
 use Rattle.cc_sets.specs.Ranges.{IsSpread}
-use Rattle.cc_sets.specs.laws.Gathering as more
+use Rattle.cc_sets.proofs.Gathering as more
 use Rattle.cc_sets.proofs.gather.overflow.Goals as goal
 
 abbrev back : ℤ → ℤ

@@ -4,7 +4,8 @@ use Rattle.std.proofs.lemmas.Int.{ints}
 use Rattle.cc_explicit.specs.Sets.{IsInReach}
 use Rattle.cc_explicit.proofs.Reach.{reach_same}
 use Rattle.cc_sets.specs.declared.gathered.Spread.{Spread}
-use Rattle.cc_sets.specs.laws.LeastRange.{AreLeastBits, unsigned_bits}
+use Rattle.cc_sets.specs.Ranges.{AreLeastBits}
+use Rattle.cc_sets.proofs.LeastRange.{unsigned_bits}
 use Rattle.cc_sets.proofs.gather.unsigned.Goals as goal
 
 abs_up : (z : ℤ) → pos 0 ≤ℤ z → pos (unsigned_abs z + 1) ≡ z +ℤ pos 1

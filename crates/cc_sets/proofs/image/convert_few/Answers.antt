@@ -1,7 +1,7 @@
 -- The hull of the image.
 use Rattle.std.proofs.Common.{◌≡◌}
 use Rattle.cc_num.specs.Integers.{converted}
-use Rattle.cc_sets.specs.laws.Adding.{hull_of_list}
+use Rattle.cc_sets.proofs.Adding.{hull_of_list}
 use Rattle.cc_sets.proofs.image.convert_few.Goals as goal
 
 pub returns : goal.returns

@@ -7,7 +7,7 @@ use Rattle.cc_sets.specs.declared.vals.Vals.{Vals}
 use Rattle.cc_sets.specs.Rungs.{IsHull}
 use Rattle.cc_ranges.specs.Ends.{Ends, EndsHave, between}
 use Rattle.cc_ranges.specs.laws.Fits.{between_some, lt_true}
-use Rattle.cc_sets.specs.laws.Adding.{hull_same}
+use Rattle.cc_sets.proofs.Adding.{hull_same}
 use Rattle.cc_sets.proofs.image.hull_between.Goals as goal
 
 run_between : (low high u : ℤ) (n : ℕ) (r : Vals) → low ≤ℤ high → u ≡ low → pos n ≡ (high -ℤ low) +ℤ pos 1 → IsHull (λ z. (u ≤ℤ z) × (z <ℤ (u +ℤ pos n))) r → IsHull (EndsHave (between low high)) r
@@ -36,8 +36,8 @@ in_reach low high l h o = (record { least = l; most = omega (arith, ints) }, rec
 difference : (low high d : ℤ) → IsInReach low → IsInReach high → d ≡ to_z w128 (of_z w128 (to_z w128 (of_z w128 high) -ℤ to_z w128 (of_z w128 low))) → d ≡ high -ℤ low
 difference low high d p q e = let a = p.least in let b = p.most in let k = q.least in let l = q.most in omega (arith, ints)
 
-pub returns-then-high-low-lt64 : goal.returns-then-high-low-lt64
-returns-then-high-low-lt64 c =
+pub returns-then-high-low-2 : goal.returns-then-high-low-2
+returns-then-high-low-2 c =
     let low = c.args.low in
     let high = c.args.high in
     let o = ordered low high _ _ (to_z-of_z c.ranges.low) (to_z-of_z c.ranges.high) c.if-high-low.false in

@@ -3,7 +3,7 @@ use Rattle.std.proofs.Common.{◌≡◌, ℕ, ℤ, pos, ◌+ℤ◌, ◌≤ℤ◌
 use Rattle.cc_explicit.proofs.Reach.{reach_same}
 use Rattle.cc_sets.specs.declared.gathered.Gathered.{Gathered}
 use Rattle.cc_sets.specs.Gatherings.{Adds}
-use Rattle.cc_sets.specs.laws.Adding.{hull_of_added}
+use Rattle.cc_sets.proofs.Adding.{hull_of_added}
 use Rattle.cc_sets.proofs.image.hull_of_run.Goals as goal
 
 start_same : (a b : Gathered) (low u : ℤ) (n : ℕ) → u ≡ low → Adds a b (λ z. (u ≤ℤ z) × (z <ℤ (u +ℤ pos n))) → Adds a b (λ z. (low ≤ℤ z) × (z <ℤ (low +ℤ pos n)))

@@ -1,6 +1,6 @@
 -- The hull of what was added.
 use Rattle.std.proofs.Common.{Some}
-use Rattle.cc_sets.specs.laws.Adding.{hull_of_added}
+use Rattle.cc_sets.proofs.Adding.{hull_of_added}
 use Rattle.cc_ranges.specs.Ends.{EndsHave}
 use Rattle.cc_sets.proofs.image.hull_of_spread.Goals as goal
 

@@ -1,5 +1,5 @@
 -- The hull of the image.
-use Rattle.cc_sets.specs.laws.Adding.{hull_of_image}
+use Rattle.cc_sets.proofs.Adding.{hull_of_image}
 use Rattle.cc_sets.proofs.image.image.Goals as goal
 
 pub returns : goal.returns

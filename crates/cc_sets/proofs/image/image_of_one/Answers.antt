@@ -1,7 +1,7 @@
 -- The hull of the image.
 use Rattle.std.proofs.Common.{◌≡◌, Some}
 use Rattle.cc_num.specs.Results.{unary_result_of}
-use Rattle.cc_sets.specs.laws.Adding.{hull_of_list}
+use Rattle.cc_sets.proofs.Adding.{hull_of_list}
 use Rattle.cc_sets.proofs.image.image_of_one.Goals as goal
 
 pub returns : goal.returns

@@ -6,7 +6,7 @@ use Rattle.cc_explicit.specs.Sets.{IsInReach}
 use Rattle.cc_explicit.proofs.Reach.{reach_same}
 use Rattle.cc_sets.specs.declared.gathered.Spread.{Spread}
 use Rattle.cc_ranges.specs.Ends.{between}
-use Rattle.cc_sets.specs.laws.Bounds as at
+use Rattle.cc_sets.proofs.Bounds as at
 use Rattle.cc_ranges.specs.Keep.{without, keep_rule}
 use Rattle.cc_sets.proofs.keep.keep_between.Goals as goal
 

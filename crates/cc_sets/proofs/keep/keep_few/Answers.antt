@@ -6,7 +6,7 @@ use Rattle.cc_sets.specs.declared.gathered.Gathered.{Gathered}
 use Rattle.cc_sets.specs.declared.vals.Vals.{Vals}
 use Rattle.cc_sets.specs.Results.{PassesSome}
 use Rattle.cc_sets.specs.Gatherings.{Adds}
-use Rattle.cc_sets.specs.laws.Adding.{adds_same, hull_of_added}
+use Rattle.cc_sets.proofs.Adding.{adds_same, hull_of_added}
 use Rattle.cc_sets.proofs.keep.keep_few.Goals as goal
 
 passing : (g h : Gathered) (test : BinOp) (other : Vals) (xs ys : List ℤ) → ys ≡ xs → Adds g h (λ z. (v : ℤ) × Contains ys v × ((v ≡ z) × PassesSome test v other)) → Adds g h (λ v. Contains xs v × PassesSome test v other)

@@ -6,7 +6,7 @@ use Rattle.cc_explicit.proofs.Reach.{reach_same}
 use Rattle.cc_sets.specs.declared.vals.Vals.{Vals}
 use Rattle.cc_sets.specs.Results.{PassesSome}
 use Rattle.cc_sets.specs.Rungs.{ValsHas}
-use Rattle.cc_sets.specs.laws.Bounds as at
+use Rattle.cc_sets.proofs.Bounds as at
 use Rattle.cc_num.specs.declared.op.BinOp.TheVariants as op
 use Rattle.cc_lattice.specs.Domains.{AreEnds}
 use Rattle.std.proofs.Common.{eqb, eq-eqb}

@@ -6,7 +6,7 @@ use Rattle.cc_explicit.specs.Sets.{IsInReach}
 use Rattle.cc_explicit.proofs.Reach.{reach_same}
 use Rattle.cc_sets.specs.declared.gathered.Spread.{Spread}
 use Rattle.cc_ranges.specs.Ends.{between}
-use Rattle.cc_sets.specs.laws.Bounds as at
+use Rattle.cc_sets.proofs.Bounds as at
 use Rattle.cc_sets.proofs.keep.without.Goals as goal
 
 abbrev back : ℤ → ℤ

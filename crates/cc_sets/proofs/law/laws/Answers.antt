@@ -1,5 +1,5 @@
 -- Each is worked out in a file of its own.
-use Rattle.cc_sets.specs.laws.Exact.{zero_divisor, kept_of_two, too_many}
+use Rattle.cc_sets.proofs.Exact.{zero_divisor, kept_of_two, too_many}
 use Rattle.cc_sets.proofs.law.laws.Goals as goal
 
 pub returns : goal.returns

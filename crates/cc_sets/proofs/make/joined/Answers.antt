@@ -1,7 +1,7 @@
 -- The hull of the members of both.
 use Rattle.std.proofs.Common.{◌⊎◌, inl, inr}
 use Rattle.cc_sets.specs.Rungs.{ValsHas}
-use Rattle.cc_sets.specs.laws.Adding.{adds_in_turn, hull_of_added}
+use Rattle.cc_sets.proofs.Adding.{adds_in_turn, hull_of_added}
 use Rattle.cc_sets.proofs.make.joined.Goals as goal
 
 pub returns : goal.returns

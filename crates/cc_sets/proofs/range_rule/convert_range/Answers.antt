@@ -9,7 +9,7 @@ use Rattle.cc_sets.specs.Ranges.{IsSpread}
 use Rattle.cc_sets.specs.Rungs.{low_of, high_of}
 use Rattle.cc_sets.specs.laws.Ends.{range_spread}
 use Rattle.cc_ranges.specs.Ends.{between}
-use Rattle.cc_sets.specs.laws.Bounds as at
+use Rattle.cc_sets.proofs.Bounds as at
 use Rattle.cc_num.specs.Integers.{least_of_bits, most_of_bits}
 use Rattle.cc_ranges.specs.Ends.{lies_in}
 use Rattle.cc_sets.specs.laws.Ends.{range_ordered}

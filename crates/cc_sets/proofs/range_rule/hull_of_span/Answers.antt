@@ -4,7 +4,7 @@ use Rattle.cc_sets.specs.declared.vals.Vals.{Vals}
 use Rattle.cc_sets.specs.Rungs.{IsHull}
 use Rattle.cc_ranges.specs.Ends.{EndsHave, between}
 use Rattle.cc_ranges.specs.laws.Fits.{between_some}
-use Rattle.cc_sets.specs.laws.Bounds as at
+use Rattle.cc_sets.proofs.Bounds as at
 use Rattle.cc_ranges.specs.declared.span.Interval.{Interval}
 use Rattle.cc_ranges.specs.declared.span.Span.{Span}
 use Rattle.cc_ranges.specs.declared.span.Span.TheVariants.{Between}

@@ -9,7 +9,7 @@ use Rattle.cc_explicit.proofs.Reach.{reach_same}
 use Rattle.cc_sets.specs.declared.vals.Vals.{Vals}
 use Rattle.cc_sets.specs.Rungs.{ValsHas}
 use Rattle.cc_ranges.specs.Ends.{IsInterval, LieIn}
-use Rattle.cc_sets.specs.laws.Bounds as at
+use Rattle.cc_sets.proofs.Bounds as at
 use Rattle.cc_lattice.specs.Domains.{IsIntValue, AreEnds}
 use Rattle.cc_lattice.proofs.IntValues.{value_is_int}
 use Rattle.cc_ranges.specs.laws.SpanLaws.{second_value}

@@ -1,5 +1,5 @@
 -- All between the ends are operands.
-use Rattle.cc_sets.specs.laws.Bounds as at
+use Rattle.cc_sets.proofs.Bounds as at
 use Rattle.cc_sets.proofs.range_rule.rule.Goals as goal
 
 pub op-span-requires : goal.op-span-requires

@@ -6,7 +6,7 @@ use Rattle.cc_explicit.proofs.Reach.{reach_same}
 use Rattle.cc_sets.specs.declared.gathered.Spread.{Spread}
 use Rattle.cc_sets.specs.declared.gathered.Gathered.{Gathered}
 use Rattle.cc_sets.specs.Gatherings.{Adds}
-use Rattle.cc_sets.specs.laws.Gathering as more
+use Rattle.cc_sets.proofs.Gathering as more
 use Rattle.cc_sets.proofs.gathered.Gathered.add.Goals as goal
 
 to_spread : (old : Gathered) (m : Explicit) (s s' : Spread) (u v : ℤ) → old.spread ≡ Some s → u ≡ v → s'.low ≡ int_min s.low u → s'.high ≡ int_max s.high u → Adds old (more.gathered m (Some s')) (λ w. v ≡ w)

@@ -8,7 +8,7 @@ use Rattle.cc_sets.specs.declared.vals.Vals.{Vals}
 use Rattle.cc_sets.specs.declared.vals.Vals.TheVariants.{Few, Many}
 use Rattle.cc_sets.specs.Rungs.{low_of, high_of, ValsHas}
 use Rattle.cc_sets.specs.Gatherings.{Adds}
-use Rattle.cc_sets.specs.laws.Adding.{adds_same}
+use Rattle.cc_sets.proofs.Adding.{adds_same}
 use Rattle.cc_ranges.specs.Ends.{EndsHave}
 use Rattle.cc_sets.proofs.gathered.Gathered.add_all.Goals as goal
 

@@ -8,8 +8,8 @@ use Rattle.cc_explicit.specs.Sets.{IsInReach}
 use Rattle.cc_explicit.proofs.Reach.{reach_same, read_same}
 use Rattle.cc_sets.specs.declared.gathered.Gathered.{Gathered}
 use Rattle.cc_sets.specs.Gatherings.{Adds}
-use Rattle.cc_sets.specs.laws.Adding.{adds_same, before_none, before_more, before_all}
-use Rattle.cc_sets.specs.laws.Values.{value_reach}
+use Rattle.cc_sets.proofs.Adding.{adds_same, before_none, before_more, before_all}
+use Rattle.cc_sets.proofs.Values.{value_reach}
 use Rattle.cc_sets.proofs.gathered.Gathered.add_converted.Goals as goal
 
 landed : (r u v : ℤ) (t : IntType) (target : Target) → r ≡ converted v t target → IsInReach r

@@ -7,8 +7,8 @@ use Rattle.cc_num.specs.Integers.{IsValueOf}
 use Rattle.cc_num.specs.Results.{result_of}
 use Rattle.cc_explicit.specs.Sets.{AreInReach}
 use Rattle.cc_explicit.proofs.Reach.{read_same}
-use Rattle.cc_sets.specs.laws.Adding.{before_none, before_more, before_all}
-use Rattle.cc_sets.specs.laws.Values.{values_reach, read_has}
+use Rattle.cc_sets.proofs.Adding.{before_none, before_more, before_all}
+use Rattle.cc_sets.proofs.Values.{values_reach, read_has}
 use Rattle.cc_sets.proofs.gathered.Gathered.add_image.Goals as goal
 
 reach : (xs : List ℤ) (t : IntType) (target : Target) → ((v : ℤ) → Contains xs v → IsValueOf t target v) → AreInReach xs

@@ -12,8 +12,8 @@ use Rattle.cc_explicit.specs.Sets.{IsInReach, AreInReach}
 use Rattle.cc_explicit.proofs.Reach.{read_same}
 use Rattle.cc_sets.specs.declared.gathered.Gathered.{Gathered}
 use Rattle.cc_sets.specs.Gatherings.{Adds}
-use Rattle.cc_sets.specs.laws.Adding.{before_none, before_more, before_all}
-use Rattle.cc_sets.specs.laws.Values.{some_reach, values_reach, read_has}
+use Rattle.cc_sets.proofs.Adding.{before_none, before_more, before_all}
+use Rattle.cc_sets.proofs.Values.{some_reach, values_reach, read_has}
 use Rattle.cc_sets.proofs.gathered.Gathered.add_image_of_one.Goals as goal
 
 reach : (xs : List ℤ) (t : IntType) (target : Target) → ((v : ℤ) → Contains xs v → IsValueOf t target v) → AreInReach xs

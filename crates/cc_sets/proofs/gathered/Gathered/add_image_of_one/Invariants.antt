@@ -2,7 +2,7 @@
 use Rattle.std.proofs.Common.{◌≡◌, ℤ, Some}
 use Rattle.cc_num.specs.Results.{unary_result_of}
 use Rattle.cc_sets.specs.Gatherings.{Adds}
-use Rattle.cc_sets.specs.laws.Adding.{Before}
+use Rattle.cc_sets.proofs.Adding.{Before}
 use Rattle.cc_sets.proofs.gathered.Gathered.add_image_of_one.Given as goal
 
 abbrev pub invariant-loop-v : goal.invariant-loop-v

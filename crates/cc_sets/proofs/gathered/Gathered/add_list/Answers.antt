@@ -2,8 +2,8 @@
 use Rattle.std.proofs.Common.{◌≡◌, ℤ, pos, arith}
 use Rattle.cc_explicit.specs.Sets.{IsInReach}
 use Rattle.cc_explicit.proofs.Reach.{read_same}
-use Rattle.cc_sets.specs.laws.Adding.{before_none, before_more, before_all}
-use Rattle.cc_sets.specs.laws.Values.{read_has}
+use Rattle.cc_sets.proofs.Adding.{before_none, before_more, before_all}
+use Rattle.cc_sets.proofs.Values.{read_has}
 use Rattle.cc_sets.proofs.gathered.Gathered.add_list.Goals as goal
 
 pub add-requires : goal.add-requires

@@ -1,7 +1,7 @@
 -- What the numbers so far give is added.
 use Rattle.std.proofs.Common.{◌≡◌, ℤ}
 use Rattle.cc_sets.specs.Gatherings.{Adds}
-use Rattle.cc_sets.specs.laws.Adding.{Before}
+use Rattle.cc_sets.proofs.Adding.{Before}
 use Rattle.cc_sets.proofs.gathered.Gathered.add_list.Given as goal
 
 abbrev pub invariant-loop-v : goal.invariant-loop-v

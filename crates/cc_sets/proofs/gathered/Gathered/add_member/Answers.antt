@@ -8,7 +8,7 @@ use Rattle.cc_explicit.proofs.Reach.{reach_same}
 use Rattle.cc_sets.specs.declared.gathered.Spread.{Spread}
 use Rattle.cc_sets.specs.declared.gathered.Gathered.{Gathered}
 use Rattle.cc_sets.specs.Gatherings.{Adds}
-use Rattle.cc_sets.specs.laws.Gathering as more
+use Rattle.cc_sets.proofs.Gathering as more
 use Rattle.cc_sets.proofs.gathered.Gathered.add_member.Goals as goal
 
 abbrev Inserted : Explicit → List ℤ → ℤ → Type 0

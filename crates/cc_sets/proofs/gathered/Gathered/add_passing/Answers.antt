@@ -7,8 +7,8 @@ use Rattle.cc_sets.specs.declared.gathered.Gathered.{Gathered}
 use Rattle.cc_sets.specs.declared.vals.Vals.{Vals}
 use Rattle.cc_sets.specs.Results.{PassesSome}
 use Rattle.cc_sets.specs.Gatherings.{Adds}
-use Rattle.cc_sets.specs.laws.Adding.{adds_same, before_none, before_more, before_all}
-use Rattle.cc_sets.specs.laws.Values.{read_has}
+use Rattle.cc_sets.proofs.Adding.{adds_same, before_none, before_more, before_all}
+use Rattle.cc_sets.proofs.Values.{read_has}
 use Rattle.cc_sets.proofs.gathered.Gathered.add_passing.Goals as goal
 
 pub add_where-requires : goal.add_where-requires

@@ -2,7 +2,7 @@
 use Rattle.std.proofs.Common.{◌≡◌, ℤ}
 use Rattle.cc_sets.specs.Results.{PassesSome}
 use Rattle.cc_sets.specs.Gatherings.{Adds}
-use Rattle.cc_sets.specs.laws.Adding.{Before}
+use Rattle.cc_sets.proofs.Adding.{Before}
 use Rattle.cc_sets.proofs.gathered.Gathered.add_passing.Given as goal
 
 abbrev pub invariant-loop-v : goal.invariant-loop-v

@@ -5,7 +5,7 @@ use Rattle.cc_explicit.specs.Sets.{IsInReach}
 use Rattle.cc_explicit.proofs.Reach.{reach_same}
 use Rattle.cc_sets.specs.declared.gathered.Gathered.{Gathered}
 use Rattle.cc_sets.specs.Gatherings.{Adds}
-use Rattle.cc_sets.specs.laws.Adding.{adds_same}
+use Rattle.cc_sets.proofs.Adding.{adds_same}
 use Rattle.cc_sets.proofs.gathered.Gathered.add_result.Goals as goal
 
 some_is : (old new : Gathered) (found : Option ℤ) (u z : ℤ) → found ≡ Some z → u ≡ z → Adds old new (λ w. u ≡ w) → Adds old new (λ w. found ≡ Some w)

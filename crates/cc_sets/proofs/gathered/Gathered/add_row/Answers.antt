@@ -13,8 +13,8 @@ use Rattle.cc_explicit.specs.Sets.{IsInReach}
 use Rattle.cc_explicit.proofs.Reach.{reach_same, read_same}
 use Rattle.cc_sets.specs.declared.gathered.Gathered.{Gathered}
 use Rattle.cc_sets.specs.Gatherings.{Adds}
-use Rattle.cc_sets.specs.laws.Adding.{before_none, before_more, before_all}
-use Rattle.cc_sets.specs.laws.Values.{value_reach, some_reach, read_has}
+use Rattle.cc_sets.proofs.Adding.{before_none, before_more, before_all}
+use Rattle.cc_sets.proofs.Values.{value_reach, some_reach, read_has}
 use Rattle.cc_sets.proofs.gathered.Gathered.add_row.Goals as goal
 
 same : (v : ℤ) (t : IntType) (target : Target) → IsValueOf t target v → to_z w128 (of_z w128 v) ≡ v

@@ -2,7 +2,7 @@
 use Rattle.std.proofs.Common.{◌≡◌, ℤ, Some}
 use Rattle.cc_num.specs.Results.{result_of}
 use Rattle.cc_sets.specs.Gatherings.{Adds}
-use Rattle.cc_sets.specs.laws.Adding.{Before}
+use Rattle.cc_sets.proofs.Adding.{Before}
 use Rattle.cc_sets.proofs.gathered.Gathered.add_row.Given as goal
 
 abbrev pub invariant-loop-w : goal.invariant-loop-w

@@ -5,7 +5,7 @@ use Rattle.std.proofs.lemmas.Int.{ints, by_lt_z}
 use Rattle.cc_explicit.proofs.Reach.{reach_same}
 use Rattle.cc_sets.specs.declared.gathered.Gathered.{Gathered}
 use Rattle.cc_sets.specs.Gatherings.{Adds}
-use Rattle.cc_sets.specs.laws.Adding.{adds_in_turn}
+use Rattle.cc_sets.proofs.Adding.{adds_in_turn}
 use Rattle.cc_sets.proofs.gathered.Gathered.add_run.Goals as goal
 
 run_more : (a b d : Gathered) (low : ℤ) (k : ℕ) (u : ℤ) → u ≡ low +ℤ pos k → Adds a b (λ z. (low ≤ℤ z) × (z <ℤ (low +ℤ pos k))) → Adds b d (λ w. u ≡ w) → Adds a d (λ z. (low ≤ℤ z) × (z <ℤ (low +ℤ pos (k + 1))))

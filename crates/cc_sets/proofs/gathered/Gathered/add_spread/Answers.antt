@@ -1,7 +1,7 @@
 -- All between two ends is added.
 use Rattle.std.proofs.Common.{◌∙◌, ap}
 use Rattle.cc_sets.specs.Gatherings.{wider_low, wider_high}
-use Rattle.cc_sets.specs.laws.Gathering as more
+use Rattle.cc_sets.proofs.Gathering as more
 use Rattle.cc_sets.proofs.gathered.Gathered.add_spread.Goals as goal
 
 pub returns : goal.returns

@@ -3,7 +3,7 @@ use Rattle.std.proofs.Common.{◌≡◌, ◌∙◌, Bool, true, ℤ, IsTrue, sym
 use Rattle.cc_explicit.proofs.Reach.{reach_same}
 use Rattle.cc_sets.specs.declared.gathered.Gathered.{Gathered}
 use Rattle.cc_sets.specs.Gatherings.{Adds}
-use Rattle.cc_sets.specs.laws.Adding.{adds_same}
+use Rattle.cc_sets.proofs.Adding.{adds_same}
 use Rattle.cc_sets.proofs.gathered.Gathered.add_where.Goals as goal
 
 kept : (old new : Gathered) (k : Bool) (u v : ℤ) → k ≡ true → u ≡ v → Adds old new (λ w. u ≡ w) → Adds old new (λ w. (v ≡ w) × IsTrue k)

@@ -7,8 +7,8 @@ use Rattle.cc_sets.specs.declared.vals.Vals.{Vals}
 use Rattle.cc_sets.specs.declared.vals.Vals.TheVariants.{Many}
 use Rattle.cc_sets.specs.Rungs.{ValsBelow}
 use Rattle.cc_sets.specs.Gatherings.{Holds}
-use Rattle.cc_sets.specs.laws.LeastRange.{AreLeastBits}
-use Rattle.cc_sets.specs.laws.Gathering as more
+use Rattle.cc_sets.specs.Ranges.{AreLeastBits}
+use Rattle.cc_sets.proofs.Gathering as more
 use Rattle.cc_sets.proofs.gathered.Gathered.hull.Goals as goal
 
 least_of : (g : Gathered) (s : Spread) (r : Range) → g.spread ≡ Some s → AreLeastBits s.low s.high r.signed r.bits → (x : Vals) → Holds x g → ValsBelow (Many r) x

@@ -11,7 +11,7 @@ use Rattle.cc_sets.specs.Rungs.{low_of, high_of, ValsHas, ValsBelow}
 use Rattle.cc_lattice.specs.Domains.{AreEnds}
 use Rattle.cc_sets.specs.laws.Ends.{set_ends, set_reach}
 use Rattle.cc_sets.specs.laws.RungLaws.{not_few}
-use Rattle.cc_sets.specs.laws.Bounds as at
+use Rattle.cc_sets.proofs.Bounds as at
 use Rattle.cc_sets.proofs.vals_domain.ValsLattice.below.Goals as goal
 
 abbrev Tells : Bool → Vals → Vals → Type 0

@@ -18,11 +18,12 @@ use Rattle.cc_explicit.proofs.Lists.{In, in_list, in_contains, rises, ascends, n
 use Rattle.cc_sets.specs.declared.range.Range.{Range}
 use Rattle.cc_sets.specs.declared.vals.Vals.{Vals}
 use Rattle.cc_sets.specs.declared.vals.Vals.TheVariants.{Few, Many}
+use Rattle.cc_sets.specs.Ranges.{numbers_from}
 use Rattle.cc_sets.specs.Results.{OpResult, IsKept, PassesSome}
 use Rattle.cc_sets.specs.Rungs.{low_of, high_of, ValsHas, IsHull, vals_members, vals_ends}
 use Rattle.cc_sets.specs.laws.Ends.{range_ordered}
 use Rattle.cc_sets.specs.laws.RungLaws.{sets_same}
-use Rattle.cc_sets.specs.laws.Runs.{run, run_between, run_rises, length_run, with_one}
+use Rattle.cc_sets.specs.laws.Runs.{run_between, run_rises, length_run, with_one}
 
 -- a set that is known by its members
 explicit_of : (x : Vals) (xs : List ℤ) → vals_members x ≡ Some xs → (s : Explicit) × (x ≡ Few s) × (s.items.items ≡ xs)
@@ -141,21 +142,21 @@ high_seven false b h k l = ⊎_elim
     (λ (more : 7 ≤ b). let p : 2 ^ 7 ≤ 2 ^ b = pow_mono more in (refl, omega (arith, ints)))
     (cases_lt b 7)
 
-joined_range : (s q : Explicit) (r : Vals) → s.items.items ≡ run (pos 0) 64 → q.items.items ≡ pos 80 ∷ [] → IsHull (λ v. ValsHas (Few s) v ⊎ ValsHas (Few q) v) r → vals_ends r ≡ Some (pos 0, pos 127)
+joined_range : (s q : Explicit) (r : Vals) → s.items.items ≡ numbers_from (pos 0) 64 → q.items.items ≡ pos 80 ∷ [] → IsHull (λ v. ValsHas (Few s) v ⊎ ValsHas (Few q) v) r → vals_ends r ≡ Some (pos 0, pos 127)
 joined_range s q (Few t) e f p =
-    let more = with_one (run (pos 0) 64) (pos 80) (run_rises (pos 0) 64) (λ h. let k = run_between (pos 0) 64 (pos 80) h in let k1 = k.1 in absurd (omega (arith, ints))) in
+    let more = with_one (numbers_from (pos 0) 64) (pos 80) (run_rises (pos 0) 64) (λ h. let k = run_between (pos 0) 64 (pos 80) h in let k1 = k.1 in absurd (omega (arith, ints))) in
     let n = more.2 in
     let m = length_run (pos 0) 64 in
     let few = t.few in
     let l = no_longer more.0 t.items.items more.1 (rises t.items.items t.ascending)
     (λ v h. in_list t.items.items v (⊎_elim
     (λ (g : v ≡ pos 80). subst (Contains t.items.items) (sym g) (p.covers (pos 80) (inr (subst (λ (ys : List ℤ). Contains ys (pos 80)) (sym f) (in_contains (pos 80 ∷ []) (pos 80) (inl refl))))))
-    (λ (u : In v (run (pos 0) 64)). p.covers v (inl (subst (λ (ys : List ℤ). Contains ys v) (sym e) (in_contains (run (pos 0) 64) v u))))
+    (λ (u : In v (numbers_from (pos 0) 64)). p.covers v (inl (subst (λ (ys : List ℤ). Contains ys v) (sym e) (in_contains (numbers_from (pos 0) 64) v u))))
     (more.3 v h))) in
     absurd (omega (arith, n, m, few, l))
 joined_range s q (Many t) e f p =
     let below = p.least (Many seven) (λ v h. ⊎_elim
-    (λ (k : Contains s.items.items v). let b = run_between (pos 0) 64 v (in_list (run (pos 0) 64) v (subst (λ (ys : List ℤ). Contains ys v) e k)) in let b0 = b.0 in let b1 = b.1 in (b0, omega (arith, ints)))
+    (λ (k : Contains s.items.items v). let b = run_between (pos 0) 64 v (in_list (numbers_from (pos 0) 64) v (subst (λ (ys : List ℤ). Contains ys v) e k)) in let b0 = b.0 in let b1 = b.1 in (b0, omega (arith, ints)))
     (λ (k : Contains q.items.items v). let g = only 80 v q.items.items f k in (omega (arith, ints), omega (arith, ints)))
     h) in
     let low = (below (low_of t) (≤ℤ_refl (low_of t), range_ordered t)).0 in
@@ -164,9 +165,9 @@ joined_range s q (Many t) e f p =
     let ends = high_seven t.signed t.bits low last high in
     ap₂ (λ x y. Some (x, y)) ends.0 ends.1
 
-pub too_many : (a b r : Vals) → vals_members a ≡ Some (run (pos 0) 64) → vals_members b ≡ Some (pos 80 ∷ []) → IsHull (λ v. ValsHas a v ⊎ ValsHas b v) r → vals_ends r ≡ Some (pos 0, pos 127)
+pub too_many : (a b r : Vals) → vals_members a ≡ Some (numbers_from (pos 0) 64) → vals_members b ≡ Some (pos 80 ∷ []) → IsHull (λ v. ValsHas a v ⊎ ValsHas b v) r → vals_ends r ≡ Some (pos 0, pos 127)
 too_many a b r e f p =
-    let x = explicit_of a (run (pos 0) 64) e in
+    let x = explicit_of a (numbers_from (pos 0) 64) e in
     let y = explicit_of b (pos 80 ∷ []) f in
     joined_range x.0 y.0 r x.2 y.2
     (subst (λ (u : Vals). IsHull (λ v. ValsHas (Few x.0) v ⊎ ValsHas u v) r) y.1 (subst (λ (u : Vals). IsHull (λ v. ValsHas u v ⊎ ValsHas b v) r) x.1 p))

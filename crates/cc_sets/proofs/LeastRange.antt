@@ -4,21 +4,13 @@ use Rattle.std.specs.Int.{int_max}
 use Rattle.std.proofs.lemmas.Int.{ints, clamps}
 use Rattle.cc_num.specs.Integers.{least_of_bits, most_of_bits}
 use Rattle.cc_explicit.specs.Sets.{most_members}
-use Rattle.cc_sets.specs.Ranges.{most_bits, IsSpread}
+use Rattle.cc_sets.specs.Ranges.{most_bits, IsSpread, AreLeastBits}
 use Rattle.cc_num.proofs.Residues.{halves}
 
 -- b is the least number of bits with n at most 2^b
 pub record AreBitsFor (n b : ℕ) : Type 0 where
   pub enough : n ≤ 2 ^ b
   pub least : (k : ℕ) → n ≤ 2 ^ k → b ≤ k
-
--- bits with a sign or without that make a range with both ends, below each other such range
-pub record AreLeastBits (low high : ℤ) (s : Bool) (b : ℕ) : Type 0 where
-  pub many : most_members < 2 ^ b
-  pub few : b ≤ most_bits s
-  pub low_in : least_of_bits s b ≤ℤ low
-  pub high_in : high ≤ℤ most_of_bits s b
-  pub least : (t : Bool) (k : ℕ) → least_of_bits t k ≤ℤ low → high ≤ℤ most_of_bits t k → (least_of_bits t k ≤ℤ least_of_bits s b) × (most_of_bits s b ≤ℤ most_of_bits t k)
 
 unsigned_least : (low high : ℤ) (n b : ℕ) → pos 0 ≤ℤ low → IsSpread low high → pos n ≡ high +ℤ pos 1 → AreBitsFor n b
     → (t : Bool) (k : ℕ) → least_of_bits t k ≤ℤ low → high ≤ℤ most_of_bits t k → (least_of_bits t k ≤ℤ pos 0) × (pos (2 ^ b - 1) ≤ℤ most_of_bits t k)

@@ -19,7 +19,7 @@ use Rattle.cc_sets.specs.declared.vals.Vals.TheVariants.{Few, Many}
 use Rattle.cc_sets.specs.Rungs.{ValsHas, ValsBelow, Covers}
 use Rattle.cc_sets.specs.Gatherings.{PartHas, PartEnds, Holds, Adds, wider_low, wider_high}
 use Rattle.cc_sets.specs.laws.Ends.{list_are_ends, list_none}
-use Rattle.cc_sets.specs.laws.LeastRange.{AreLeastBits}
+use Rattle.cc_sets.specs.Ranges.{AreLeastBits}
 use Rattle.cc_sets.specs.laws.Runs.{too_wide, fit_between, with_one}
 
 abbrev pub gathered : Explicit → Option Spread → Gathered
