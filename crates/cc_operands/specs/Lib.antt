@@ -1,0 +1,10 @@
+pub mod Arithmetic
+pub mod Assignments
+pub mod Choices
+pub mod Operands
+pub mod Operators
+pub mod Qualified
+pub mod RuleNumbers
+pub mod Unary
+pub mod Verdicts
+pub mod View
