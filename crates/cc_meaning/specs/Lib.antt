@@ -5,3 +5,4 @@ pub mod State
 pub mod Step
 pub mod Turn
 pub mod View
+pub mod Whole

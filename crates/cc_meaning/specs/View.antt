@@ -6,9 +6,17 @@ use Rattle.cc_control.specs.View.{level_of, levels_of}
 use Rattle.cc_meaning.specs.declared.activation.Activation.{Activation}
 use Rattle.cc_meaning.specs.declared.machine.Machine.{Machine}
 use Rattle.cc_meaning.specs.State.{Active, State}
+use Rattle.cc_program.specs.declared.func.Func.{Func}
 use Rattle.cc_program.specs.declared.program.Program.{Program}
+use Rattle.std.specs.Borrow.{Bor}
 use Rattle.cc_program.specs.declared.value.Value.{Value}
-use Rattle.cc_meaning.specs.Step.{moved, returned}
+use Rattle.cc_meaning.specs.declared.step.Next.{Next}
+use Rattle.cc_meaning.specs.declared.step.Next.TheVariants as next
+use Rattle.cc_meaning.specs.declared.event.End.TheVariants.{Trap}
+use Rattle.cc_meaning.specs.Step.{moved, stopped, returned, fallen, perform, done}
+use Rattle.cc_program.specs.declared.stmt.Case.{Case}
+use Rattle.cc_program.specs.declared.stmt.Stmt.{Stmt, out-Stmt}
+use Rattle.cc_program.specs.declared.stmt.Stmt.TheOpen as is
 
 abbrev pub active_of : Activation → Active
 active_of a = record {
@@ -53,3 +61,22 @@ pub record IsNewest (stack : List Activation) (number i : ℕ) : Type 0 where
 abbrev pub returned_first : Program → State → List Active → Value → State
 returned_first p s [] v = s
 returned_first p s (a ∷ below) v = returned p s a below v
+
+-- what an activation does next, and what that makes of a state
+abbrev pub went : Program → Next → State → Active → List Active → State
+went p next.Falls s a below = fallen p s a below
+went p (next.Performs action) s a below = perform p s action
+went p next.Traps s a below = stopped s Trap
+went p (next.Done x v) s a below = done p (out-Stmt x.now) s a below v
+
+abbrev pub fallen_first : Program → State → List Active → State
+fallen_first p s [] = s
+fallen_first p s (a ∷ below) = fallen p s a below
+
+abbrev pub done_first : Program → is.Stmt-F Stmt Case → State → List Active → Value → State
+done_first p x s [] v = s
+done_first p x s (a ∷ below) v = done p x s a below v
+
+-- a handler that enters, and its function
+abbrev pub entry_view : ℕ × Bor Func → ℕ × Func
+entry_view e = (e.0, e.1.now)

@@ -93,7 +93,7 @@ fn body_of<'p>(alloc: Global, f: &'p Func) -> Result<Control<'p>, NoMemory>
 }
 
 /// An activation of a function, before its first step.
-fn activation<'p>(
+pub fn activation<'p>(
     alloc: Global,
     p: &'p Program,
     number: u64,

@@ -4,16 +4,23 @@
 
 mod accesses;
 mod activation;
+mod boundary;
 mod calls;
 mod choices;
 mod content;
 mod event;
+mod initial;
+mod laws;
 mod machine;
 mod progress;
 mod returns;
 mod stack;
+mod step;
+mod turn;
 
 pub use activation::Activation;
 pub use content::Content;
 pub use event::{End, Event, Took};
+pub use initial::start;
+pub use laws::{Relation, Simulation, SimulationBack, answers_by, follows_by, orders};
 pub use machine::Machine;
