@@ -1,5 +1,5 @@
 -- Boundaries, paths and operands, by what an activation keeps.
-use Rattle.std.proofs.Common.{arith, ◌≡◌, ◌<◌, ◌≤◌, ◌-◌, ◌+◌, ◌&&◌, ℕ, true, List, [], ◌∷◌, ◌++◌, length, map, reverse, take, get_or, Option, Some, None, refl, ap, sym, ◌∙◌}
+use Rattle.std.proofs.Common.{◌≡◌, ◌<◌, ◌≤◌, ◌-◌, ◌+◌, ◌&&◌, ℕ, true, List, [], ◌∷◌, ◌++◌, length, map, reverse, take, get_or, Some, None, refl, ap, sym, ◌∙◌}
 use Rattle.std.proofs.lemmas.List.{map-append, take_all, take_more, reverse-reverse, reverse-append}
 use Rattle.cc_control.specs.Control.{Level as LevelAs, path_of}
 use Rattle.cc_control.specs.View.{first_of, level_of, levels_of}

@@ -1,5 +1,5 @@
 -- What is said of the first statement that is left, by the statement itself.
-use Rattle.std.proofs.Common.{◌≡◌, ℕ, false, List, [], ◌∷◌, Option, Some, None, refl, ap, sym, ◌∙◌}
+use Rattle.std.proofs.Common.{◌≡◌, List, [], ◌∷◌, Some, None, refl, ap, sym}
 use Rattle.cc_control.specs.View.{first_of}
 use Rattle.cc_control.specs.declared.phase.Phase.{Phase}
 use Rattle.cc_program.specs.declared.program.Program.{Program}

@@ -1,7 +1,7 @@
 -- The locals of an activation, as far as a loop has come.
-use Rattle.std.proofs.Common.{arith, ◌≡◌, ◌<◌, ◌+◌, ◌-◌, ◌^◌, ◌≢◌, ℕ, zero, suc, min, List, [], ◌∷◌, ◌++◌, length, map, take, get_or, replicate, Option, Some, None, slice_get, refl, ap, sym, ◌∙◌, Vec}
+use Rattle.std.proofs.Common.{arith, ◌≡◌, ◌<◌, ◌+◌, ◌-◌, ◌^◌, ◌≢◌, ℕ, zero, suc, List, [], ◌∷◌, ◌++◌, length, take, get_or, replicate, Some, None, slice_get, refl, ap, sym, ◌∙◌, Vec}
 use Rattle.std.specs.declared.alloc.Global.{Global}
-use Rattle.std.proofs.lemmas.List.{map-append, append-nil, take_more, replicate-append-replicate}
+use Rattle.std.proofs.lemmas.List.{map-append, append-nil, replicate-append-replicate}
 use Rattle.cc_cells.specs.Cells.{cells_of}
 use Rattle.cc_cells.specs.Counts.{counted}
 use Rattle.cc_control.specs.Control.{close}

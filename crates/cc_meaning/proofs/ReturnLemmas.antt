@@ -1,5 +1,5 @@
 -- Returns, by what the stack has.
-use Rattle.std.proofs.Common.{arith, ◌≡◌, ◌<◌, ◌-◌, ℕ, Bool, true, false, map, reverse, if◌then◌else◌, List, [], ◌∷◌, length, length-take, min, slice_set, take, get_or, refl, ap, sym, ◌∙◌}
+use Rattle.std.proofs.Common.{arith, ◌≡◌, ◌<◌, ◌-◌, ℕ, Bool, true, false, map, reverse, if◌then◌else◌, List, [], ◌∷◌, length, length-take, slice_set, take, get_or, refl, ap, sym, ◌∙◌}
 use Rattle.std.proofs.Math.Seq.{take-set-lt}
 use Rattle.std.proofs.lemmas.List.{get_or-take, set-get_or, map-set}
 use Rattle.cc_eval.specs.declared.mark.Mark.{Mark}

@@ -1,7 +1,7 @@
 -- The activations that vectors hold, as they grow: what is pushed last is the first of the view.
 use Rattle.std.proofs.Common.{◌≡◌, ◌<◌, ◌≤◌, ◌-◌, ◌+◌, suc, List, [], ◌∷◌, ◌++◌, refl, ap, sym, ◌∙◌, length, take, get_or, slice_set, arith}
 use Rattle.std.proofs.Math.Seq.{take-suc-set}
-use Rattle.std.proofs.lemmas.List.{map-append, reverse-append, take_all, take_more, length-set, reverse-reverse}
+use Rattle.std.proofs.lemmas.List.{map-append, reverse-append, take_all, take_more, length-set}
 use Rattle.cc_meaning.specs.declared.activation.Activation.{Activation}
 use Rattle.cc_meaning.specs.View.{active_of, actives_of}
 

@@ -1,11 +1,8 @@
 -- One step, by the running activation and the first statement that is left of it.
-use Rattle.std.proofs.Common.{◌≡◌, ◌<◌, ◌-◌, ℕ, List, [], ◌∷◌, length, take, get_or, Option, Some, None, refl, ap, sym, ◌∙◌}
+use Rattle.std.proofs.Common.{◌≡◌, ◌<◌, ◌-◌, List, [], ◌∷◌, length, take, get_or, Some, None, refl, ap, sym, ◌∙◌}
 use Rattle.cc_control.specs.View.{first_of, level_of}
 use Rattle.cc_program.specs.declared.program.Program.{Program}
-use Rattle.cc_program.specs.declared.stmt.Case.{Case}
 use Rattle.cc_program.specs.declared.stmt.Stmt.{Stmt, out-Stmt}
-use Rattle.cc_program.specs.declared.stmt.Stmt.TheOpen as is
-use Rattle.cc_program.specs.declared.value.Value.{Value}
 use Rattle.cc_meaning.specs.declared.activation.Activation.{Activation}
 use Rattle.cc_meaning.specs.declared.event.End.TheVariants.{Trap}
 use Rattle.cc_meaning.specs.State.{Active, State}

@@ -1,10 +1,10 @@
 -- Where a `switch` goes on, from what was found of its cases.
-use Rattle.std.proofs.Common.{◌≡◌, ℕ, ℤ, List, ◌∷◌, Option, Some, None, refl, ap, sym, ◌∙◌}
+use Rattle.std.proofs.Common.{◌≡◌, ℕ, ℤ, List, ◌∷◌, Option, Some, None, refl, ap, sym}
 use Rattle.std.specs.Prelude.{option_map}
 use Rattle.std.specs.Borrow.{Bor}
 use Rattle.std.specs.List.{list_any}
 use Rattle.std.specs.Option.{option_or}
-use Rattle.cc_control.specs.Control.{Control, around_list, behind, bodies, close, from_label, is_label, is_default}
+use Rattle.cc_control.specs.Control.{around_list, behind, bodies, close, from_label, is_label, is_default}
 use Rattle.cc_control.specs.View.{counted_at, found_of}
 use Rattle.cc_program.specs.declared.stmt.Case.{Case}
 use Rattle.cc_program.specs.declared.stmt.Stmt.{Stmt}

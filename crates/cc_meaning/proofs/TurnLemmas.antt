@@ -1,5 +1,5 @@
 -- Turns, by what enters; and the running level, as far as a loop over the stack has come.
-use Rattle.std.proofs.Common.{arith, ◌≡◌, ◌<◌, ◌+◌, ℕ, max, List, [], ◌∷◌, length, take, get_or, Option, Some, None, refl, ap, sym, ◌∙◌, if◌then◌else◌}
+use Rattle.std.proofs.Common.{◌≡◌, ◌<◌, ◌+◌, ℕ, max, List, [], length, take, get_or, Option, Some, None, ap, sym, ◌∙◌, if◌then◌else◌}
 use Rattle.std.proofs.lemmas.List.{take_more}
 use Rattle.cc_program.specs.declared.func.Func.{Func}
 use Rattle.cc_program.specs.declared.program.Program.{Program}
@@ -7,7 +7,6 @@ use Rattle.cc_syntax.specs.Sizes.{AreSized}
 use Rattle.cc_syntax.specs.Sound.{IsSound}
 use Rattle.cc_syntax.proofs.StructureLemmas.{structures_sized}
 use Rattle.cc_meaning.specs.declared.activation.Activation.{Activation}
-use Rattle.cc_meaning.specs.declared.event.Took.{Took}
 use Rattle.cc_meaning.specs.declared.event.Took.TheVariants.{Entered, Stepped, Ended}
 use Rattle.cc_meaning.specs.State.{State}
 use Rattle.cc_meaning.specs.Turn.{is_going, level_of, running_level, entering, entered, turn_by, turn, took}

@@ -10,7 +10,7 @@ use Rattle.cc_program.specs.declared.value.Value.{Value}
 use Rattle.cc_cells.specs.Cells.{with_scalar}
 use Rattle.cc_meaning.specs.Access.{with_local, with_locals}
 use Rattle.cc_meaning.specs.State.{Active}
-use Rattle.cc_meaning.specs.Step.{is_known, passes, progress_of, goes_to, past_level, moved, at_test, settled_in, settled, with_mark, marked, on_top}
+use Rattle.cc_meaning.specs.Step.{is_known, passes, progress_of, goes_to, moved, at_test, settled_in, settled, with_mark, marked, on_top}
 use Rattle.std.specs.Prelude.{Option}
 
 module _ (p : Program) where
