@@ -1,5 +1,5 @@
 -- Boundaries, paths and operands, by what an activation keeps.
-use Rattle.std.proofs.Common.{◌≡◌, ◌<◌, ◌≤◌, ◌-◌, ◌+◌, ◌&&◌, ℕ, true, List, [], ◌∷◌, ◌++◌, length, map, reverse, take, get_or, Some, None, refl, ap, sym, ◌∙◌}
+use Rattle.std.proofs.Common.{◌≡◌, ◌<◌, ◌≤◌, ◌-◌, ◌+◌, ◌&&◌, ℕ, true, false, List, [], ◌∷◌, ◌++◌, length, map, reverse, take, get_or, Some, None, refl, ap, sym, ◌∙◌}
 use Rattle.std.proofs.lemmas.List.{map-append, take_all, take_more, reverse-reverse, reverse-append}
 use Rattle.cc_control.specs.Control.{Level as LevelAs, path_of}
 use Rattle.cc_control.specs.View.{first_of, level_of, levels_of}
@@ -29,7 +29,7 @@ begins-some (t ∷ rest) phase s h = ap (λ s. begins_at (out-Stmt s) phase) (sy
 
 pub ruleset of_first = (begins-none, begins-some)
 
-pub running-none : (xs : List Activation) → length xs ≡ 0 → running_begins (actives_of xs) ≡ true
+pub running-none : (xs : List Activation) → length xs ≡ 0 → running_begins (actives_of xs) ≡ false
 running-none xs h = ap running_begins (actives_of-empty xs h)
 
 pub running-some : (xs : List Activation) (d : Activation) → 0 < length xs →

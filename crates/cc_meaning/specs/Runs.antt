@@ -7,7 +7,7 @@ use Rattle.cc_program.specs.declared.stmt.Stmt.TheOpen as is
 use Rattle.cc_control.specs.declared.phase.Phase.{Phase}
 use Rattle.cc_control.specs.declared.phase.Phase.TheVariants.{First, Test, Again}
 use Rattle.cc_meaning.specs.State.{Active, State}
-use Rattle.cc_meaning.specs.Turn.{start, turn, enters}
+use Rattle.cc_meaning.specs.Turn.{is_going, start, turn, enters}
 use Rattle.cc_meaning.specs.Rows.{rows_of}
 
 -- who arrives at each of the turns; so its length is how many there are
@@ -55,11 +55,12 @@ begins (s ∷ rest) phase = begins_at (out-Stmt s) phase
 
 -- the next step of the running activation is the first of a statement, of a loop's turn, or of the return at the function's end
 abbrev pub running_begins : List Active → Bool
-running_begins [] = true
+running_begins [] = false
 running_begins (a ∷ below) = is_empty a.marks && begins a.here.rest a.here.phase
 
+-- a run that has ended has no next step
 abbrev pub IsBoundary : State → Type 0
-IsBoundary s = running_begins s.stack ≡ true
+IsBoundary s = (running_begins s.stack && is_going s.end) ≡ true
 
 -- each entry comes at a boundary
 abbrev pub EntersAtBoundaries : Program → State → Arrivals → Type 0

@@ -10,6 +10,7 @@ ghost use Rattle.cc_meaning.specs.View.{active_of, state_of};
 
 use crate::activation::Activation;
 use crate::machine::Machine;
+use crate::turn::is_going;
 use cc_control::{Level, Phase, first};
 use cc_eval::Mark;
 use cc_num::NoMemory;
@@ -93,15 +94,16 @@ impl<'p> Activation<'p> {
 
 impl<'p> Machine<'p> {
     /// Whether the running activation's next step is the first of a statement, of a loop's turn, or of the return at the
-    /// function's end.
+    /// function's end. A run that has ended has no next step.
     #[tactic(auto, using(crate::proofs::BoundaryLemmas::of_running))]
     pub fn at_boundary(&self) -> bool
         ensures { IsTrue result ↔ IsBoundary (state_of self.now) }
     {
         let n = self.stack.len();
         if n == 0 {
-            return true;
+            return false;
         }
-        self.stack[n - 1].begins()
+        let begins = self.stack[n - 1].begins();
+        begins && is_going(self.end)
     }
 }

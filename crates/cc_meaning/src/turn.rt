@@ -17,7 +17,8 @@ use cc_num::{Name, NoMemory, at};
 use cc_program::{Func, Program};
 use std::alloc::Global;
 
-fn is_going(end: End) -> bool
+/// Whether a run goes on.
+pub fn is_going(end: End) -> bool
     ensures { result ≡ is_going_of end }
 {
     matches!(end, End::Going)
