@@ -6,8 +6,7 @@ ghost use Rattle.cc_meaning.specs.State.{State};
 ghost use Rattle.cc_meaning.specs.Turn.{start, turn, enters};
 ghost use Rattle.cc_meaning.specs.Runs.{Arrivals, run, Same, Follows, Answers, EntersAtBoundaries, IsBoundary};
 
-/// That one program follows another, and that one answers another, hold of each program and itself,
-/// and compose.
+/// That one program follows another, and that one answers another, hold of each program and itself, and compose.
 pub fn orders()
     ensures follows_itself { (p : Program) → Follows p p }
     ensures follows_on { (r q p : Program) → Follows r q → Follows q p → Follows r p }
@@ -15,37 +14,42 @@ pub fn orders()
     ensures answers_on { (r q p : Program) → Answers r q → Answers q p → Answers r p }
 {}
 
-/// Two programs and a relation of their states: the starts with the same inputs are related, and
-/// what can be seen of related states is the same.
-pub trait Relation {
-    ghost q: { Program };
+/// Pairs of programs, and for each pair a relation of their states: the starts with the same inputs are related, what can
+/// be seen of related states is the same, and each turn of the first program, with any arrival or none, is answered by turns
+/// of the second that lead to related states.
+pub trait Simulation {
+    ghost pairs: { Program → Program → Type 0 };
 
-    ghost p: { Program };
+    ghost related: { Program → Program → State → State → Type 0 };
 
-    ghost related: { State → State → Type 0 };
+    ghost same: { (q p : Program) → pairs q p → (s t : State) → related q p s t → Same q p s t };
 
-    ghost same: { (s t : State) → related s t → Same q p s t };
+    ghost starts: { (q p : Program) → pairs q p → (inputs : List ℤ) → related q p (start q inputs) (start p inputs) };
 
-    ghost starts: { (inputs : List ℤ) → related (start q inputs) (start p inputs) };
+    ghost turns: { (q p : Program) → pairs q p → (s t : State) → related q p s t → (arrival : Option ℕ) → (others : Arrivals) × related q p (turn q s arrival) (run p t others) };
 }
 
-/// A relation in which each turn of q, with any arrival or none, is answered by turns of p.
-pub trait Simulation: Relation {
-    ghost turns: { (s t : State) → Self.related s t → (arrival : Option ℕ) → (others : Arrivals) × Self.related (turn Self.q s arrival) (run Self.p t others) };
+/// Pairs of programs, and for each pair a relation of their states: the starts with the same inputs are related, what can
+/// be seen of related states is the same, and each turn of the second program that makes no entry, or makes one at a
+/// boundary, is answered by turns of the first that enter at boundaries alone and lead to related states.
+pub trait SimulationBack {
+    ghost pairs: { Program → Program → Type 0 };
+
+    ghost related: { Program → Program → State → State → Type 0 };
+
+    ghost same: { (q p : Program) → pairs q p → (s t : State) → related q p s t → Same q p s t };
+
+    ghost starts: { (q p : Program) → pairs q p → (inputs : List ℤ) → related q p (start q inputs) (start p inputs) };
+
+    ghost turns: { (q p : Program) → pairs q p → (s t : State) → related q p s t → (arrival : Option ℕ) → (enters p t arrival ≡ true → IsBoundary t) → (others : Arrivals) × EntersAtBoundaries q s others × related q p (run q s others) (turn p t arrival) };
 }
 
-/// A relation in which each turn of p that makes no entry, or makes one at a boundary, is answered
-/// by turns of q that enter at boundaries alone.
-pub trait SimulationBack: Relation {
-    ghost turns: { (s t : State) → Self.related s t → (arrival : Option ℕ) → (enters Self.p t arrival ≡ true → IsBoundary t) → (others : Arrivals) × EntersAtBoundaries Self.q s others × Self.related (run Self.q s others) (turn Self.p t arrival) };
-}
-
-/// A program that is simulated by another one follows it.
+/// In each pair, the first program follows the second.
 pub fn follows_by<S: Simulation>()
-    ensures { Follows S.q S.p }
+    ensures { (q p : Program) → S.pairs q p → Follows q p }
 {}
 
-/// A program that simulates another one back answers it.
+/// In each pair, the first program answers the second.
 pub fn answers_by<S: SimulationBack>()
-    ensures { Answers S.q S.p }
+    ensures { (q p : Program) → S.pairs q p → Answers q p }
 {}

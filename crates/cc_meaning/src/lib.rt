@@ -22,5 +22,5 @@ pub use activation::Activation;
 pub use content::Content;
 pub use event::{End, Event, Took};
 pub use initial::start;
-pub use laws::{Relation, Simulation, SimulationBack, answers_by, follows_by, orders};
+pub use laws::{Simulation, SimulationBack, answers_by, follows_by, orders};
 pub use machine::Machine;
