@@ -2,7 +2,8 @@
 """Time of calls that no command makes yet, by the programs of cases.
 
 It builds each program by `rt run` in its crate's folder, which proves it, and prints a row a case: the time of the
-program, its start and the making of what it works on included. It ends with status 1 where a case takes a second.
+program, its start and the making of what it works on included. It ends with status 1 where a case takes a second, or
+two seconds for a million turns of a run.
 """
 import os
 import subprocess
@@ -11,6 +12,18 @@ import time
 
 TOP = os.path.dirname(os.path.dirname(os.path.abspath(__file__)))
 MOST = 1.0
+MOST_OF_TURNS = 2.0
+
+# a loop over ten statements: scalars, elements, `if`, `?:`, postfix and compound assignment, and an empty statement
+LOOP = (
+    "small uchar object:n uchar array:4 object:a uchar name:i local:0 0:uchar assign do 1:int {"
+    " static:0 local:0 load assign do local:0 static:0 load conv:int 1:int add:int conv:uchar assign do"
+    " static:1 local:0 load conv:int 3:int and:int element static:0 load assign do"
+    " local:0 load conv:int 7:int eq:int { static:0 2:uchar assign do } { static:0 3:uchar assign do } if local:0 after:up do"
+    " static:0 local:0 load conv:int change:add:int do static:1 0:int element static:1 1:int element load assign do empty"
+    " local:0 static:0 load conv:int 3:int gt:int 1:int 2:int choose conv:uchar assign do"
+    " static:0 static:1 local:0 load element load assign do } while int fun:main:0"
+)
 
 # the program, the setting, the case, and what its answer begins with
 ROWS = (
@@ -22,6 +35,7 @@ ROWS = (
     ("cases_leaves", "many", "65536 16 1", "4096 words, 32768 fields"),
     ("cases_flow", "many", "65535 1", "65536 points"),
     ("cases_flow", "many", "65535 128", "65536 points"),
+    ("cases_meaning", "turns", f"{LOOP} | | | 1000000", "end,going, 1000000"),
 )
 
 
@@ -52,8 +66,8 @@ def main():
     failed = False
     for crate, setting, case, wanted in ROWS:
         took = measured(programs[crate], setting, case, wanted)
-        print(f"{crate}, {setting} {case}: {took:.3f} s")
-        failed = failed or took >= MOST
+        print(f"{crate}, {setting} {case if len(case) < 40 else case[-20:]}: {took:.3f} s")
+        failed = failed or took >= (MOST_OF_TURNS if setting == "turns" else MOST)
     sys.exit(1 if failed else 0)
 
 
