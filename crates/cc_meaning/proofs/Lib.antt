@@ -3,6 +3,7 @@ pub mod FirstLemmas
 pub mod InputLemmas
 pub mod LocalLemmas
 pub mod NewestLemmas
+pub mod OpenedLemmas
 pub mod ReturnLemmas
 pub mod RunLaws
 pub mod StackLemmas

@@ -11,6 +11,7 @@ use Rattle.cc_meaning.specs.declared.event.Took.TheVariants.{Entered, Stepped, E
 use Rattle.cc_meaning.specs.State.{State}
 use Rattle.cc_meaning.specs.Turn.{is_going, level_of, running_level, entering, entered, turn_by, turn, took}
 use Rattle.cc_meaning.specs.View.{actives_of}
+use Rattle.cc_meaning.proofs.OpenedLemmas.{turn-opens}
 use Rattle.cc_meaning.proofs.StackLemmas.{actives_of-push, actives_of-nil}
 use Rattle.std.specs.Prelude.{is_some}
 
@@ -41,4 +42,4 @@ module _ (p : Program) (s : State) (arrival : Option ℕ) where
   pub took-none : None ≡ entering p s arrival → took p s arrival ≡ (if is_going s.end then Stepped else Ended)
   took-none h = ap (λ (o : Option (ℕ × Func)). if is_some o then Entered else (if is_going s.end then Stepped else Ended)) (sym h)
 
-pub ruleset of_turns = (sound-sized, turned-some, turned-none, took-some, took-none)
+pub ruleset of_turns = (sound-sized, turned-some, turned-none, took-some, took-none, turn-opens)

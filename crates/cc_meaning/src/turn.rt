@@ -1,6 +1,6 @@
 //! Turns of a run: a step of the program, or the entry of a handler.
 
-ghost use Rattle.std.specs.Prelude.{◌≡◌, ◌<◌, ◌-◌, ◌^◌, max, IfOk, OnOk, OnErr, None, option_map, slice_get, if◌then◌else◌};
+ghost use Rattle.std.specs.Prelude.{◌≡◌, ◌<◌, ◌≤◌, ◌+◌, ◌-◌, ◌^◌, max, IfOk, OnOk, OnErr, None, option_map, slice_get, if◌then◌else◌};
 ghost use Rattle.std.specs.Option.{option_copied};
 ghost use Rattle.std.specs.Str.{bytes_eq};
 ghost use Rattle.cc_syntax.specs.Sizes.{AreSized};
@@ -160,6 +160,7 @@ impl<'p> Machine<'p> {
         ensures program { self.new.program ≡ self.old.program }
         ensures turn { OnOk result (state_of self.new ≡ turn_by self.old.program.now (state_of self.old) None) }
         ensures took { IfOk result (λ t. t ≡ (if is_going_of self.old.end then Stepped else Ended)) }
+        ensures ended { IfOk result (λ t. t ≡ Ended → state_of self.new ≡ state_of self.old) }
         ensures err { OnErr result (state_of self.new ≡ state_of self.old) }
     {
         if !is_going(self.end) {
@@ -171,6 +172,9 @@ impl<'p> Machine<'p> {
 
     /// One turn: the handler that the arrival names enters if it may; else the arrival is ignored, and the program makes a
     /// step. Once the run has ended, turns change nothing. After want of memory the state is as before.
+    ///
+    /// The address of an array of one element and that of its element are one value; an access tells which cell it means by
+    /// the type that is pointed to.
     #[tactic(auto, using(crate::proofs::TurnLemmas::of_turns))]
     pub fn step(&mut self, alloc: Global, arrival: Option<u32>) -> Result<Took, NoMemory>
         requires sound { IsSound self.old.program.now }
@@ -178,6 +182,8 @@ impl<'p> Machine<'p> {
         ensures program { self.new.program ≡ self.old.program }
         ensures turn { OnOk result (state_of self.new ≡ turn_of self.old.program.now (state_of self.old) arrival) }
         ensures took { IfOk result (λ t. t ≡ took_of self.old.program.now (state_of self.old) arrival) }
+        ensures ended { IfOk result (λ t. t ≡ Ended → state_of self.new ≡ state_of self.old) }
+        ensures opened { OnOk result ((state_of self.new).opened ≤ (state_of self.old).opened + 1) }
         ensures err { OnErr result (state_of self.new ≡ state_of self.old) }
     {
         match self.entering(arrival) {
