@@ -9,7 +9,6 @@ import itertools
 import random
 import sys
 
-INT = {2: 16, 4: 32}
 NAMES = ["Add", "Sub", "Mul", "Div", "Rem", "And", "Or", "Xor", "Shl", "Shr", "Lt", "Le", "Gt", "Ge", "Eq", "Ne"]
 TESTS = ["Lt", "Le", "Gt", "Ge", "Eq", "Ne"]
 TYPES = ["Bool", "Char", "SChar", "UChar", "Short", "UShort", "Int", "UInt", "Long", "ULong", "LongLong", "ULongLong"]
