@@ -176,11 +176,7 @@ fn put_assignment<'p>(
 }
 
 /// Puts an expression statement without its `;` in front.
-pub fn put_done<'p>(
-    out: &mut Vec<Piece<'p>>,
-    c: Context<'p>,
-    e: &'p Expr,
-) -> Result<(), NoMemory>
+pub fn put_done<'p>(out: &mut Vec<Piece<'p>>, c: Context<'p>, e: &'p Expr) -> Result<(), NoMemory>
     requires { AreSized c.program.now.structures c.program.now.target }
     ensures { OnOk result (pieces_of out.new.items ≡ done c.entry.program.now c.entry.func.now e.now (pieces_of out.old.items)) }
 {

@@ -84,9 +84,7 @@ pub fn put_expr<'p>(
             put_binary(out, c, movement_mark(*back), a.get(), b.get(), spot)
         }
         Expr::Gap(a, b) => put_binary(out, c, Mark::Minus, a.get(), b.get(), spot),
-        Expr::Compare(op, a, b) => {
-            put_binary(out, c, binary_mark(*op), a.get(), b.get(), spot)
-        }
+        Expr::Compare(op, a, b) => { put_binary(out, c, binary_mark(*op), a.get(), b.get(), spot) }
         Expr::Both(a, b) => put_binary(out, c, Mark::AndAnd, a.get(), b.get(), spot),
         Expr::Either(a, b) => put_binary(out, c, Mark::OrOr, a.get(), b.get(), spot),
         Expr::Choose(d, a, b) => {

@@ -59,12 +59,7 @@ pub fn name<'p>(out: &mut Vec<Piece<'p>>, name: &'p [u8]) -> Result<(), NoMemory
 }
 
 /// Puts a number in front, with the letters of its suffix: whether it has `u`, and how often `l`.
-pub fn number(
-    out: &mut Vec<Piece>,
-    number: u128,
-    unsigned: bool,
-    longs: u8,
-) -> Result<(), NoMemory>
+pub fn number(out: &mut Vec<Piece>, number: u128, unsigned: bool, longs: u8) -> Result<(), NoMemory>
     ensures { OnOk result (pieces_of out.new.items ≡ number_of number unsigned longs ∷ pieces_of out.old.items) }
 {
     let suffix = Suffix {

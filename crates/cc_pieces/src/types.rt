@@ -80,11 +80,7 @@ fn put_word_if(out: &mut Vec<Piece>, is_there: bool, w: Word) -> Result<(), NoMe
 }
 
 /// Puts qualifiers in front of a type's words.
-pub fn put_qualifiers(
-    out: &mut Vec<Piece>,
-    constant: bool,
-    volatile: bool,
-) -> Result<(), NoMemory>
+pub fn put_qualifiers(out: &mut Vec<Piece>, constant: bool, volatile: bool) -> Result<(), NoMemory>
     ensures { OnOk result (pieces_of out.new.items ≡ qualifiers constant volatile (pieces_of out.old.items)) }
 {
     put_word_if(out, volatile, Word::Volatile)?;
@@ -116,10 +112,7 @@ fn put_pointer_qualifiers(
     }
 }
 
-fn put_tag<'p>(
-    out: &mut Vec<Piece<'p>>,
-    structure: Option<&'p Structure>,
-) -> Result<(), NoMemory>
+fn put_tag<'p>(out: &mut Vec<Piece<'p>>, structure: Option<&'p Structure>) -> Result<(), NoMemory>
     ensures { OnOk result (pieces_of out.new.items ≡ tag (option_copied structure.entry) (pieces_of out.old.items)) }
 {
     match structure {

@@ -8,6 +8,7 @@ loop-left-init c = (omega arith, c.new-out.ensures.items ∙ spell_none c.args.l
 
 -- src/bytes.rt:55:5
 pub loop-left-preserved : goal.loop-left-preserved
-loop-left-preserved c =
-    (omega arith,
-    spell_more c.args.last_first.now (c.loop-left.left - 1) c.loop-left.left _ c.loop-left.out.items _ (omega arith) (omega arith) c.loop-left.invariant.1 c.in_ok-spell_piece.ensures)
+loop-left-preserved c = (
+  omega arith,
+  spell_more c.args.last_first.now (c.loop-left.left - 1) c.loop-left.left _ c.loop-left.out.items _ (omega arith) (omega arith) c.loop-left.invariant.1 c.in_ok-spell_piece.ensures,
+)
