@@ -3,7 +3,8 @@
 
 The answers are worked out here, from C99 and the range rules, and not by the program that is tested. Over small intervals each
 answer is also held against every pair of members: no result that does not trap may be outside, and where the rule is as narrow
-as an interval can be, the answer has to be exactly the least and the greatest result. What stands in BY_HAND was worked out by hand.
+as an interval can be, the answer has to be exactly the least and the greatest result. Over explicit sets an answer is the hull of
+all results, and the hull is found by trying every range. What stands in BY_HAND was worked out by hand.
 """
 import itertools
 import random
@@ -318,6 +319,232 @@ def section(choose, n):
     return list(dict.fromkeys(rows))
 
 
+# ---- explicit sets, which are tuples, and ranges of all numbers of some bits, which are ranges
+
+MOST = 64
+RANGES = [range(0, 1 << k) for k in range(7, 65)] + [range(-(1 << k - 1), 1 << k - 1) for k in range(7, 66)]
+
+
+def least_range(low, high):
+    """The range that has both ends and lies in each range that has them."""
+    those = [r for r in RANGES if low in r and high in r]
+    best, = [r for r in those if all(r[0] in q and r[-1] in q for q in those)]
+    return best
+
+
+def hull(numbers):
+    """The least set that has some numbers."""
+    those = tuple(sorted(set(numbers)))
+    return those if len(those) <= MOST else least_range(those[0], those[-1])
+
+
+def between(a):
+    """The least set that has an interval."""
+    if a is None:
+        return ()
+    low, high = a
+    return tuple(range(low, high + 1)) if high - low < MOST else least_range(low, high)
+
+
+def is_explicit(a):
+    return isinstance(a, tuple)
+
+
+def bounds(a):
+    return (a[0], a[-1]) if a else None
+
+
+def some_of(a):
+    """All members of an explicit set, and some of a range."""
+    return a if is_explicit(a) else numbers(bounds(a))
+
+
+def set_result(op, a, b, t, n):
+    if is_explicit(a) and is_explicit(b):
+        return hull(r for x in a for y in b for r in [result(op, x, y, t, n)] if r is not None)
+    return between(rule(op, bounds(a), bounds(b), t, n))
+
+
+def set_unary(op, a, t, n):
+    if is_explicit(a):
+        return hull(r for x in a for r in [unary(op, x, t, n)] if r is not None)
+    return between(unary_rule(op, bounds(a), t, n))
+
+
+def set_conversion(a, t, n):
+    return hull(converted(x, t, n) for x in a) if is_explicit(a) else between(conversion(bounds(a), t, n))
+
+
+def passes_some(test, x, b):
+    """Whether a number passes a comparison with some member: with an end of a range, or with itself."""
+    probes = b if is_explicit(b) else [b[0], b[-1]] + [x] * (x in b)
+    return any(passes(test, x, y) for y in probes)
+
+
+def set_kept(test, a, b):
+    if is_explicit(a):
+        return hull(x for x in a if passes_some(test, x, b))
+    return between(kept(test, bounds(a), bounds(b)))
+
+
+def joined(a, b):
+    if is_explicit(a) and is_explicit(b):
+        return hull(a + b)
+    both = [x for s in (a, b) if s for x in bounds(s)]
+    return least_range(min(both), max(both))
+
+
+def is_below(a, b):
+    if is_explicit(a):
+        return all(x in b for x in a)
+    return not is_explicit(b) and a[0] in b and a[-1] in b
+
+
+def set_room(a):
+    """Members that may still come and the 59 rungs above an explicit set; else the rungs above."""
+    return MOST - len(a) + 59 if is_explicit(a) else 65 - (a[-1] - a[0]).bit_length()
+
+
+def set_shown(a):
+    return "{" + ",".join(map(str, a)) + "}" if is_explicit(a) else f"{a[0]}..{a[-1]}"
+
+
+def word(a):
+    """A set as a script writes it: by two numbers where it is all between them, or the range that has both."""
+    if not a:
+        return "none"
+    low, high = bounds(a)
+    if is_explicit(a) and (len(a) < 4 or high - low >= len(a)):
+        return set_shown(a)
+    low = max(low, -(1 << 63))
+    assert is_explicit(a) or least_range(low, high) == a
+    return f"{low}..{high}"
+
+
+def has_all(found, wanted, what):
+    """Each result that does not trap is a member."""
+    for r in found:
+        if r is not None and r not in wanted:
+            sys.exit(f"{what}: {r} is outside {set_shown(wanted)}")
+
+
+def explicit_of(choose, t, n):
+    """An explicit set of values of a type, most of them telling ones."""
+    least, most = ends(t, n)
+    near = [least, least + 1, most - 1, most, most // 2, most // 2 + 1, 0, 1, 2, 3, 5, 7, 8, 10, 15, 16, 31, 63, 64, 127, 128, 250, 255, 256]
+    near += [-x for x in (1, 2, 3, 7, 8, 128)] if signed(t) else []
+    there = [x for x in near if least <= x <= most] + [choose.randint(least, most), choose.randint(0, most)]
+    return hull(choose.sample(there, choose.choice((1, 1, 2, 2, 3, 4, 6))))
+
+
+def range_of(choose, t, n):
+    """A range whose members are values of a type."""
+    least, most = ends(t, n)
+    return choose.choice([r for r in RANGES if least <= r[0] and r[-1] <= most])
+
+
+def set_pairs(choose, op, t, n):
+    """Operands of an operator: both explicit, at the ends of the type; then one a range; then both."""
+    least, most = ends(t, n)
+    w = bits(t, n)
+    shift = op in ("Shl", "Shr")
+    told = {
+        "Div": [((least, 10), (-1, 0, 5) if signed(t) else (0, 5)), ((least, most), (least, most))],
+        "Rem": [((least, 10), (-1, 0, 7) if signed(t) else (0, 7)), ((least, most), (least, most))],
+        "Mul": [((1, 3, most), (1, 2, most)), ((least, most), (least, 1))],
+        "Add": [((0, 1, most), (0, 1, most)), ((least, 5), (least, 0, 1))],
+        "Sub": [((least, 0, most), (0, 1, most)), ((least, 1), (least, 1))],
+        "Shl": [((0, 1, 3), (-1, 0, 1, w - 2, w - 1, w)), ((least, most), (0, 1, 300))],
+        "Shr": [((least, most), (-1, 0, 1, w - 1, w)), ((0, 1, 200), (-7, 0, 3, 300))],
+    }.get(op, [((least, 0, most), (least, 1, most))])
+    second = "Int" if shift else t
+    for _ in range(2):
+        told.append((explicit_of(choose, t, n), explicit_of(choose, second, n)))
+        told.append((explicit_of(choose, t, n), range_of(choose, second, n)))
+    told.append((range_of(choose, t, n), explicit_of(choose, second, n)))
+    if shift:
+        told.append((range_of(choose, t, n), (choose.choice((0, 1, w - 1, w, -1)),)))
+    told.append((range_of(choose, t, n), range_of(choose, second, n)))
+    return [(tuple(sorted(set(a))) if is_explicit(a) else a, tuple(sorted(set(b))) if is_explicit(b) else b) for a, b in told]
+
+
+def set_rows_of_types(choose, n):
+    """Rows of the calls that work in a type."""
+    for t in PROMOTED:
+        for op in NAMES:
+            for a, b in set_pairs(choose, op, t, n):
+                what = f"{op} {word(a)} {word(b)} {t}"
+                want = set_result(op, a, b, t, n)
+                has_all((result(op, x, y, t, n) for x in some_of(a) for y in some_of(b)), want, what)
+                yield what, set_shown(want)
+        for op in ("Neg", "Not", "Lnot"):
+            least, most = ends(t, n)
+            for a in (hull((least, 0, most)), explicit_of(choose, t, n), range_of(choose, t, n), between((least, most))):
+                want = set_unary(op, a, t, n)
+                has_all((unary(op, x, t, n) for x in some_of(a)), want, f"{op} {word(a)} {t}")
+                yield f"{op} {word(a)} {t}", set_shown(want)
+    for t in TYPES:
+        yield f"whole {t}", set_shown(between(ends(t, n)))
+        least, most = ends(t, n)
+        for a in ((0,), (260,), hull((-1, 0, 1)), hull((least - 1, least, most, most + 1) if most < 1 << 63 else (least, most)), tuple(range(250, 266)),
+                  explicit_of(choose, "LongLong", n), range_of(choose, "Int", n), range_of(choose, "LongLong", n)):
+            a = tuple(x for x in a if x >= -(1 << 63)) if is_explicit(a) else a
+            want = set_conversion(a, t, n)
+            has_all((converted(x, t, n) for x in some_of(a)), want, f"to {word(a)} {t}")
+            yield f"to {word(a)} {t}", set_shown(want)
+
+
+def set_rows_of_orders(choose):
+    """Rows of the calls that know no type."""
+    sets = [(), (0,), (-(1 << 63),), ((1 << 64) - 1,), (-1, 1), (1, 3), tuple(range(64)), range(0, 128), range(-64, 64), range(0, 1 << 64),
+            range(-(1 << 63), 1 << 63), range(-(1 << 64), 1 << 64)]
+    for a in sets:
+        yield f"room {word(a)}", str(set_room(a))
+        yield f"bounds {word(a)}", shown(bounds(a))
+        yield f"members {word(a)}", set_shown(a) if is_explicit(a) else "none"
+        for v in (0, 2, -64, 127, 128, (1 << 63), -(1 << 64)):
+            yield f"has {word(a)} {v}", "yes" if v in a else "no"
+        for b in sets:
+            yield f"below {word(a)} {word(b)}", "yes" if is_below(a, b) else "no"
+            if a != tuple(range(64)) or b in ((), (0,), (1, 3)) or not is_explicit(b):
+                yield f"join {word(a)} {word(b)}", set_shown(joined(a, b))
+    for test in TESTS:
+        pairs = [((1, 3), (3,)), ((), (1,)), ((1, 2), ()), (range(0, 128), ()), ((0, 1, 2), (1,)), (range(0, 128), (0,)), (range(0, 128), (127,)),
+                 (range(0, 128), (64,)), (range(0, 128), (63, 64)), ((-1, 5, 200), range(0, 128)), (range(-64, 64), range(0, 256)),
+                 (range(0, 1 << 64), ((1 << 64) - 1,)), (range(-(1 << 64), 1 << 64), (-(1 << 63), 10)), ((-(1 << 63), (1 << 64) - 1), ((1 << 64) - 1,))]
+        pairs += [(choose.choice(sets), choose.choice(sets)) for _ in range(12)]
+        for a, b in pairs:
+            want = set_kept(test, a, b)
+            has_all((x for x in some_of(a) if any(passes(test, x, y) for y in some_of(b))), want, f"keep {test} {word(a)} {word(b)}")
+            has_all(some_of(want) if want else (), a, f"keep {test} {word(a)} {word(b)}")
+            yield f"keep {test} {word(a)} {word(b)}", set_shown(want)
+
+
+def set_rows_of_edges():
+    """Rows of sets of 63, 64 and 65 numbers, and of images of so many."""
+    for low in (0, -1, -64, 63, 64, -128, -129, 128):
+        for count in (63, 64, 65):
+            a, b = tuple(range(low, low + count - 1)), (low + count - 1,)
+            yield f"join {word(a)} {word(b)}", set_shown(joined(a, b))
+    for v in (63, 64, 80, -1, 128):
+        yield f"join 0..63 {{{v}}}", set_shown(joined(tuple(range(64)), (v,)))
+        yield f"join {{{v}}} 0..63", set_shown(joined((v,), tuple(range(64))))
+    for t in ("Int", "ULongLong"):
+        images = [("Add", tuple(range(8)), tuple(range(0, 8 * k + 1, 8))) for k in (6, 7, 8)] + [("Mul", (1, 2), tuple(range(1, k))) for k in (43, 44, 45)]
+        images += [("Xor", tuple(range(64)), (1, 2)), ("And", tuple(range(64)), (7, 63)), ("Or", tuple(range(64)), (64, 128)), ("Rem", tuple(range(64)), (5, 7))]
+        for op, a, b in images:
+            yield f"{op} {word(a)} {word(b)} {t}", set_shown(set_result(op, a, b, t, 2))
+
+
+def set_rows():
+    """Sections of rows over explicit sets and ranges."""
+    choose = random.Random(710)
+    yield "== explicit sets and ranges: below, join, keep", "$ vals 2", list(dict.fromkeys(set_rows_of_orders(choose)))
+    yield "== explicit sets: as many members as there may be", "$ vals 2", list(dict.fromkeys(set_rows_of_edges()))
+    for n in (2, 4):
+        yield f"== explicit sets and ranges, int of {n} bytes", f"$ vals {n}", list(dict.fromkeys(set_rows_of_types(choose, n)))
+
+
 # Worked by hand.
 BY_HAND = [
     ("== intervals, worked by hand", "$ span 2", [
@@ -373,6 +600,61 @@ BY_HAND = [
         ("room 7..7", "1180591620717411303423"),
         ("room -9223372036854775808..18446744073709551615", "1152921504606846976000"),
     ]),
+    ("== explicit sets and ranges, worked by hand", "$ vals 2", [
+        ("Add {250} {10} UInt", "{260}"),
+        ("to {260} UChar", "{4}"),
+        ("Div {10} {0,5} Int", "{2}"),
+        ("keep Ne {1,3} {3}", "{1}"),
+        ("join 0..63 {80}", "0..127"),
+        ("join 0..62 {63}", "{" + ",".join(map(str, range(64))) + "}"),
+        ("join none none", "{}"),
+        ("one 7", "{7}"),
+        ("one 18446744073709551616", "unclear"),
+        ("whole Bool", "{0,1}"),
+        ("whole UChar", "0..255"),
+        ("Add {32767} {0,1} Int", "{32767}"),
+        ("Add {65535} {0,1} UInt", "{0,65535}"),
+        ("Sub 0..127 {1} Int", "-128..127"),
+        ("Div {-32768} {-1} Int", "{}"),
+        ("Rem {-32768} {-1} Int", "{}"),
+        ("Mul {18446744073709551615} {18446744073709551615} ULongLong", "{1}"),
+        ("Mul {-9223372036854775808} {-1,1} LongLong", "{-9223372036854775808}"),
+        ("Mul 0..18446744073709551615 {18446744073709551615} ULongLong", "0..18446744073709551615"),
+        ("Shl {1} {-1,0,14,15,16} Int", "{1,16384}"),
+        ("Shl {1} {15} UInt", "{32768}"),
+        ("Shl {-1} {0} Int", "{}"),
+        ("Shr {-1} {0,15} Int", "{-1}"),
+        ("And 0..127 {3} Int", "{0,1,2,3}"),
+        ("Lt 0..127 {128} Int", "{1}"),
+        ("Not {0} Int", "{-1}"),
+        ("Neg {-32768,1} Int", "{-1}"),
+        ("Lnot {0,5} Int", "{0,1}"),
+        ("to {0,2} Bool", "{0,1}"),
+        ("to 0..127 Bool", "{0,1}"),
+        ("to {-1} UChar", "{255}"),
+        ("to 0..255 SChar", "-128..127"),
+        ("below {127} 0..127", "yes"),
+        ("below 0..127 {127}", "no"),
+        ("room none", "123"),
+        ("room 0..63", "59"),
+        ("room 0..127", "58"),
+        ("room -9223372036854775808..18446744073709551615", "0"),
+        ("bounds -9223372036854775808..18446744073709551615", "-18446744073709551616..18446744073709551615"),
+        ("bounds none", "none"),
+        ("members {3,1}", "{1,3}"),
+        ("members none", "{}"),
+        ("members 0..64", "none"),
+        ("And {-1} {5} UInt", "unclear"),
+        ("Add {1} {1} Char", "unclear"),
+    ]),
+    ("== calls that are worked three times, and the room of all results", "$ often 3", [
+        ("And 0..63 0..63 ULongLong", "177"),
+        ("Div {10} {0,5} Int", "366"),
+        ("Add 0..127 {0} UInt", "174"),
+        ("join 0..31 32..63", "177"),
+        ("join {1} {1}", "366"),
+        ("Add {1} {1} Char", "unclear"),
+    ]),
 ]
 
 CHAIN = [
@@ -387,7 +669,7 @@ CHAIN = [
 def main():
     answers = sys.argv[1:] == ["stdout"]
     count = 0
-    for title, setting, rows in CHAIN + BY_HAND + list(span_rows()):
+    for title, setting, rows in CHAIN + BY_HAND + list(span_rows()) + list(set_rows()):
         if count:
             print()
         print(title)

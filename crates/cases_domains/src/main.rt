@@ -8,16 +8,21 @@
 //!                them, how many parts are yes in their join and in a copy, and the rooms of both. `met`:
 //!                whether two constraints are met
 //!     $ span 2   intervals, for an `int` of so many bytes; `sets.rt` says what the cases are
+//!     $ vals 2   explicit sets and ranges of all numbers of some bits, likewise
+//!     $ often 9  the same, each call so many times, for an `int` of two bytes; `often.rt` says what the cases are
 #![tactic(auto)]
 
 mod chain;
+mod often;
 mod sets;
 mod solver;
 mod words;
+mod written;
 
 use cases_script::{Cases, Page, run, split};
 use cc_num::Target;
 use cc_ranges::Span;
+use cc_sets::Vals;
 use std::alloc::Global;
 use std::io;
 
@@ -27,6 +32,8 @@ enum Subject {
     Nothing,
     Chain,
     Spans(Target),
+    Sets(Target),
+    Often(u32, Target),
 }
 
 impl Cases for Subject {
@@ -37,6 +44,11 @@ impl Cases for Subject {
                 Some(target) => Subject::Spans(target),
                 None => Subject::Nothing,
             },
+            ("vals", bytes) => match words::target_of(bytes) {
+                Some(target) => Subject::Sets(target),
+                None => Subject::Nothing,
+            },
+            ("often", times) => often_of(times).unwrap_or(Subject::Nothing),
             _ => Subject::Nothing,
         }
     }
@@ -46,8 +58,17 @@ impl Cases for Subject {
             Subject::Nothing => page.put("unclear"),
             Subject::Chain => solver::write_outcome(alloc, page, case),
             Subject::Spans(target) => sets::write_outcome::<Span>(alloc, page, &target, case),
+            Subject::Sets(target) => sets::write_outcome::<Vals>(alloc, page, &target, case),
+            Subject::Often(times, target) => {
+                often::write_outcome::<Vals>(alloc, page, &target, times, case)
+            }
         }
     }
+}
+
+/// Calls that are worked so many times.
+fn often_of(times: &str) -> Option<Subject> {
+    Some(Subject::Often(times.parse().ok()?, words::target_of("2")?))
 }
 
 fn main(rt: HostRuntime) -> io::Result<()> {

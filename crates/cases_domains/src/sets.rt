@@ -8,11 +8,12 @@
 //!     below 0..3 0..9       whether the first set is below the second
 //!     has 0..9 5            whether a number is a member
 //!     one 5, whole Int      the set of a number, and that of all values of a type
-//!     members 0..9          the members of an explicit set
+//!     members {1,5}         the members of an explicit set
+//!     bounds 0..9           the least and the greatest member
 //!     room 0..9             how often the set can still rise, at the most
 //!
-//! A set is `none`, or the least one that has two numbers, with `..` between them. What is printed of a set is its
-//! least and its greatest member.
+//! `written.rt` says how a set is written. What is printed of an explicit set is its members between braces, and of
+//! another its least and its greatest member.
 
 ghost use Rattle.std.specs.Prelude.{◌≡◌, ℤ, IsTrue};
 ghost use Rattle.cc_num.specs.Integers.{IsValueOf};
@@ -21,34 +22,11 @@ ghost use Rattle.cc_num.specs.Results.{is_shift};
 ghost use Rattle.cc_lattice.specs.Domains.{IsIntValue, IsSecond};
 
 use crate::words::{comparison_of, operator_of, prefix_of, type_of};
+use crate::written::{join, one_in, set_of, write_bounds, write_members, write_set};
 use cases_script::{Page, split};
 use cc_lattice::IntDomain;
 use cc_num::{BinOp, IntType, Target, UnOp, promote};
 use std::alloc::Global;
-
-/// The set of the number that a word writes, where it is a value of an integer type.
-fn one_of<D: IntDomain>(word: &str) -> Option<D> {
-    let v = word.parse::<i128>().ok()?;
-    if -(2i128.pow(63)) <= v && v < 2i128.pow(64) {
-        Some(D::one(v))
-    } else {
-        None
-    }
-}
-
-/// The set that a word writes.
-fn set_of<D: IntDomain>(alloc: Global, word: &str) -> Option<D> {
-    if word == "none" {
-        return Some(D::none());
-    }
-    let (low, high) = word.split_once("..")?;
-    join(alloc, &one_of(low)?, &one_of(high)?)
-}
-
-/// The least set with the members of both.
-fn join<D: IntDomain>(alloc: Global, a: &D, b: &D) -> Option<D> {
-    a.join(alloc, b).ok()
-}
 
 /// Whether a set is below another.
 fn is_below<D: IntDomain>(a: &D, b: &D) -> bool
@@ -58,7 +36,7 @@ fn is_below<D: IntDomain>(a: &D, b: &D) -> bool
 }
 
 /// Whether all members of a set are values of a type.
-fn lies_in<D: IntDomain>(set: &D, t: IntType, target: &Target) -> bool
+pub fn lies_in<D: IntDomain>(set: &D, t: IntType, target: &Target) -> bool
     ensures { IsTrue result → (v : ℤ) → D.Has set.now v → IsValueOf t target.now v }
 {
     is_below(set, &D::whole(t, target))
@@ -73,7 +51,7 @@ fn lies_in_some<D: IntDomain>(set: &D, target: &Target) -> bool
 }
 
 /// Whether a set may be the second operand of an operator in a type.
-fn is_second<D: IntDomain>(op: BinOp, set: &D, t: IntType, target: &Target) -> bool
+pub fn is_second<D: IntDomain>(op: BinOp, set: &D, t: IntType, target: &Target) -> bool
     ensures { IsTrue result → (v : ℤ) → D.Has set.now v → IsSecond (is_shift op) t target.now v }
 {
     match op {
@@ -83,26 +61,10 @@ fn is_second<D: IntDomain>(op: BinOp, set: &D, t: IntType, target: &Target) -> b
 }
 
 /// Whether a type is one that operators work in.
-fn is_promoted(t: IntType, target: &Target) -> bool
+pub fn is_promoted(t: IntType, target: &Target) -> bool
     ensures { IsTrue result → promoted t target.now ≡ t }
 {
     promote(t, target) == t
-}
-
-/// Writes the least and the greatest member of a set.
-fn write_set<D: IntDomain>(page: &mut Page, set: &D) {
-    match set.bounds() {
-        Some((low, high)) => page.show(format_args!("{low}..{high}")),
-        None => page.put("none"),
-    }
-}
-
-/// Writes the members of an explicit set.
-fn write_members<D: IntDomain>(page: &mut Page, set: &D) {
-    match set.members() {
-        Some(members) => page.debug(members),
-        None => page.put("none"),
-    }
 }
 
 fn write_answer(page: &mut Page, holds: bool) {
@@ -175,7 +137,7 @@ fn write_call<D: IntDomain>(
     }
     match call {
         "keep" => write_keep::<D>(alloc, page, rest),
-        "one" => Some(write_set::<D>(page, &one_of(rest)?)),
+        "one" => Some(write_set::<D>(page, &one_in(rest)?)),
         "whole" => Some(write_set(page, &D::whole(type_of(rest)?, target))),
         _ => write_of_set::<D>(alloc, page, target, call, rest),
     }
@@ -197,6 +159,7 @@ fn write_of_set<D: IntDomain>(
         "below" => write_answer(page, is_below(&set, &set_of(alloc, rest)?)),
         "has" => write_answer(page, set.has(rest.parse::<i128>().ok()?)),
         "members" => write_members(page, &set),
+        "bounds" => write_bounds(page, &set),
         "room" => page.show(set.room()),
         _ => return None,
     }
