@@ -1,15 +1,15 @@
 #!/usr/bin/env python3
 """Time of calls that no command makes yet, by the programs of cases.
 
-It builds each program by `rt run` in its crate's folder, which proves it, and prints a row a case: the time of the
+It builds each program by `rt run` in its crate's folder, which proves it, and prints a row a case: the processor time of the
 program, its start and the making of what it works on included. It ends with status 1 where a case takes a second,
 two seconds for a million turns of a run, or a fifth of one for calls of a domain that are worked many times: 200
 microseconds for an operator of two sets of 64 members, 4 for one of 8, and 2 for a join.
 """
 import os
+import resource
 import subprocess
 import sys
-import time
 
 TOP = os.path.dirname(os.path.dirname(os.path.abspath(__file__)))
 MOST = 1.0
@@ -56,14 +56,20 @@ def built(crate):
     return os.path.join(folder, "out", crate)
 
 
+def spent():
+    """The processor time of all programs that have ended."""
+    usage = resource.getrusage(resource.RUSAGE_CHILDREN)
+    return usage.ru_utime + usage.ru_stime
+
+
 def measured(program, setting, case, wanted):
-    """The least time of nine runs in seconds."""
+    """The least processor time of nine runs in seconds."""
     script = f"== a case\n$ {setting}\n{case}\n"
     best = None
     for _ in range(9):
-        begun = time.monotonic()
+        begun = spent()
         run = subprocess.run([program], input=script, text=True, capture_output=True)
-        took = time.monotonic() - begun
+        took = spent() - begun
         if run.returncode or f"{case} => {wanted}" not in run.stdout:
             sys.exit(f"{case}: the program ended with {run.returncode} and wrote {run.stdout[:300]}")
         best = took if best is None else min(best, took)
