@@ -1,0 +1,12 @@
+use Rattle.std.proofs.Common.{◌≡◌, ◌≤◌, length, drop}
+use Rattle.cc_pieces.specs.View.{pieces_of}
+use Rattle.cc_print.specs.Units.{each}
+use Rattle.cc_print.specs.Values.{definition}
+use Rattle.cc_print.proofs.values.put_definitions.Given as goal
+
+-- the elements from here on are printed
+abbrev pub invariant-loop-left : goal.invariant-loop-left
+invariant-loop-left l = (l.left ≤ length l.objects) × (pieces_of l.out.items ≡ each (definition l.p) (drop l.left l.objects) (pieces_of l.initial.out.items))
+
+abbrev pub decreases-loop-left : goal.decreases-loop-left
+decreases-loop-left l = l.left
