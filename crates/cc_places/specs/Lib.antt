@@ -1,0 +1,5 @@
+pub mod Kept
+pub mod Order
+pub mod Members
+pub mod Sets
+pub mod laws

@@ -1,0 +1,4 @@
+pub mod OrderLaws
+pub mod ListLaws
+pub mod KeptLaws
+pub mod SetLaws
