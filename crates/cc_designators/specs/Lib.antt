@@ -1,0 +1,4 @@
+pub mod Assignments
+pub mod Designators
+pub mod Postfix
+pub mod View
