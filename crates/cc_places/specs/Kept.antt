@@ -1,6 +1,6 @@
 -- What a set of addresses keeps of an address. An automatic one stands for those of all activations, and is
 -- kept with the activation 0. A starred one stands for all addresses of its place: every index of it is 0.
-use Rattle.std.specs.Prelude.{ℕ, Bool, true, false, ◌&&◌, ◌==◌, List, map}
+use Rattle.std.specs.Prelude.{Bool, true, false, ◌&&◌, ◌==◌, List, map}
 use Rattle.std.specs.List.{list_all}
 use Rattle.cc_program.specs.declared.value.Root.{Root}
 use Rattle.cc_program.specs.declared.value.Root.TheVariants as root

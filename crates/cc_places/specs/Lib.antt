@@ -2,4 +2,5 @@ pub mod Kept
 pub mod Order
 pub mod Members
 pub mod Sets
+pub mod Moves
 pub mod laws

@@ -1,6 +1,6 @@
 -- Sets of addresses. Each address of an exact set is a member, whatever its activation. Another set has all
 -- addresses of its members' places.
-use Rattle.std.specs.Prelude.{ℕ, ◌+◌, ◌-◌, ◌≤◌, ◌≡◌, ◌↔◌, ◌⊎◌, Bool, true, false, List, length, if◌then◌else◌}
+use Rattle.std.specs.Prelude.{ℕ, ◌+◌, ◌-◌, ◌≤◌, ◌≡◌, ◌↔◌, ◌⊎◌, false, List, length, if◌then◌else◌}
 use Rattle.std.specs.List.{Contains}
 use Rattle.cc_program.specs.declared.value.Address.{Address}
 use Rattle.cc_places.specs.declared.addrs.Addrs.{Addrs}

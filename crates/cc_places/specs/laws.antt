@@ -2,3 +2,4 @@ pub mod OrderLaws
 pub mod ListLaws
 pub mod KeptLaws
 pub mod SetLaws
+pub mod MoveLaws

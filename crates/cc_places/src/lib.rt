@@ -7,6 +7,7 @@ mod addrs_lattice;
 mod grow;
 mod law;
 mod members;
+mod moved;
 mod order;
 mod sets;
 

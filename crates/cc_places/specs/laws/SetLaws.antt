@@ -1,5 +1,5 @@
 -- Sets of addresses: what their members are, that they are ordered, and what is the set of some addresses.
-use Rattle.std.specs.Prelude.{ℕ, suc, ◌+◌, ◌-◌, ◌^◌, ◌<◌, ◌≤◌, ◌≡◌, ◌≢◌, ◌↔◌, ◌⊎◌, ◌&&◌, ◌||◌, Bool, true, false, nat_le, nat_lt, List, [], ◌∷◌, length, map, refl, IsTrue, if◌then◌else◌}
+use Rattle.std.specs.Prelude.{ℕ, ◌+◌, ◌-◌, ◌<◌, ◌≤◌, ◌≡◌, ◌≢◌, ◌⊎◌, ◌&&◌, ◌||◌, Bool, true, false, nat_le, nat_lt, List, [], ◌∷◌, length, refl, IsTrue, if◌then◌else◌}
 use Rattle.std.specs.List.{Contains, list_all, list_any}
 use Rattle.std.proofs.Common.{sym, ap, ◌∙◌, subst, inl, inr, ⊎_elim, arith}
 use Rattle.std.proofs.lemmas.Bool.{leb-true, le-leb, ltb-true, lt-ltb}
@@ -10,12 +10,12 @@ use Rattle.cc_program.specs.declared.value.Address.{Address}
 use Rattle.cc_program.specs.declared.value.Address.TheVariants as address
 use Rattle.cc_lattice.specs.Orders.{IsLeastUpperBound}
 use Rattle.cc_places.specs.declared.addrs.Addrs.{Addrs}
-use Rattle.cc_places.specs.Kept.{kept_root, kept, starred_part, starred, member_for, is_kept, is_starred, is_object}
+use Rattle.cc_places.specs.Kept.{kept_root, kept, starred, member_for, is_kept, is_starred, is_object}
 use Rattle.cc_places.specs.Order.{ascends}
 use Rattle.cc_places.specs.Members.{most_exact, are_many, are_members, added}
 use Rattle.cc_places.specs.Sets.{HasAddress, IsWithin, AreFew, IsSetOf, EitherHas, OneMore, AreStarred, room_left}
-use Rattle.cc_places.specs.laws.ListLaws.{both_true, and_true, either_true, or_left, or_right, at_head, behind_head, none_in, cons_cases, same_in, all_at, all_from, any_at, any_from, none_at, added_only, added_old, added_new, ascends_added, same_members, Distinct, distinct_of, no_more, grown_longer, numbered, length-numbered, numbered_only, distinct_numbered}
-use Rattle.cc_places.specs.laws.KeptLaws.{kept_is, kept_stays, kept_twice, starred_is, starred_stays, starred_kept, starred_twice, starred_of_kept, Coarser, member_twice, member_same, object_starred, other_starred, at_object}
+use Rattle.cc_places.specs.laws.ListLaws.{both_true, and_true, either_true, or_left, or_right, same_in, all_at, all_from, any_at, any_from, none_at, added_only, added_old, added_new, ascends_added, same_members, distinct_of, no_more, grown_longer, numbered, length-numbered, numbered_only, distinct_numbered}
+use Rattle.cc_places.specs.laws.KeptLaws.{kept_is, kept_stays, starred_is, starred_stays, starred_kept, starred_of_kept, Coarser, member_twice, member_same, object_starred, other_starred, at_object}
 
 -- members
 
