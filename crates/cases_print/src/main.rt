@@ -26,7 +26,7 @@ fn printed(alloc: Global, p: &Program) -> Option<Outcome>
 }
 
 /// What a case says of the program that it writes; `None` where its words have no meaning, or memory runs out.
-fn outcome(alloc: Global, front: &str, case: &str) -> Option<Outcome> {
+fn outcome_of(alloc: Global, front: &str, case: &str) -> Option<Outcome> {
     let p = program_of(alloc, front, case)?;
     if is_normal(&p) {
         printed(alloc, &p)
@@ -61,7 +61,7 @@ fn main(rt: HostRuntime) -> io::Result<()> {
                 front.push_str(setting)?;
             }
             Line::Case => {
-                put(&mut page, outcome(alloc, front.as_str(), line));
+                put(&mut page, outcome_of(alloc, front.as_str(), line));
                 count = count.saturating_add(1);
             }
         }
