@@ -42,5 +42,5 @@ fn remainder(v: i128, bits: u32) -> i128
     ensures low { pos 0 ≤ℤ result }
     ensures high { result <ℤ pos (2 ^ 64) }
 {
-    v.rem_euclid(2i128.pow(bits))
+    v.rem_euclid(1i128 << bits)
 }
