@@ -17,4 +17,5 @@ pub use cc_words::Word;
 pub use fault::LexFault;
 pub use laws::{spellings_are_longest, texts_have_tokens_or_a_fault};
 pub use lexer::lex;
+pub use marks::spelling;
 pub use token::{Kind, Mark, Suffix, Token};

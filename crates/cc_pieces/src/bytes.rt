@@ -6,7 +6,8 @@ ghost use Rattle.cc_pieces.specs.Pieces.{bytes_of, flat, indentation};
 ghost use Rattle.cc_pieces.specs.View.{piece_of, pieces_of};
 
 use crate::piece::Piece;
-use crate::spellings::{mark_text, suffix_text, word_text};
+use crate::spellings::{suffix_text, word_text};
+use cc_lex::spelling;
 use cc_num::NoMemory;
 use std::alloc::Global;
 
@@ -38,7 +39,7 @@ fn spell_piece(alloc: Global, out: &mut Vec<u8>, piece: Piece) -> Result<(), NoM
             spell_number(alloc, out, number)?;
             out.extend_from_slice(suffix_text(suffix))?;
         }
-        Piece::Punct(mark) => out.extend_from_slice(mark_text(mark))?,
+        Piece::Punct(mark) => out.extend_from_slice(spelling(mark).as_bytes())?,
         Piece::Space => out.extend_from_slice(b" ")?,
         Piece::LineEnd => out.extend_from_slice(b"\n")?,
         Piece::Indent(level) => spell_indent(out, level)?,

@@ -1,66 +1,11 @@
-//! How marks, keywords and suffixes are spelled (C99 6.4).
+//! How keywords and suffixes are spelled (C99 6.4).
 
 ghost use Rattle.std.specs.Prelude.{◌≡◌};
 ghost use Rattle.cc_words.specs.Words.{spellings};
-ghost use Rattle.cc_lex.specs.Marks.{spelling_of};
 ghost use Rattle.cc_pieces.specs.Pieces.{first_of, suffix_text as suffix_text_of};
 
-use cc_lex::{Mark, Suffix};
+use cc_lex::Suffix;
 use cc_words::Word;
-
-/// How a mark is spelled (C99 6.4.6).
-pub fn mark_text(mark: Mark) -> &'static [u8]
-    ensures { result.now ≡ spelling_of mark }
-{
-    match mark {
-        Mark::LBracket => b"[",
-        Mark::RBracket => b"]",
-        Mark::LParen => b"(",
-        Mark::RParen => b")",
-        Mark::LBrace => b"{",
-        Mark::RBrace => b"}",
-        Mark::Dot => b".",
-        Mark::Arrow => b"->",
-        Mark::PlusPlus => b"++",
-        Mark::MinusMinus => b"--",
-        Mark::Amp => b"&",
-        Mark::Star => b"*",
-        Mark::Plus => b"+",
-        Mark::Minus => b"-",
-        Mark::Tilde => b"~",
-        Mark::Bang => b"!",
-        Mark::Slash => b"/",
-        Mark::Percent => b"%",
-        Mark::Shl => b"<<",
-        Mark::Shr => b">>",
-        Mark::Lt => b"<",
-        Mark::Gt => b">",
-        Mark::Le => b"<=",
-        Mark::Ge => b">=",
-        Mark::EqEq => b"==",
-        Mark::NotEq => b"!=",
-        Mark::Caret => b"^",
-        Mark::Bar => b"|",
-        Mark::AndAnd => b"&&",
-        Mark::OrOr => b"||",
-        Mark::Question => b"?",
-        Mark::Colon => b":",
-        Mark::Semi => b";",
-        Mark::Dots => b"...",
-        Mark::Assign => b"=",
-        Mark::StarAssign => b"*=",
-        Mark::SlashAssign => b"/=",
-        Mark::PercentAssign => b"%=",
-        Mark::PlusAssign => b"+=",
-        Mark::MinusAssign => b"-=",
-        Mark::ShlAssign => b"<<=",
-        Mark::ShrAssign => b">>=",
-        Mark::AndAssign => b"&=",
-        Mark::XorAssign => b"^=",
-        Mark::OrAssign => b"|=",
-        Mark::Comma => b",",
-    }
-}
 
 /// How a keyword is spelled plainly (C99 6.4.1).
 pub fn word_text(word: Word) -> &'static [u8]

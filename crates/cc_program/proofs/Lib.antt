@@ -1,5 +1,6 @@
 pub mod Each
 pub mod ExprInduction
+pub mod FoldFusion
 pub mod Levels
 pub mod QualifierLemmas
 pub mod StmtInduction
