@@ -3,14 +3,13 @@
 ghost use Rattle.std.specs.Prelude.{◌≡◌, IfOk, option_map};
 ghost use Rattle.cc_designators.specs.View.{designated_view, expr_view};
 ghost use Rattle.cc_designators.specs.Postfix.{is_array_place as is_array_place_of};
-ghost use Rattle.cc_operands.specs.Operands.{operand};
-ghost use Rattle.cc_operands.specs.View.{operand_view, type_view};
+ghost use Rattle.cc_operands.specs.View.{type_view};
 ghost use Rattle.cc_syntax.specs.Values.{written_to, element_of, member_of, pointed_to as pointed_to_of};
 ghost use Rattle.cc_typed.specs.View.{place_view};
 
 use cc_num::{Boxed, IntType, NoMemory};
 use cc_operands::{Operand, OperandType, owned};
-use cc_syntax::{CType, Expr, Intr, Place, Sig, Structure};
+use cc_syntax::{CType, Intr, Place, Sig, Structure};
 use cc_typed::{PlaceType, is_void};
 use std::alloc::Global;
 
@@ -141,17 +140,5 @@ impl TypedExpr {
             TypedExpr::Intrinsic(_, _) => false,
             TypedExpr::Address(_, _, _) => false,
         }
-    }
-}
-
-/// What is no constant expression.
-pub fn typed(value: Boxed<Expr>, ctype: OperandType) -> Operand
-    ensures { operand_view result ≡ operand value (type_view ctype) }
-{
-    Operand {
-        value,
-        ctype,
-        traps: false,
-        structure: false,
     }
 }

@@ -6,9 +6,9 @@ ghost use Rattle.cc_operands.specs.Verdicts.{Judges};
 ghost use Rattle.cc_operands.specs.View.{operand_view};
 ghost use Rattle.cc_syntax.specs.Values.{address_of};
 
-use crate::designated::{DesignatedType, TypedExpr, pointed_to, typed};
+use crate::designated::{DesignatedType, TypedExpr, pointed_to};
 use cc_num::Boxed;
-use cc_operands::{Breach, Operand, OperandType, Rule};
+use cc_operands::{Breach, Operand, OperandType, Rule, typed};
 use cc_syntax::{Expr, Place, Structure};
 use std::alloc::Global;
 

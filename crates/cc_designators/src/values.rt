@@ -7,9 +7,9 @@ ghost use Rattle.cc_operands.specs.Verdicts.{Judges};
 ghost use Rattle.cc_operands.specs.View.{operand_view};
 ghost use Rattle.cc_program.specs.declared.types.Shape.{out-Shape};
 
-use crate::designated::{DesignatedType, typed};
+use crate::designated::DesignatedType;
 use cc_num::{Boxed, IntType, NoMemory};
-use cc_operands::{Breach, Operand, OperandType, Rule, owned};
+use cc_operands::{Breach, Operand, OperandType, Rule, owned, typed};
 use cc_syntax::{CType, Expr, Place, Shape};
 use cc_typed::pointer_to;
 use std::alloc::Global;
