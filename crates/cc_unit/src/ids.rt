@@ -1,0 +1,16 @@
+use cc_num::List;
+
+/// What a name of one source is in the program, by its id there.
+#[derive(Clone, Copy, Debug, PartialEq, Eq)]
+pub enum Id {
+    Object(u32),
+    Device(u32),
+    Func(u32),
+}
+
+/// The ids in the program of what one source names, by the positions in its unit.
+#[derive(Drop)]
+pub struct Ids {
+    pub structures: List<u32>,
+    pub names: List<Id>,
+}
