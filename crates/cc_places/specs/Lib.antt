@@ -3,4 +3,5 @@ pub mod Order
 pub mod Members
 pub mod Sets
 pub mod Moves
+pub mod Abstract
 pub mod laws

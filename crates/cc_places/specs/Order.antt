@@ -37,6 +37,11 @@ abbrev pub ascends : List Address → Bool
 ascends [] = true
 ascends (a ∷ behind) = list_all (is_before a) behind && ascends behind
 
+-- whether an address comes before the first of a list
+abbrev pub is_before_first : Address → List Address → Bool
+is_before_first a [] = true
+is_before_first a (b ∷ behind) = is_before a b
+
 -- The same order as the code compares, by cases.
 abbrev pub part_order : Part → Part → Ordering
 part_order (part.Member m) (part.Member n) = nat_cmp m n

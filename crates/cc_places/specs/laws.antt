@@ -3,3 +3,4 @@ pub mod ListLaws
 pub mod KeptLaws
 pub mod SetLaws
 pub mod MoveLaws
+pub mod AbstractLaws

@@ -8,7 +8,7 @@ use Rattle.std.proofs.Common.{get_or, take, sym, ap, ◌∙◌, subst, inl, inr,
 use Rattle.std.proofs.lemmas.List.{take_more, take_all}
 use Rattle.std.proofs.lemmas.List.Elements.{Contains-push, Contains-push_cases, Contains-append_left}
 use Rattle.cc_program.specs.declared.value.Address.{Address}
-use Rattle.cc_places.specs.Order.{order, is_before, ascends}
+use Rattle.cc_places.specs.Order.{order, is_before, is_before_first, ascends}
 use Rattle.cc_places.specs.Members.{place_by, place_of, put, added}
 use Rattle.cc_places.specs.laws.OrderLaws.{order_total, tied_same, tied_self}
 
@@ -216,6 +216,28 @@ place_ends_by Greater n e = refl
 
 pub place_ends : (a m : Address) (ms : List Address) → is_lt (order m a) ≡ false → place_of a (m ∷ ms) ≡ 0
 place_ends a m ms h = place_ends_by (order m a) (place_of a ms) h
+
+-- each address comes before those behind it where it comes before the next one
+
+absorbed : (p q r s : Bool) → (p ≡ true → r ≡ true → q ≡ true) → (p && q) && (r && s) ≡ p && (r && s)
+absorbed false q r s f = refl
+absorbed true true r s f = refl
+absorbed true false false s f = refl
+absorbed true false true s f = let k = f refl refl in cc
+
+pub ascends_by_next : (a : Address) (behind : List Address) → ascends (a ∷ behind) ≡ is_before_first a behind && ascends behind
+ascends_by_next a [] = refl
+ascends_by_next a (b ∷ rest) =
+    absorbed (is_before a b) (list_all (is_before a) rest) (list_all (is_before b) rest) (ascends rest)
+    (λ h k. all_from (is_before a) rest (λ c there. before_through a b c h (all_at (is_before b) rest c k there)))
+
+pub ascends_goes_on : (a : Address) (behind : List Address) → is_before_first a behind ≡ true → ascends (a ∷ behind) ≡ ascends behind
+ascends_goes_on a behind h = ascends_by_next a behind ∙ ap (λ b. b && ascends behind) h
+
+pub ascends_ends : (a : Address) (behind : List Address) → is_before_first a behind ≡ false → ascends (a ∷ behind) ≡ false
+ascends_ends a behind h = ascends_by_next a behind ∙ ap (λ b. b && ascends behind) h
+
+pub ruleset ascending_on = (ascends_goes_on, ascends_ends)
 
 pub ruleset adding = (added_there, added_absent)
 
