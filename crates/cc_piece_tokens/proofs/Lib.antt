@@ -1,0 +1,5 @@
+pub mod Numerals
+pub mod LongestMarks
+pub mod Spelling
+pub mod Inside
+mod Worked
