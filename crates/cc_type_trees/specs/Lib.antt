@@ -1,0 +1,3 @@
+pub mod Soft
+pub mod Types
+pub mod Read
