@@ -1,0 +1,741 @@
+-- What an expression gives has its type, and each step that it asks for can be done: by induction over expressions and places.
+use Rattle.std.proofs.Common.{◌≡◌, ℕ, pos, Bool, true, false, not, ◌&&◌, ◌||◌, ◌⊎◌, inl, inr, List, [], ◌∷◌, map, Option, Some, None, refl, ap, sym, ◌∙◌, subst}
+use Rattle.std.proofs.lemmas.Option.{same_Some}
+use Rattle.std.specs.Prelude.{option_map, option_and_then, slice_get, nat_eq, nat_le, if◌then◌else◌}
+use Rattle.cc_num.specs.declared.int_type.IntType.{IntType}
+use Rattle.cc_num.specs.declared.int_type.IntType.TheVariants as int
+use Rattle.cc_num.specs.declared.op.BinOp.{BinOp}
+use Rattle.cc_num.specs.declared.target.Target.{Target}
+use Rattle.cc_program.specs.Qualifiers.{is_const, is_volatile}
+use Rattle.cc_program.specs.declared.expr.Expr.{Expr, roll-Expr, map-Expr}
+use Rattle.cc_program.specs.declared.expr.Expr.TheOpen as one
+use Rattle.cc_program.specs.declared.expr.Intr.TheVariants as intr
+use Rattle.cc_program.specs.declared.expr.Place.{Place as PlaceOf, roll-Place, map-Place}
+use Rattle.cc_program.specs.declared.func.Func.{Func}
+use Rattle.cc_program.specs.declared.object.Device.{Device}
+use Rattle.cc_program.specs.declared.program.Program.{Program}
+use Rattle.cc_program.specs.declared.types.CType.{CType}
+use Rattle.cc_program.specs.declared.types.Shape.{Shape, out-Shape}
+use Rattle.cc_program.specs.declared.types.Shape.TheOpen as shape
+use Rattle.cc_program.specs.declared.types.Sig.{Sig, out-Sig}
+use Rattle.cc_program.specs.declared.types.Structure.{Structure}
+use Rattle.cc_program.specs.declared.value.Address.{Address}
+use Rattle.cc_program.specs.declared.value.Address.TheVariants as address
+use Rattle.cc_program.specs.declared.value.Cell.{Cell}
+use Rattle.cc_program.specs.declared.value.Part.{Part}
+use Rattle.cc_program.specs.declared.value.Root.{Root}
+use Rattle.cc_program.specs.declared.value.Root.TheVariants as root
+use Rattle.cc_program.specs.declared.value.Value.{Value}
+use Rattle.cc_program.specs.declared.value.Value.TheVariants.{Int, Place}
+use Rattle.cc_program.proofs.Each.{Each}
+use Rattle.cc_program.proofs.ExprInduction.{Parts, PlaceParts, by_expr, by_place}
+use Rattle.cc_eval.specs.declared.action.Action.{Action}
+use Rattle.cc_eval.specs.declared.action.Action.TheVariants as action
+use Rattle.cc_eval.specs.declared.mark.Mark.{Mark}
+use Rattle.cc_eval.specs.declared.mark.Mark.TheVariants.{Gave, Did, Chose}
+use Rattle.cc_eval.specs.declared.spots.Spot.{Spot}
+use Rattle.cc_eval.specs.declared.spots.Spot.TheVariants as spot
+use Rattle.cc_eval.specs.Context.{Context, local_type, object_type, reached, is_seen, member}
+use Rattle.cc_eval.specs.Eval.{Meaning, Designation, expr_meaning, place_meaning, meaning, designation, manner, from_one, both_values, from_two, place_and_value, branch, outcome, arms, choice, as_condition, each, assigned_by, in_front, all_good, called_with, restored, sequence, is_back, changed, sum_or_difference, one_more_type, address_of as address_of_spot, element_at, value_type, fetched, stored, changed_back, changed_with, stepped_back, stepped_with}
+use Rattle.cc_eval.specs.Progress.{Get, known, ask, bind, needs, given, chosen}
+use Rattle.cc_eval.proofs.Links.{level, place_level}
+use Rattle.cc_syntax.specs.Effects.{Registers, also}
+use Rattle.cc_syntax.specs.Expressions.{of_one, of_two}
+use Rattle.cc_syntax.specs.Initial.{leads_to_element, names, names_element, names_whole}
+use Rattle.cc_syntax.specs.Operators as rule
+use Rattle.cc_syntax.specs.Operators.{when, constant_type, null_type, function_type, common_type, change_type, after_type, call_type, is_promoted, is_integer, is_of}
+use Rattle.cc_syntax.specs.SameTypes.{same_int, same_sig, alike}
+use Rattle.cc_syntax.specs.Values.{ValueType, NoValue, Integer, ToObject, ToFunction, PlaceType, DevicePlace, ObjectPlace, FunctionPlace, pointer_shape, pointer_to, member_of, scalar_value, result_value, object_place, is_void, read_from, written_to, address_of, pointed_to, element_of, implies, is_assignable, is_assignable_some, are_assignable}
+use Rattle.cc_syntax.proofs.Prefixes.{both_true}
+use Rattle.cc_values.specs.Values.{address_in, truth, of_truth, unary, binary, conversion, movement, gap, comparison}
+use Rattle.cc_states.specs.Answers.{IsCall, IsMarkOf, given_type, result_in, IsActivation}
+use Rattle.cc_states.specs.Typed.{IsOpened, place_in, IsAddress, HasType, MayHave, IsSpot, MayLead, cell_type, IsThere, AreArguments}
+use Rattle.cc_states.proofs.AlikeLemmas.{alike_itself, implies_itself, assignable_object, function_itself}
+use Rattle.cc_states.proofs.Options.{with_one, with_two, when_true, when_is, mapped, right_true}
+use Rattle.cc_states.proofs.SameLemmas.{and_true, int_itself, sig_compared}
+use Rattle.cc_states.proofs.SpotLemmas.{CanPoint, real, cell_there, may_lead_member, may_lead_element}
+use Rattle.cc_states.proofs.TypedLemmas.{may_widen, promoted_value, has_unary, has_binary, has_conversion, has_truth, has_movement, has_gap, has_comparison}
+use Rattle.cc_states.proofs.Works.{Works, works_known, works_ask, works_bind, works_needs}
+
+-- ---- rules of types
+
+-- an object takes what is read from it
+read_as_written : (u : PlaceType) (w : ValueType) → written_to u ≡ Some w → read_from u ≡ Some w
+read_as_written (DevicePlace true t) w h = absurd (cc)
+read_as_written (DevicePlace false t) w h = h
+read_as_written (ObjectPlace true volatile t) w h = absurd (cc)
+read_as_written (ObjectPlace false volatile t) w h = h
+read_as_written (FunctionPlace sig) w h = absurd (cc)
+
+changed_type : (structures : List Structure) (target : Target) (o : BinOp) (t : IntType) (to e r : ValueType) → change_type structures target o t to e ≡ Some r → to ≡ r
+changed_type structures target o t NoValue e r h = absurd (cc)
+changed_type structures target o t (Integer s) e r h = when_is _ (Integer s) r h
+changed_type structures target o t (ToObject c v u) e r h = when_is _ (ToObject c v u) r h
+changed_type structures target o t (ToFunction sig) e r h = absurd (cc)
+
+-- the common type of two arms is void, or takes the value of both
+abbrev TakesBoth : ValueType → ValueType → ValueType → Type 0
+TakesBoth r a b = (r ≡ NoValue) ⊎ ((is_assignable r a ≡ true) × (is_assignable r b ≡ true))
+
+widens_or : (a b : Bool) → implies a (a || b) ≡ true
+widens_or true b = refl
+widens_or false b = refl
+
+widens_or_right : (a b : Bool) → implies b (a || b) ≡ true
+widens_or_right true true = refl
+widens_or_right true false = refl
+widens_or_right false true = refl
+widens_or_right false false = refl
+
+common_integers : (target : Target) (s t : IntType) (b : Bool) → same_int s t && is_promoted target s ≡ b → TakesBoth (if b then Integer s else NoValue) (Integer s) (Integer t)
+common_integers target s t true h = inr (int_itself s, (both_true (same_int s t) (is_promoted target s) h).0)
+common_integers target s t false h = inl refl
+
+common_objects : (c v : Bool) (t : CType) (c' v' : Bool) (u : CType) (b : Bool) → alike t u && not (is_void t) ≡ b →
+    TakesBoth (if b then ToObject (c || c') (v || v') t else NoValue) (ToObject c v t) (ToObject c' v' u)
+common_objects c v t c' v' u true h = inr (
+  assignable_object (c || c') (v || v') t c v t (alike_itself t) (widens_or c c') (widens_or v v'),
+  assignable_object (c || c') (v || v') t c' v' u (both_true (alike t u) (not (is_void t)) h).0 (widens_or_right c c') (widens_or_right v v'),
+)
+common_objects c v t c' v' u false h = inl refl
+
+common_functions : (s t : Sig) (b : Bool) → same_sig s t ≡ b → TakesBoth (if b then ToFunction s else NoValue) (ToFunction s) (ToFunction t)
+common_functions s t true h = inr (function_itself s, h)
+common_functions s t false h = inl refl
+
+common : (target : Target) (a b : ValueType) → TakesBoth (common_type target a b) a b
+common target NoValue b = inl refl
+common target (Integer s) NoValue = inl refl
+common target (Integer s) (Integer t) = common_integers target s t (same_int s t && is_promoted target s) refl
+common target (Integer s) (ToObject c v t) = inl refl
+common target (Integer s) (ToFunction sig) = inl refl
+common target (ToObject c v t) NoValue = inl refl
+common target (ToObject c v t) (Integer s) = inl refl
+common target (ToObject c v t) (ToObject c' v' u) = common_objects c v t c' v' u (alike t u && not (is_void t)) refl
+common target (ToObject c v t) (ToFunction sig) = inl refl
+common target (ToFunction s) NoValue = inl refl
+common target (ToFunction s) (Integer t) = inl refl
+common target (ToFunction s) (ToObject c v t) = inl refl
+common target (ToFunction s) (ToFunction t) = common_functions s t (same_sig s t) refl
+
+module _ (p : Program) (openings : List ℕ) where
+  abbrev Has : ValueType → Option Value → Type 0
+  Has t v = MayHave p openings t v
+
+  abbrev Leads : PlaceType → Option Spot → Type 0
+  Leads u s = MayLead p openings u s
+
+  void_has : (v : Option Value) → Has NoValue v
+  void_has None = tt
+  void_has (Some v) = tt
+
+  common_left : (r a b : ValueType) → TakesBoth r a b → (v : Option Value) → Has a v → Has r v
+  common_left r a b (inl e) v h = subst (λ (x : ValueType). Has x v) (sym e) (void_has v)
+  common_left r a b (inr k) v h = may_widen p openings r a v k.0 h
+
+  common_right : (r a b : ValueType) → TakesBoth r a b → (v : Option Value) → Has b v → Has r v
+  common_right r a b (inl e) v h = subst (λ (x : ValueType). Has x v) (sym e) (void_has v)
+  common_right r a b (inr k) v h = may_widen p openings r b v k.1 h
+
+  -- ---- what marks give
+
+  -- what a step gives is of this type, if it gives anything
+  abbrev Gives : ValueType → Action → Type 0
+  Gives w a = (t : ValueType) → given_type p a ≡ Some t → t ≡ w
+
+  given_has : (w : ValueType) (a : Action) → Gives w a → (m : Mark) → IsMarkOf p openings a m → Has w (given m)
+  given_has w a g (Gave None) h = tt
+  given_has w a g (Gave (Some v)) h = subst (λ (t : ValueType). HasType p openings t v) (g h.0 h.1) h.2
+  given_has w a g Did h = subst (λ (t : ValueType). Has t (given Did)) (g NoValue h) tt
+  given_has w a g (Chose b) h = tt
+
+  -- ---- reads and writes
+
+  reached_cell : (u : PlaceType) (w : ValueType) (s : Option Spot) (at : Cell) → Leads u s → read_from u ≡ Some w → reached p (Some u) s ≡ Some at → (cell_type p at ≡ Some w) × IsThere openings at
+  reached_cell u w None at h k e = absurd (cc)
+  reached_cell u w (Some s) at h k e = cell_there p openings u w s at h k e
+
+  has_good : (w : ValueType) (v : Option Value) (x : Value) → Has w v → v ≡ Some x → HasType p openings w x
+  has_good w None x h e = absurd (cc)
+  has_good w (Some y) x h e = subst (HasType p openings w) (same_Some y x e) h
+
+  -- `a op b` in the type of what is read
+  has_changed : (o : BinOp) (t : IntType) (w : ValueType) (x y : Option Value) → Has w x → Has w (changed p.target o t (Some w) x y)
+  has_changed o t NoValue x y h = tt
+  has_changed o t (Integer s) x y h = has_conversion p openings s (binary o t p.target (conversion t p.target x) y)
+  has_changed o t (ToObject c v u) x y h = has_movement p openings c v u (is_back o) x y h
+  has_changed o t (ToFunction sig) x y h = tt
+
+  -- ---- addresses
+
+  whole_named : (c v : Bool) (t : CType) (path : List Part) (x : Option PlaceType) → leads_to_element path ≡ false → CanPoint c v t x → (y : PlaceType) → x ≡ Some y → names_whole (ToObject c v t) path 0 1 y ≡ true
+  whole_named c v t path x l h y e =
+      and_true (not (leads_to_element path)) (nat_eq 1 1 && (nat_le 0 1 && is_assignable_some (Some (ToObject c v t)) (address_of y))) (ap not l)
+      (and_true (nat_eq 1 1) (nat_le 0 1 && is_assignable_some (Some (ToObject c v t)) (address_of y)) refl
+      (and_true (nat_le 0 1) (is_assignable_some (Some (ToObject c v t)) (address_of y)) refl (subst (CanPoint c v t) e h)))
+
+  object_address : (c v : Bool) (t : CType) (object : Root) (path : List Part) → IsSpot p openings (ObjectPlace c v t) (spot.Object object path) → IsAddress p openings (ToObject c v t) (address.At object path 0 1)
+  object_address c v t object path h =
+      let r = real c v t (place_in p object path) h.2 in (
+        h.0,
+        ap (names (ToObject c v t) path 0 1) r.is
+            ∙ right_true (names_element (ToObject c v t) 0 1 (ObjectPlace r.const r.volat r.to)) (names_whole (ToObject c v t) path 0 1 (ObjectPlace r.const r.volat r.to))
+            (whole_named c v t path (place_in p object path) h.1 h.2 (ObjectPlace r.const r.volat r.to) r.is),
+      )
+
+  addressed : (u : PlaceType) (w : ValueType) (s : Spot) → IsSpot p openings u s → address_of u ≡ Some w → Has w (address_of_spot (Some s))
+  addressed (DevicePlace constant t) w s h e = absurd (cc)
+  addressed (ObjectPlace c v t) w (spot.Device d) h e = tt
+  addressed (ObjectPlace c v t) w (spot.Object object path) h e =
+      subst (λ (x : ValueType). HasType p openings x (Place (address.At object path 0 1))) (same_Some (ToObject c v t) w e) (object_address c v t object path h)
+  addressed (ObjectPlace c v t) w (spot.Address a) h e = subst (λ (x : ValueType). HasType p openings x (Place a)) (same_Some (ToObject c v t) w e) h
+  addressed (FunctionPlace sig) w (spot.Device d) h e = tt
+  addressed (FunctionPlace sig) w (spot.Object object path) h e = absurd h
+  addressed (FunctionPlace sig) w (spot.Address a) h e = subst (λ (x : ValueType). HasType p openings x (Place a)) (same_Some (ToFunction sig) w e) h
+
+  may_be_addressed : (u : PlaceType) (w : ValueType) (s : Option Spot) → Leads u s → address_of u ≡ Some w → Has w (address_of_spot s)
+  may_be_addressed u w None h e = tt
+  may_be_addressed u w (Some s) h e = addressed u w s h e
+
+  pointed_object : (c v : Bool) (t : CType) (u : PlaceType) (b : Bool) (x : Option Value) → Has (ToObject c v t) x → (if b then None else Some (ObjectPlace c v t)) ≡ Some u → Leads u (option_map spot.Address (address_in x))
+  pointed_object c v t u true x h e = absurd (cc)
+  pointed_object c v t u false None h e = tt
+  pointed_object c v t u false (Some (Int n)) h e = tt
+  pointed_object c v t u false (Some (Place a)) h e = subst (λ (y : PlaceType). IsSpot p openings y (spot.Address a)) (same_Some (ObjectPlace c v t) u e) h
+
+  pointed_function : (sig : Sig) (u : PlaceType) (x : Option Value) → Has (ToFunction sig) x → Some (FunctionPlace sig) ≡ Some u → Leads u (option_map spot.Address (address_in x))
+  pointed_function sig u None h e = tt
+  pointed_function sig u (Some (Int n)) h e = tt
+  pointed_function sig u (Some (Place a)) h e = subst (λ (y : PlaceType). IsSpot p openings y (spot.Address a)) (same_Some (FunctionPlace sig) u e) h
+
+  points : (t : ValueType) (u : PlaceType) (x : Option Value) → Has t x → pointed_to t ≡ Some u → Leads u (option_map spot.Address (address_in x))
+  points NoValue u x h e = absurd (cc)
+  points (Integer t) u x h e = absurd (cc)
+  points (ToObject c v t) u x h e = pointed_object c v t u (is_void t) x h e
+  points (ToFunction sig) u x h e = pointed_function sig u x h e
+
+  -- ---- named objects
+
+  whole_object : (object : Root) (t : CType) → IsOpened openings object → object_type p object ≡ Some (object_place t) → Leads (object_place t) (Some (spot.Object object []))
+  whole_object object t h e = (
+    h,
+    refl,
+    subst (CanPoint (is_const t) (is_volatile t) t) (sym (ap (λ (x : Option PlaceType). of_one x (λ a. Some a)) e))
+        (assignable_object (is_const t) (is_volatile t) t (is_const t) (is_volatile t) t (alike_itself t) (implies_itself (is_const t)) (implies_itself (is_volatile t))),
+  )
+
+  -- ---- calls
+
+  abbrev MayBeArguments : List CType → List (Option Value) → Type 0
+  MayBeArguments [] [] = Unit {0}
+  MayBeArguments [] (v ∷ vs) = ⊥
+  MayBeArguments (t ∷ ts) [] = ⊥
+  MayBeArguments (t ∷ ts) (v ∷ vs) = ((u : ValueType) × (scalar_value t ≡ Some u) × Has u v) × MayBeArguments ts vs
+
+  in_front_by : (t : CType) (ts : List CType) (v : Value) (rest : Option (List Value)) (good : List Value) → ((u : ValueType) × (scalar_value t ≡ Some u) × HasType p openings u v) →
+      ((vs : List Value) → rest ≡ Some vs → AreArguments p openings ts vs) → in_front v rest ≡ Some good → AreArguments p openings (t ∷ ts) good
+  in_front_by t ts v None good h k e = absurd (cc)
+  in_front_by t ts v (Some vs) good h k e = subst (AreArguments p openings (t ∷ ts)) (same_Some (v ∷ vs) good e) (h, k vs refl)
+
+  good_arguments : (ts : List CType) (vs : List (Option Value)) (good : List Value) → MayBeArguments ts vs → all_good vs ≡ Some good → AreArguments p openings ts good
+  good_arguments [] [] good h e = subst (AreArguments p openings []) (same_Some [] good e) tt
+  good_arguments [] (v ∷ vs) good h e = absurd h
+  good_arguments (t ∷ ts) [] good h e = absurd h
+  good_arguments (t ∷ ts) (None ∷ vs) good h e = absurd (cc)
+  good_arguments (t ∷ ts) (Some v ∷ vs) good h e = in_front_by t ts v (all_good vs) good h.0 (λ rest f. good_arguments ts vs rest h.1 f) e
+
+  -- the function that is called
+  function_by : (sig : Sig) (f : Func) (b : Bool) → is_assignable_some (Some (ToFunction sig)) (when b (ToFunction f.sig)) ≡ true → f.sig ≡ sig
+  function_by sig f true h = sym ((sig_compared sig).same f.sig h)
+  function_by sig f false h = absurd (cc)
+
+  function_found : (sig : Sig) (f : Option Func) → is_assignable_some (Some (ToFunction sig)) (function_type f) ≡ true → (func : Func) × (f ≡ Some func) × (func.sig ≡ sig)
+  function_found sig None h = absurd (cc)
+  function_found sig (Some f) h = (f, refl, function_by sig f (not (rule.is_handler f)) h)
+
+  is_call : (sig : Sig) (callee : Address) (good : List Value) → IsAddress p openings (ToFunction sig) callee → AreArguments p openings (out-Sig sig).params good → IsCall p openings callee good
+  is_call sig address.Null good h k = tt
+  is_call sig (address.Func f) good h k =
+      let found = function_found sig (slice_get p.funcs f) h in
+      (found.0, found.1, subst (λ (s : Sig). AreArguments p openings (out-Sig s).params good) (sym found.2) k)
+  is_call sig (address.At object path index count) good h k = tt
+
+  call_gives : (sig : Sig) (callee : Address) (good : List Value) (w : ValueType) → IsAddress p openings (ToFunction sig) callee → result_value (out-Sig sig).result ≡ Some w → Gives w (action.Call callee good)
+  call_gives sig address.Null good w h k t e = absurd (cc)
+  call_gives sig (address.Func f) good w h k t e =
+      let found = function_found sig (slice_get p.funcs f) h in
+      same_Some t w (sym (sym (ap result_in found.1) ∙ e) ∙ ap (λ (s : Sig). result_value (out-Sig s).result) found.2 ∙ k)
+  call_gives sig (address.At object path index count) good w h k t e = absurd (cc)
+
+  callee_typed : (sig : Sig) (v : Option Value) (callee : Address) → Has (ToFunction sig) v → address_in v ≡ Some callee → IsAddress p openings (ToFunction sig) callee
+  callee_typed sig None callee h e = absurd (cc)
+  callee_typed sig (Some (Int n)) callee h e = absurd h
+  callee_typed sig (Some (Place a)) callee h e = subst (IsAddress p openings (ToFunction sig)) (same_Some a callee e) h
+
+module _ (c : Context) (openings : List ℕ) (here : IsActivation c openings) where
+  abbrev Works-in : {A : Type 0} → (A → Type 0) → Get A → Type 0
+  Works-in P g = Works c.program openings P g
+
+  abbrev Value-of : ValueType → Option Value → Type 0
+  Value-of t v = MayHave c.program openings t v
+
+  abbrev Spot-of : PlaceType → Option Spot → Type 0
+  Spot-of u s = MayLead c.program openings u s
+
+  -- an expression, or a place, whatever stands behind it
+  abbrev Typed : Meaning → Type 0
+  Typed a = (t : ValueType) → a.ctype ≡ Some t → (later : Registers) → Works-in (Value-of t) (a.next later)
+
+  abbrev PlaceTyped : Designation → Type 0
+  PlaceTyped a = (u : PlaceType) → a.ctype ≡ Some u → (later : Registers) → Works-in (Spot-of u) (a.leads later)
+
+  -- ---- a lemma for each way to work operands
+
+  typed_one : {A : Type 0} (P : A → Type 0) (f : Option Value → A) (a : Meaning) (t : ValueType) → Typed a → a.ctype ≡ Some t → ((v : Option Value) → Value-of t v → P (f v)) → (later : Registers) → Works-in P (from_one f a later)
+  typed_one P f a t h e k later = works_bind c.program openings (Value-of t) P (a.next later) (λ v. known (f v)) (h t e later) (λ v m. works_known c.program openings P (f v) (k v m))
+
+  abbrev Both-of : ValueType → ValueType → Option Value × Option Value → Type 0
+  Both-of t u q = Value-of t q.0 × Value-of u q.1
+
+  typed_both : (a b : Meaning) (t u : ValueType) → Typed a → Typed b → a.ctype ≡ Some t → b.ctype ≡ Some u → (later : Registers) → Works-in (Both-of t u) (both_values a b later)
+  typed_both a b t u h k e f later =
+      works_bind c.program openings (Value-of t) (Both-of t u) (a.next (also b.effects.assigned later)) (λ v. bind (b.next later) (λ w. known (v, w))) (h t e (also b.effects.assigned later))
+      (λ v m. works_bind c.program openings (Value-of u) (Both-of t u) (b.next later) (λ w. known (v, w)) (k u f later) (λ w n. works_known c.program openings (Both-of t u) (v, w) (m, n)))
+
+  typed_two : {A : Type 0} (P : A → Type 0) (f : Option Value → Option Value → A) (a b : Meaning) (t u : ValueType) → Typed a → Typed b → a.ctype ≡ Some t → b.ctype ≡ Some u →
+      ((v w : Option Value) → Value-of t v → Value-of u w → P (f v w)) → (later : Registers) → Works-in P (from_two f a b later)
+  typed_two P f a b t u h k e g j later =
+      works_bind c.program openings (Both-of t u) P (both_values a b later) (λ q. known (f q.0 q.1)) (typed_both a b t u h k e g later) (λ q m. works_known c.program openings P (f q.0 q.1) (j q.0 q.1 m.0 m.1))
+
+  abbrev Place-and : PlaceType → ValueType → Option Spot × Option Value → Type 0
+  Place-and u t q = Spot-of u q.0 × Value-of t q.1
+
+  typed_place_and_value : (a : Designation) (e : Meaning) (u : PlaceType) (t : ValueType) → PlaceTyped a → Typed e → a.ctype ≡ Some u → e.ctype ≡ Some t → (later : Registers) → Works-in (Place-and u t) (place_and_value a e later)
+  typed_place_and_value a e u t h k f g later =
+      works_bind c.program openings (Spot-of u) (Place-and u t) (a.leads (also e.effects.assigned later)) (λ s. bind (e.next later) (λ v. known (s, v))) (h u f (also e.effects.assigned later))
+      (λ s m. works_bind c.program openings (Value-of t) (Place-and u t) (e.next later) (λ v. known (s, v)) (k t g later) (λ v n. works_known c.program openings (Place-and u t) (s, v) (m, n)))
+
+  -- ---- accesses
+
+  typed_fetched : (a : Designation) (u : PlaceType) (w : ValueType) → a.ctype ≡ Some u → read_from u ≡ Some w → (later : Registers) (s : Option Spot) → Spot-of u s → Works-in (Value-of w) (fetched c a later s)
+  typed_fetched a u w e k later s h =
+      works_needs c.program openings (Value-of w) (reached c.program a.ctype s) (λ cell. ask (action.Read cell (manner a later)) given)
+      (λ cell f.
+      let at = reached_cell c.program openings u w s cell h k (ap (λ x. reached c.program x s) (sym e) ∙ f) in
+      works_ask c.program openings (Value-of w) (action.Read cell (manner a later)) given (w, at.0, at.1)
+      (given_has c.program openings w (action.Read cell (manner a later)) (λ t g. same_Some t w (sym g ∙ at.0))))
+
+  typed_stored : (a : Designation) (u : PlaceType) (w r : ValueType) → a.ctype ≡ Some u → read_from u ≡ Some w → (s : Option Spot) (v answer : Option Value) → Spot-of u s → Value-of w v → Value-of r answer →
+      Works-in (Value-of r) (stored c a s v answer)
+  typed_stored a u w r e k s v answer h m n =
+      works_needs c.program openings (Value-of r) (reached c.program a.ctype s) (λ cell. needs v (λ x. ask (action.Write cell (is_seen a.ctype) x) (λ m. answer)))
+      (λ cell f.
+      let at = reached_cell c.program openings u w s cell h k (ap (λ x. reached c.program x s) (sym e) ∙ f) in
+      works_needs c.program openings (Value-of r) v (λ x. ask (action.Write cell (is_seen a.ctype) x) (λ m. answer))
+      (λ x g. works_ask c.program openings (Value-of r) (action.Write cell (is_seen a.ctype) x) (λ m. answer) (w, at.0, at.1, has_good c.program openings w v x m g) (λ m i. n)))
+
+  -- the type that is read where a place leads
+  value_type_is : (a : Designation) (u : PlaceType) (w : ValueType) → a.ctype ≡ Some u → read_from u ≡ Some w → value_type c a ≡ Some w
+  value_type_is a u w e k = ap (option_and_then read_from) e ∙ k
+
+  changed_has : (a : Designation) (u : PlaceType) (w : ValueType) → a.ctype ≡ Some u → read_from u ≡ Some w → (o : BinOp) (t : IntType) (x y : Option Value) → Value-of w x →
+      Value-of w (changed c.program.target o t (value_type c a) x y)
+  changed_has a u w e k o t x y h =
+      subst (λ (z : Option ValueType). Value-of w (changed c.program.target o t z x y)) (sym (value_type_is a u w e k)) (has_changed c.program openings o t w x y h)
+
+  typed_changed : (a : Designation) (u : PlaceType) (w t' : ValueType) → a.ctype ≡ Some u → read_from u ≡ Some w → (o : BinOp) (t : IntType) (later : Registers) (q : Option Spot × Option Value) → Place-and u t' q →
+      Works-in (Value-of w) (changed_with c a o t later q)
+  typed_changed a u w t' e k o t later q h =
+      works_bind c.program openings (Value-of w) (Value-of w) (fetched c a later q.0) (changed_back c a o t q.0 q.1) (typed_fetched a u w e k later q.0 h.0)
+      (λ v m. typed_stored a u w w e k q.0 (changed c.program.target o t (value_type c a) v q.1) (changed c.program.target o t (value_type c a) v q.1) h.0
+      (changed_has a u w e k o t v q.1 m) (changed_has a u w e k o t v q.1 m))
+
+  typed_stepped : (a : Designation) (u : PlaceType) (w : ValueType) → a.ctype ≡ Some u → read_from u ≡ Some w → (down : Bool) (later : Registers) (s : Option Spot) → Spot-of u s → Works-in (Value-of w) (stepped_with c a down later s)
+  typed_stepped a u w e k down later s h =
+      works_bind c.program openings (Value-of w) (Value-of w) (fetched c a later s) (stepped_back c a down s) (typed_fetched a u w e k later s h)
+      (λ v m. typed_stored a u w w e k s (changed c.program.target (sum_or_difference down) (one_more_type c.program.target (value_type c a)) (value_type c a) v (Some (Int (pos 1)))) v h
+      (changed_has a u w e k (sum_or_difference down) (one_more_type c.program.target (value_type c a)) v (Some (Int (pos 1))) m) m)
+
+  -- ---- branches
+
+  abbrev Anything : Option Bool → Type 0
+  Anything b = Unit {0}
+
+  typed_branch : (pure : Bool) (v : Option Value) → Works-in Anything (branch pure v)
+  typed_branch true v = works_ask c.program openings Anything (action.Choose (truth v)) chosen tt (λ m h. tt)
+  typed_branch false v =
+      works_needs c.program openings Anything (truth v) (λ b. ask (action.Choose (Some b)) chosen) (λ b e. works_ask c.program openings Anything (action.Choose (Some b)) chosen tt (λ m h. tt))
+
+  typed_outcome : (r : ValueType) (pure : Bool) (v : Option Value) → Value-of r v → Works-in (Value-of r) (outcome pure v)
+  typed_outcome r true v h = works_known c.program openings (Value-of r) v h
+  typed_outcome r false v h =
+      works_needs c.program openings (Value-of r) v (λ w. known (Some w)) (λ w e. works_known c.program openings (Value-of r) (Some w) (has_good c.program openings r v w h e))
+
+  typed_arms : (r : ValueType) (these those : Get (Option Value)) → Works-in (Value-of r) these → Works-in (Value-of r) those → (b : Option Bool) → Works-in (Value-of r) (arms these those b)
+  typed_arms r these those h k None = works_known c.program openings (Value-of r) None tt
+  typed_arms r these those h k (Some true) = h
+  typed_arms r these those h k (Some false) = k
+
+  typed_choice : (t r : ValueType) (pure : Bool) (condition these those : Get (Option Value)) → Works-in (Value-of t) condition → Works-in (Value-of r) these → Works-in (Value-of r) those →
+      Works-in (Value-of r) (choice pure condition these those)
+  typed_choice t r pure condition these those g h k =
+      works_bind c.program openings (Value-of t) (Value-of r) condition (λ v. bind (branch pure v) (arms (bind these (outcome pure)) (bind those (outcome pure)))) g
+      (λ v m. works_bind c.program openings Anything (Value-of r) (branch pure v) (arms (bind these (outcome pure)) (bind those (outcome pure))) (typed_branch pure v)
+      (λ b n. typed_arms r (bind these (outcome pure)) (bind those (outcome pure))
+      (works_bind c.program openings (Value-of r) (Value-of r) these (outcome pure) h (typed_outcome r pure)) (works_bind c.program openings (Value-of r) (Value-of r) those (outcome pure) k (typed_outcome r pure)) b))
+
+  typed_condition : (b : Meaning) (t : ValueType) → Typed b → b.ctype ≡ Some t → (later : Registers) → Works-in (Value-of (Integer int.Int)) (as_condition b later)
+  typed_condition b t h e later =
+      works_bind c.program openings (Value-of t) (Value-of (Integer int.Int)) (b.next later) (λ v. known (of_truth (truth v))) (h t e later)
+      (λ v m. works_known c.program openings (Value-of (Integer int.Int)) (of_truth (truth v)) (has_truth c.program openings v))
+
+  widened_arm : (a r : ValueType) (g : Get (Option Value)) → ((v : Option Value) → Value-of a v → Value-of r v) → Works-in (Value-of a) g → Works-in (Value-of r) g
+  widened_arm a r g k w = record {
+    known = λ ms rest v answers e. let u = w.known ms rest v answers e in (u.0, k v u.1);
+    waits = w.waits;
+  }
+
+  -- ---- calls
+
+  abbrev At : Expr → Type 0
+  At e = Typed (meaning c e)
+
+  abbrev PlaceAt : PlaceOf → Type 0
+  PlaceAt a = PlaceTyped (designation c a)
+
+  abbrev Arguments : List CType → List (Option Value) → Type 0
+  Arguments ts vs = MayBeArguments c.program openings ts vs
+
+  assigned_argument : (C : Type 0) (to from : Option ValueType) → is_assignable_some to from ≡ true → ((t u : ValueType) → to ≡ Some t → from ≡ Some u → is_assignable t u ≡ true → C) → C
+  assigned_argument C None from h k = absurd (cc)
+  assigned_argument C (Some t) None h k = absurd (cc)
+  assigned_argument C (Some t) (Some u) h k = k t u refl refl h
+
+  typed_each : (ts : List CType) (args : List Expr) → Each At args → are_assignable ts (map (λ (a : Meaning). a.ctype) (map (meaning c) args)) ≡ true → (later : Registers) →
+      Works-in (Arguments ts) (each (map (meaning c) args) later)
+  typed_each [] [] h e later = works_known c.program openings (Arguments []) [] tt
+  typed_each [] (a ∷ args) h e later = absurd (cc)
+  typed_each (t ∷ ts) [] h e later = absurd (cc)
+  typed_each (t ∷ ts) (a ∷ args) h e later =
+      let all = both_true (is_assignable_some (scalar_value t) (meaning c a).ctype) (are_assignable ts (map (λ (a : Meaning). a.ctype) (map (meaning c) args))) e in
+      assigned_argument (Works-in (Arguments (t ∷ ts)) (each (map (meaning c) (a ∷ args)) later)) (scalar_value t) (meaning c a).ctype all.0
+      (λ to from f g k. works_bind c.program openings (Value-of from) (Arguments (t ∷ ts)) ((meaning c a).next (also (assigned_by (map (meaning c) args)) later)) (λ v. bind (each (map (meaning c) args) later) (λ vs. known (v ∷ vs)))
+      (h.0 from g (also (assigned_by (map (meaning c) args)) later))
+      (λ v m. works_bind c.program openings (Arguments ts) (Arguments (t ∷ ts)) (each (map (meaning c) args) later) (λ vs. known (v ∷ vs)) (typed_each ts args h.1 all.1 later)
+      (λ vs n. works_known c.program openings (Arguments (t ∷ ts)) (v ∷ vs) ((to, f, may_widen c.program openings to from v k m), n))))
+
+  typed_called : (sig : Sig) (w : ValueType) (args : List Expr) → Each At args → are_assignable (out-Sig sig).params (map (λ (a : Meaning). a.ctype) (map (meaning c) args)) ≡ true → result_value (out-Sig sig).result ≡ Some w →
+      (later : Registers) (v : Option Value) → Value-of (ToFunction sig) v → Works-in (Value-of w) (called_with (map (meaning c) args) later v)
+  typed_called sig w args h e r later v m =
+      works_bind c.program openings (Arguments (out-Sig sig).params) (Value-of w) (each (map (meaning c) args) later) (λ vs. needs (address_in v) (λ callee. needs (all_good vs) (λ good. ask (action.Call callee good) given)))
+      (typed_each (out-Sig sig).params args h e later)
+      (λ vs n. works_needs c.program openings (Value-of w) (address_in v) (λ callee. needs (all_good vs) (λ good. ask (action.Call callee good) given))
+      (λ callee f. works_needs c.program openings (Value-of w) (all_good vs) (λ good. ask (action.Call callee good) given)
+      (λ good g.
+      let at = callee_typed c.program openings sig v callee m f in
+      works_ask c.program openings (Value-of w) (action.Call callee good) given (is_call c.program openings sig callee good at (good_arguments c.program openings (out-Sig sig).params vs good n g))
+      (given_has c.program openings w (action.Call callee good) (call_gives c.program openings sig callee good w at r)))))
+
+  -- ---- one level
+
+  abbrev opened : one.Expr-F Expr PlaceOf → Meaning
+  opened x = expr_meaning c (map-Expr Expr PlaceOf Meaning Designation (meaning c) (designation c) x)
+
+  abbrev place_opened : one.Place-F Expr PlaceOf → Designation
+  place_opened x = place_meaning c (map-Place Expr PlaceOf Meaning Designation (meaning c) (designation c) x)
+
+  -- what is given has the type r, which the rule gives as t
+  as_type : (r t : ValueType) (g : Get (Option Value)) → r ≡ t → Works-in (Value-of r) g → Works-in (Value-of t) g
+  as_type r t g e h = subst (λ (x : ValueType). Works-in (Value-of x) g) e h
+
+  flags : (on : Bool) (t : ValueType) → NoValue ≡ t → Works-in (Value-of t) (ask (action.Flag on) given)
+  flags on t e = as_type NoValue t (ask (action.Flag on) given) e
+      (works_ask c.program openings (Value-of NoValue) (action.Flag on) given tt (given_has c.program openings NoValue (action.Flag on) (λ u f. same_Some u NoValue (sym f))))
+
+  saves : (t : ValueType) → Integer int.UChar ≡ t → Works-in (Value-of t) (ask action.Save given)
+  saves t e = as_type (Integer int.UChar) t (ask action.Save given) e
+      (works_ask c.program openings (Value-of (Integer int.UChar)) action.Save given tt (given_has c.program openings (Integer int.UChar) action.Save (λ u f. same_Some u (Integer int.UChar) (sym f))))
+
+  restores : (a : Meaning) (u t : ValueType) → Typed a → a.ctype ≡ Some u → NoValue ≡ t → (later : Registers) → Works-in (Value-of t) (restored (Some a) later)
+  restores a u t h f e later =
+      works_bind c.program openings (Value-of u) (Value-of t) (a.next later) (λ v. needs (truth v) (λ b. ask (action.Flag b) given)) (h u f later)
+      (λ v m. works_needs c.program openings (Value-of t) (truth v) (λ b. ask (action.Flag b) given) (λ b g. flags b t e))
+
+  restored_rule : (C : Type 0) (a : Option ValueType) (t : ValueType) → rule.intrinsic_type intr.Restore (Some a) ≡ Some t → ((u : ValueType) → a ≡ Some u → NoValue ≡ t → C) → C
+  restored_rule C None t e k = absurd (cc)
+  restored_rule C (Some u) t e k = k u refl (when_is (is_of int.UChar u) NoValue t e)
+
+  typed_assigned : (a : Designation) (e : Meaning) (t : ValueType) → PlaceTyped a → Typed e → of_two (of_one a.ctype written_to) e.ctype rule.assignment_type ≡ Some t → (later : Registers) →
+      Works-in (Value-of t) (bind (place_and_value a e later) (λ q. stored c a q.0 q.1 q.1))
+  typed_assigned a e t h k f later =
+      with_two (Works-in (Value-of t) (bind (place_and_value a e later) (λ q. stored c a q.0 q.1 q.1))) (of_one a.ctype written_to) e.ctype rule.assignment_type t f
+      (λ w v g j i. with_one (Works-in (Value-of t) (bind (place_and_value a e later) (λ q. stored c a q.0 q.1 q.1))) a.ctype written_to w g
+      (λ u x y. as_type w t (bind (place_and_value a e later) (λ q. stored c a q.0 q.1 q.1)) (when_is (is_assignable w v) w t i)
+      (works_bind c.program openings (Place-and u v) (Value-of w) (place_and_value a e later) (λ q. stored c a q.0 q.1 q.1) (typed_place_and_value a e u v h k x j later)
+      (λ q m. typed_stored a u w w x (read_as_written u w y) q.0 q.1 q.1 m.0 (may_widen c.program openings w v q.1 (when_true (is_assignable w v) w t i) m.1) (may_widen c.program openings w v q.1 (when_true (is_assignable w v) w t i) m.1)))))
+
+  typed_change : (a : Designation) (o : BinOp) (s : IntType) (e : Meaning) (t : ValueType) → PlaceTyped a → Typed e → of_two (of_one a.ctype written_to) e.ctype (change_type c.program.structures c.program.target o s) ≡ Some t →
+      (later : Registers) → Works-in (Value-of t) (bind (place_and_value a e later) (changed_with c a o s later))
+  typed_change a o s e t h k f later =
+      with_two (Works-in (Value-of t) (bind (place_and_value a e later) (changed_with c a o s later))) (of_one a.ctype written_to) e.ctype (change_type c.program.structures c.program.target o s) t f
+      (λ w v g j i. with_one (Works-in (Value-of t) (bind (place_and_value a e later) (changed_with c a o s later))) a.ctype written_to w g
+      (λ u x y. as_type w t (bind (place_and_value a e later) (changed_with c a o s later)) (changed_type c.program.structures c.program.target o s w v t i)
+      (works_bind c.program openings (Place-and u v) (Value-of w) (place_and_value a e later) (changed_with c a o s later) (typed_place_and_value a e u v h k x j later)
+      (λ q m. typed_changed a u w v x (read_as_written u w y) o s later q m))))
+
+  typed_after : (a : Designation) (down : Bool) (t : ValueType) → PlaceTyped a → of_one (of_one a.ctype written_to) (after_type c.program.structures) ≡ Some t → (later : Registers) →
+      Works-in (Value-of t) (bind (a.leads later) (stepped_with c a down later))
+  typed_after a down t h f later =
+      with_one (Works-in (Value-of t) (bind (a.leads later) (stepped_with c a down later))) (of_one a.ctype written_to) (after_type c.program.structures) t f
+      (λ w g i. with_one (Works-in (Value-of t) (bind (a.leads later) (stepped_with c a down later))) a.ctype written_to w g
+      (λ u x y. as_type w t (bind (a.leads later) (stepped_with c a down later)) (when_is _ w t i)
+      (works_bind c.program openings (Spot-of u) (Value-of w) (a.leads later) (stepped_with c a down later) (h u x later)
+      (λ s m. typed_stepped a u w x (read_as_written u w y) down later s m))))
+
+  typed_load : (a : Designation) (t : ValueType) → PlaceTyped a → of_one a.ctype read_from ≡ Some t → (later : Registers) → Works-in (Value-of t) (bind (a.leads later) (fetched c a later))
+  typed_load a t h f later =
+      with_one (Works-in (Value-of t) (bind (a.leads later) (fetched c a later))) a.ctype read_from t f
+      (λ u x y. works_bind c.program openings (Spot-of u) (Value-of t) (a.leads later) (fetched c a later) (h u x later) (λ s m. typed_fetched a u t x y later s m))
+
+  typed_address : (a : Designation) (t : ValueType) → PlaceTyped a → of_one a.ctype address_of ≡ Some t → (later : Registers) → Works-in (Value-of t) (bind (a.leads later) (λ s. known (address_of_spot s)))
+  typed_address a t h f later =
+      with_one (Works-in (Value-of t) (bind (a.leads later) (λ s. known (address_of_spot s)))) a.ctype address_of t f
+      (λ u x y. works_bind c.program openings (Spot-of u) (Value-of t) (a.leads later) (λ s. known (address_of_spot s)) (h u x later)
+      (λ s m. works_known c.program openings (Value-of t) (address_of_spot s) (may_be_addressed c.program openings u t s m y)))
+
+  -- the value of an operator over one operand
+  typed_unary : (t r : ValueType) (f : Option Value → Option Value) (a : Meaning) (g : ValueType → Option ValueType) → Typed a → of_one a.ctype g ≡ Some t →
+      ((u : ValueType) → g u ≡ Some t → (v : Option Value) → Value-of u v → Value-of t (f v)) → (later : Registers) → Works-in (Value-of t) (from_one f a later)
+  typed_unary t r f a g h e k later = with_one (Works-in (Value-of t) (from_one f a later)) a.ctype g t e (λ u x y. typed_one (Value-of t) f a u h x (k u y) later)
+
+  typed_binary : (t : ValueType) (f : Option Value → Option Value → Option Value) (a b : Meaning) (g : ValueType → ValueType → Option ValueType) → Typed a → Typed b → of_two a.ctype b.ctype g ≡ Some t →
+      ((u w : ValueType) → g u w ≡ Some t → (x y : Option Value) → Value-of u x → Value-of w y → Value-of t (f x y)) → (later : Registers) → Works-in (Value-of t) (from_two f a b later)
+  typed_binary t f a b g h k e j later = with_two (Works-in (Value-of t) (from_two f a b later)) a.ctype b.ctype g t e (λ u w x y z. typed_two (Value-of t) f a b u w h k x y (j u w z) later)
+
+  -- a value of the type that a rule gives
+  value_as : (r t : ValueType) (v : Option Value) → r ≡ t → Value-of r v → Value-of t v
+  value_as r t v e h = subst (λ (x : ValueType). Value-of x v) e h
+
+  moved_has : (structures : List Structure) (u w t : ValueType) (back : Bool) (x y : Option Value) → rule.moved_type structures u w ≡ Some t → Value-of u x → Value-of t (movement back x y)
+  moved_has structures NoValue w t back x y e h = absurd (cc)
+  moved_has structures (Integer s) w t back x y e h = absurd (cc)
+  moved_has structures (ToFunction sig) w t back x y e h = absurd (cc)
+  moved_has structures (ToObject constant volatile to) w t back x y e h =
+      value_as (ToObject constant volatile to) t (movement back x y) (when_is _ (ToObject constant volatile to) t e) (has_movement c.program openings constant volatile to back x y h)
+
+  assignable_as : (to : Option ValueType) (u t : ValueType) (v : Option Value) → rule.when_assignable to u ≡ Some t → Value-of u v → Value-of t v
+  assignable_as None u t v e h = absurd (cc)
+  assignable_as (Some to) u t v e h = value_as to t v (when_is (is_assignable to u) to t e) (may_widen c.program openings to u v (when_true (is_assignable to u) to t e) h)
+
+  both_level : (pure : Bool) (a b : Meaning) (t : ValueType) → Typed a → Typed b → of_two a.ctype b.ctype rule.logical_type ≡ Some t → (later : Registers) →
+      Works-in (Value-of t) (choice pure (a.next (also b.effects.assigned later)) (as_condition b later) (known (Some (Int (pos 0)))))
+  both_level pure a b t h k e later =
+      with_two (Works-in (Value-of t) (choice pure (a.next (also b.effects.assigned later)) (as_condition b later) (known (Some (Int (pos 0)))))) a.ctype b.ctype rule.logical_type t e
+      (λ u w x y z. as_type (Integer int.Int) t (choice pure (a.next (also b.effects.assigned later)) (as_condition b later) (known (Some (Int (pos 0))))) (when_is _ (Integer int.Int) t z)
+      (typed_choice u (Integer int.Int) pure (a.next (also b.effects.assigned later)) (as_condition b later) (known (Some (Int (pos 0)))) (h u x (also b.effects.assigned later)) (typed_condition b w k y later)
+      (works_known c.program openings (Value-of (Integer int.Int)) (Some (Int (pos 0))) (promoted_value int.Int c.program.target false))))
+
+  either_level : (pure : Bool) (a b : Meaning) (t : ValueType) → Typed a → Typed b → of_two a.ctype b.ctype rule.logical_type ≡ Some t → (later : Registers) →
+      Works-in (Value-of t) (choice pure (a.next (also b.effects.assigned later)) (known (Some (Int (pos 1)))) (as_condition b later))
+  either_level pure a b t h k e later =
+      with_two (Works-in (Value-of t) (choice pure (a.next (also b.effects.assigned later)) (known (Some (Int (pos 1)))) (as_condition b later))) a.ctype b.ctype rule.logical_type t e
+      (λ u w x y z. as_type (Integer int.Int) t (choice pure (a.next (also b.effects.assigned later)) (known (Some (Int (pos 1)))) (as_condition b later)) (when_is _ (Integer int.Int) t z)
+      (typed_choice u (Integer int.Int) pure (a.next (also b.effects.assigned later)) (known (Some (Int (pos 1)))) (as_condition b later) (h u x (also b.effects.assigned later))
+      (works_known c.program openings (Value-of (Integer int.Int)) (Some (Int (pos 1))) (promoted_value int.Int c.program.target true)) (typed_condition b w k y later)))
+
+  chosen_level : (pure : Bool) (d a b : Meaning) (t : ValueType) → Typed d → Typed a → Typed b → of_one d.ctype (λ d. of_two a.ctype b.ctype (rule.choice_type c.program.target d)) ≡ Some t → (later : Registers) →
+      Works-in (Value-of t) (choice pure (d.next (also a.effects.assigned (also b.effects.assigned later))) (a.next (also b.effects.assigned later)) (b.next later))
+  chosen_level pure d a b t g h k e later =
+      with_one (Works-in (Value-of t) (choice pure (d.next (also a.effects.assigned (also b.effects.assigned later))) (a.next (also b.effects.assigned later)) (b.next later)))
+      d.ctype (λ d. of_two a.ctype b.ctype (rule.choice_type c.program.target d)) t e
+      (λ i f j. with_two (Works-in (Value-of t) (choice pure (d.next (also a.effects.assigned (also b.effects.assigned later))) (a.next (also b.effects.assigned later)) (b.next later)))
+      a.ctype b.ctype (rule.choice_type c.program.target i) t j
+      (λ u w x y z.
+      let r : common_type c.program.target u w ≡ t = when_is _ (common_type c.program.target u w) t z in
+      let takes : TakesBoth t u w = subst (λ (q : ValueType). TakesBoth q u w) r (common c.program.target u w) in
+      typed_choice i t pure (d.next (also a.effects.assigned (also b.effects.assigned later))) (a.next (also b.effects.assigned later)) (b.next later)
+      (g i f (also a.effects.assigned (also b.effects.assigned later)))
+      (widened_arm u t (a.next (also b.effects.assigned later)) (common_left c.program openings t u w takes) (h u x (also b.effects.assigned later)))
+      (widened_arm w t (b.next later) (common_right c.program openings t u w takes) (k w y later))))
+
+  sequence_level : (a b : Meaning) (t : ValueType) → Typed a → Typed b → of_two a.ctype b.ctype (λ a b. Some b) ≡ Some t → (later : Registers) → Works-in (Value-of t) (sequence a b later)
+  sequence_level a b t h k e later =
+      with_two (Works-in (Value-of t) (sequence a b later)) a.ctype b.ctype (λ a b. Some b) t e
+      (λ u w x y z. works_bind c.program openings (Value-of u) (Value-of t) (a.next (also b.effects.assigned later)) (λ v. needs v (λ i. b.next later)) (h u x (also b.effects.assigned later))
+      (λ v m. works_needs c.program openings (Value-of t) v (λ i. b.next later) (λ i j. as_type w t (b.next later) (same_Some w t z) (k w y later))))
+
+  abbrev types_of : List Expr → List (Option ValueType)
+  types_of args = map (λ (a : Meaning). a.ctype) (map (meaning c) args)
+
+  abbrev call_of : Meaning → List Expr → Registers → Get (Option Value)
+  call_of f args later = bind (f.next (also (assigned_by (map (meaning c) args)) later)) (called_with (map (meaning c) args) later)
+
+  call_by : (f : Meaning) (args : List Expr) (t : ValueType) (sig : Sig) (b : Bool) → Typed f → Each At args → f.ctype ≡ Some (ToFunction sig) → are_assignable (out-Sig sig).params (types_of args) ≡ b →
+      (if b then result_value (out-Sig sig).result else None) ≡ Some t → (later : Registers) → Works-in (Value-of t) (call_of f args later)
+  call_by f args t sig true h k e a r later =
+      works_bind c.program openings (Value-of (ToFunction sig)) (Value-of t) (f.next (also (assigned_by (map (meaning c) args)) later)) (called_with (map (meaning c) args) later)
+      (h (ToFunction sig) e (also (assigned_by (map (meaning c) args)) later)) (λ v m. typed_called sig t args k a r later v m)
+  call_by f args t sig false h k e a r later = absurd (cc)
+
+  call_typed : (f : Meaning) (args : List Expr) (t u : ValueType) → Typed f → Each At args → f.ctype ≡ Some u → call_type u (types_of args) ≡ Some t → (later : Registers) → Works-in (Value-of t) (call_of f args later)
+  call_typed f args t NoValue h k e r later = absurd (cc)
+  call_typed f args t (Integer s) h k e r later = absurd (cc)
+  call_typed f args t (ToObject constant volatile to) h k e r later = absurd (cc)
+  call_typed f args t (ToFunction sig) h k e r later = call_by f args t sig (are_assignable (out-Sig sig).params (types_of args)) h k e refl r later
+
+  call_level : (f : Meaning) (args : List Expr) (t : ValueType) → Typed f → Each At args → of_one f.ctype (λ f. call_type f (types_of args)) ≡ Some t → (later : Registers) → Works-in (Value-of t) (call_of f args later)
+  call_level f args t h k e later =
+      with_one (Works-in (Value-of t) (call_of f args later)) f.ctype (λ f. call_type f (types_of args)) t e (λ u x y. call_typed f args t u h k x y later)
+
+  -- a null has a pointer type
+  null_in : (to : CType) (x : shape.Shape-F Shape CType Sig) → Value-of (pointer_shape to x) (Some (Place address.Null))
+  null_in to shape.Void = tt
+  null_in to (shape.Int i) = tt
+  null_in to (shape.Pointer of) = tt
+  null_in to (shape.Array of n) = tt
+  null_in to (shape.Struct i) = tt
+  null_in to (shape.Func sig) = tt
+
+  null_pointer : (to : CType) (t : ValueType) → pointer_to to ≡ t → Value-of t (Some (Place address.Null))
+  null_pointer to t e = subst (λ (x : ValueType). Value-of x (Some (Place address.Null))) e (null_in to (out-Shape to.shape))
+
+  pointer_null : (b : Bool) (x : shape.Shape-F Shape CType Sig) (t : ValueType) → rule.pointer_in b x ≡ Some t → Value-of t (Some (Place address.Null))
+  pointer_null b (shape.Pointer to) t e = null_pointer to t (when_is b (pointer_to to) t e)
+  pointer_null b shape.Void t e = absurd (cc)
+  pointer_null b (shape.Int i) t e = absurd (cc)
+  pointer_null b (shape.Array of n) t e = absurd (cc)
+  pointer_null b (shape.Struct i) t e = absurd (cc)
+  pointer_null b (shape.Func sig) t e = absurd (cc)
+
+  void_null : (b : Bool) (x : shape.Shape-F Shape CType Sig) (t : ValueType) → rule.void_pointer_in b x ≡ Some t → Value-of t (Some (Place address.Null))
+  void_null b (shape.Pointer to) t e = null_pointer to t (when_is _ (pointer_to to) t e)
+  void_null b shape.Void t e = absurd (cc)
+  void_null b (shape.Int i) t e = absurd (cc)
+  void_null b (shape.Array of n) t e = absurd (cc)
+  void_null b (shape.Struct i) t e = absurd (cc)
+  void_null b (shape.Func sig) t e = absurd (cc)
+
+  first_null : (a b : Option ValueType) (t : ValueType) → rule.first_of a b ≡ Some t → (a ≡ Some t → Value-of t (Some (Place address.Null))) → (b ≡ Some t → Value-of t (Some (Place address.Null))) → Value-of t (Some (Place address.Null))
+  first_null None b t e h k = k e
+  first_null (Some a) b t e h k = h e
+
+  null_has : (u : CType) (t : ValueType) → null_type c.program u ≡ Some t → Value-of t (Some (Place address.Null))
+  null_has u t e = first_null (rule.void_pointer_in (rule.is_unqualified u) (out-Shape u.shape)) (rule.pointer_type c.program u) t e
+      (λ h. void_null (rule.is_unqualified u) (out-Shape u.shape) t h) (λ h. pointer_null _ (out-Shape u.shape) t h)
+
+  function_at : (f : ℕ) (t : ValueType) (x : Option Func) → slice_get c.program.funcs f ≡ x → function_type x ≡ Some t → Value-of t (Some (Place (address.Func f)))
+  function_at f t None g e = absurd (cc)
+  function_at f t (Some func) g e =
+      let k : ToFunction func.sig ≡ t = when_is (not (rule.is_handler func)) (ToFunction func.sig) t e in
+      value_as (ToFunction func.sig) t (Some (Place (address.Func f))) k
+      (ap (λ (y : Option Func). is_assignable_some (Some (ToFunction func.sig)) (function_type y)) g ∙ ap (λ (y : Option ValueType). is_assignable_some (Some (ToFunction func.sig)) y) (e ∙ ap (λ (y : ValueType). Some y) (sym k)) ∙ function_itself func.sig)
+
+  function_has : (f : ℕ) (t : ValueType) → function_type (slice_get c.program.funcs f) ≡ Some t → Value-of t (Some (Place (address.Func f)))
+  function_has f t e = function_at f t (slice_get c.program.funcs f) refl e
+
+  typed_level : (x : one.Expr-F Expr PlaceOf) → Parts At PlaceAt x → Typed (opened x)
+  typed_level (one.Const n i) h t e later =
+      works_known c.program openings (Value-of t) (Some (Int n)) (value_as (Integer i) t (Some (Int n)) (when_is _ (Integer i) t e) (when_true _ (Integer i) t e))
+  typed_level (one.Null u) h t e later = works_known c.program openings (Value-of t) (Some (Place address.Null)) (null_has u t e)
+  typed_level (one.FuncAddr f) h t e later = works_known c.program openings (Value-of t) (Some (Place (address.Func f))) (function_has f t e)
+  typed_level (one.Load a) h t e later = typed_load (designation c a) t h e later
+  typed_level (one.AddrOf a) h t e later = typed_address (designation c a) t h e later
+  typed_level (one.Un o i a) h t e later =
+      typed_unary t t (unary o i c.program.target) (meaning c a) (rule.unary_type c.program.target o i) h e
+      (λ u f v m. value_as (Integer (rule.unary_result o i)) t (unary o i c.program.target v) (when_is _ (Integer (rule.unary_result o i)) t f) (has_unary c.program openings o i v)) later
+  typed_level (one.Bin o i a b) h t e later =
+      typed_binary t (binary o i c.program.target) (meaning c a) (meaning c b) (rule.binary_type c.program.target o i) h.0 h.1 e
+      (λ u w f v y m n. value_as (Integer (rule.binary_result o i)) t (binary o i c.program.target v y) (when_is _ (Integer (rule.binary_result o i)) t f) (has_binary c.program openings o i v y)) later
+  typed_level (one.Conv i a) h t e later =
+      typed_unary t t (conversion i c.program.target) (meaning c a) (rule.conversion_type i) h e
+      (λ u f v m. value_as (Integer i) t (conversion i c.program.target v) (when_is _ (Integer i) t f) (has_conversion c.program openings i v)) later
+  typed_level (one.Qualify to a) h t e later =
+      typed_unary t t (λ v. v) (meaning c a) (rule.qualified_type c.program to) h e (λ u f v m. assignable_as (rule.pointer_type c.program to) u t v f m) later
+  typed_level (one.Move a b back) h t e later =
+      typed_binary t (movement back) (meaning c a) (meaning c b) (rule.moved_type c.program.structures) h.0 h.1 e (λ u w f v y m n. moved_has c.program.structures u w t back v y f m) later
+  typed_level (one.Gap a b) h t e later =
+      typed_binary t (gap c.program.target) (meaning c a) (meaning c b) (rule.gap_type c.program.target) h.0 h.1 e
+      (λ u w f v y m n. value_as (Integer (rule.difference_type c.program.target)) t (gap c.program.target v y) (when_is _ (Integer (rule.difference_type c.program.target)) t f) (has_gap c.program openings v y)) later
+  typed_level (one.Compare o a b) h t e later =
+      typed_binary t (comparison o) (meaning c a) (meaning c b) (rule.comparison_type o) h.0 h.1 e
+      (λ u w f v y m n. value_as (Integer int.Int) t (comparison o v y) (when_is _ (Integer int.Int) t f) (has_comparison c.program openings o v y)) later
+  typed_level (one.Both a b) h t e later = both_level _ (meaning c a) (meaning c b) t h.0 h.1 e later
+  typed_level (one.Either a b) h t e later = either_level _ (meaning c a) (meaning c b) t h.0 h.1 e later
+  typed_level (one.Choose d a b) h t e later = chosen_level _ (meaning c d) (meaning c a) (meaning c b) t h.0 h.1 h.2 e later
+  typed_level (one.Assign a e) h t f later = typed_assigned (designation c a) (meaning c e) t h.0 h.1 f later
+  typed_level (one.Change a o i e) h t f later = typed_change (designation c a) o i (meaning c e) t h.0 h.1 f later
+  typed_level (one.After a down) h t e later = typed_after (designation c a) down t h e later
+  typed_level (one.Call f args) h t e later = call_level (meaning c f) args t h.0 h.1 e later
+  typed_level (one.Intr intr.Off None) h t e later = flags false t (same_Some NoValue t e)
+  typed_level (one.Intr intr.Off (Some a)) h t e later = absurd (cc)
+  typed_level (one.Intr intr.On None) h t e later = flags true t (same_Some NoValue t e)
+  typed_level (one.Intr intr.On (Some a)) h t e later = absurd (cc)
+  typed_level (one.Intr intr.Save None) h t e later = saves t (same_Some (Integer int.UChar) t e)
+  typed_level (one.Intr intr.Save (Some a)) h t e later = absurd (cc)
+  typed_level (one.Intr intr.Restore None) h t e later = absurd (cc)
+  typed_level (one.Intr intr.Restore (Some a)) h t e later =
+      restored_rule (Works-in (Value-of t) (restored (Some (meaning c a)) later)) (meaning c a).ctype t e (λ u x y. restores (meaning c a) u t h x y later)
+  typed_level (one.Seq a b) h t e later = sequence_level (meaning c a) (meaning c b) t h.0 h.1 e later
+
+  -- ---- places
+
+  device_typed : (d : ℕ) (u : PlaceType) (x : Option Device) → slice_get c.program.devices d ≡ x → option_map (λ d. DevicePlace d.constant d.int) x ≡ Some u → Spot-of u (Some (spot.Device d))
+  device_typed d u None f e = absurd (cc)
+  device_typed d u (Some device) f e =
+      subst (λ (y : PlaceType). Spot-of y (Some (spot.Device d))) (same_Some (DevicePlace device.constant device.int) u e) (ap (option_map (λ (d : Device). d.int)) f)
+
+  static_typed : (i : ℕ) (u : PlaceType) → option_map (λ o. object_place o.ctype) (slice_get c.program.objects i) ≡ Some u → Spot-of u (Some (spot.Object (root.Static i) []))
+  static_typed i u e =
+      let o = mapped (λ o. object_place o.ctype) (slice_get c.program.objects i) u e in
+      subst (λ (y : PlaceType). Spot-of y (Some (spot.Object (root.Static i) []))) o.2 (whole_object c.program openings (root.Static i) o.0.ctype tt (e ∙ ap (λ (y : PlaceType). Some y) (sym o.2)))
+
+  local_typed : (r : ℕ) (u : PlaceType) → option_map (λ l. object_place l.1) (slice_get c.func.locals r) ≡ Some u → Spot-of u (Some (spot.Object (root.Auto c.number c.id r) []))
+  local_typed r u e =
+      let l = mapped (λ l. object_place l.1) (slice_get c.func.locals r) u e in
+      subst (λ (y : PlaceType). Spot-of y (Some (spot.Object (root.Auto c.number c.id r) []))) l.2
+      (whole_object c.program openings (root.Auto c.number c.id r) l.0.1 here.number (ap (local_type r) here.function ∙ e ∙ ap (λ (y : PlaceType). Some y) (sym l.2)))
+
+  subscript_by : (a : PlaceType) (u : PlaceType) (b : Bool) → (if b then element_of a else None) ≡ Some u → element_of a ≡ Some u
+  subscript_by a u true e = e
+  subscript_by a u false e = absurd (cc)
+
+  element_typed : (a : Designation) (i : Meaning) (u : PlaceType) → PlaceTyped a → Typed i → of_two a.ctype i.ctype rule.subscript_type ≡ Some u → (later : Registers) →
+      Works-in (Spot-of u) (bind (place_and_value a i later) (λ q. known (element_at c a.ctype q.0 q.1)))
+  element_typed a i u h k e later =
+      with_two (Works-in (Spot-of u) (bind (place_and_value a i later) (λ q. known (element_at c a.ctype q.0 q.1)))) a.ctype i.ctype rule.subscript_type u e
+      (λ w t x y z. works_bind c.program openings (Place-and w t) (Spot-of u) (place_and_value a i later) (λ q. known (element_at c a.ctype q.0 q.1)) (typed_place_and_value a i w t h k x y later)
+      (λ q m. works_known c.program openings (Spot-of u) (element_at c a.ctype q.0 q.1)
+      (subst (λ (v : Option PlaceType). Spot-of u (element_at c v q.0 q.1)) (sym x) (may_lead_element c.program openings w u q.0 q.1 m.0 (subscript_by w u (is_integer t) z)))))
+
+  member_typed : (a : Designation) (m : ℕ) (u : PlaceType) → PlaceTyped a → of_one a.ctype (member_of c.program.structures m) ≡ Some u → (later : Registers) →
+      Works-in (Spot-of u) (bind (a.leads later) (λ s. known (of_two a.ctype s (member c.program m))))
+  member_typed a m u h e later =
+      with_one (Works-in (Spot-of u) (bind (a.leads later) (λ s. known (of_two a.ctype s (member c.program m))))) a.ctype (member_of c.program.structures m) u e
+      (λ w x y. works_bind c.program openings (Spot-of w) (Spot-of u) (a.leads later) (λ s. known (of_two a.ctype s (member c.program m))) (h w x later)
+      (λ s n. works_known c.program openings (Spot-of u) (of_two a.ctype s (member c.program m))
+      (subst (λ (v : Option PlaceType). Spot-of u (of_two v s (member c.program m))) (sym x) (may_lead_member c.program openings w u m s n y))))
+
+  pointed_typed : (e : Meaning) (u : PlaceType) → Typed e → of_one e.ctype pointed_to ≡ Some u → (later : Registers) → Works-in (Spot-of u) (from_one (λ v. option_map spot.Address (address_in v)) e later)
+  pointed_typed e u h f later =
+      with_one (Works-in (Spot-of u) (from_one (λ v. option_map spot.Address (address_in v)) e later)) e.ctype pointed_to u f
+      (λ t x y. typed_one (Spot-of u) (λ v. option_map spot.Address (address_in v)) e t h x (λ v m. points c.program openings t u v m y) later)
+
+  place_typed_level : (x : one.Place-F Expr PlaceOf) → PlaceParts At PlaceAt x → PlaceTyped (place_opened x)
+  place_typed_level (one.Local r) h u e later = works_known c.program openings (Spot-of u) (Some (spot.Object (root.Auto c.number c.id r) [])) (local_typed r u e)
+  place_typed_level (one.Static i) h u e later = works_known c.program openings (Spot-of u) (Some (spot.Object (root.Static i) [])) (static_typed i u e)
+  place_typed_level (one.Device d) h u e later = works_known c.program openings (Spot-of u) (Some (spot.Device d)) (device_typed d u (slice_get c.program.devices d) refl e)
+  place_typed_level (one.Element a i) h u e later = element_typed (designation c a) (meaning c i) u h.0 h.1 e later
+  place_typed_level (one.Member a m) h u e later = member_typed (designation c a) m u h e later
+  place_typed_level (one.Deref e) h u f later = pointed_typed (meaning c e) u h f later
+
+  made : (x : one.Expr-F Expr PlaceOf) → Parts At PlaceAt x → At (roll-Expr x)
+  made x h = subst Typed (sym (level c x)) (typed_level x h)
+
+  place_made : (x : one.Place-F Expr PlaceOf) → PlaceParts At PlaceAt x → PlaceAt (roll-Place x)
+  place_made x h = subst PlaceTyped (sym (place_level c x)) (place_typed_level x h)
+
+  pub meaning_typed : (e : Expr) → Typed (meaning c e)
+  meaning_typed = by_expr At PlaceAt made place_made
+
+  pub designation_typed : (a : PlaceOf) → PlaceTyped (designation c a)
+  designation_typed = by_place At PlaceAt made place_made

@@ -1,0 +1,10 @@
+pub mod AlikeLemmas
+pub mod ControlLemmas
+pub mod EvalTypes
+pub mod Options
+pub mod SameLemmas
+pub mod SoundLemmas
+pub mod SpotLemmas
+pub mod StateLemmas
+pub mod TypedLemmas
+pub mod Works

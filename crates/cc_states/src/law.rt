@@ -1,0 +1,57 @@
+ghost use Rattle.std.specs.Prelude.{◌≡◌, ℕ, true, List, [], ◌∷◌, Some, slice_get};
+ghost use Rattle.cc_program.specs.declared.expr.Expr.{Expr};
+ghost use Rattle.cc_program.specs.declared.expr.Place.{Place};
+ghost use Rattle.cc_program.specs.declared.func.Func.{Func};
+ghost use Rattle.cc_program.specs.declared.program.Program.{Program};
+ghost use Rattle.cc_program.specs.declared.stmt.Stmt.{Stmt, out-Stmt};
+ghost use Rattle.cc_program.specs.declared.stmt.Stmt.TheOpen as is;
+ghost use Rattle.cc_program.specs.declared.value.Value.{Value};
+ghost use Rattle.cc_control.specs.Control.{close};
+ghost use Rattle.cc_eval.specs.declared.action.Action.{Action};
+ghost use Rattle.cc_eval.specs.declared.mark.Mark.{Mark};
+ghost use Rattle.cc_eval.specs.declared.spots.Spot.{Spot};
+ghost use Rattle.cc_eval.specs.Context.{Context};
+ghost use Rattle.cc_eval.specs.Eval.{meaning, designation};
+ghost use Rattle.cc_eval.specs.Progress.{Known, Waits};
+ghost use Rattle.cc_meaning.specs.State.{Active, State};
+ghost use Rattle.cc_meaning.specs.Step.{progress_of, next_place};
+ghost use Rattle.cc_syntax.specs.Effects.{Registers};
+ghost use Rattle.cc_syntax.specs.Expressions.{type_of, place_type};
+ghost use Rattle.cc_syntax.specs.Sound.{IsSound};
+ghost use Rattle.cc_syntax.specs.Statements.{is_sound_body};
+ghost use Rattle.cc_syntax.specs.Values.{ValueType, PlaceType};
+ghost use Rattle.cc_states.specs.Answers.{IsActivation, AreAnswers, IsAction};
+ghost use Rattle.cc_states.specs.States.{may_break, may_continue, AreSound, expression_of, IsState, IsPossible};
+ghost use Rattle.cc_states.specs.Typed.{HasType, IsSpot};
+
+/// What holds of expressions and places that have types, in an activation of their function, where each mark answers what was
+/// asked for. The call does nothing.
+pub fn expression_laws()
+    // What an expression gives has its type, and a place leads to an object of its type.
+    ensures values { (c : Context) (openings : List ℕ) → IsActivation c openings → (e : Expr) (t : ValueType) → type_of c.program c.func.locals e ≡ Some t →
+        (later : Registers) (ms rest : List Mark) (v : Value) → AreAnswers c.program openings ((meaning c e).next later) ms → (meaning c e).next later ms ≡ Known (Some v) rest → HasType c.program openings t v }
+    ensures places { (c : Context) (openings : List ℕ) → IsActivation c openings → (a : Place) (t : PlaceType) → place_type c.program c.func.locals a ≡ Some t →
+        (later : Registers) (ms rest : List Mark) (s : Spot) → AreAnswers c.program openings ((designation c a).leads later) ms → (designation c a).leads later ms ≡ Known (Some s) rest → IsSpot c.program openings t s }
+
+    // A step that one asks for can be done: its cell is there, what is called is a function that takes the arguments, and values have the types that they are taken in.
+    ensures steps { (c : Context) (openings : List ℕ) → IsActivation c openings → (e : Expr) (t : ValueType) → type_of c.program c.func.locals e ≡ Some t →
+        (later : Registers) (ms : List Mark) (action : Action) → AreAnswers c.program openings ((meaning c e).next later) ms → (meaning c e).next later ms ≡ Waits action → IsAction c.program openings action }
+{}
+
+/// What holds in a state of a sound program: what its next step needs is there. The call does nothing.
+pub fn state_laws()
+    // The full expression that is worked has a type.
+    ensures expressions { (p : Program) → IsSound p → (s : State) → IsState p s → (a : Active) (below : List Active) → s.stack ≡ a ∷ below →
+        (e : Expr) → expression_of a ≡ Some e → (f : Func) × (t : ValueType) × (slice_get p.funcs a.func ≡ Some f) × (type_of p f.locals e ≡ Some t) }
+
+    // What is read or written is there, or is of an activation that has ended; a function that is called is there, and takes as many arguments.
+    ensures steps { (p : Program) → IsSound p → (s : State) → IsState p s → (a : Active) (below : List Active) → s.stack ≡ a ∷ below →
+        (action : Action) → progress_of p a (expression_of a) ≡ Waits action → IsPossible p s action }
+
+    // An activation stands inside its function: from there it goes on to where what is left of each list is sound, and it begins there.
+    ensures places { (p : Program) (f : Func) (a : Active) (s : Stmt) (rest : List Stmt) → a.here.rest ≡ s ∷ rest → AreSound p f (a.here ∷ a.around) →
+        (v : Value) → AreSound p f ((next_place (out-Stmt s) a v).0 ∷ (next_place (out-Stmt s) a v).1) }
+    ensures bodies { (p : Program) (f : Func) → is_sound_body p f f.body ≡ true → AreSound p f ((close f.body 0 []).0 ∷ (close f.body 0 []).1) }
+    ensures breaks { (p : Program) (f : Func) (a : Active) (s : Stmt) (rest : List Stmt) → a.here.rest ≡ s ∷ rest → AreSound p f (a.here ∷ a.around) → out-Stmt s ≡ is.Break → may_break a.around ≡ true }
+    ensures continues { (p : Program) (f : Func) (a : Active) (s : Stmt) (rest : List Stmt) → a.here.rest ≡ s ∷ rest → AreSound p f (a.here ∷ a.around) → out-Stmt s ≡ is.Continue → may_continue a.around ≡ true }
+{}
