@@ -23,8 +23,8 @@ pub fn assign_to(
     let TypedExpr::Place(place, t) = a else {
         return Err(Breach::Breaks(Rule::NotModifiable));
     };
-    let to = t.written(alloc)?;
-    stored(alloc, target, place, to, x)
+    let to = t.get().written(alloc)?;
+    stored(alloc, target, place.into_inner(), to, x)
 }
 
 /// `a op= b` (C99 6.5.16.2).
@@ -41,8 +41,8 @@ pub fn change_of(
     let TypedExpr::Place(place, t) = a else {
         return Err(Breach::Breaks(Rule::NotModifiable));
     };
-    let to = t.written(alloc)?;
-    changed(alloc, target, structures, op, place, to, x)
+    let to = t.get().written(alloc)?;
+    changed(alloc, target, structures, op, place.into_inner(), to, x)
 }
 
 /// `++a`, and `--a` where the flag is set (C99 6.5.3.1).
@@ -72,6 +72,6 @@ pub fn stepped_after(
     let TypedExpr::Place(place, t) = a else {
         return Err(Breach::Breaks(Rule::NotModifiable));
     };
-    let to = t.written(alloc)?;
-    stepped(alloc, structures, down, place, to)
+    let to = t.get().written(alloc)?;
+    stepped(alloc, structures, down, place.into_inner(), to)
 }

@@ -1,9 +1,10 @@
 //! What an expression designates before it is a value (C99 6.3.2.1), and the types of places, owned.
 
 ghost use Rattle.std.specs.Prelude.{◌≡◌, IfOk, option_map};
+ghost use Rattle.cc_designators.specs.Designators.{IsPlace, IsValue};
 ghost use Rattle.cc_designators.specs.View.{designated_view, expr_view};
 ghost use Rattle.cc_designators.specs.Postfix.{is_array_place as is_array_place_of};
-ghost use Rattle.cc_operands.specs.View.{type_view};
+ghost use Rattle.cc_operands.specs.View.{operand_view, type_view};
 ghost use Rattle.cc_syntax.specs.Values.{written_to, element_of, member_of, pointed_to as pointed_to_of};
 ghost use Rattle.cc_typed.specs.View.{place_view};
 
@@ -26,19 +27,19 @@ pub enum DesignatedType {
 /// What an expression designates.
 #[derive(Drop)]
 pub enum TypedExpr {
-    Place(Place, DesignatedType),
-    Value(Operand),
+    Place(Boxed<Place>, Boxed<DesignatedType>),
+    Value(Boxed<Operand>),
     /// A function, by its id.
     Function(u32, Boxed<Sig>),
     /// An intrinsic, and where its name stands.
     Intrinsic(Intr, u32),
     /// An integer constant that is cast to a pointer type, and where the cast stands: a null, or what names a
     /// device.
-    Address(i128, CType, u32),
+    Address(i128, Boxed<CType>, u32),
 }
 
 /// A copy of the type of a place.
-fn owned_place(alloc: Global, t: PlaceType) -> Result<DesignatedType, NoMemory>
+pub fn owned_place(alloc: Global, t: PlaceType) -> Result<DesignatedType, NoMemory>
     ensures { IfOk result (λ r. designated_view r ≡ place_view t.entry) }
 {
     match t {
@@ -128,13 +129,28 @@ impl DesignatedType {
     }
 }
 
+/// A place of the type.
+pub fn placed(alloc: Global, place: Place, t: DesignatedType) -> Result<TypedExpr, NoMemory>
+    ensures { IfOk result (λ r. expr_view r ≡ IsPlace place (designated_view t)) }
+{
+    let place = Boxed::new(alloc, place)?;
+    Ok(TypedExpr::Place(place, Boxed::new(alloc, t)?))
+}
+
+/// A value.
+pub fn valued(alloc: Global, x: Operand) -> Result<TypedExpr, NoMemory>
+    ensures { IfOk result (λ r. expr_view r ≡ IsValue (operand_view x)) }
+{
+    Ok(TypedExpr::Value(Boxed::new(alloc, x)?))
+}
+
 impl TypedExpr {
     /// Whether it is an array, whose elements are places of their own.
     pub fn is_array_place(&self) -> bool
         ensures { result ≡ is_array_place_of (expr_view self.now) }
     {
         match self {
-            TypedExpr::Place(_, t) => t.view().element().is_some(),
+            TypedExpr::Place(_, t) => t.get().view().element().is_some(),
             TypedExpr::Value(_) => false,
             TypedExpr::Function(_, _) => false,
             TypedExpr::Intrinsic(_, _) => false,

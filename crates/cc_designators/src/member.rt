@@ -8,7 +8,7 @@ ghost use Rattle.cc_designators.specs.View.{designated_view, expr_view};
 ghost use Rattle.cc_operands.specs.Verdicts.{Judges};
 ghost use Rattle.cc_operands.specs.View.{operand_view};
 
-use crate::designated::{DesignatedType, TypedExpr, pointed_to};
+use crate::designated::{DesignatedType, TypedExpr, placed, pointed_to};
 use cc_num::{Boxed, Name, at};
 use cc_operands::{Breach, Operand, Rule};
 use cc_syntax::{CType, Place, Shape, Structure};
@@ -55,7 +55,7 @@ fn member_at(
     alloc: Global,
     structures: &[Structure],
     broken: Rule,
-    place: Place,
+    place: Boxed<Place>,
     t: &DesignatedType,
     position: Option<usize>,
 ) -> Result<TypedExpr, Breach>
@@ -69,10 +69,7 @@ fn member_at(
     };
     match t.member(alloc, structures, member)? {
         None => Err(Breach::Breaks(broken)),
-        Some(t) => {
-            let structure = Boxed::new(alloc, place)?;
-            Ok(TypedExpr::Place(Place::Member(structure, member), t))
-        }
+        Some(t) => Ok(placed(alloc, Place::Member(place, member), t)?),
     }
 }
 
@@ -82,7 +79,7 @@ fn member_in(
     structures: &[Structure],
     broken: Rule,
     name: &[u8],
-    place: Place,
+    place: Boxed<Place>,
     t: &DesignatedType,
 ) -> Result<TypedExpr, Breach>
     ensures { Judges expr_view result (member_in_of structures.now broken name.now place (designated_view t.now)) }
@@ -101,9 +98,11 @@ pub fn dot(
     ensures { Judges expr_view result (dot_of structures.now name.now (expr_view a)) }
 {
     match a {
-        TypedExpr::Place(place, t) => member_in(alloc, structures, Rule::Member, name, place, &t),
+        TypedExpr::Place(place, t) => {
+            member_in(alloc, structures, Rule::Member, name, place, t.get())
+        }
         TypedExpr::Value(x) => {
-            if x.is_void() {
+            if x.get().is_void() {
                 Err(Breach::Breaks(Rule::VoidUsed))
             } else {
                 Err(Breach::Breaks(Rule::Member))
@@ -129,13 +128,9 @@ pub fn arrow(
     }
     match pointed_to(p.ctype) {
         None => Err(Breach::Breaks(Rule::Arrow)),
-        Some(t) => member_in(
-            alloc,
-            structures,
-            Rule::Arrow,
-            name,
-            Place::Deref(p.value),
-            &t,
-        ),
+        Some(t) => {
+            let place = Boxed::new(alloc, Place::Deref(p.value))?;
+            member_in(alloc, structures, Rule::Arrow, name, place, &t)
+        }
     }
 }

@@ -6,7 +6,7 @@ ghost use Rattle.cc_operands.specs.Verdicts.{Judges};
 ghost use Rattle.cc_operands.specs.View.{operand_view};
 ghost use Rattle.cc_syntax.specs.Values.{address_of};
 
-use crate::designated::{DesignatedType, TypedExpr, pointed_to};
+use crate::designated::{DesignatedType, TypedExpr, placed, pointed_to};
 use cc_num::Boxed;
 use cc_operands::{Breach, Operand, OperandType, Rule, typed};
 use cc_syntax::{Expr, Place, Structure};
@@ -34,13 +34,13 @@ pub fn address(alloc: Global, a: TypedExpr) -> Result<Operand, Breach>
     ensures { Judges operand_view result (address_of_expr (expr_view a)) }
 {
     match a {
-        TypedExpr::Place(place, t) => place_address(alloc, place, t),
+        TypedExpr::Place(place, t) => place_address(alloc, place.into_inner(), t.into_inner()),
         TypedExpr::Function(f, sig) => {
             let value = Boxed::new(alloc, Expr::FuncAddr(f))?;
             Ok(typed(value, OperandType::ToFunction(sig)))
         }
         TypedExpr::Value(x) => {
-            if x.is_void() {
+            if x.get().is_void() {
                 Err(Breach::Breaks(Rule::VoidUsed))
             } else {
                 Err(Breach::Breaks(Rule::AddressOf))
@@ -52,7 +52,7 @@ pub fn address(alloc: Global, a: TypedExpr) -> Result<Operand, Breach>
 }
 
 /// `*p` (C99 6.5.3.2, 2), where p names no device.
-pub fn indirection(p: Operand) -> Result<TypedExpr, Breach>
+pub fn indirection(alloc: Global, p: Operand) -> Result<TypedExpr, Breach>
     ensures { Judges expr_view result (indirection_of (operand_view p)) }
 {
     if p.is_void() {
@@ -60,7 +60,7 @@ pub fn indirection(p: Operand) -> Result<TypedExpr, Breach>
     }
     match pointed_to(p.ctype) {
         None => Err(Breach::Breaks(Rule::Indirection)),
-        Some(t) => Ok(TypedExpr::Place(Place::Deref(p.value), t)),
+        Some(t) => Ok(placed(alloc, Place::Deref(p.value), t)?),
     }
 }
 
@@ -83,7 +83,7 @@ pub fn subscripted(
         None => Err(Breach::Breaks(Rule::Subscript)),
         Some(t) => {
             let moved = Boxed::new(alloc, Expr::Move(x.value, i.value, false))?;
-            Ok(TypedExpr::Place(Place::Deref(moved), t))
+            Ok(placed(alloc, Place::Deref(moved), t)?)
         }
     }
 }
@@ -91,7 +91,7 @@ pub fn subscripted(
 /// `a[i]` of an array that is a place (C99 6.5.2.1).
 pub fn element(
     alloc: Global,
-    place: Place,
+    place: Boxed<Place>,
     t: &DesignatedType,
     i: Operand,
 ) -> Result<TypedExpr, Breach>
@@ -105,9 +105,6 @@ pub fn element(
     }
     match t.element(alloc)? {
         None => Err(Breach::Breaks(Rule::Subscript)),
-        Some(of) => {
-            let array = Boxed::new(alloc, place)?;
-            Ok(TypedExpr::Place(Place::Element(array, i.value), of))
-        }
+        Some(of) => Ok(placed(alloc, Place::Element(place, i.value), of)?),
     }
 }

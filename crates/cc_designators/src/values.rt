@@ -17,16 +17,15 @@ use std::alloc::Global;
 /// The address of the first element of an array (C99 6.3.2.1, 3).
 fn first_element(
     alloc: Global,
-    place: Place,
+    place: Boxed<Place>,
     constant: bool,
     volatile: bool,
     of: &CType,
 ) -> Result<Operand, NoMemory>
     ensures { IfOk result (λ r. operand_view r ≡ first_element_of place constant volatile of.now) }
 {
-    let array = Boxed::new(alloc, place)?;
     let first = Boxed::new(alloc, Expr::Const(0, IntType::Int))?;
-    let value = Boxed::new(alloc, Expr::AddrOf(Place::Element(array, first)))?;
+    let value = Boxed::new(alloc, Expr::AddrOf(Place::Element(place, first)))?;
     let of = Boxed::new(alloc, of.copy(alloc)?)?;
     Ok(typed(value, OperandType::ToObject(constant, volatile, of)))
 }
@@ -34,7 +33,7 @@ fn first_element(
 /// The value of an object (C99 6.3.2.1, 2); that of a structure is read only member by member.
 fn loaded(
     alloc: Global,
-    place: Place,
+    place: Boxed<Place>,
     constant: bool,
     volatile: bool,
     t: &CType,
@@ -43,17 +42,17 @@ fn loaded(
 {
     match &t.shape {
         Shape::Int(i) => {
-            let value = Boxed::new(alloc, Expr::Load(place))?;
+            let value = Boxed::new(alloc, Expr::Load(place.into_inner()))?;
             Ok(typed(value, OperandType::Integer(*i)))
         }
         Shape::Pointer(to) => {
             let to = owned(alloc, pointer_to(to.get()))?;
-            let value = Boxed::new(alloc, Expr::Load(place))?;
+            let value = Boxed::new(alloc, Expr::Load(place.into_inner()))?;
             Ok(typed(value, to))
         }
         Shape::Array(of, _) => Ok(first_element(alloc, place, constant, volatile, of.get())?),
         Shape::Struct(_) => Ok(Operand {
-            value: Boxed::new(alloc, Expr::Load(place))?,
+            value: Boxed::new(alloc, Expr::Load(place.into_inner()))?,
             ctype: OperandType::NoValue,
             traps: false,
             structure: true,
@@ -64,19 +63,19 @@ fn loaded(
 }
 
 /// The value of a place: that of an object, or a pointer to an array's first element or to a function.
-pub fn value_at(alloc: Global, place: Place, t: DesignatedType) -> Result<Operand, Breach>
+pub fn value_at(alloc: Global, place: Boxed<Place>, t: DesignatedType) -> Result<Operand, Breach>
     ensures { Judges operand_view result (value_at_of place (designated_view t)) }
 {
     match t {
         DesignatedType::Device(_, t) => {
-            let value = Boxed::new(alloc, Expr::Load(place))?;
+            let value = Boxed::new(alloc, Expr::Load(place.into_inner()))?;
             Ok(typed(value, OperandType::Integer(t)))
         }
         DesignatedType::Object(constant, volatile, t) => {
             loaded(alloc, place, constant, volatile, t.get())
         }
         DesignatedType::Function(sig) => {
-            let value = Boxed::new(alloc, Expr::AddrOf(place))?;
+            let value = Boxed::new(alloc, Expr::AddrOf(place.into_inner()))?;
             Ok(typed(value, OperandType::ToFunction(sig)))
         }
     }
