@@ -1,0 +1,6 @@
+pub mod KnownLemmas
+pub mod LayoutLemmas
+pub mod LinkedLemmas
+pub mod Outcomes
+pub mod ScopeMaps
+pub mod States

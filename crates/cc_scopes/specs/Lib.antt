@@ -1,0 +1,10 @@
+pub mod Definitions
+pub mod Layouts
+pub mod Linked
+pub mod Maps
+pub mod Outcomes
+pub mod Standings
+pub mod State
+pub mod Structures
+pub mod Verdicts
+pub mod View

@@ -1,0 +1,151 @@
+//! The structure types of a unit.
+
+ghost use Rattle.std.specs.Prelude.{◌≡◌, IfOk, IsTrue};
+ghost use Rattle.std.specs.Option.{option_copied};
+ghost use Rattle.cc_scopes.specs.Standings.{are_kept};
+ghost use Rattle.cc_scopes.specs.State.{name_or_none};
+
+mod layouts;
+
+use crate::standing::Standing;
+use cc_num::{List, Name, NoMemory, at};
+use cc_program::copy_list;
+use cc_syntax::{CType, Layout, Structure};
+pub use layouts::{structure_layout, type_layout_in};
+use std::alloc::Global;
+
+/// The structures, in order of first appearance, and the order in which they were complete.
+#[derive(Drop)]
+pub struct Structures {
+    pub all: Vec<Structure>,
+    pub standings: Vec<Standing>,
+    pub layouts: Vec<Layout>,
+    pub completed: Vec<u32>,
+    ghost kept: { IsTrue (are_kept all.items standings.items layouts.items) },
+}
+
+impl Structures {
+    ghost use Rattle.std.specs.Prelude.{◌≡◌, ◌++◌, ◌∷◌, [], OnOk, map, slice_get};
+    ghost use Rattle.cc_scopes.specs.State.{as_structure, change_at, only_named};
+    ghost use Rattle.cc_scopes.specs.Standings.{completed_with, with_alias};
+    ghost use Rattle.cc_scopes.specs.Structures.{has_content as has_content_of};
+    ghost use Rattle.cc_scopes.specs.View.{known_of};
+
+    /// There are none.
+    #[tactic(auto, using(crate::proofs::KnownLemmas::of_known), unfolding(crate::specs::View::known_of))]
+    pub fn new(alloc: Global) -> Structures
+        ensures known { known_of result ≡ [] }
+        ensures completed { result.completed.items ≡ [] }
+    {
+        Structures {
+            all: Vec::new(alloc),
+            standings: Vec::new(alloc),
+            layouts: Vec::new(alloc),
+            completed: Vec::new(alloc),
+        }
+    }
+
+    /// Their tags and members.
+    #[tactic(auto, using(crate::proofs::KnownLemmas::of_known), unfolding(crate::specs::View::known_of))]
+    pub fn all(&self) -> &[Structure]
+        ensures { result.now ≡ map as_structure (known_of self.now) }
+    {
+        self.all.as_slice()
+    }
+
+    /// Their layouts.
+    #[tactic(auto, using(crate::proofs::KnownLemmas::of_known), unfolding(crate::specs::View::known_of))]
+    pub fn layouts(&self) -> &[Layout]
+        ensures { result.now ≡ map (λ k. k.layout) (known_of self.now) }
+    {
+        self.layouts.as_slice()
+    }
+
+    /// Whether one is complete.
+    #[tactic(auto, using(crate::proofs::KnownLemmas::of_known), unfolding(crate::specs::View::known_of))]
+    pub fn has_content(&self, id: u32) -> bool
+        ensures { result ≡ has_content_of (slice_get (known_of self.now) id) }
+    {
+        match at(self.standings.as_slice(), id as usize) {
+            None => false,
+            Some(standing) => standing.complete,
+        }
+    }
+
+    /// One more, which is only named.
+    #[tactic(auto, using(crate::proofs::KnownLemmas::of_known), unfolding(crate::specs::View::known_of))]
+    pub fn add(&mut self, alloc: Global, tag: Option<&Name>) -> Result<(), NoMemory>
+        ensures known { OnOk result (known_of self.new ≡ known_of self.old ++ only_named (option_copied tag.entry) ∷ []) }
+        ensures completed { OnOk result (self.new.completed.items ≡ self.old.completed.items) }
+    {
+        let structure = Structure {
+            tag: tag_or_none(alloc, tag)?,
+            members: List::of(Vec::new(alloc)),
+        };
+        let standing = Standing {
+            tagged: tag.is_some(),
+            alias: None,
+            complete: false,
+        };
+        self.all.push(structure)?;
+        if self.standings.push(standing).is_err() {
+            self.all.pop();
+            return Err(NoMemory);
+        }
+        if self.layouts.push(NOTHING).is_err() {
+            self.all.pop();
+            self.standings.pop();
+            return Err(NoMemory);
+        }
+        Ok(())
+    }
+
+    /// One is complete, with these members and this layout.
+    #[tactic(auto, using(crate::proofs::KnownLemmas::of_known), unfolding(crate::specs::View::known_of))]
+    pub fn complete(
+        &mut self,
+        id: u32,
+        members: List<(Name, CType)>,
+        layout: Layout,
+    ) -> Result<(), NoMemory>
+        ensures known { OnOk result (known_of self.new ≡ change_at id (completed_with members layout) (known_of self.old)) }
+        ensures completed { OnOk result (self.new.completed.items ≡ self.old.completed.items ++ id ∷ []) }
+    {
+        self.completed.push(id)?;
+        let id = id as usize;
+        if id < self.all.len() {
+            let structure = &mut self.all[id];
+            structure.members = members;
+            let standing = &mut self.standings[id];
+            standing.complete = true;
+            self.layouts[id] = layout;
+        }
+        Ok(())
+    }
+
+    /// The typedef that defines one has this first name.
+    #[tactic(auto, using(crate::proofs::KnownLemmas::of_known), unfolding(crate::specs::View::known_of))]
+    pub fn set_alias(&mut self, id: u32, alias: Option<Name>)
+        ensures known { known_of self.new ≡ change_at id (with_alias alias) (known_of self.old) }
+        ensures completed { self.new.completed.items ≡ self.old.completed.items }
+    {
+        let id = id as usize;
+        if id < self.standings.len() {
+            let standing = &mut self.standings[id];
+            standing.alias = alias;
+        }
+    }
+}
+
+/// The layout of what has no objects.
+const NOTHING: Layout = Layout { size: 0, align: 1 };
+
+/// The tag of a structure; nothing where it has none.
+fn tag_or_none(alloc: Global, tag: Option<&Name>) -> Result<Name, NoMemory>
+    ensures { IfOk result (λ r. r ≡ name_or_none (option_copied tag.entry)) }
+{
+    match tag {
+        None => Ok(List::of(Vec::new(alloc))),
+        Some(tag) => copy_list(alloc, tag),
+    }
+}
