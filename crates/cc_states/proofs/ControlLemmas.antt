@@ -50,7 +50,7 @@ module _ (p : Program) (f : Func) where
   opening_sound is.Empty b c h = refl
   opening_sound (is.Block body) b c h = mapped_list b c body h
 
-  statement_sound : (s : Stmt) (b c : Bool) → is_sound_stmt p f s b c ≡ true → sound_step p f (parts p f (out-Stmt s)) b c ≡ true
+  pub statement_sound : (s : Stmt) (b c : Bool) → is_sound_stmt p f s b c ≡ true → sound_step p f (parts p f (out-Stmt s)) b c ≡ true
   statement_sound s b c h = ap (λ (g : SoundWhere). g b c) (sym (sound-opens p f s)) ∙ h
 
   -- wherever it stands, what it begins with is sound
@@ -105,7 +105,7 @@ module _ (p : Program) (f : Func) where
       either_way (first_is is_loop at.rest) (at, around) (close (behind_first at.rest) (counted (at.position + 1)) around) k
       (close_sound (behind_first at.rest) (counted (at.position + 1)) around (tail_sound around at.rest k.0) k.1)
 
-  behind_sound : (at : Level) (around : List Level) → AreSound p f (at ∷ around) → Stands (behind at around)
+  pub behind_sound : (at : Level) (around : List Level) → AreSound p f (at ∷ around) → Stands (behind at around)
   behind_sound at around k = close_sound (behind_first at.rest) (counted (at.position + 1)) around (tail_sound around at.rest k.0) k.1
 
   broken_sound : (around : List Level) → AreSound p f around → Stands (broken around)

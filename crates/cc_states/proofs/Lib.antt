@@ -1,10 +1,17 @@
+pub mod ActiveLemmas
 pub mod AlikeLemmas
 pub mod ControlLemmas
 pub mod EvalTypes
+pub mod KeepLemmas
 pub mod Options
+pub mod PathLemmas
 pub mod SameLemmas
 pub mod SoundLemmas
 pub mod SpotLemmas
+pub mod StartLemmas
 pub mod StateLemmas
+pub mod StepLemmas
+pub mod TakenLemmas
+pub mod TurnLemmas
 pub mod TypedLemmas
 pub mod Works

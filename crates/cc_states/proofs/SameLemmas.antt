@@ -12,7 +12,7 @@ use Rattle.cc_program.proofs.Each.{Each}
 use Rattle.cc_program.proofs.Levels.{sig_of_fields}
 use Rattle.cc_program.proofs.TypeInduction.{with_shape, TypeParts, SigParts, by_type, by_sig}
 use Rattle.cc_syntax.specs.Pairs.{all_pairs}
-use Rattle.cc_syntax.specs.SameTypes.{same_int, same_flag, Comparison, is_void_shape, is_int_shape, is_pointer_shape, is_array_shape, is_struct_shape, is_func_shape, compare_shape, compare_type, compare_sig, comparison_of, shape_comparison, same_sig, same_type, alike}
+use Rattle.cc_syntax.specs.SameTypes.{same_int, same_flag, Comparison, is_void_shape, is_int_shape, is_pointer_shape, is_array_shape, is_struct_shape, is_func_shape, compare_shape, compare_type, compare_sig, comparison_of, shape_comparison, same_sig, same_type, same_shape, alike}
 use Rattle.cc_syntax.proofs.Prefixes.{both_true}
 
 pub int_same : (s t : IntType) → same_int s t ≡ true → s ≡ t
@@ -46,7 +46,7 @@ void_there (shape.Array t n) h = absurd (cc)
 void_there (shape.Struct i) h = absurd (cc)
 void_there (shape.Func s) h = absurd (cc)
 
-int_there : (i : IntType) (y : shape.Shape-F Shape CType Sig) → is_int_shape i y ≡ true → y ≡ shape.Int i
+pub int_there : (i : IntType) (y : shape.Shape-F Shape CType Sig) → is_int_shape i y ≡ true → y ≡ shape.Int i
 int_there i (shape.Int t) h = ap (λ (x : IntType). shape.Int x) (sym (int_same i t h))
 int_there i shape.Void h = absurd (cc)
 int_there i (shape.Pointer t) h = absurd (cc)
@@ -246,3 +246,10 @@ sig_compared = by_sig IsCompared IsSigCompared (λ constant volatile x h. made_t
 pub arrays_compared : (t u of other : CType) (n : ℕ) → out-Shape t.shape ≡ shape.Array of n → out-Shape u.shape ≡ shape.Array other n → alike of other ≡ true → alike t u ≡ true
 arrays_compared t u of other n e f h =
     alike-at t u (shape.Array of n) e ∙ ap (is_array_shape (alike of) n) f ∙ and_true (eqb n n) (alike of other) (eq-eqb n n refl) h
+
+-- types of which the shapes pass have one shape
+pub shape_of_same : (t u : CType) → same_shape t.shape u.shape ≡ true → t.shape ≡ u.shape
+shape_of_same t u h =
+    ap (λ (x : CType). x.shape) ((compared t).same (with_shape t.constant t.volatile u.shape)
+    (ap (λ (c : Comparison CType). c.same (with_shape t.constant t.volatile u.shape)) (type-opens t)
+    ∙ and_true (same_flag t.constant t.constant) (same_flag t.volatile t.volatile && same_shape t.shape u.shape) (flag_itself t.constant) (and_true (same_flag t.volatile t.volatile) (same_shape t.shape u.shape) (flag_itself t.volatile) h)))

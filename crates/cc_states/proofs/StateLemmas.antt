@@ -1,7 +1,9 @@
 -- In a state of a sound program what the next step needs is there.
 use Rattle.std.proofs.Common.{◌≡◌, ℕ, suc, Bool, true, false, List, [], ◌∷◌, length, Option, Some, None, refl, ap, sym, ◌∙◌, subst}
 use Rattle.std.proofs.lemmas.Bool.{eqb-true}
+use Rattle.std.proofs.lemmas.List.Elements.{All-nil, All-cons}
 use Rattle.std.proofs.lemmas.Option.{same_Some}
+use Rattle.std.specs.List.{All}
 use Rattle.std.specs.Prelude.{option_map, option_and_then, slice_get, if◌then◌else◌, ◌==◌}
 use Rattle.cc_program.specs.declared.expr.Expr.{Expr}
 use Rattle.cc_program.specs.declared.func.Func.{Func}
@@ -36,7 +38,7 @@ use Rattle.cc_syntax.specs.Values.{ValueType, Integer, PlaceType, object_place, 
 use Rattle.cc_syntax.proofs.Parts.{all_at}
 use Rattle.cc_states.specs.Answers.{IsAction, IsCall}
 use Rattle.cc_states.specs.States.{AreStatics, expression_of, AreMarks, context_in, IsActive, AreActive, IsState, local_scalar, IsCellThere, IsCalleeThere, IsPossible}
-use Rattle.cc_states.specs.Typed.{cell_type, IsThere, AreArguments}
+use Rattle.cc_states.specs.Typed.{HasType, MayHave, cell_type, IsThere, AreArguments}
 use Rattle.cc_states.proofs.EvalTypes.{meaning_typed}
 use Rattle.cc_states.proofs.Options.{mapped}
 use Rattle.cc_states.proofs.SoundLemmas.{level_typed}
@@ -51,27 +53,27 @@ module _ (p : Program) (openings : List ℕ) where
       let t = level_typed p h.func a.here a.around h.control e' e in
       (meaning_typed (context_in p a h.func) openings (record { function = h.function; number = h.number }) e' t.0 (type_linked (context_in p a h.func) e' ∙ t.1) no_one).waits a.marks action m w
 
-  asked : (a : Active) → IsActive p openings a → (action : Action) → progress_of p a (expression_of a) ≡ Waits action → IsAction p openings action
+  pub asked : (a : Active) → IsActive p openings a → (action : Action) → progress_of p a (expression_of a) ≡ Waits action → IsAction p openings action
   asked a h action w =
       asked_by a h action (expression_of a) refl h.marks (ap (λ (f : Option Func). progress_in p a.number a.func a.marks f (expression_of a)) (sym h.function) ∙ w)
 
   -- ---- cells
 
-  nothing_there : {C : Type 0} (w : ValueType) (x : Option ValueType) → x ≡ None → x ≡ Some w → C
+  pub nothing_there : {C : Type 0} (w : ValueType) (x : Option ValueType) → x ≡ None → x ≡ Some w → C
   nothing_there w x h k = absurd (cc)
 
-  static_there : (statics : List (List Value)) (i : ℕ) (path : List Part) (w : ValueType) (x : Option Object) → AreStatics p openings statics → slice_get p.objects i ≡ x → cell_type p (cell.At (root.Static i) path) ≡ Some w →
-      (v : Value) × (scalar_in statics i (cell_position p (root.Static i) path) ≡ Some v)
+  pub static_there : (statics : List (List Value)) (i : ℕ) (path : List Part) (w : ValueType) (x : Option Object) → AreStatics p openings statics → slice_get p.objects i ≡ x → cell_type p (cell.At (root.Static i) path) ≡ Some w →
+      (v : Value) × (scalar_in statics i (cell_position p (root.Static i) path) ≡ Some v) × HasType p openings w v
   static_there statics i path w None h e k =
       nothing_there w _ (ap (λ (y : Option Object). of_one (of_one (option_map (λ (o : Object). object_place o.ctype) y) (place_at p.structures path)) read_from) e) k
   static_there statics i path w (Some o) h e k =
       let place : object_type p (root.Static i) ≡ Some (object_place o.ctype) = ap (option_map (λ (o : Object). object_place o.ctype)) e in
       let values = h i o e in
       let v = values.2 path w (ap (λ (y : Option PlaceType). of_one (of_one y (place_at p.structures path)) read_from) (sym place) ∙ k) in
-      (v.0, ap (option_and_then (λ scalars. slice_get scalars (cell_position p (root.Static i) path))) values.1 ∙ ap (λ (y : Option PlaceType). slice_get values.0 (position p.structures path y)) place ∙ v.1)
+      (v.0, ap (option_and_then (λ scalars. slice_get scalars (cell_position p (root.Static i) path))) values.1 ∙ ap (λ (y : Option PlaceType). slice_get values.0 (position p.structures path y)) place ∙ v.1, v.2)
 
-  local_in : (a : Active) (h : IsActive p openings a) (number local : ℕ) (path : List Part) (w : ValueType) (x : Option Named) → slice_get h.func.locals local ≡ x → cell_type p (cell.At (root.Auto number a.func local) path) ≡ Some w →
-      (v : Option Value) × (scalar_in a.locals local (cell_position p (root.Auto number a.func local) path) ≡ Some v)
+  pub local_in : (a : Active) (h : IsActive p openings a) (number local : ℕ) (path : List Part) (w : ValueType) (x : Option Named) → slice_get h.func.locals local ≡ x → cell_type p (cell.At (root.Auto number a.func local) path) ≡ Some w →
+      (v : Option Value) × (scalar_in a.locals local (cell_position p (root.Auto number a.func local) path) ≡ Some v) × MayHave p openings w v
   local_in a h number local path w None e k =
       nothing_there w _ (ap (λ (y : Option Func). of_one (of_one (local_type local y) (place_at p.structures path)) read_from) h.function
       ∙ ap (λ (y : Option Named). of_one (of_one (option_map (λ (l : Named). object_place l.1) y) (place_at p.structures path)) read_from) e) k
@@ -79,9 +81,9 @@ module _ (p : Program) (openings : List ℕ) where
       let place : object_type p (root.Auto number a.func local) ≡ Some (object_place l.1) = ap (local_type local) h.function ∙ ap (option_map (λ (l : Named). object_place l.1)) e in
       let values = h.locals local l e in
       let v = values.2 path w (ap (λ (y : Option PlaceType). of_one (of_one y (place_at p.structures path)) read_from) (sym place) ∙ k) in
-      (v.0, ap (option_and_then (λ scalars. slice_get scalars (cell_position p (root.Auto number a.func local) path))) values.1 ∙ ap (λ (y : Option PlaceType). slice_get values.0 (position p.structures path y)) place ∙ v.1)
+      (v.0, ap (option_and_then (λ scalars. slice_get scalars (cell_position p (root.Auto number a.func local) path))) values.1 ∙ ap (λ (y : Option PlaceType). slice_get values.0 (position p.structures path y)) place ∙ v.1, v.2)
 
-  same_opening : (number func other : ℕ) → slice_get openings number ≡ Some func → slice_get openings number ≡ Some other → func ≡ other
+  pub same_opening : (number func other : ℕ) → slice_get openings number ≡ Some func → slice_get openings number ≡ Some other → func ≡ other
   same_opening number func other h k = same_Some func other (sym h ∙ k)
 
   abbrev LocalThere : List Active → ℕ → ℕ → ℕ → Type 0
@@ -93,10 +95,10 @@ module _ (p : Program) (openings : List ℕ) where
   local_here a h below number func local path w true e o k is_there next =
       let same : a.func ≡ func = same_opening number a.func func (subst (λ (n : ℕ). slice_get openings n ≡ Some a.func) (eqb-true a.number number e) h.number) o in
       subst (λ (f : ℕ). (v : Option Value) × (scalar_in a.locals local (cell_position p (root.Auto number f local) path) ≡ Some v)) same
-      (local_in a h number local path w (slice_get h.func.locals local) refl (subst (λ (f : ℕ). cell_type p (cell.At (root.Auto number f local) path) ≡ Some w) (sym same) k))
+      (let v = local_in a h number local path w (slice_get h.func.locals local) refl (subst (λ (f : ℕ). cell_type p (cell.At (root.Auto number f local) path) ≡ Some w) (sym same) k) in (v.0, v.1))
   local_here a h below number func local path w false e o k is_there next = next is_there
 
-  local_there : (stack : List Active) → AreActive p openings stack → (number func local : ℕ) (path : List Part) (w : ValueType) → slice_get openings number ≡ Some func → cell_type p (cell.At (root.Auto number func local) path) ≡ Some w →
+  pub local_there : (stack : List Active) → AreActive p openings stack → (number func local : ℕ) (path : List Part) (w : ValueType) → slice_get openings number ≡ Some func → cell_type p (cell.At (root.Auto number func local) path) ≡ Some w →
       is_open stack number ≡ true → LocalThere stack number local (cell_position p (root.Auto number func local) path)
   local_there [] h number func local path w o k e = absurd (cc)
   local_there (a ∷ below) h number func local path w o k e =
@@ -107,7 +109,7 @@ module _ (p : Program) (openings : List ℕ) where
 
   cell_there : (s : State) (at : Cell) (w : ValueType) → AreStatics p openings s.memory.statics → AreActive p openings s.stack → cell_type p at ≡ Some w → IsThere openings at → IsCellThere p s at
   cell_there s (cell.Device d) w h k e t = device_there d w e
-  cell_there s (cell.At (root.Static i) path) w h k e t = static_there s.memory.statics i path w (slice_get p.objects i) h refl e
+  cell_there s (cell.At (root.Static i) path) w h k e t = let v = static_there s.memory.statics i path w (slice_get p.objects i) h refl e in (v.0, v.1)
   cell_there s (cell.At (root.Auto number func local) path) w h k e t = λ is_there. local_there s.stack k number func local path w t e is_there
 
   -- ---- calls
@@ -124,7 +126,7 @@ module _ (p : Program) (openings : List ℕ) where
       (h.0, h.1, as_many (out-Sig h.0.sig).params args h.2 ∙ sym (eqb-true h.0.params (length (out-Sig h.0.sig).params) (all_at (IsFunc p) p.funcs f h.0 h.1 sound.funcs).count))
   callee_there sound (address.At object path index count) args h = tt
 
-  possible : IsSound p → (s : State) → AreStatics p openings s.memory.statics → AreActive p openings s.stack → (action : Action) → IsAction p openings action → IsPossible p s action
+  pub possible : IsSound p → (s : State) → AreStatics p openings s.memory.statics → AreActive p openings s.stack → (action : Action) → IsAction p openings action → IsPossible p s action
   possible sound s h k (Read at manner) i = cell_there s at i.0 h k i.1 i.2
   possible sound s h k (Write at is_event v) i = cell_there s at i.0 h k i.1 i.2
   possible sound s h k (Choose b) i = tt
@@ -132,12 +134,20 @@ module _ (p : Program) (openings : List ℕ) where
   possible sound s h k (Flag on) i = tt
   possible sound s h k Save i = tt
 
+module _ (p : Program) (openings : List ℕ) where
+  abbrev FunctionThere : Active → Type 0
+  FunctionThere a = (f : Func) × (slice_get p.funcs a.func ≡ Some f)
+
+  pub functions_there : (stack : List Active) → AreActive p openings stack → All FunctionThere stack
+  functions_there [] h = All-nil FunctionThere
+  functions_there (a ∷ below) h = All-cons FunctionThere a below (h.0.func, h.0.function) (functions_there below h.1)
+
 module _ (p : Program) (sound : IsSound p) (s : State) (h : IsState p s) (a : Active) (below : List Active) (top : s.stack ≡ a ∷ below) where
-  on_top : IsActive p h.openings a
-  on_top = (subst (AreActive p h.openings) top h.stack).0
+  on_top : IsActive p h.0 a
+  on_top = (subst (AreActive p h.0) top h.1.stack).0
 
   pub step_possible : (action : Action) → progress_of p a (expression_of a) ≡ Waits action → IsPossible p s action
-  step_possible action w = possible p h.openings sound s h.statics h.stack action (asked p h.openings a on_top action w)
+  step_possible action w = possible p h.0 sound s h.1.statics h.1.stack action (asked p h.0 a on_top action w)
 
   pub expression_typed : (e : Expr) → expression_of a ≡ Some e → (f : Func) × (t : ValueType) × (slice_get p.funcs a.func ≡ Some f) × (type_of p f.locals e ≡ Some t)
   expression_typed e k =

@@ -107,14 +107,16 @@ AreCalled p [] = Unit {0}
 AreCalled p (a ∷ []) = (a.func ≡ p.main) × (a.handler ≡ false)
 AreCalled p (a ∷ b ∷ below) = (a.handler ≡ false → (args : List Value) × (progress_of p b (expression_of b) ≡ Waits (Call (address.Func a.func) args))) × AreCalled p (b ∷ below)
 
--- there are the functions of the activations that were opened so far, by their numbers, with which all is as it should be
-pub record IsState (p : Program) (s : State) : Type 0 where
-  pub openings : List ℕ
+-- where activations of these functions were opened so far, by their numbers
+pub record IsStateOf (p : Program) (openings : List ℕ) (s : State) : Type 0 where
   pub count : length openings ≡ s.opened
   pub statics : AreStatics p openings s.memory.statics
   pub stack : AreActive p openings s.stack
   pub called : AreCalled p s.stack
   pub running : is_going s.end ≡ true → (a : Active) × (below : List Active) × (s.stack ≡ a ∷ below)
+
+abbrev pub IsState : Program → State → Type 0
+IsState p s = (openings : List ℕ) × IsStateOf p openings s
 
 -- ---- what a step needs
 

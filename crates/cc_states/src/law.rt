@@ -1,11 +1,20 @@
-ghost use Rattle.std.specs.Prelude.{◌≡◌, ℕ, true, List, [], ◌∷◌, Some, slice_get};
+ghost use Rattle.std.specs.Prelude.{◌≡◌, ℕ, ℤ, All, true, List, [], ◌∷◌, Option, Some, slice_get, slice_set};
+ghost use Rattle.cc_num.specs.declared.int_type.IntType.{IntType};
+ghost use Rattle.cc_num.specs.declared.op.BinOp.{BinOp};
+ghost use Rattle.cc_num.specs.declared.op.UnOp.{UnOp};
+ghost use Rattle.cc_num.specs.Integers.{converted};
 ghost use Rattle.cc_program.specs.declared.expr.Expr.{Expr};
 ghost use Rattle.cc_program.specs.declared.expr.Place.{Place};
 ghost use Rattle.cc_program.specs.declared.func.Func.{Func};
 ghost use Rattle.cc_program.specs.declared.program.Program.{Program};
+ghost use Rattle.cc_program.specs.declared.stmt.Case.{Case};
 ghost use Rattle.cc_program.specs.declared.stmt.Stmt.{Stmt, out-Stmt};
 ghost use Rattle.cc_program.specs.declared.stmt.Stmt.TheOpen as is;
+ghost use Rattle.cc_program.specs.declared.types.CType.{CType};
+ghost use Rattle.cc_program.specs.declared.value.Part.{Part};
 ghost use Rattle.cc_program.specs.declared.value.Value.{Value};
+ghost use Rattle.cc_program.specs.declared.value.Value.TheVariants.{Int};
+ghost use Rattle.cc_cells.specs.Scalars.{zeros, position};
 ghost use Rattle.cc_control.specs.Control.{close};
 ghost use Rattle.cc_eval.specs.declared.action.Action.{Action};
 ghost use Rattle.cc_eval.specs.declared.mark.Mark.{Mark};
@@ -13,15 +22,20 @@ ghost use Rattle.cc_eval.specs.declared.spots.Spot.{Spot};
 ghost use Rattle.cc_eval.specs.Context.{Context};
 ghost use Rattle.cc_eval.specs.Eval.{meaning, designation};
 ghost use Rattle.cc_eval.specs.Progress.{Known, Waits};
+ghost use Rattle.cc_meaning.specs.Runs.{Arrivals, run};
 ghost use Rattle.cc_meaning.specs.State.{Active, State};
 ghost use Rattle.cc_meaning.specs.Step.{progress_of, next_place};
+ghost use Rattle.cc_meaning.specs.Turn.{start, turn};
 ghost use Rattle.cc_syntax.specs.Effects.{Registers};
-ghost use Rattle.cc_syntax.specs.Expressions.{type_of, place_type};
+ghost use Rattle.cc_syntax.specs.Expressions.{of_one, type_of, place_type};
+ghost use Rattle.cc_syntax.specs.Initial.{place_at};
+ghost use Rattle.cc_syntax.specs.Operators.{unary_type, binary_type, changes_by};
 ghost use Rattle.cc_syntax.specs.Sound.{IsSound};
 ghost use Rattle.cc_syntax.specs.Statements.{is_sound_body};
-ghost use Rattle.cc_syntax.specs.Values.{ValueType, PlaceType};
+ghost use Rattle.cc_syntax.specs.Values.{ValueType, PlaceType, object_place, read_from};
+ghost use Rattle.cc_values.specs.Values.{takes, takes_both};
 ghost use Rattle.cc_states.specs.Answers.{IsActivation, AreAnswers, IsAction};
-ghost use Rattle.cc_states.specs.States.{may_break, may_continue, AreSound, expression_of, IsState, IsPossible};
+ghost use Rattle.cc_states.specs.States.{AreScalars, may_break, may_continue, AreSound, expression_of, IsState, IsPossible};
 ghost use Rattle.cc_states.specs.Typed.{HasType, IsSpot};
 
 /// What holds of expressions and places that have types, in an activation of their function, where each mark answers what was
@@ -36,6 +50,13 @@ pub fn expression_laws()
     // A step that one asks for can be done: its cell is there, what is called is a function that takes the arguments, and values have the types that they are taken in.
     ensures steps { (c : Context) (openings : List ℕ) → IsActivation c openings → (e : Expr) (t : ValueType) → type_of c.program c.func.locals e ≡ Some t →
         (later : Registers) (ms : List Mark) (action : Action) → AreAnswers c.program openings ((meaning c e).next later) ms → (meaning c e).next later ms ≡ Waits action → IsAction c.program openings action }
+
+    // Operators are worked on values that they take.
+    ensures unary { (p : Program) (openings : List ℕ) (o : UnOp) (t : IntType) (a r : ValueType) → unary_type p.target o t a ≡ Some r → (x : Value) → HasType p openings a x → (n : ℤ) × (x ≡ Int n) × (takes t p.target n ≡ true) }
+    ensures binary { (p : Program) (openings : List ℕ) (o : BinOp) (t : IntType) (a b r : ValueType) → binary_type p.target o t a b ≡ Some r → (x y : Value) → HasType p openings a x → HasType p openings b y →
+        (m : ℤ) × (n : ℤ) × (x ≡ Int m) × (y ≡ Int n) × (takes_both o t p.target m n ≡ true) }
+    ensures changes { (p : Program) (openings : List ℕ) (s t : IntType) (o : BinOp) (e : ValueType) → changes_by p.target s o t e ≡ true → (m : ℤ) (y : Value) → HasType p openings e y →
+        (n : ℤ) × (y ≡ Int n) × (takes_both o t p.target (converted m t p.target) n ≡ true) }
 {}
 
 /// What holds in a state of a sound program: what its next step needs is there. The call does nothing.
@@ -44,9 +65,18 @@ pub fn state_laws()
     ensures expressions { (p : Program) → IsSound p → (s : State) → IsState p s → (a : Active) (below : List Active) → s.stack ≡ a ∷ below →
         (e : Expr) → expression_of a ≡ Some e → (f : Func) × (t : ValueType) × (slice_get p.funcs a.func ≡ Some f) × (type_of p f.locals e ≡ Some t) }
 
+    // The function of each activation is there.
+    ensures functions { (p : Program) → IsSound p → (s : State) → IsState p s → All (λ a. (f : Func) × (slice_get p.funcs a.func ≡ Some f)) s.stack }
+
     // What is read or written is there, or is of an activation that has ended; a function that is called is there, and takes as many arguments.
     ensures steps { (p : Program) → IsSound p → (s : State) → IsState p s → (a : Active) (below : List Active) → s.stack ≡ a ∷ below →
         (action : Action) → progress_of p a (expression_of a) ≡ Waits action → IsPossible p s action }
+
+    // What a `switch` chooses by is an integer, and so is what main gives at the end.
+    ensures switches { (p : Program) → IsSound p → (s : State) → IsState p s → (a : Active) (below : List Active) → s.stack ≡ a ∷ below → (b : Stmt) (rest : List Stmt) → a.here.rest ≡ b ∷ rest →
+        (e : Expr) (cases : List Case) (v : Value) (ms : List Mark) → out-Stmt b ≡ is.Switch e cases → progress_of p a (Some e) ≡ Known (Some v) ms → (n : ℤ) × (v ≡ Int n) }
+    ensures exits { (p : Program) → IsSound p → (s : State) → IsState p s → (a : Active) (below : List Active) → s.stack ≡ a ∷ below → (b : Stmt) (rest : List Stmt) → a.here.rest ≡ b ∷ rest →
+        (e : Expr) (v : Value) (ms : List Mark) → below ≡ [] → out-Stmt b ≡ is.Return (Some e) → progress_of p a (Some e) ≡ Known (Some v) ms → (n : ℤ) × (v ≡ Int n) }
 
     // An activation stands inside its function: from there it goes on to where what is left of each list is sound, and it begins there.
     ensures places { (p : Program) (f : Func) (a : Active) (s : Stmt) (rest : List Stmt) → a.here.rest ≡ s ∷ rest → AreSound p f (a.here ∷ a.around) →
@@ -54,4 +84,19 @@ pub fn state_laws()
     ensures bodies { (p : Program) (f : Func) → is_sound_body p f f.body ≡ true → AreSound p f ((close f.body 0 []).0 ∷ (close f.body 0 []).1) }
     ensures breaks { (p : Program) (f : Func) (a : Active) (s : Stmt) (rest : List Stmt) → a.here.rest ≡ s ∷ rest → AreSound p f (a.here ∷ a.around) → out-Stmt s ≡ is.Break → may_break a.around ≡ true }
     ensures continues { (p : Program) (f : Func) (a : Active) (s : Stmt) (rest : List Stmt) → a.here.rest ≡ s ∷ rest → AreSound p f (a.here ∷ a.around) → out-Stmt s ≡ is.Continue → may_continue a.around ≡ true }
+
+    // What no value is given for starts as a value of its type, at the position of each path to a scalar.
+    ensures firsts { (p : Program) → IsSound p → (openings : List ℕ) (t : CType) → AreScalars p (HasType p openings) t (zeros p.structures t) }
+
+    // A write of a value of its type keeps the types of all scalars of an object.
+    ensures writes { (p : Program) → IsSound p → (openings : List ℕ) (t : CType) (values : List Value) → AreScalars p (HasType p openings) t values →
+        (path : List Part) (w : ValueType) → of_one (place_at p.structures path (object_place t)) read_from ≡ Some w → (v : Value) → HasType p openings w v →
+        AreScalars p (HasType p openings) t (slice_set values (position p.structures path (Some (object_place t))) v) }
+
+    // Before the first turn, whatever the inputs are, there is a state of the program.
+    ensures starts { (p : Program) → IsSound p → (inputs : List ℤ) → IsState p (start p inputs) }
+
+    // Each turn leads from a state of the program to one.
+    ensures turns { (p : Program) → IsSound p → (s : State) → IsState p s → (arrival : Option ℕ) → IsState p (turn p s arrival) }
+    ensures runs { (p : Program) → IsSound p → (inputs : List ℤ) (arrivals : Arrivals) → IsState p (run p (start p inputs) arrivals) }
 {}

@@ -1,3 +1,4 @@
+use Rattle.cc_states.proofs.TakenLemmas.{taken_one, taken_two, taken_change}
 use Rattle.std.proofs.Common.{◌∙◌}
 use Rattle.cc_eval.proofs.Links.{type_linked, place_type_linked}
 use Rattle.cc_states.proofs.EvalTypes.{meaning_typed, designation_typed}
@@ -11,3 +12,12 @@ returns-clause-places g = λ c openings here a t h later ms rest s answers k. ((
 
 pub returns-clause-steps : goal.returns-clause-steps
 returns-clause-steps g = λ c openings here e t h later ms action answers k. (meaning_typed c openings here e t (type_linked c e ∙ h) later).waits ms action answers k
+
+pub returns-clause-unary : goal.returns-clause-unary
+returns-clause-unary g = λ p openings o t a r e x h. taken_one p openings o t a r e x h
+
+pub returns-clause-binary : goal.returns-clause-binary
+returns-clause-binary g = λ p openings o t a b r e x y h k. taken_two p openings o t a b r e x y h k
+
+pub returns-clause-changes : goal.returns-clause-changes
+returns-clause-changes g = λ p openings s t o e c m y h. taken_change p openings s t o e c m y h

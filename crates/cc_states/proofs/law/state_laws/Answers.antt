@@ -1,5 +1,10 @@
+use Rattle.cc_states.proofs.StartLemmas.{start_state, run_state}
+use Rattle.cc_states.proofs.TurnLemmas.{turn_state, switched_integer, exit_integer}
 use Rattle.cc_states.proofs.ControlLemmas.{next_sound, body_sound, may_break_there, may_continue_there}
-use Rattle.cc_states.proofs.StateLemmas.{step_possible, expression_typed}
+use Rattle.cc_meaning.proofs.TurnLemmas.{sound-sized}
+use Rattle.cc_states.proofs.PathLemmas.{zeros_typed, written_typed}
+use Rattle.cc_states.specs.Typed.{HasType}
+use Rattle.cc_states.proofs.StateLemmas.{step_possible, expression_typed, functions_there}
 use Rattle.cc_states.proofs.law.state_laws.Goals as goal
 
 pub returns-clause-expressions : goal.returns-clause-expressions
@@ -19,3 +24,27 @@ returns-clause-breaks c = λ p f a s rest here sound e. may_break_there p f a s 
 
 pub returns-clause-continues : goal.returns-clause-continues
 returns-clause-continues c = λ p f a s rest here sound e. may_continue_there p f a s rest here sound e
+
+pub returns-clause-firsts : goal.returns-clause-firsts
+returns-clause-firsts c = λ p sound openings t. zeros_typed p openings (sound-sized p sound).in_order t
+
+pub returns-clause-writes : goal.returns-clause-writes
+returns-clause-writes c = λ p sound openings t values all path w scalar v h. written_typed p openings (sound-sized p sound).in_order (HasType p openings) t values all path w scalar v h
+
+pub returns-clause-turns : goal.returns-clause-turns
+returns-clause-turns c = λ p sound s h arrival. turn_state p sound s h arrival
+
+pub returns-clause-starts : goal.returns-clause-starts
+returns-clause-starts c = λ p sound inputs. start_state p sound inputs
+
+pub returns-clause-functions : goal.returns-clause-functions
+returns-clause-functions c = λ p sound s h. functions_there p h.0 s.stack h.1.stack
+
+pub returns-clause-runs : goal.returns-clause-runs
+returns-clause-runs c = λ p sound inputs arrivals. run_state p sound inputs arrivals
+
+pub returns-clause-switches : goal.returns-clause-switches
+returns-clause-switches c = λ p sound s h a below top b rest here e cases v ms x w. switched_integer p sound h.0 s h.1 a below top b rest here e cases v ms x w
+
+pub returns-clause-exits : goal.returns-clause-exits
+returns-clause-exits c = λ p sound s h a below top b rest here e v ms end x w. exit_integer p sound h.0 s h.1 a below top b rest here e v ms end x w

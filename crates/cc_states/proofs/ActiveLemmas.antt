@@ -1,0 +1,170 @@
+-- An activation that has done one more step of its full expression, or goes on elsewhere in its function, is one of its function still.
+use Rattle.std.proofs.Common.{◌≡◌, ◌⊎◌, inl, inr, ℕ, Bool, true, false, List, [], ◌∷◌, ◌++◌, Option, Some, None, refl, ap, sym, ◌∙◌, subst}
+use Rattle.std.specs.Prelude.{if◌then◌else◌}
+use Rattle.cc_program.specs.declared.expr.Expr.{Expr}
+use Rattle.cc_program.specs.declared.func.Func.{Func}
+use Rattle.cc_program.specs.declared.program.Program.{Program}
+use Rattle.cc_program.specs.declared.stmt.Case.{Case}
+use Rattle.cc_program.specs.declared.stmt.Stmt.{Stmt, out-Stmt}
+use Rattle.cc_program.specs.declared.stmt.Stmt.TheOpen as is
+use Rattle.cc_program.specs.declared.value.Address.TheVariants as address
+use Rattle.cc_control.specs.Control.{Control, behind}
+use Rattle.cc_eval.specs.declared.action.Action.{Action}
+use Rattle.cc_eval.specs.declared.action.Action.TheVariants.{Call}
+use Rattle.cc_eval.specs.declared.mark.Mark.{Mark}
+use Rattle.cc_eval.specs.Context.{Context}
+use Rattle.cc_eval.specs.Eval.{next_of}
+use Rattle.cc_eval.specs.Progress.{Progress, Waits, Get}
+use Rattle.cc_meaning.specs.State.{Active}
+use Rattle.cc_meaning.specs.Step.{moved, with_mark, at_test, progress_in, progress_of, is_known, passes, begun_at, goes_to, settled_in, settled, marked}
+use Rattle.cc_states.specs.Answers.{IsMarkOf, AreAnswers}
+use Rattle.cc_states.specs.States.{AreSound, expression_of, AreMarks, context_in, IsActive, AreCalled}
+use Rattle.cc_states.proofs.ControlLemmas.{behind_sound}
+
+-- ---- marks
+
+nothing_in : (front back : List Mark) (m : Mark) → [] ≡ front ++ m ∷ back → ⊥
+nothing_in [] back m h = absurd (cc)
+nothing_in (x ∷ front) back m h = absurd (cc)
+
+no_marks : (c : Context) (openings : List ℕ) (x : Option Expr) → AreMarks c openings x []
+no_marks c openings None = refl
+no_marks c openings (Some e) = λ front back m action split w. absurd (nothing_in front back m split)
+
+head_same : (x y : Mark) (xs ys : List Mark) → x ∷ xs ≡ y ∷ ys → x ≡ y
+head_same x y xs ys h = cc
+
+tail_same : (x y : Mark) (xs ys : List Mark) → x ∷ xs ≡ y ∷ ys → xs ≡ ys
+tail_same x y xs ys h = cc
+
+-- the last of marks, or one in front of it
+abbrev IsLast : List Mark → Mark → List Mark → Mark → Type 0
+IsLast ms m front n = ((front ≡ ms) × (n ≡ m)) ⊎ ((mid : List Mark) × (ms ≡ front ++ n ∷ mid))
+
+one_further : (x y m n : Mark) (ms front : List Mark) → y ≡ x → IsLast ms m front n → IsLast (y ∷ ms) m (x ∷ front) n
+one_further x y m n ms front e (inl h) = inl (ap (λ (z : Mark). z ∷ front) (sym e) ∙ ap (λ (zs : List Mark). y ∷ zs) h.0, h.1)
+one_further x y m n ms front e (inr h) = inr (h.0, ap (λ (z : Mark). z ∷ ms) e ∙ ap (λ (zs : List Mark). x ∷ zs) h.1)
+
+last_or_not : (ms : List Mark) (m : Mark) (front back : List Mark) (n : Mark) → ms ++ m ∷ [] ≡ front ++ n ∷ back → IsLast ms m front n
+last_or_not [] m [] back n h = inl (refl, sym (head_same m n [] back h))
+last_or_not [] m (x ∷ front) back n h = absurd (nothing_in front back n (tail_same m x [] (front ++ n ∷ back) h))
+last_or_not (y ∷ ms) m [] back n h = inr (ms, ap (λ (z : Mark). z ∷ ms) (head_same y n (ms ++ m ∷ []) back h))
+last_or_not (y ∷ ms) m (x ∷ front) back n h =
+    one_further x y m n ms front (head_same y x (ms ++ m ∷ []) (front ++ n ∷ back) h) (last_or_not ms m front back n (tail_same y x (ms ++ m ∷ []) (front ++ n ∷ back) h))
+
+same_action : {A : Type 0} (q : Progress A) (a b : Action) → q ≡ Waits a → q ≡ Waits b → a ≡ b
+same_action q a b h k = cc
+
+module _ {A : Type 0} (p : Program) (openings : List ℕ) (g : Get A) (ms : List Mark) (m : Mark) (action : Action) (answers : AreAnswers p openings g ms) (waits : g ms ≡ Waits action) (mark : IsMarkOf p openings action m) where
+  answered_by : (front : List Mark) (n : Mark) (other : Action) → g front ≡ Waits other → IsLast ms m front n → IsMarkOf p openings other n
+  answered_by front n other w (inl h) =
+      subst (IsMarkOf p openings other) (sym h.1) (subst (λ (a : Action). IsMarkOf p openings a m) (same_action (g ms) action other waits (ap g (sym h.0) ∙ w)) mark)
+  answered_by front n other w (inr h) = answers front h.0 n other h.1 w
+
+  pub one_answer : AreAnswers p openings g (ms ++ m ∷ [])
+  one_answer front back n other split w = answered_by front n other w (last_or_not ms m front back n split)
+
+module _ (p : Program) (openings : List ℕ) where
+  -- ---- elsewhere in the function
+
+  abbrev Stands : Func → Control → Type 0
+  Stands f at = AreSound p f (at.0 ∷ at.1)
+
+  pub moved_active : (a : Active) (h : IsActive p openings a) (at : Control) → Stands h.func at → IsActive p openings (moved a at)
+  moved_active a h at k = record {
+    func = h.func;
+    function = h.function;
+    number = h.number;
+    locals = h.locals;
+    control = k;
+    marks = no_marks (context_in p a h.func) openings (expression_of (moved a at));
+  }
+
+  begun_by : (f : Func) (at : Control) (b : Bool) → Stands f at → Stands f (if b then (at_test at.0, at.1) else at)
+  begun_by f at true h = h
+  begun_by f at false h = h
+
+  pub goes_active : (a : Active) (h : IsActive p openings a) (at : Control) → Stands h.func at → IsActive p openings (goes_to p a at)
+  goes_active a h at k = moved_active a h (begun_at p a.number a.func at) (begun_by h.func at (passes p a.number a.func [] at.0) k)
+
+  either_active : (b : Bool) (these those : Active) → IsActive p openings these → IsActive p openings those → IsActive p openings (if b then these else those)
+  either_active true these those h k = h
+  either_active false these those h k = k
+
+  settled_by : (x : is.Stmt-F Stmt Case) (a : Active) → IsActive p openings a → IsActive p openings (settled_in p x a)
+  settled_by (is.Do e) a h = either_active (is_known (progress_of p a (Some e))) (goes_to p a (behind a.here a.around)) a (goes_active a h (behind a.here a.around) (behind_sound p h.func a.here a.around h.control)) h
+  settled_by (is.If e these those) a h = h
+  settled_by (is.While e body) a h = h
+  settled_by (is.DoWhile body e) a h = h
+  settled_by (is.For first test again body) a h = either_active (passes p a.number a.func a.marks a.here) (moved a (at_test a.here, a.around)) a (moved_active a h (at_test a.here, a.around) h.control) h
+  settled_by (is.Switch e cases) a h = h
+  settled_by is.Break a h = h
+  settled_by is.Continue a h = h
+  settled_by (is.Return e) a h = h
+  settled_by is.Empty a h = h
+  settled_by (is.Block body) a h = h
+
+  settled_active : (list : List Stmt) (a : Active) → IsActive p openings a → IsActive p openings (settled p list a)
+  settled_active [] a h = h
+  settled_active (s ∷ rest) a h = settled_by (out-Stmt s) a h
+
+  -- ---- one more mark
+
+  marks_by : (a : Active) (h : IsActive p openings a) (m : Mark) (action : Action) (x : Option Expr) → AreMarks (context_in p a h.func) openings x a.marks → progress_in p a.number a.func a.marks (Some h.func) x ≡ Waits action →
+      IsMarkOf p openings action m → AreMarks (context_in p a h.func) openings x (a.marks ++ m ∷ [])
+  marks_by a h m action None k w i = absurd (cc)
+  marks_by a h m action (Some e) k w i = one_answer p openings (next_of (context_in p a h.func) e) a.marks m action k w i
+
+  with_mark_active : (a : Active) (h : IsActive p openings a) (m : Mark) (action : Action) → progress_of p a (expression_of a) ≡ Waits action → IsMarkOf p openings action m → IsActive p openings (with_mark a m)
+  with_mark_active a h m action w i = record {
+    func = h.func;
+    function = h.function;
+    number = h.number;
+    locals = h.locals;
+    control = h.control;
+    marks = marks_by a h m action (expression_of a) h.marks (ap (λ (f : Option Func). progress_in p a.number a.func a.marks f (expression_of a)) (sym h.function) ∙ w) i;
+  }
+
+  pub marked_active : (a : Active) → IsActive p openings a → (m : Mark) (action : Action) → progress_of p a (expression_of a) ≡ Waits action → IsMarkOf p openings action m → IsActive p openings (marked p a m)
+  marked_active a h m action w i = settled_active a.here.rest (with_mark a m) (with_mark_active a h m action w i)
+
+-- ---- what was called stays so
+
+pub record IsSameCall (a b : Active) : Type 0 where
+  pub func : b.func ≡ a.func
+  pub handler : b.handler ≡ a.handler
+
+module _ (p : Program) where
+  either_call : (c : Bool) (a these those : Active) → IsSameCall a these → IsSameCall a those → IsSameCall a (if c then these else those)
+  either_call true a these those h k = h
+  either_call false a these those h k = k
+
+  pub itself : (a : Active) → IsSameCall a a
+  itself a = record { func = refl; handler = refl }
+
+  pub gone : (a : Active) (at : Control) → IsSameCall a (goes_to p a at)
+  gone a at = record { func = refl; handler = refl }
+
+  settled_call : (x : is.Stmt-F Stmt Case) (a b : Active) → IsSameCall a b → IsSameCall a (settled_in p x b)
+  settled_call (is.Do e) a b h = either_call (is_known (progress_of p b (Some e))) a (goes_to p b (behind b.here b.around)) b (record { func = h.func; handler = h.handler }) h
+  settled_call (is.If e these those) a b h = h
+  settled_call (is.While e body) a b h = h
+  settled_call (is.DoWhile body e) a b h = h
+  settled_call (is.For first test again body) a b h = either_call (passes p b.number b.func b.marks b.here) a (moved b (at_test b.here, b.around)) b (record { func = h.func; handler = h.handler }) h
+  settled_call (is.Switch e cases) a b h = h
+  settled_call is.Break a b h = h
+  settled_call is.Continue a b h = h
+  settled_call (is.Return e) a b h = h
+  settled_call is.Empty a b h = h
+  settled_call (is.Block body) a b h = h
+
+  settled_list : (list : List Stmt) (a b : Active) → IsSameCall a b → IsSameCall a (settled p list b)
+  settled_list [] a b h = h
+  settled_list (s ∷ rest) a b h = settled_call (out-Stmt s) a b h
+
+  pub marked_call : (a : Active) (m : Mark) → IsSameCall a (marked p a m)
+  marked_call a m = settled_list a.here.rest a (with_mark a m) (record { func = refl; handler = refl })
+
+  pub called_again : (a b : Active) (below : List Active) → IsSameCall a b → AreCalled p (a ∷ below) → AreCalled p (b ∷ below)
+  called_again a b [] h k = (h.func ∙ k.0, h.handler ∙ k.1)
+  called_again a b (c ∷ below) h k = (λ e. let args = k.0 (sym h.handler ∙ e) in (args.0, args.1 ∙ ap (λ (f : ℕ). Waits (Call (address.Func f) args.0)) (sym h.func)), k.1)
