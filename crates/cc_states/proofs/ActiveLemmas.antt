@@ -1,5 +1,5 @@
 -- An activation that has done one more step of its full expression, or goes on elsewhere in its function, is one of its function still.
-use Rattle.std.proofs.Common.{◌≡◌, ◌⊎◌, inl, inr, ℕ, Bool, true, false, List, [], ◌∷◌, ◌++◌, Option, Some, None, refl, ap, sym, ◌∙◌, subst}
+use Rattle.std.proofs.Common.{◌<◌, ◌≡◌, ◌⊎◌, inl, inr, ℕ, Bool, true, false, List, [], ◌∷◌, ◌++◌, Option, Some, None, refl, ap, sym, ◌∙◌, subst}
 use Rattle.std.specs.Prelude.{if◌then◌else◌}
 use Rattle.cc_program.specs.declared.expr.Expr.{Expr}
 use Rattle.cc_program.specs.declared.func.Func.{Func}
@@ -18,7 +18,7 @@ use Rattle.cc_eval.specs.Progress.{Progress, Waits, Get}
 use Rattle.cc_meaning.specs.State.{Active}
 use Rattle.cc_meaning.specs.Step.{moved, with_mark, at_test, progress_in, progress_of, is_known, passes, begun_at, goes_to, settled_in, settled, marked}
 use Rattle.cc_states.specs.Answers.{IsMarkOf, AreAnswers}
-use Rattle.cc_states.specs.States.{AreSound, expression_of, AreMarks, context_in, IsActive, AreCalled}
+use Rattle.cc_states.specs.States.{AreSound, expression_of, AreMarks, context_in, IsActive, AreCalled, AreInOrder}
 use Rattle.cc_states.proofs.ControlLemmas.{behind_sound}
 
 -- ---- marks
@@ -131,6 +131,7 @@ module _ (p : Program) (openings : List ℕ) where
 -- ---- what was called stays so
 
 pub record IsSameCall (a b : Active) : Type 0 where
+  pub number : b.number ≡ a.number
   pub func : b.func ≡ a.func
   pub handler : b.handler ≡ a.handler
 
@@ -140,17 +141,17 @@ module _ (p : Program) where
   either_call false a these those h k = k
 
   pub itself : (a : Active) → IsSameCall a a
-  itself a = record { func = refl; handler = refl }
+  itself a = record { number = refl; func = refl; handler = refl }
 
   pub gone : (a : Active) (at : Control) → IsSameCall a (goes_to p a at)
-  gone a at = record { func = refl; handler = refl }
+  gone a at = record { number = refl; func = refl; handler = refl }
 
   settled_call : (x : is.Stmt-F Stmt Case) (a b : Active) → IsSameCall a b → IsSameCall a (settled_in p x b)
-  settled_call (is.Do e) a b h = either_call (is_known (progress_of p b (Some e))) a (goes_to p b (behind b.here b.around)) b (record { func = h.func; handler = h.handler }) h
+  settled_call (is.Do e) a b h = either_call (is_known (progress_of p b (Some e))) a (goes_to p b (behind b.here b.around)) b (record { number = h.number; func = h.func; handler = h.handler }) h
   settled_call (is.If e these those) a b h = h
   settled_call (is.While e body) a b h = h
   settled_call (is.DoWhile body e) a b h = h
-  settled_call (is.For first test again body) a b h = either_call (passes p b.number b.func b.marks b.here) a (moved b (at_test b.here, b.around)) b (record { func = h.func; handler = h.handler }) h
+  settled_call (is.For first test again body) a b h = either_call (passes p b.number b.func b.marks b.here) a (moved b (at_test b.here, b.around)) b (record { number = h.number; func = h.func; handler = h.handler }) h
   settled_call (is.Switch e cases) a b h = h
   settled_call is.Break a b h = h
   settled_call is.Continue a b h = h
@@ -163,8 +164,12 @@ module _ (p : Program) where
   settled_list (s ∷ rest) a b h = settled_call (out-Stmt s) a b h
 
   pub marked_call : (a : Active) (m : Mark) → IsSameCall a (marked p a m)
-  marked_call a m = settled_list a.here.rest a (with_mark a m) (record { func = refl; handler = refl })
+  marked_call a m = settled_list a.here.rest a (with_mark a m) (record { number = refl; func = refl; handler = refl })
 
   pub called_again : (a b : Active) (below : List Active) → IsSameCall a b → AreCalled p (a ∷ below) → AreCalled p (b ∷ below)
   called_again a b [] h k = (h.func ∙ k.0, h.handler ∙ k.1)
   called_again a b (c ∷ below) h k = (λ e. let args = k.0 (sym h.handler ∙ e) in (args.0, args.1 ∙ ap (λ (f : ℕ). Waits (Call (address.Func f) args.0)) (sym h.func)), k.1)
+
+pub in_order_again : (a b : Active) (below : List Active) → b.number ≡ a.number → AreInOrder (a ∷ below) → AreInOrder (b ∷ below)
+in_order_again a b [] e h = tt
+in_order_again a b (c ∷ below) e h = (subst (λ (n : ℕ). c.number < n) (sym e) h.0, h.1)

@@ -1,5 +1,7 @@
 -- What holds where activations of some functions were opened holds where more were opened behind them.
 use Rattle.std.proofs.Common.{arith, ◌≡◌, ◌<◌, ℕ, zero, suc, List, [], ◌∷◌, ◌++◌, length, Option, Some, None, slice_get, refl, sym, ◌∙◌, subst}
+use Rattle.cc_syntax.specs.Types.{Named}
+use Rattle.cc_program.specs.declared.object.Object.{Object}
 use Rattle.std.proofs.lemmas.Option.{slice_get_within}
 use Rattle.cc_program.specs.declared.expr.Expr.{Expr}
 use Rattle.cc_program.specs.declared.func.Func.{Func}
@@ -19,7 +21,7 @@ use Rattle.cc_eval.specs.Eval.{next_of}
 use Rattle.cc_meaning.specs.State.{Active}
 use Rattle.cc_syntax.specs.Values.{ValueType, NoValue, Integer, ToObject, ToFunction}
 use Rattle.cc_states.specs.Answers.{IsMarkOf, AreAnswers}
-use Rattle.cc_states.specs.States.{AreStatics, AreLocals, expression_of, AreMarks, context_in, IsActive, AreActive}
+use Rattle.cc_states.specs.States.{AreStatics, AreLocals, expression_of, AreMarks, context_in, IsActive, AreActive, AreScalars}
 use Rattle.cc_states.specs.Typed.{IsOpened, IsAddress, HasType, MayHave, AreArguments}
 
 get_before : {A : Type 0} → (xs ys : List A) (k : ℕ) → k < length xs → slice_get (xs ++ ys) k ≡ slice_get xs k
@@ -73,15 +75,23 @@ module _ (p : Program) (openings more : List ℕ) where
   marks_more c (Some x) ms e h =
       subst (λ (q : Program). AreAnswers q all (next_of c x) ms) (sym e) (λ front back m action split w. mark_more action m (subst (λ (q : Program). IsMarkOf q openings action m) e (h front back m action split w)))
 
+  static_more : (statics : List (List Value)) → AreStatics p openings statics → (i : ℕ) (o : Object) → slice_get p.objects i ≡ Some o →
+      (values : List Value) × (slice_get statics i ≡ Some values) × AreScalars p (HasType p all) o.ctype values
+  static_more statics h i o e =
+      let values = h.1 i o e in
+      (values.0, values.1, record { count = values.2.count; typed = λ path w k. let v = values.2.typed path w k in (v.0, v.1, type_more w v.0 v.2) })
+
   pub statics_more : (statics : List (List Value)) → AreStatics p openings statics → AreStatics p all statics
-  statics_more statics h i o e =
-      let values = h i o e in
-      (values.0, values.1, λ path w k. let v = values.2 path w k in (v.0, v.1, type_more w v.0 v.2))
+  statics_more statics h = (h.0, static_more statics h)
+
+  local_more : (f : Func) (locals : List (List (Option Value))) → AreLocals p openings f locals → (i : ℕ) (l : Named) → slice_get f.locals i ≡ Some l →
+      (values : List (Option Value)) × (slice_get locals i ≡ Some values) × AreScalars p (MayHave p all) l.1 values
+  local_more f locals h i l e =
+      let values = h.1 i l e in
+      (values.0, values.1, record { count = values.2.count; typed = λ path w k. let v = values.2.typed path w k in (v.0, v.1, may_more w v.0 v.2) })
 
   locals_more : (f : Func) (locals : List (List (Option Value))) → AreLocals p openings f locals → AreLocals p all f locals
-  locals_more f locals h i l e =
-      let values = h i l e in
-      (values.0, values.1, λ path w k. let v = values.2 path w k in (v.0, v.1, may_more w v.0 v.2))
+  locals_more f locals h = (h.0, local_more f locals h)
 
   active_more : (a : Active) → IsActive p openings a → IsActive p all a
   active_more a h = record {

@@ -1,6 +1,7 @@
 -- Where the scalars of an object stand: each path to one leads to its first value, two at one position have one type, and so a write
 -- keeps the types of all.
 use Rattle.std.proofs.Common.{arith, ◌≡◌, ◌<◌, ◌+◌, ◌*◌, ℕ, zero, suc, pos, Bool, true, false, ◌||◌, nat_lt, List, [], ◌∷◌, ◌++◌, length, length-append, take, replicate, Option, Some, None, unwrap_or, slice_get, slice_set, refl, ap, sym, ◌∙◌, subst}
+use Rattle.std.proofs.lemmas.List.{length-set}
 use Rattle.std.proofs.lemmas.Bool.{eqb-true, eq-eqb, ltb-true}
 use Rattle.std.proofs.lemmas.Option.{same_Some, slice_get_within}
 use Rattle.std.specs.Prelude.{if◌then◌else◌, ◌==◌}
@@ -408,7 +409,7 @@ module _ (structures : List Structure) (order : IsInOrder structures) where
 
 module _ (p : Program) (openings : List ℕ) (order : IsInOrder p.structures) where
   pub zeros_typed : (t : CType) → AreScalars p (HasType p openings) t (zeros p.structures t)
-  zeros_typed t path w h = starts p.structures order p openings path (is_const t) (is_volatile t) t w h
+  zeros_typed t = record { count = refl; typed = λ path w h. starts p.structures order p openings path (is_const t) (is_volatile t) t w h }
 
   module _ {A : Type 0} (Holds : ValueType → A → Type 0) (t : CType) (values : List A) (all : AreScalars p Holds t values) (path : List Part) (w : ValueType)
       (scalar : of_one (place_at p.structures path (object_place t)) read_from ≡ Some w) (x : A) (h : Holds w x) where
@@ -419,14 +420,17 @@ module _ (p : Program) (openings : List ℕ) (order : IsInOrder p.structures) wh
         (y : A) × (slice_get (slice_set values here x) (position p.structures other (Some (object_place t))) ≡ Some y) × Holds u y
     kept_by other u true e k =
         let same = eqb-true here (position p.structures other (Some (object_place t))) e in
-        let old = all path w scalar in (
+        let old = all.typed path w scalar in (
           x,
           ap (slice_get (slice_set values here x)) (sym same) ∙ set_here values here x old.0 old.1,
           subst (λ (r : ValueType). Holds r x) (one_type p.structures order p openings path other (is_const t) (is_volatile t) t w u scalar k same) h,
         )
     kept_by other u false e k =
-        let old = all other u k in
+        let old = all.typed other u k in
         (old.0, set_elsewhere values here (position p.structures other (Some (object_place t))) x (λ same. not_equal here (position p.structures other (Some (object_place t))) same e) ∙ old.1, old.2)
 
     pub written_typed : AreScalars p Holds t (slice_set values here x)
-    written_typed other u k = kept_by other u (here == position p.structures other (Some (object_place t))) refl k
+    written_typed = record {
+      count = length-set values here x ∙ all.count;
+      typed = λ other u k. kept_by other u (here == position p.structures other (Some (object_place t))) refl k;
+    }

@@ -1,5 +1,6 @@
 -- The start of a run is a state of its program: first values stand in order of path, each of its scalar's type.
 use Rattle.std.proofs.Common.{arith, ◌≡◌, ◌<◌, inl, inr, ℕ, zero, suc, ℤ, Bool, true, false, not, ◌&&◌, ◌||◌, ◌+◌, ◌*◌, List, [], ◌∷◌, map, length, length-append, take, replicate, Option, Some, None, refl, ap, sym, ◌∙◌, subst}
+use Rattle.std.proofs.lemmas.List.{length-map}
 use Rattle.std.proofs.lemmas.Option.{same_Some, slice_get-map}
 use Rattle.std.specs.Prelude.{option_map, slice_get, unwrap_or, if◌then◌else◌}
 use Rattle.std.specs.List.{flat_map}
@@ -33,7 +34,7 @@ use Rattle.cc_syntax.specs.Values.{ValueType, Integer, pointer_shape, pointer_to
 use Rattle.cc_program.specs.Qualifiers.{is_const, is_volatile}
 use Rattle.cc_syntax.proofs.Parts.{all_at}
 use Rattle.cc_syntax.proofs.Prefixes.{both_true}
-use Rattle.cc_states.specs.States.{AreScalars, AreStatics, AreActive, AreCalled, IsStateOf, IsState}
+use Rattle.cc_states.specs.States.{AreScalars, AreStatics, AreActive, AreCalled, IsStateOf, IsState, AreInOrder}
 use Rattle.cc_states.specs.Typed.{IsAddress, HasType}
 use Rattle.cc_states.proofs.PathLemmas.{one_more, zeros-shape, structure-whole, element_step, member_step, at, scalar_in, stepped, element_position, member_position, element_scalar, member_scalar, zeros_typed}
 use Rattle.cc_states.proofs.TurnLemmas.{order_of, function_sound, main_there, no_arguments, opened_active, turn_state}
@@ -85,6 +86,31 @@ module _ (p : Program) (order : IsInOrder p.structures) where
     members_skip _ _ _ (NoMember rest) = none_skipped rest 0 refl
     members_skip _ _ _ (Member m ms leaves between rest a b) =
         then_skips leaves between rest (count m.1) (length (member_zeros table ms)) (length (member_zeros table (m ∷ ms))) (length-append (zeros_over table m.1) (member_zeros table ms)) (skips m.1 leaves between a) (members_skip ms between rest b)
+
+  -- and there are as many
+  mutual
+    lengths : (t : CType) (leaves rest : List Leaf) → AreLeaves p t leaves rest → length leaves ≡ count t + length rest
+    lengths _ _ _ (OfInteger t i n rest e h) = let c = ap length (zeros-shape table t (shape.Int i) e) in omega (arith, c)
+    lengths _ _ _ (OfPointer t to a rest e h) = let c = ap length (zeros-shape table t (shape.Pointer to) e) in omega (arith, c)
+    lengths _ _ _ (OfArray t of n leaves rest e h) = elements_length of n leaves rest h ∙ ap (λ (m : ℕ). m + length rest) (sym (ap length (zeros-shape table t (shape.Array of n) e) ∙ length-repeats n (zeros_over table of)))
+    lengths _ _ _ (OfStructure t i s leaves rest e g h) =
+        members_length s.members leaves rest h ∙ ap (λ (m : ℕ). m + length rest) (sym (ap length (zeros-shape table t (shape.Struct i) e ∙ ap (λ l. unwrap_or l []) (structure-whole p.structures order i s g))))
+
+    elements_length : (of : CType) (n : ℕ) (leaves rest : List Leaf) → AreElements p of n leaves rest → length leaves ≡ n * count of + length rest
+    elements_length _ _ _ _ (NoElement of rest) = omega arith
+    elements_length _ _ _ _ (Element of n leaves between rest a b) =
+        let l = lengths of leaves between a in
+        let m = elements_length of n between rest b in
+        let o = one_more n (count of) in
+        omega (arith, l, m, o)
+
+    members_length : (ms : List Named) (leaves rest : List Leaf) → AreMembers p ms leaves rest → length leaves ≡ length (member_zeros table ms) + length rest
+    members_length _ _ _ (NoMember rest) = omega arith
+    members_length _ _ _ (Member m ms leaves between rest a b) =
+        let l = lengths m.1 leaves between a in
+        let k = members_length ms between rest b in
+        let o = length-append (zeros_over table m.1) (member_zeros table ms) in
+        omega (arith, l, k, o)
 
   -- the leaves of one element, or of one member, and where they begin
   record PartLeaves (t : CType) (leaves : List Leaf) (n : ℕ) : Type 0 where
@@ -178,9 +204,12 @@ module _ (p : Program) (order : IsInOrder p.structures) where
     first_typed : (t : CType) (init : List Leaf) → IsInitial p t init → AreScalars p (HasType p openings) t (values_or init (zeros p.structures t))
     first_typed t [] h = zeros_typed p openings order t
     first_typed t (l ∷ ls) (inl h) = absurd (no_leaf l ls h)
-    first_typed t (l ∷ ls) (inr h) = λ path w k.
-        let x = leaf_at path (is_const t) (is_volatile t) t w (l ∷ ls) [] h.0 k in
-        (first_value x.0, slice_get-map first_value (l ∷ ls) _ ∙ ap (option_map first_value) x.1, x.2)
+    first_typed t (l ∷ ls) (inr h) = record {
+      count = length-map (l ∷ ls) first_value ∙ lengths t (l ∷ ls) [] h.0 ∙ omega arith;
+      typed = λ path w k.
+          let x = leaf_at path (is_const t) (is_volatile t) t w (l ∷ ls) [] h.0 k in
+          (first_value x.0, slice_get-map first_value (l ∷ ls) (at p.structures order t path (is_const t) (is_volatile t)) ∙ ap (option_map first_value) x.1, x.2);
+    }
 
 -- ---- the first state
 
@@ -198,9 +227,12 @@ module _ (p : Program) (sound : IsSound p) where
       let k = function_sound p sound p.main f e in
       (opened_active p one (order_of p sound) 0 p.main false [] f e refl k (no_arguments p sound one (out-Sig f.sig).params (main_empty f k (main_there p sound (slice_get p.funcs p.main) f e sound.main))), tt)
 
-  statics_start : AreStatics p one (map (first_values p) p.objects)
-  statics_start i o e =
+  static_start : (i : ℕ) (o : Object) → slice_get p.objects i ≡ Some o → (values : List Value) × (slice_get (map (first_values p) p.objects) i ≡ Some values) × AreScalars p (HasType p one) o.ctype values
+  static_start i o e =
       (first_values p o, slice_get-map (first_values p) p.objects i ∙ ap (option_map (first_values p)) e, first_typed p (order_of p sound) one o.ctype o.init (all_at (λ (o : Object). IsInitial p o.ctype o.init) p.objects i o e sound.initial))
+
+  statics_start : AreStatics p one (map (first_values p) p.objects)
+  statics_start = (length-map p.objects (first_values p), static_start)
 
   start_by : (inputs : List ℤ) (x : Option Func) → slice_get p.funcs p.main ≡ x → is_main_there x ≡ true → IsStateOf p one (start p inputs)
   start_by inputs None e h = absurd (cc)
@@ -209,6 +241,7 @@ module _ (p : Program) (sound : IsSound p) where
     statics = statics_start;
     stack = subst (λ (x : Option Func). AreActive p one (first_of_stack p x)) (sym e) (first_active f e);
     called = subst (λ (x : Option Func). AreCalled p (first_of_stack p x)) (sym e) (refl, refl);
+    order = subst (λ (x : Option Func). AreInOrder (first_of_stack p x)) (sym e) tt;
     running = λ g. (activation p 0 p.main false [] f, [], ap (first_of_stack p) e);
   }
 

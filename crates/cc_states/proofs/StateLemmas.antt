@@ -68,8 +68,8 @@ module _ (p : Program) (openings : List ℕ) where
       nothing_there w _ (ap (λ (y : Option Object). of_one (of_one (option_map (λ (o : Object). object_place o.ctype) y) (place_at p.structures path)) read_from) e) k
   static_there statics i path w (Some o) h e k =
       let place : object_type p (root.Static i) ≡ Some (object_place o.ctype) = ap (option_map (λ (o : Object). object_place o.ctype)) e in
-      let values = h i o e in
-      let v = values.2 path w (ap (λ (y : Option PlaceType). of_one (of_one y (place_at p.structures path)) read_from) (sym place) ∙ k) in
+      let values = h.1 i o e in
+      let v = values.2.typed path w (ap (λ (y : Option PlaceType). of_one (of_one y (place_at p.structures path)) read_from) (sym place) ∙ k) in
       (v.0, ap (option_and_then (λ scalars. slice_get scalars (cell_position p (root.Static i) path))) values.1 ∙ ap (λ (y : Option PlaceType). slice_get values.0 (position p.structures path y)) place ∙ v.1, v.2)
 
   pub local_in : (a : Active) (h : IsActive p openings a) (number local : ℕ) (path : List Part) (w : ValueType) (x : Option Named) → slice_get h.func.locals local ≡ x → cell_type p (cell.At (root.Auto number a.func local) path) ≡ Some w →
@@ -79,8 +79,8 @@ module _ (p : Program) (openings : List ℕ) where
       ∙ ap (λ (y : Option Named). of_one (of_one (option_map (λ (l : Named). object_place l.1) y) (place_at p.structures path)) read_from) e) k
   local_in a h number local path w (Some l) e k =
       let place : object_type p (root.Auto number a.func local) ≡ Some (object_place l.1) = ap (local_type local) h.function ∙ ap (option_map (λ (l : Named). object_place l.1)) e in
-      let values = h.locals local l e in
-      let v = values.2 path w (ap (λ (y : Option PlaceType). of_one (of_one y (place_at p.structures path)) read_from) (sym place) ∙ k) in
+      let values = h.locals.1 local l e in
+      let v = values.2.typed path w (ap (λ (y : Option PlaceType). of_one (of_one y (place_at p.structures path)) read_from) (sym place) ∙ k) in
       (v.0, ap (option_and_then (λ scalars. slice_get scalars (cell_position p (root.Auto number a.func local) path))) values.1 ∙ ap (λ (y : Option PlaceType). slice_get values.0 (position p.structures path y)) place ∙ v.1, v.2)
 
   pub same_opening : (number func other : ℕ) → slice_get openings number ≡ Some func → slice_get openings number ≡ Some other → func ≡ other

@@ -1,5 +1,6 @@
 -- A step that a full expression asks for keeps a state of the program one.
-use Rattle.std.proofs.Common.{◌≡◌, ℕ, ℤ, Bool, true, false, List, [], ◌∷◌, Option, Some, None, refl, ap, sym, ◌∙◌, subst}
+use Rattle.std.proofs.Common.{◌<◌, ◌≡◌, ℕ, ℤ, Bool, true, false, List, [], ◌∷◌, Option, Some, None, refl, ap, sym, ◌∙◌, subst}
+use Rattle.std.proofs.lemmas.List.{length-set}
 use Rattle.std.proofs.lemmas.Bool.{eqb-true}
 use Rattle.std.proofs.lemmas.Option.{same_Some}
 use Rattle.std.specs.Prelude.{option_map, slice_get, slice_set, if◌then◌else◌, ◌==◌}
@@ -42,9 +43,9 @@ use Rattle.cc_syntax.specs.Initial.{place_at}
 use Rattle.cc_syntax.specs.Types.{Named, IsInOrder}
 use Rattle.cc_syntax.specs.Values.{ValueType, Integer, PlaceType, object_place, read_from}
 use Rattle.cc_states.specs.Answers.{IsAction, IsMarkOf}
-use Rattle.cc_states.specs.States.{AreScalars, AreStatics, AreLocals, expression_of, IsActive, AreActive, AreCalled, IsStateOf}
+use Rattle.cc_states.specs.States.{AreScalars, AreStatics, AreLocals, expression_of, IsActive, AreActive, AreCalled, IsStateOf, AreInOrder}
 use Rattle.cc_states.specs.Typed.{IsOpened, HasType, MayHave, cell_type}
-use Rattle.cc_states.proofs.ActiveLemmas.{IsSameCall, marked_active, marked_call, called_again}
+use Rattle.cc_states.proofs.ActiveLemmas.{IsSameCall, marked_active, marked_call, called_again, in_order_again}
 use Rattle.cc_states.proofs.PathLemmas.{written_typed, set_here, set_elsewhere, not_equal}
 use Rattle.cc_states.proofs.StateLemmas.{nothing_there, static_there, local_in, same_opening}
 
@@ -59,23 +60,23 @@ module _ (p : Program) (openings : List ℕ) where
 
   pub event_state : (b : Bool) (s : State) (e : Event) → Is s → Is (with_event b s e)
   event_state false s e h = h
-  event_state true s e h = record { count = h.count; statics = h.statics; stack = h.stack; called = h.called; running = h.running }
+  event_state true s e h = record { count = h.count; statics = h.statics; stack = h.stack; called = h.called; order = h.order; running = h.running }
 
   pub event_stack : (b : Bool) (s : State) (e : Event) → (with_event b s e).stack ≡ s.stack
   event_stack false s e = refl
   event_stack true s e = refl
 
   pub flag_state : (s : State) (on : Bool) → Is s → Is (with_flag s on)
-  flag_state s on h = record { count = h.count; statics = h.statics; stack = h.stack; called = h.called; running = h.running }
+  flag_state s on h = record { count = h.count; statics = h.statics; stack = h.stack; called = h.called; order = h.order; running = h.running }
 
   inputs_state : (s : State) (inputs : List ℤ) → Is s → Is (with_inputs s inputs)
-  inputs_state s inputs h = record { count = h.count; statics = h.statics; stack = h.stack; called = h.called; running = h.running }
+  inputs_state s inputs h = record { count = h.count; statics = h.statics; stack = h.stack; called = h.called; order = h.order; running = h.running }
 
   ended : {B : Type 0} (end : End) → is_going end ≡ false → is_going end ≡ true → B
   ended end h k = absurd (cc)
 
   pub stopped_state : (s : State) (end : End) → is_going end ≡ false → Is s → Is (stopped s end)
-  stopped_state s end e h = record { count = h.count; statics = h.statics; stack = h.stack; called = h.called; running = λ g. ended end e g }
+  stopped_state s end e h = record { count = h.count; statics = h.statics; stack = h.stack; called = h.called; order = h.order; running = λ g. ended end e g }
 
   -- the running activation is another one, of the same function
   pub with_top : (s : State) → Is s → (a b : Active) (below : List Active) → s.stack ≡ a ∷ below → IsActive p openings b → IsSameCall a b → Is (with_stack s (b ∷ below))
@@ -84,6 +85,7 @@ module _ (p : Program) (openings : List ℕ) where
     statics = h.statics;
     stack = (i, (subst (AreActive p openings) top h.stack).1);
     called = called_again p a b below same (subst (AreCalled p) top h.called);
+    order = in_order_again a b below same.number (subst AreInOrder top h.order);
     running = λ g. (b, below, refl);
   }
 
@@ -169,7 +171,7 @@ module _ (p : Program) (openings : List ℕ) where
               (written_typed p openings order (HasType p openings) o.ctype values all path w k v t),
         )
     statics_by statics h i o path w v e k t values f all j q false g l =
-        let old = h j q l in
+        let old = h.1 j q l in
         (old.0, set_elsewhere statics i j (slice_set values (position p.structures path (Some (object_place o.ctype))) v) (λ same. not_equal i j same g) ∙ old.1, old.2)
 
     statics_written : (statics : List (List Value)) → AreStatics p openings statics → (i : ℕ) (path : List Part) (w : ValueType) (v : Value) (x : Option Object) → slice_get p.objects i ≡ x → cell_type p (cell.At (root.Static i) path) ≡ Some w →
@@ -178,11 +180,11 @@ module _ (p : Program) (openings : List ℕ) where
         nothing_there p openings w _ (ap (λ (y : Option Object). of_one (of_one (option_map (λ (o : Object). object_place o.ctype) y) (place_at p.structures path)) read_from) e) k
     statics_written statics h i path w v (Some o) e k t =
         let place : object_type p (root.Static i) ≡ Some (object_place o.ctype) = ap (option_map (λ (o : Object). object_place o.ctype)) e in
-        let values = h i o e in
+        let values = h.1 i o e in
         let set : with_scalar statics i (cell_position p (root.Static i) path) v ≡ slice_set statics i (slice_set values.0 (position p.structures path (Some (object_place o.ctype))) v) =
         ap (λ (y : Option PlaceType). with_scalar statics i (position p.structures path y) v) place ∙ ap (set_scalar statics i (position p.structures path (Some (object_place o.ctype))) v) values.1 in
         subst (AreStatics p openings) (sym set)
-        (λ j q l. statics_by statics h i o path w v e (ap (λ (y : Option PlaceType). of_one (of_one y (place_at p.structures path)) read_from) (sym place) ∙ k) t values.0 values.1 values.2 j q (i == j) refl l)
+        (length-set statics i (slice_set values.0 (position p.structures path (Some (object_place o.ctype))) v) ∙ h.0, λ j q l. statics_by statics h i o path w v e (ap (λ (y : Option PlaceType). of_one (of_one y (place_at p.structures path)) read_from) (sym place) ∙ k) t values.0 values.1 values.2 j q (i == j) refl l)
 
     locals_by : (f : Func) (locals : List (List (Option Value))) → AreLocals p openings f locals → (i : ℕ) (o : Named) (path : List Part) (w : ValueType) (v : Value) → slice_get f.locals i ≡ Some o →
         of_one (place_at p.structures path (object_place o.1)) read_from ≡ Some w → HasType p openings w v → (values : List (Option Value)) → slice_get locals i ≡ Some values → AreScalars p (MayHave p openings) o.1 values →
@@ -197,7 +199,7 @@ module _ (p : Program) (openings : List ℕ) where
               (written_typed p openings order (MayHave p openings) o.1 values all path w k (Some v) t),
         )
     locals_by fn locals h i o path w v e k t values f all j q false g l =
-        let old = h j q l in
+        let old = h.1 j q l in
         (old.0, set_elsewhere locals i j (slice_set values (position p.structures path (Some (object_place o.1))) (Some v)) (λ same. not_equal i j same g) ∙ old.1, old.2)
 
     locals_written : (a : Active) (h : IsActive p openings a) (number local : ℕ) (path : List Part) (w : ValueType) (v : Value) (x : Option Named) → slice_get h.func.locals local ≡ x → cell_type p (cell.At (root.Auto number a.func local) path) ≡ Some w →
@@ -207,11 +209,11 @@ module _ (p : Program) (openings : List ℕ) where
         ∙ ap (λ (y : Option Named). of_one (of_one (option_map (λ (l : Named). object_place l.1) y) (place_at p.structures path)) read_from) e) k
     locals_written a h number local path w v (Some l) e k t =
         let place : object_type p (root.Auto number a.func local) ≡ Some (object_place l.1) = ap (local_type local) h.function ∙ ap (option_map (λ (l : Named). object_place l.1)) e in
-        let values = h.locals local l e in
+        let values = h.locals.1 local l e in
         let set : with_scalar a.locals local (cell_position p (root.Auto number a.func local) path) (Some v) ≡ slice_set a.locals local (slice_set values.0 (position p.structures path (Some (object_place l.1))) (Some v)) =
         ap (λ (y : Option PlaceType). with_scalar a.locals local (position p.structures path y) (Some v)) place ∙ ap (set_scalar a.locals local (position p.structures path (Some (object_place l.1))) (Some v)) values.1 in
         subst (AreLocals p openings h.func) (sym set)
-        (λ j q i. locals_by h.func a.locals h.locals local l path w v e (ap (λ (y : Option PlaceType). of_one (of_one y (place_at p.structures path)) read_from) (sym place) ∙ k) t values.0 values.1 values.2 j q (local == j) refl i)
+        (length-set a.locals local (slice_set values.0 (position p.structures path (Some (object_place l.1))) (Some v)) ∙ h.locals.0, λ j q i. locals_by h.func a.locals h.locals local l path w v e (ap (λ (y : Option PlaceType). of_one (of_one y (place_at p.structures path)) read_from) (sym place) ∙ k) t values.0 values.1 values.2 j q (local == j) refl i)
 
     active_written : (a : Active) (h : IsActive p openings a) (locals : List (List (Option Value))) → AreLocals p openings h.func locals → IsActive p openings (with_locals a locals)
     active_written a h locals k = record { func = h.func; function = h.function; number = h.number; locals = k; control = h.control; marks = h.marks }
@@ -256,6 +258,27 @@ module _ (p : Program) (openings : List ℕ) where
         either_called a (c ∷ below) (with_local (c ∷ below) number local k v) (with_scalar a.locals local k (Some v)) (a.number == number) h
         (called_on a c below (with_local below number local k v) (with_scalar c.locals local k (Some v)) (c.number == number) h.0 (called_written (c ∷ below) h.1 number local k v))
 
+    -- and so is the order
+    order_same : (a : Active) (below : List Active) (locals : List (List (Option Value))) → AreInOrder (a ∷ below) → AreInOrder (with_locals a locals ∷ below)
+    order_same a [] locals h = h
+    order_same a (c ∷ below) locals h = h
+
+    order_on : (a c : Active) (below rest : List Active) (locals : List (List (Option Value))) (b : Bool) → c.number < a.number → AreInOrder (if b then with_locals c locals ∷ below else c ∷ rest) →
+        AreInOrder (a ∷ (if b then with_locals c locals ∷ below else c ∷ rest))
+    order_on a c below rest locals true h k = (h, k)
+    order_on a c below rest locals false h k = (h, k)
+
+    either_order : (a : Active) (below rest : List Active) (locals : List (List (Option Value))) (b : Bool) → AreInOrder (a ∷ below) → AreInOrder (a ∷ rest) → AreInOrder (if b then with_locals a locals ∷ below else a ∷ rest)
+    either_order a below rest locals true h k = order_same a below locals h
+    either_order a below rest locals false h k = k
+
+    order_written : (stack : List Active) → AreInOrder stack → (number local k : ℕ) (v : Value) → AreInOrder (with_local stack number local k v)
+    order_written [] h number local k v = tt
+    order_written (a ∷ []) h number local k v = either_order a [] [] (with_scalar a.locals local k (Some v)) (a.number == number) h h
+    order_written (a ∷ c ∷ below) h number local k v =
+        either_order a (c ∷ below) (with_local (c ∷ below) number local k v) (with_scalar a.locals local k (Some v)) (a.number == number) h
+        (order_on a c below (with_local below number local k v) (with_scalar c.locals local k (Some v)) (c.number == number) h.0 (order_written (c ∷ below) h.1 number local k v))
+
     -- the running activation still waits
     abbrev WaitsOnTop : List Active → Action → Type 0
     WaitsOnTop stack action = (a : Active) × (below : List Active) × (stack ≡ a ∷ below) × (progress_of p a (expression_of a) ≡ Waits action)
@@ -287,6 +310,7 @@ module _ (p : Program) (openings : List ℕ) where
             statics = h.statics;
             stack = stack_written s.stack h.stack number func local path w v o i t;
             called = called_written s.stack h.called number local k v;
+            order = order_written s.stack h.order number local k v;
             running = λ g. (on.0, on.1, on.2);
           }) on is_event (event.Write (cell.At (root.Auto number func local) path) v)
       local_write number func local path is_event v w false waits o i t = stopped_state s Trap refl h
@@ -300,6 +324,7 @@ module _ (p : Program) (openings : List ℕ) where
             statics = statics_written s.memory.statics h.statics i path k.0 v (slice_get p.objects i) refl k.1 k.3;
             stack = h.stack;
             called = h.called;
+            order = h.order;
             running = h.running;
           }) (a, below, top, waits) is_event (event.Write (cell.At (root.Static i) path) v)
       write_state (cell.At (root.Auto number func local) path) is_event v waits k = local_write number func local path is_event v k.0 (is_open s.stack number) waits k.2 k.1 k.3

@@ -1,8 +1,11 @@
 -- Each turn keeps a state of a sound program one: calls, returns, and where a statement goes on; and the entry of a handler.
 use Rattle.std.proofs.Common.{arith, ◌≡◌, ◌<◌, ◌⊎◌, inl, inr, ℕ, zero, suc, Bool, true, false, not, ◌&&◌, ◌||◌, ◌+◌, List, [], ◌∷◌, ◌++◌, length, length-append, replicate, Option, Some, None, refl, ap, sym, ◌∙◌, subst, ℤ, map}
+use Rattle.cc_syntax.specs.Initial.{place_at}
+use Rattle.cc_program.specs.Qualifiers.{is_const, is_volatile}
+use Rattle.std.proofs.lemmas.List.{length-replicate}
 use Rattle.cc_states.proofs.TakenLemmas.{integer_value}
 use Rattle.std.proofs.lemmas.Bool.{eqb-true}
-use Rattle.std.proofs.lemmas.Option.{same_Some}
+use Rattle.std.proofs.lemmas.Option.{same_Some, slice_get_within}
 use Rattle.std.specs.Prelude.{option_map, slice_get, if◌then◌else◌, ◌==◌, nat_eq}
 use Rattle.std.specs.List.{list_all, flat_map}
 use Rattle.cc_num.specs.declared.int_type.IntType.TheVariants as int
@@ -22,7 +25,7 @@ use Rattle.cc_program.specs.declared.value.Address.TheVariants as address
 use Rattle.cc_program.specs.declared.value.Part.{Part}
 use Rattle.cc_program.specs.declared.value.Value.{Value}
 use Rattle.cc_program.specs.declared.value.Value.TheVariants.{Int}
-use Rattle.cc_cells.specs.Scalars.{zeros}
+use Rattle.cc_cells.specs.Scalars.{zeros, structure_zeros, position}
 use Rattle.cc_control.specs.declared.phase.Phase.TheVariants.{First}
 use Rattle.cc_control.specs.Control.{level, close}
 use Rattle.cc_eval.specs.declared.action.Action.{Action}
@@ -37,25 +40,25 @@ use Rattle.cc_meaning.specs.State.{Active, State, locals_with}
 use Rattle.cc_meaning.specs.Step.{stopped, with_stack, with_flag, with_event, worked, next_place, is_return, number_in, gives_nothing, progress_in, progress_of, goes_to, marked, activation, opened, opened_if, call, return_mark, returned, fallen, perform, stepped, active_step, proceed}
 use Rattle.cc_meaning.specs.Turn.{is_going, only_handler, may_enter, entering, entered, turn_by, turn}
 use Rattle.cc_syntax.specs.Effects.{no_one}
-use Rattle.cc_syntax.specs.Expressions.{type_of}
+use Rattle.cc_syntax.specs.Expressions.{type_of, of_one}
 use Rattle.cc_syntax.specs.Operators.{is_handler, is_unqualified}
 use Rattle.cc_syntax.specs.SameTypes.{same_shape, is_int_shape, is_void_shape}
 use Rattle.cc_syntax.specs.Sound.{IsSound, IsFunc, is_main, is_main_there, is_plain_int, is_plain_void, takes_nothing, are_parameters}
 use Rattle.cc_syntax.specs.Statements.{is_sound_stmt, returns, sound_step, Labelled, labels_fit, are_apart, has_label}
 use Rattle.cc_syntax.specs.Types.{Named, IsInOrder}
-use Rattle.cc_syntax.specs.Values.{ValueType, NoValue, Integer, scalar_shape, scalar_value, is_void, is_assignable_some, ToObject, ToFunction}
+use Rattle.cc_syntax.specs.Values.{ValueType, NoValue, Integer, scalar_shape, scalar_value, is_void, is_assignable_some, ToObject, ToFunction, object_place, read_from}
 use Rattle.cc_syntax.proofs.Parts.{all_at}
 use Rattle.cc_syntax.proofs.Prefixes.{both_true}
 use Rattle.cc_meaning.proofs.TurnLemmas.{sound-sized}
 use Rattle.cc_states.specs.Answers.{IsAction, IsMarkOf, result_in}
-use Rattle.cc_states.specs.States.{AreScalars, may_break, may_continue, AreSound, worked_at, expression_of, AreMarks, context_in, IsActive, AreActive, AreCalled, IsStateOf, IsState}
+use Rattle.cc_states.specs.States.{AreScalars, may_break, may_continue, AreSound, worked_at, expression_of, AreMarks, context_in, IsActive, AreActive, AreCalled, IsStateOf, IsState, AreInOrder}
 use Rattle.cc_states.specs.Typed.{HasType, MayHave, AreArguments}
-use Rattle.cc_states.proofs.ActiveLemmas.{marked_active, goes_active, marked_call, called_again, gone}
+use Rattle.cc_states.proofs.ActiveLemmas.{marked_active, goes_active, marked_call, called_again, gone, in_order_again}
 use Rattle.cc_states.proofs.ControlLemmas.{next_sound, body_sound, statement_sound}
 use Rattle.cc_states.proofs.EvalTypes.{meaning_typed}
 use Rattle.cc_states.proofs.KeepLemmas.{get_last, statics_more, actives_more, arguments_more}
 use Rattle.cc_states.proofs.Options.{either_true}
-use Rattle.cc_states.proofs.PathLemmas.{within, no_path}
+use Rattle.cc_states.proofs.PathLemmas.{within, no_path, zeros-shape}
 use Rattle.cc_states.proofs.SameLemmas.{int_there, shape_of_same}
 use Rattle.cc_states.proofs.SoundLemmas.{typed, parts, labelled}
 use Rattle.cc_states.proofs.StateLemmas.{asked}
@@ -73,13 +76,34 @@ module _ (p : Program) (openings : List ℕ) (order : IsInOrder p.structures) wh
   abbrev Local : CType → List (Option Value) → Type 0
   Local t values = AreScalars p (MayHave p openings) t values
 
-  given_at : (path : List Part) (t u : CType) (w r : ValueType) (v : Value) → scalar_value t ≡ scalar_value u → scalar_value t ≡ Some r → HasType p openings r v → Local u (Some v ∷ [])
-  given_at path t u w r v e h k [] x i = (Some v, refl, subst (λ (y : ValueType). HasType p openings y v) (same_Some r x (sym h ∙ e ∙ i)) k)
-  given_at path t u w r v e h k (s ∷ rest) x i =
-      no_path p.structures order p openings ((y : Option Value) × (slice_get (Some v ∷ []) _ ≡ Some y) × MayHave p openings x y) _ _ u r x s rest (sym e ∙ h) i
+  given_at : (t u : CType) (r : ValueType) (v : Value) → scalar_value t ≡ scalar_value u → scalar_value t ≡ Some r → HasType p openings r v → (path : List Part) (w : ValueType) →
+      of_one (place_at p.structures path (object_place u)) read_from ≡ Some w → (x : Option Value) × (slice_get (Some v ∷ []) (position p.structures path (Some (object_place u))) ≡ Some x) × MayHave p openings w x
+  given_at t u r v e h k [] w i = (Some v, refl, subst (λ (y : ValueType). HasType p openings y v) (same_Some r w (sym h ∙ e ∙ i)) k)
+  given_at t u r v e h k (s ∷ rest) w i =
+      no_path p.structures order p openings ((x : Option Value) × (slice_get (Some v ∷ []) (position p.structures (s ∷ rest) (Some (object_place u))) ≡ Some x) × MayHave p openings w x) (is_const u) (is_volatile u) u r w s rest (sym e ∙ h) i
+
+  -- a scalar type has one
+  one_scalar : (u : CType) (r : ValueType) (x : shape.Shape-F Shape CType Sig) → out-Shape u.shape ≡ x → scalar_shape x ≡ Some r → 1 ≡ length (zeros p.structures u)
+  one_scalar u r (shape.Int i) e h = sym (ap length (zeros-shape (structure_zeros p.structures) u (shape.Int i) e))
+  one_scalar u r (shape.Pointer to) e h = sym (ap length (zeros-shape (structure_zeros p.structures) u (shape.Pointer to) e))
+  one_scalar u r shape.Void e h = absurd (cc)
+  one_scalar u r (shape.Array of n) e h = absurd (cc)
+  one_scalar u r (shape.Struct i) e h = absurd (cc)
+  one_scalar u r (shape.Func sig) e h = absurd (cc)
+
+  given_local : (t u : CType) (r : ValueType) (v : Value) → scalar_value t ≡ scalar_value u → scalar_value t ≡ Some r → HasType p openings r v → Local u (Some v ∷ [])
+  given_local t u r v e h k = record { count = one_scalar u r (out-Shape u.shape) refl (sym e ∙ h); typed = given_at t u r v e h k }
 
   unwritten : (t : CType) → Local t (replicate (length (zeros p.structures t)) None)
-  unwritten t path w h = (None, get_replicate None (length (zeros p.structures t)) _ (within p.structures order p openings path _ _ t w h), tt)
+  unwritten t = record {
+    count = length-replicate (length (zeros p.structures t)) None;
+    typed = λ path w h. (None, get_replicate None (length (zeros p.structures t)) (position p.structures path (Some (object_place t))) (within p.structures order p openings path (is_const t) (is_volatile t) t w h), tt);
+  }
+
+  as_many : (args : List Value) (locals : List Named) → length (locals_with p args locals) ≡ length locals
+  as_many args [] = refl
+  as_many [] (l ∷ locals) = ap suc (as_many [] locals)
+  as_many (v ∷ args) (l ∷ locals) = ap suc (as_many args locals)
 
   abbrev LocalAt : List Value → List Named → ℕ → Named → Type 0
   LocalAt args locals i l = (values : List (Option Value)) × (slice_get (locals_with p args locals) i ≡ Some values) × Local l.1 values
@@ -98,7 +122,7 @@ module _ (p : Program) (openings : List ℕ) (order : IsInOrder p.structures) wh
   given (t ∷ ts) (x ∷ locals) (v ∷ args) h k zero l e =
       let both = both_true (same_shape t.shape x.1.shape) (are_parameters ts locals) h in
       let same : scalar_value t ≡ scalar_value x.1 = ap (λ s. scalar_shape (out-Shape s)) (shape_of_same t x.1 both.0) in
-      (Some v ∷ [], refl, subst (λ (y : Named). Local y.1 (Some v ∷ [])) (same_Some x l e) (given_at [] t x.1 k.0.0 k.0.0 v same k.0.1 k.0.2))
+      (Some v ∷ [], refl, subst (λ (y : Named). Local y.1 (Some v ∷ [])) (same_Some x l e) (given_local t x.1 k.0.0 v same k.0.1 k.0.2))
   given (t ∷ ts) (x ∷ locals) (v ∷ args) h k (suc i) l e = given ts locals args (both_true (same_shape t.shape x.1.shape) (are_parameters ts locals) h).1 k.1 i l e
 
   -- an activation before its first step
@@ -106,7 +130,7 @@ module _ (p : Program) (openings : List ℕ) (order : IsInOrder p.structures) wh
       IsActive p openings (activation p number id handler args f)
   opened_active number id handler args f e n sound h =
       goes_active p openings (record { number = number; func = id; handler = handler; locals = locals_with p args f.locals; here = level [] 0 First; around = []; marks = [] })
-      (record { func = f; function = e; number = n; locals = given (out-Sig f.sig).params f.locals args sound.first h; control = (refl, tt); marks = refl })
+      (record { func = f; function = e; number = n; locals = (as_many args f.locals, given (out-Sig f.sig).params f.locals args sound.first h); control = (refl, tt); marks = refl })
       (close f.body 0 []) (body_sound p f sound.body)
 
 -- ---- what tests say
@@ -147,6 +171,11 @@ module _ (p : Program) (sound : IsSound p) where
   pub function_sound : (id : ℕ) (f : Func) → slice_get p.funcs id ≡ Some f → IsFunc p f
   function_sound id f e = all_at (IsFunc p) p.funcs id f e sound.funcs
 
+  -- the newest number is above all others
+  new_in_order : (openings : List ℕ) (a : Active) (n : ℕ) (stack : List Active) → length openings ≡ n → a.number ≡ n → AreActive p openings stack → AreInOrder stack → AreInOrder (a ∷ stack)
+  new_in_order openings a n [] e f h k = tt
+  new_in_order openings a n (b ∷ below) e f h k = (subst (λ (m : ℕ). b.number < m) (e ∙ sym f) (slice_get_within openings b.number b.func h.0.number), k)
+
   pub opened_state : (openings : List ℕ) (s : State) → IsStateOf p openings s → (id : ℕ) (handler : Bool) (args : List Value) (f : Func) → slice_get p.funcs id ≡ Some f → AreArguments p openings (out-Sig f.sig).params args →
       AreCalled p (activation p s.opened id handler args f ∷ s.stack) → IsStateOf p (openings ++ id ∷ []) (opened p s id handler args f)
   opened_state openings s h id handler args f e k c = record {
@@ -157,6 +186,7 @@ module _ (p : Program) (sound : IsSound p) where
       actives_more p openings (id ∷ []) s.stack h.stack,
     );
     called = c;
+    order = new_in_order openings (activation p s.opened id handler args f) s.opened s.stack h.count refl h.stack h.order;
     running = λ g. (activation p s.opened id handler args f, s.stack, refl);
   }
 
@@ -168,6 +198,9 @@ module _ (p : Program) (sound : IsSound p) where
 
     abbrev calls : AreCalled p (a ∷ below)
     calls = subst (AreCalled p) top h.called
+
+    abbrev in_order : AreInOrder (a ∷ below)
+    in_order = subst AreInOrder top h.order
 
     abbrev f : Func
     f = all.0.func
@@ -188,7 +221,7 @@ module _ (p : Program) (sound : IsSound p) where
         subst (λ (b : Bool). IsMarkOf p openings (Call (address.Func a.func) args) (if b then Did else Gave (Some v))) (sym (ap gives_nothing all.0.function)) (mark_by args v (is_void result) refl r)
 
     none_left : (v : Value) → IsState p (stopped (with_stack s []) (Exit (number_in v)))
-    none_left v = (openings, record { count = h.count; statics = h.statics; stack = tt; called = tt; running = λ g. absurd (cc) })
+    none_left v = (openings, record { count = h.count; statics = h.statics; stack = tt; called = tt; order = tt; running = λ g. absurd (cc) })
 
   module _ (openings : List ℕ) (s : State) (h : IsStateOf p openings s) (a b : Active) (rest : List Active) (top : s.stack ≡ a ∷ b ∷ rest) where
     handler_returned : IsState p (with_flag (with_stack s (b ∷ rest)) true)
@@ -199,6 +232,7 @@ module _ (p : Program) (sound : IsSound p) where
         statics = h.statics;
         stack = (all openings s h a (b ∷ rest) top).1;
         called = (calls openings s h a (b ∷ rest) top).1;
+        order = (in_order openings s h a (b ∷ rest) top).1;
         running = λ g. (b, rest, refl);
       },
     )
@@ -215,6 +249,7 @@ module _ (p : Program) (sound : IsSound p) where
               (all openings s h a (b ∷ rest) top).1.1,
             );
             called = called_again p b (marked p b (return_mark p a.func v)) rest (marked_call p b (return_mark p a.func v)) (calls openings s h a (b ∷ rest) top).1;
+            order = in_order_again b (marked p b (return_mark p a.func v)) rest (marked_call p b (return_mark p a.func v)).number (in_order openings s h a (b ∷ rest) top).1;
             running = λ g. (marked p b (return_mark p a.func v), rest, refl);
           },
         )
@@ -385,6 +420,7 @@ module _ (p : Program) (sound : IsSound p) where
     statics = h.statics;
     stack = subst (AreActive p openings) top h.stack;
     called = subst (AreCalled p) top h.called;
+    order = subst AreInOrder top h.order;
     running = λ g. (a, below, refl);
   }
 

@@ -1,6 +1,6 @@
 -- What is a state of a run of a program (C99 5.1.2.3): a value in its type for each scalar of its objects, and activations that stand
 -- in their functions, each with answers to what its full expression has asked for.
-use Rattle.std.specs.Prelude.{◌≡◌, ℕ, ◌==◌, Bool, true, false, ◌||◌, List, [], ◌∷◌, Option, Some, None, length, slice_get, if◌then◌else◌}
+use Rattle.std.specs.Prelude.{◌≡◌, ◌<◌, ℕ, ◌==◌, Bool, true, false, ◌||◌, List, [], ◌∷◌, Option, Some, None, length, slice_get, if◌then◌else◌}
 use Rattle.std.specs.List.{list_all}
 use Rattle.cc_program.specs.declared.expr.Expr.{Expr}
 use Rattle.cc_program.specs.declared.func.Func.{Func}
@@ -17,7 +17,7 @@ use Rattle.cc_program.specs.declared.value.Part.{Part}
 use Rattle.cc_program.specs.declared.value.Root.TheVariants as root
 use Rattle.cc_program.specs.declared.value.Value.{Value}
 use Rattle.cc_cells.specs.Cells.{scalar_in}
-use Rattle.cc_cells.specs.Scalars.{position}
+use Rattle.cc_cells.specs.Scalars.{zeros, position}
 use Rattle.cc_control.specs.Control.{Level, first_is, is_loop, is_left_by_break}
 use Rattle.cc_eval.specs.declared.action.Action.{Action}
 use Rattle.cc_eval.specs.declared.action.Action.TheVariants.{Read, Write, Choose, Call, Flag, Save}
@@ -39,18 +39,19 @@ use Rattle.cc_states.specs.Typed.{HasType, MayHave}
 
 -- ---- values
 
--- at the position of each path to a scalar of a type stands what the scalar may hold (6.2.5, 21)
-abbrev pub AreScalars : {A : Type 0} → Program → (ValueType → A → Type 0) → CType → List A → Type 0
-AreScalars {A} p Holds t values = (path : List Part) (w : ValueType) → of_one (place_at p.structures path (object_place t)) read_from ≡ Some w →
-    (v : A) × (slice_get values (position p.structures path (Some (object_place t))) ≡ Some v) × Holds w v
+-- as many as a type has scalars, and at the position of each path to one what that may hold (6.2.5, 21)
+pub record AreScalars {A : Type 0} (p : Program) (Holds : ValueType → A → Type 0) (t : CType) (values : List A) : Type 0 where
+  pub count : length values ≡ length (zeros p.structures t)
+  pub typed : (path : List Part) (w : ValueType) → of_one (place_at p.structures path (object_place t)) read_from ≡ Some w →
+      (v : A) × (slice_get values (position p.structures path (Some (object_place t))) ≡ Some v) × Holds w v
 
 module _ (p : Program) (openings : List ℕ) where
   abbrev pub AreStatics : List (List Value) → Type 0
-  AreStatics statics = (i : ℕ) (o : Object) → slice_get p.objects i ≡ Some o → (values : List Value) × (slice_get statics i ≡ Some values) × AreScalars p (HasType p openings) o.ctype values
+  AreStatics statics = (length statics ≡ length p.objects) × ((i : ℕ) (o : Object) → slice_get p.objects i ≡ Some o → (values : List Value) × (slice_get statics i ≡ Some values) × AreScalars p (HasType p openings) o.ctype values)
 
   -- none stands for what was not written
   abbrev pub AreLocals : Func → List (List (Option Value)) → Type 0
-  AreLocals f locals = (i : ℕ) (l : Named) → slice_get f.locals i ≡ Some l → (values : List (Option Value)) × (slice_get locals i ≡ Some values) × AreScalars p (MayHave p openings) l.1 values
+  AreLocals f locals = (length locals ≡ length f.locals) × ((i : ℕ) (l : Named) → slice_get f.locals i ≡ Some l → (values : List (Option Value)) × (slice_get locals i ≡ Some values) × AreScalars p (MayHave p openings) l.1 values)
 
 -- ---- where an activation stands
 
@@ -107,12 +108,19 @@ AreCalled p [] = Unit {0}
 AreCalled p (a ∷ []) = (a.func ≡ p.main) × (a.handler ≡ false)
 AreCalled p (a ∷ b ∷ below) = (a.handler ≡ false → (args : List Value) × (progress_of p b (expression_of b) ≡ Waits (Call (address.Func a.func) args))) × AreCalled p (b ∷ below)
 
+-- each was opened behind those below it
+abbrev pub AreInOrder : List Active → Type 0
+AreInOrder [] = Unit {0}
+AreInOrder (a ∷ []) = Unit {0}
+AreInOrder (a ∷ b ∷ below) = (b.number < a.number) × AreInOrder (b ∷ below)
+
 -- where activations of these functions were opened so far, by their numbers
 pub record IsStateOf (p : Program) (openings : List ℕ) (s : State) : Type 0 where
   pub count : length openings ≡ s.opened
   pub statics : AreStatics p openings s.memory.statics
   pub stack : AreActive p openings s.stack
   pub called : AreCalled p s.stack
+  pub order : AreInOrder s.stack
   pub running : is_going s.end ≡ true → (a : Active) × (below : List Active) × (s.stack ≡ a ∷ below)
 
 abbrev pub IsState : Program → State → Type 0
