@@ -14,12 +14,13 @@ use Rattle.cc_eval.specs.declared.action.Action.TheVariants.{Call}
 use Rattle.cc_eval.specs.declared.mark.Mark.{Mark}
 use Rattle.cc_eval.specs.Context.{Context}
 use Rattle.cc_eval.specs.Eval.{next_of}
-use Rattle.cc_eval.specs.Progress.{Progress, Waits, Get}
+use Rattle.cc_eval.specs.Progress.{Waits, Get}
 use Rattle.cc_meaning.specs.State.{Active}
 use Rattle.cc_meaning.specs.Step.{moved, with_mark, at_test, progress_in, progress_of, is_known, passes, begun_at, goes_to, settled_in, settled, marked}
 use Rattle.cc_states.specs.Answers.{IsMarkOf, AreAnswers}
 use Rattle.cc_states.specs.States.{AreSound, expression_of, AreMarks, context_in, IsActive, AreCalled, AreInOrder}
 use Rattle.cc_states.proofs.ControlLemmas.{behind_sound}
+use Rattle.cc_states.proofs.Works.{same_action}
 
 -- ---- marks
 
@@ -51,9 +52,6 @@ last_or_not [] m (x ∷ front) back n h = absurd (nothing_in front back n (tail_
 last_or_not (y ∷ ms) m [] back n h = inr (ms, ap (λ (z : Mark). z ∷ ms) (head_same y n (ms ++ m ∷ []) back h))
 last_or_not (y ∷ ms) m (x ∷ front) back n h =
     one_further x y m n ms front (head_same y x (ms ++ m ∷ []) (front ++ n ∷ back) h) (last_or_not ms m front back n (tail_same y x (ms ++ m ∷ []) (front ++ n ∷ back) h))
-
-same_action : {A : Type 0} (q : Progress A) (a b : Action) → q ≡ Waits a → q ≡ Waits b → a ≡ b
-same_action q a b h k = cc
 
 module _ {A : Type 0} (p : Program) (openings : List ℕ) (g : Get A) (ms : List Mark) (m : Mark) (action : Action) (answers : AreAnswers p openings g ms) (waits : g ms ≡ Waits action) (mark : IsMarkOf p openings action m) where
   answered_by : (front : List Mark) (n : Mark) (other : Action) → g front ≡ Waits other → IsLast ms m front n → IsMarkOf p openings other n

@@ -1,5 +1,5 @@
 -- What holds where activations of some functions were opened holds where more were opened behind them.
-use Rattle.std.proofs.Common.{arith, ◌≡◌, ◌<◌, ℕ, zero, suc, List, [], ◌∷◌, ◌++◌, length, Option, Some, None, slice_get, refl, sym, ◌∙◌, subst}
+use Rattle.std.proofs.Common.{arith, ◌≡◌, ℕ, zero, suc, List, [], ◌∷◌, ◌++◌, length, Option, Some, None, slice_get, refl, sym, ◌∙◌, subst}
 use Rattle.cc_syntax.specs.Types.{Named}
 use Rattle.cc_program.specs.declared.object.Object.{Object}
 use Rattle.std.proofs.lemmas.Option.{slice_get_within}
@@ -20,14 +20,10 @@ use Rattle.cc_eval.specs.Context.{Context}
 use Rattle.cc_eval.specs.Eval.{next_of}
 use Rattle.cc_meaning.specs.State.{Active}
 use Rattle.cc_syntax.specs.Values.{ValueType, NoValue, Integer, ToObject, ToFunction}
+use Rattle.cc_states.proofs.ListLemmas.{get_before}
 use Rattle.cc_states.specs.Answers.{IsMarkOf, AreAnswers}
 use Rattle.cc_states.specs.States.{AreStatics, AreLocals, expression_of, AreMarks, context_in, IsActive, AreActive, AreScalars}
 use Rattle.cc_states.specs.Typed.{IsOpened, IsAddress, HasType, MayHave, AreArguments}
-
-get_before : {A : Type 0} → (xs ys : List A) (k : ℕ) → k < length xs → slice_get (xs ++ ys) k ≡ slice_get xs k
-get_before [] ys k h = absurd (omega (arith, h))
-get_before (x ∷ xs) ys zero h = refl
-get_before (x ∷ xs) ys (suc k) h = get_before xs ys k (omega (arith, h))
 
 pub get_more : {A : Type 0} → (xs ys : List A) (k : ℕ) (x : A) → slice_get xs k ≡ Some x → slice_get (xs ++ ys) k ≡ Some x
 get_more xs ys k x h = get_before xs ys k (slice_get_within xs k x h) ∙ h

@@ -2,9 +2,13 @@ pub mod ActiveLemmas
 pub mod AlikeLemmas
 pub mod ControlLemmas
 pub mod EvalTypes
+pub mod GivenLemmas
 pub mod KeepLemmas
+pub mod ListLemmas
+pub mod LocalLemmas
 pub mod Options
 pub mod PathLemmas
+pub mod PlaceLemmas
 pub mod SameLemmas
 pub mod SoundLemmas
 pub mod SpotLemmas
@@ -12,6 +16,8 @@ pub mod StartLemmas
 pub mod StateLemmas
 pub mod StepLemmas
 pub mod TakenLemmas
+pub mod TestLemmas
 pub mod TurnLemmas
 pub mod TypedLemmas
 pub mod Works
+pub mod ZeroLemmas

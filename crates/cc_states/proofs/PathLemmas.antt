@@ -1,168 +1,38 @@
 -- Where the scalars of an object stand: each path to one leads to its first value, two at one position have one type, and so a write
 -- keeps the types of all.
-use Rattle.std.proofs.Common.{arith, ◌≡◌, ◌<◌, ◌+◌, ◌*◌, ℕ, zero, suc, pos, Bool, true, false, ◌||◌, nat_lt, List, [], ◌∷◌, ◌++◌, length, length-append, take, replicate, Option, Some, None, unwrap_or, slice_get, slice_set, refl, ap, sym, ◌∙◌, subst}
+use Rattle.std.proofs.Common.{◌≡◌, ◌<◌, ◌+◌, ◌*◌, ℕ, pos, Bool, true, false, ◌||◌, nat_lt, List, [], ◌∷◌, length, take, replicate, Option, Some, None, unwrap_or, slice_get, slice_set, refl, ap, sym, ◌∙◌, subst}
 use Rattle.std.proofs.lemmas.List.{length-set}
-use Rattle.std.proofs.lemmas.Bool.{eqb-true, eq-eqb, ltb-true}
+use Rattle.std.proofs.lemmas.Bool.{eqb-true, ltb-true}
 use Rattle.std.proofs.lemmas.Option.{same_Some, slice_get_within}
 use Rattle.std.specs.Prelude.{if◌then◌else◌, ◌==◌}
 use Rattle.std.specs.List.{flat_map}
 use Rattle.cc_program.specs.Qualifiers.{is_const, is_volatile}
 use Rattle.cc_program.specs.declared.program.Program.{Program}
-use Rattle.cc_program.specs.declared.types.CType.{CType, fold_out-CType}
-use Rattle.cc_program.specs.declared.types.Shape.{Shape, fold-Shape, fold_out-Shape, out-Shape, out-roll-Shape, roll-Shape, map-Shape}
+use Rattle.cc_program.specs.declared.types.CType.{CType}
+use Rattle.cc_program.specs.declared.types.Shape.{Shape, out-Shape}
 use Rattle.cc_program.specs.declared.types.Shape.TheOpen as shape
-use Rattle.cc_program.specs.declared.types.Sig.{Sig, fold-Sig}
+use Rattle.cc_program.specs.declared.types.Sig.{Sig}
 use Rattle.cc_program.specs.declared.types.Structure.{Structure}
 use Rattle.cc_program.specs.declared.value.Address.TheVariants as address
 use Rattle.cc_program.specs.declared.value.Part.{Part}
 use Rattle.cc_program.specs.declared.value.Part.TheVariants as part
 use Rattle.cc_program.specs.declared.value.Value.{Value}
 use Rattle.cc_program.specs.declared.value.Value.TheVariants.{Int, Place}
-use Rattle.cc_program.proofs.TypeInduction.{with_shape, TypeParts, by_type}
-use Rattle.cc_cells.specs.Scalars.{shape_zeros, zeros_over, member_zeros, structure_zeros, zeros, members_before, before_part, position}
+use Rattle.cc_cells.specs.Scalars.{zeros_over, member_zeros, structure_zeros, zeros, members_before, before_part, position}
 use Rattle.cc_cells.proofs.StructureLemmas.{zeros-at}
 use Rattle.cc_syntax.specs.Expressions.{of_one}
 use Rattle.cc_syntax.specs.Initial.{bound_shape, is_below, step_into, place_at}
-use Rattle.cc_syntax.specs.Types.{Named, has_members, complete_shape, is_complete, IsInOrder}
+use Rattle.cc_syntax.specs.Types.{Named, is_complete, IsInOrder}
 use Rattle.cc_syntax.specs.Values.{ValueType, Integer, PlaceType, ObjectPlace, pointer_shape, pointer_to, scalar_shape, scalar_value, object_place, read_from, element_shape, member_at, member_in, member_shape}
 use Rattle.cc_syntax.proofs.Parts.{all_at}
-use Rattle.cc_syntax.proofs.Prefixes.{both_true, get_taken}
-use Rattle.cc_syntax.proofs.TypeLayouts.{parts_complete, complete-roll}
+use Rattle.cc_syntax.proofs.Prefixes.{get_taken}
 use Rattle.cc_states.specs.States.{AreScalars}
 use Rattle.cc_states.specs.Typed.{HasType}
 use Rattle.cc_states.proofs.AlikeLemmas.{same_of}
 use Rattle.cc_states.proofs.Options.{with_one}
 use Rattle.cc_states.proofs.TypedLemmas.{promoted_value}
-
--- ---- lists
-
-get_before : {A : Type 0} → (xs ys : List A) (k : ℕ) → k < length xs → slice_get (xs ++ ys) k ≡ slice_get xs k
-get_before [] ys k h = absurd (omega (arith, h))
-get_before (x ∷ xs) ys zero h = refl
-get_before (x ∷ xs) ys (suc k) h = get_before xs ys k (omega (arith, h))
-
-get_after : {A : Type 0} → (xs ys : List A) (k n : ℕ) → n ≡ length xs + k → slice_get (xs ++ ys) n ≡ slice_get ys k
-get_after [] ys k n e = ap (slice_get ys) (e ∙ omega arith)
-get_after (x ∷ xs) ys k zero e = absurd (omega (arith, e))
-get_after (x ∷ xs) ys k (suc n) e = get_after xs ys k n (omega (arith, e))
-
-pub one_more : (n a : ℕ) → suc n * a ≡ a + n * a
-one_more n a = grind arith
-
-get_repeat : (xs : List Value) (n i q : ℕ) → i < n → q < length xs → slice_get (flat_map (λ zs. zs) (replicate n xs)) (i * length xs + q) ≡ slice_get xs q
-get_repeat xs zero i q h k = absurd (omega (arith, h))
-get_repeat xs (suc n) zero q h k =
-    let e : zero * length xs + q ≡ q = omega arith in
-    ap (slice_get (xs ++ flat_map (λ zs. zs) (replicate n xs))) e ∙ get_before xs (flat_map (λ zs. zs) (replicate n xs)) q k
-get_repeat xs (suc n) (suc i) q h k =
-    let e = one_more i (length xs) in
-    get_after xs (flat_map (λ zs. zs) (replicate n xs)) (i * length xs + q) (suc i * length xs + q) (omega (arith, e)) ∙ get_repeat xs n i q (omega (arith, h)) k
-
-get_member : (f : Named → List Value) (ms : List Named) (m q : ℕ) (n : Named) → slice_get ms m ≡ Some n → q < length (f n) → slice_get (flat_map f ms) (length (flat_map f (take m ms)) + q) ≡ slice_get (f n) q
-get_member f [] m q n h k = absurd (cc)
-get_member f (x ∷ ms) zero q n h k =
-    let same : x ≡ n = same_Some x n h in
-    let e : 0 + q ≡ q = omega arith in
-    ap (slice_get (f x ++ flat_map f ms)) e ∙ get_before (f x) (flat_map f ms) q (subst (λ (y : Named). q < length (f y)) (sym same) k) ∙ ap (λ (y : Named). slice_get (f y) q) same
-get_member f (x ∷ ms) (suc m) q n h k =
-    let l = length-append (f x) (flat_map f (take m ms)) in
-    get_after (f x) (flat_map f ms) (length (flat_map f (take m ms)) + q) (length (f x ++ flat_map f (take m ms)) + q) (omega (arith, l)) ∙ get_member f ms m q n h k
-
-row_same : (l i j x y : ℕ) → i * l + x ≡ j * l + y → x < l → y < l → (i ≡ j) × (x ≡ y)
-row_same l zero zero x y e h k = (refl, omega (arith, e))
-row_same l zero (suc j) x y e h k = let o = one_more j l in absurd (omega (arith, e, o, h))
-row_same l (suc i) zero x y e h k = let o = one_more i l in absurd (omega (arith, e, o, k))
-row_same l (suc i) (suc j) x y e h k =
-    let o = one_more i l in
-    let q = one_more j l in
-    let r = row_same l i j x y (omega (arith, e, o, q)) h k in
-    (ap suc r.0, r.1)
-
-member_same : (f : Named → List Value) (ms : List Named) (m k x y : ℕ) (n o : Named) → slice_get ms m ≡ Some n → slice_get ms k ≡ Some o → x < length (f n) → y < length (f o) →
-    length (flat_map f (take m ms)) + x ≡ length (flat_map f (take k ms)) + y → (m ≡ k) × (x ≡ y)
-member_same f [] m k x y n o g h i j e = absurd (cc)
-member_same f (z ∷ ms) zero zero x y n o g h i j e = (refl, omega (arith, e))
-member_same f (z ∷ ms) zero (suc k) x y n o g h i j e =
-    let l = length-append (f z) (flat_map f (take k ms)) in
-    let b : x < length (f z) = subst (λ (a : Named). x < length (f a)) (sym (same_Some z n g)) i in
-    absurd (omega (arith, e, l, b))
-member_same f (z ∷ ms) (suc m) zero x y n o g h i j e =
-    let l = length-append (f z) (flat_map f (take m ms)) in
-    let b : y < length (f z) = subst (λ (a : Named). y < length (f a)) (sym (same_Some z o h)) j in
-    absurd (omega (arith, e, l, b))
-member_same f (z ∷ ms) (suc m) (suc k) x y n o g h i j e =
-    let l = length-append (f z) (flat_map f (take m ms)) in
-    let q = length-append (f z) (flat_map f (take k ms)) in
-    let r = member_same f ms m k x y n o g h i j (omega (arith, e, l, q)) in
-    (ap suc r.0, r.1)
-
-pub set_here : {A : Type 0} → (xs : List A) (k : ℕ) (v x : A) → slice_get xs k ≡ Some x → slice_get (slice_set xs k v) k ≡ Some v
-set_here [] k v x h = absurd (cc)
-set_here (y ∷ xs) zero v x h = refl
-set_here (y ∷ xs) (suc k) v x h = set_here xs k v x h
-
-pub set_elsewhere : {A : Type 0} → (xs : List A) (k j : ℕ) (v : A) → (k ≡ j → ⊥) → slice_get (slice_set xs k v) j ≡ slice_get xs j
-set_elsewhere [] k j v h = refl
-set_elsewhere (y ∷ xs) zero zero v h = absurd (h refl)
-set_elsewhere (y ∷ xs) zero (suc j) v h = refl
-set_elsewhere (y ∷ xs) (suc k) zero v h = refl
-set_elsewhere (y ∷ xs) (suc k) (suc j) v h = set_elsewhere xs k j v (λ e. h (ap suc e))
-
-same_struct : (i j : ℕ) (x : shape.Shape-F Shape CType Sig) → x ≡ shape.Struct i → x ≡ shape.Struct j → i ≡ j
-same_struct i j x h k = cc
-
-pub not_equal : (k j : ℕ) → k ≡ j → (k == j) ≡ false → ⊥
-not_equal k j e h = let f = eq-eqb k j e in absurd (cc)
-
--- ---- first values, opened at a shape
-
-module _ (table : List (List Value)) where
-  abbrev parts_zeros : shape.Shape-F Shape CType Sig → shape.Shape-F (List Value) (List Value) (Unit {0})
-  parts_zeros x = map-Shape Shape CType Sig (List Value) (List Value) (Unit {0}) (fold-Shape (List Value) (List Value) (Unit {0}) (shape_zeros table) (λ t. t.shape) (λ s. tt))
-      (zeros_over table) (fold-Sig (List Value) (List Value) (Unit {0}) (shape_zeros table) (λ t. t.shape) (λ s. tt)) x
-
-  zeros-opens : (t : CType) → zeros_over table t ≡ shape_zeros table (parts_zeros (out-Shape t.shape))
-  unfolding zeros_over
-  zeros-opens t =
-      fold_out-CType (List Value) (List Value) (Unit {0}) (shape_zeros table) (λ t. t.shape) (λ s. tt) t ∙ fold_out-Shape (List Value) (List Value) (Unit {0}) (shape_zeros table) (λ t. t.shape) (λ s. tt) t.shape
-
-  pub zeros-shape : (t : CType) (x : shape.Shape-F Shape CType Sig) → out-Shape t.shape ≡ x → zeros_over table t ≡ shape_zeros table (parts_zeros x)
-  zeros-shape t x e = zeros-opens t ∙ ap (λ y. shape_zeros table (parts_zeros y)) e
-
--- a type that is complete over some structures has the same first values wherever these have theirs
-module _ (structures : List Structure) (ls ms : List (List Value)) (agree : (k : ℕ) (s : Structure) → slice_get structures k ≡ Some s → slice_get ls k ≡ slice_get ms k) where
-  abbrev Same : CType → Type 0
-  Same t = is_complete structures t ≡ true → zeros_over ls t ≡ zeros_over ms t
-
-  looked_up : (k : ℕ) (o : Option Structure) → slice_get structures k ≡ o → has_members o ≡ true → unwrap_or (slice_get ls k) [] ≡ unwrap_or (slice_get ms k) []
-  looked_up k None e h = absurd (cc)
-  looked_up k (Some s) e h = ap (λ l. unwrap_or l []) (agree k s e)
-
-  shape-same : (x : shape.Shape-F Shape CType Sig) → TypeParts Same (λ s. Unit {0}) x → complete_shape structures (parts_complete structures x) ≡ true → shape_zeros ls (parts_zeros ls x) ≡ shape_zeros ms (parts_zeros ms x)
-  shape-same shape.Void h c = refl
-  shape-same (shape.Int t) h c = refl
-  shape-same (shape.Pointer t) h c = refl
-  shape-same (shape.Array t n) h c = let e = h (both_true (nat_lt 0 n) (is_complete structures t) c).1 in rw e refl
-  shape-same (shape.Struct k) h c = looked_up k (slice_get structures k) refl c
-  shape-same (shape.Func s) h c = refl
-
-  type-same : (t : CType) → is_complete structures t ≡ true → zeros_over ls t ≡ zeros_over ms t
-  type-same = by_type Same (λ s. Unit {0})
-      (λ constant volatile x h c. zeros-shape ls (with_shape constant volatile (roll-Shape x)) x (out-roll-Shape x) ∙ shape-same x h (sym (complete-roll structures constant volatile x) ∙ c)
-      ∙ sym (zeros-shape ms (with_shape constant volatile (roll-Shape x)) x (out-roll-Shape x)))
-      (λ x h. tt)
-
-take_taken : {A : Type 0} → (xs : List A) (k i : ℕ) → k < i → take k (take i xs) ≡ take k xs
-take_taken [] k zero h = absurd (omega (arith, h))
-take_taken [] zero (suc i) h = refl
-take_taken [] (suc k) (suc i) h = refl
-take_taken (x ∷ xs) k zero h = absurd (omega (arith, h))
-take_taken (x ∷ xs) zero (suc i) h = refl
-take_taken (x ∷ xs) (suc k) (suc i) h = ap (λ ys. x ∷ ys) (take_taken xs k i (omega (arith, h)))
-
-members_same : (f g : Named → List Value) (ms : List Named) → ((k : ℕ) (m : Named) → slice_get ms k ≡ Some m → f m ≡ g m) → flat_map f ms ≡ flat_map g ms
-members_same f g [] h = refl
-members_same f g (m ∷ ms) h = rw (h 0 m refl, members_same f g ms (λ k n e. h (suc k) n e)) refl
+use Rattle.cc_states.proofs.ListLemmas.{get_repeat, get_member, row_same, member_same, set_here, set_elsewhere, same_struct, not_equal}
+use Rattle.cc_states.proofs.ZeroLemmas.{zeros-shape, type-same, take_taken, members_same}
 
 module _ (structures : List Structure) (order : IsInOrder structures) where
   zeros-taken : (i k : ℕ) (s : Structure) → slice_get (take i structures) k ≡ Some s → slice_get (structure_zeros (take i structures)) k ≡ slice_get (structure_zeros structures) k

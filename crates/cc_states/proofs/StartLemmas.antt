@@ -36,8 +36,11 @@ use Rattle.cc_syntax.proofs.Parts.{all_at}
 use Rattle.cc_syntax.proofs.Prefixes.{both_true}
 use Rattle.cc_states.specs.States.{AreScalars, AreStatics, AreActive, AreCalled, IsStateOf, IsState, AreInOrder}
 use Rattle.cc_states.specs.Typed.{IsAddress, HasType}
-use Rattle.cc_states.proofs.PathLemmas.{one_more, zeros-shape, structure-whole, element_step, member_step, at, scalar_in, stepped, element_position, member_position, element_scalar, member_scalar, zeros_typed}
-use Rattle.cc_states.proofs.TurnLemmas.{order_of, function_sound, main_there, no_arguments, opened_active, turn_state}
+use Rattle.cc_states.proofs.PathLemmas.{structure-whole, element_step, member_step, at, scalar_in, stepped, element_position, member_position, element_scalar, member_scalar, zeros_typed}
+use Rattle.cc_states.proofs.ZeroLemmas.{zeros-shape}
+use Rattle.cc_states.proofs.ListLemmas.{one_more}
+use Rattle.cc_states.proofs.TurnLemmas.{order_of, function_sound, main_there, no_arguments, turn_state}
+use Rattle.cc_states.proofs.LocalLemmas.{opened_active}
 
 length-repeats : (n : ℕ) (xs : List Value) → length (flat_map (λ zs. zs) (replicate n xs)) ≡ n * length xs
 length-repeats zero xs = omega arith

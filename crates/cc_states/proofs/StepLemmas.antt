@@ -46,7 +46,8 @@ use Rattle.cc_states.specs.Answers.{IsAction, IsMarkOf}
 use Rattle.cc_states.specs.States.{AreScalars, AreStatics, AreLocals, expression_of, IsActive, AreActive, AreCalled, IsStateOf, AreInOrder}
 use Rattle.cc_states.specs.Typed.{IsOpened, HasType, MayHave, cell_type}
 use Rattle.cc_states.proofs.ActiveLemmas.{IsSameCall, marked_active, marked_call, called_again, in_order_again}
-use Rattle.cc_states.proofs.PathLemmas.{written_typed, set_here, set_elsewhere, not_equal}
+use Rattle.cc_states.proofs.PathLemmas.{written_typed}
+use Rattle.cc_states.proofs.ListLemmas.{set_here, set_elsewhere, not_equal}
 use Rattle.cc_states.proofs.StateLemmas.{nothing_there, static_there, local_in, same_opening}
 
 holds_same : (v w : Value) → Holds v ≡ Holds w → v ≡ w

@@ -1,8 +1,5 @@
 -- Each turn keeps a state of a sound program one: calls, returns, and where a statement goes on; and the entry of a handler.
-use Rattle.std.proofs.Common.{arith, ◌≡◌, ◌<◌, ◌⊎◌, inl, inr, ℕ, zero, suc, Bool, true, false, not, ◌&&◌, ◌||◌, ◌+◌, List, [], ◌∷◌, ◌++◌, length, length-append, replicate, Option, Some, None, refl, ap, sym, ◌∙◌, subst, ℤ, map}
-use Rattle.cc_syntax.specs.Initial.{place_at}
-use Rattle.cc_program.specs.Qualifiers.{is_const, is_volatile}
-use Rattle.std.proofs.lemmas.List.{length-replicate}
+use Rattle.std.proofs.Common.{◌≡◌, ◌<◌, ◌⊎◌, inl, inr, ℕ, Bool, true, false, not, ◌&&◌, ◌||◌, ◌+◌, List, [], ◌∷◌, ◌++◌, length, length-append, Option, Some, None, refl, ap, sym, ◌∙◌, subst, ℤ, map}
 use Rattle.cc_states.proofs.TakenLemmas.{integer_value}
 use Rattle.std.proofs.lemmas.Bool.{eqb-true}
 use Rattle.std.proofs.lemmas.Option.{same_Some, slice_get_within}
@@ -17,17 +14,12 @@ use Rattle.cc_program.specs.declared.stmt.Case.{Case}
 use Rattle.cc_program.specs.declared.stmt.Stmt.{Stmt, out-Stmt}
 use Rattle.cc_program.specs.declared.stmt.Stmt.TheOpen as is
 use Rattle.cc_program.specs.declared.types.CType.{CType}
-use Rattle.cc_program.specs.declared.types.Shape.{out-Shape, Shape}
-use Rattle.cc_program.specs.declared.types.Shape.TheOpen as shape
-use Rattle.cc_program.specs.declared.types.Sig.{out-Sig, Sig}
+use Rattle.cc_program.specs.declared.types.Shape.{out-Shape}
+use Rattle.cc_program.specs.declared.types.Sig.{out-Sig}
 use Rattle.cc_program.specs.declared.value.Address.{Address}
 use Rattle.cc_program.specs.declared.value.Address.TheVariants as address
-use Rattle.cc_program.specs.declared.value.Part.{Part}
 use Rattle.cc_program.specs.declared.value.Value.{Value}
 use Rattle.cc_program.specs.declared.value.Value.TheVariants.{Int}
-use Rattle.cc_cells.specs.Scalars.{zeros, structure_zeros, position}
-use Rattle.cc_control.specs.declared.phase.Phase.TheVariants.{First}
-use Rattle.cc_control.specs.Control.{level, close}
 use Rattle.cc_eval.specs.declared.action.Action.{Action}
 use Rattle.cc_eval.specs.declared.action.Action.TheVariants.{Read, Write, Choose, Call, Flag, Save}
 use Rattle.cc_eval.specs.declared.mark.Mark.{Mark}
@@ -36,133 +28,33 @@ use Rattle.cc_eval.specs.Progress.{Progress, Known, Waits, Traps, no_value}
 use Rattle.cc_eval.proofs.Links.{type_linked}
 use Rattle.cc_meaning.specs.declared.event.End.TheVariants.{Exit, Trap}
 use Rattle.cc_meaning.specs.declared.event.Event.TheVariants.{Enter}
-use Rattle.cc_meaning.specs.State.{Active, State, locals_with}
+use Rattle.cc_meaning.specs.State.{Active, State}
 use Rattle.cc_meaning.specs.Step.{stopped, with_stack, with_flag, with_event, worked, next_place, is_return, number_in, gives_nothing, progress_in, progress_of, goes_to, marked, activation, opened, opened_if, call, return_mark, returned, fallen, perform, stepped, active_step, proceed}
 use Rattle.cc_meaning.specs.Turn.{is_going, only_handler, may_enter, entering, entered, turn_by, turn}
 use Rattle.cc_syntax.specs.Effects.{no_one}
-use Rattle.cc_syntax.specs.Expressions.{type_of, of_one}
-use Rattle.cc_syntax.specs.Operators.{is_handler, is_unqualified}
-use Rattle.cc_syntax.specs.SameTypes.{same_shape, is_int_shape, is_void_shape}
-use Rattle.cc_syntax.specs.Sound.{IsSound, IsFunc, is_main, is_main_there, is_plain_int, is_plain_void, takes_nothing, are_parameters}
+use Rattle.cc_syntax.specs.Expressions.{type_of}
+use Rattle.cc_syntax.specs.Operators.{is_handler}
+use Rattle.cc_syntax.specs.Sound.{IsSound, IsFunc, is_main, is_main_there, is_plain_int, is_plain_void, takes_nothing}
 use Rattle.cc_syntax.specs.Statements.{is_sound_stmt, returns, sound_step, Labelled, labels_fit, are_apart, has_label}
-use Rattle.cc_syntax.specs.Types.{Named, IsInOrder}
-use Rattle.cc_syntax.specs.Values.{ValueType, NoValue, Integer, scalar_shape, scalar_value, is_void, is_assignable_some, ToObject, ToFunction, object_place, read_from}
+use Rattle.cc_syntax.specs.Types.{IsInOrder}
+use Rattle.cc_syntax.specs.Values.{ValueType, NoValue, Integer, scalar_value, is_void, is_assignable_some, ToObject, ToFunction}
 use Rattle.cc_syntax.proofs.Parts.{all_at}
 use Rattle.cc_syntax.proofs.Prefixes.{both_true}
 use Rattle.cc_meaning.proofs.TurnLemmas.{sound-sized}
 use Rattle.cc_states.specs.Answers.{IsAction, IsMarkOf, result_in}
-use Rattle.cc_states.specs.States.{AreScalars, may_break, may_continue, AreSound, worked_at, expression_of, AreMarks, context_in, IsActive, AreActive, AreCalled, IsStateOf, IsState, AreInOrder}
-use Rattle.cc_states.specs.Typed.{HasType, MayHave, AreArguments}
+use Rattle.cc_states.specs.States.{may_break, may_continue, AreSound, worked_at, expression_of, AreMarks, context_in, IsActive, AreActive, AreCalled, IsStateOf, IsState, AreInOrder}
+use Rattle.cc_states.specs.Typed.{HasType, AreArguments}
 use Rattle.cc_states.proofs.ActiveLemmas.{marked_active, goes_active, marked_call, called_again, gone, in_order_again}
-use Rattle.cc_states.proofs.ControlLemmas.{next_sound, body_sound, statement_sound}
+use Rattle.cc_states.proofs.ControlLemmas.{next_sound, statement_sound}
 use Rattle.cc_states.proofs.EvalTypes.{meaning_typed}
 use Rattle.cc_states.proofs.KeepLemmas.{get_last, statics_more, actives_more, arguments_more}
 use Rattle.cc_states.proofs.Options.{either_true}
-use Rattle.cc_states.proofs.PathLemmas.{within, no_path, zeros-shape}
-use Rattle.cc_states.proofs.SameLemmas.{int_there, shape_of_same}
 use Rattle.cc_states.proofs.SoundLemmas.{typed, parts, labelled}
 use Rattle.cc_states.proofs.StateLemmas.{asked}
 use Rattle.cc_states.proofs.StepLemmas.{event_state, flag_state, stopped_state, with_top, did_state, read_state, write_state}
 use Rattle.cc_states.proofs.TypedLemmas.{promoted_value, widened}
-
--- ---- the locals of an activation that is opened
-
-get_replicate : {A : Type 0} → (x : A) (n k : ℕ) → k < n → slice_get (replicate n x) k ≡ Some x
-get_replicate x zero k h = absurd (omega (arith, h))
-get_replicate x (suc n) zero h = refl
-get_replicate x (suc n) (suc k) h = get_replicate x n k (omega (arith, h))
-
-module _ (p : Program) (openings : List ℕ) (order : IsInOrder p.structures) where
-  abbrev Local : CType → List (Option Value) → Type 0
-  Local t values = AreScalars p (MayHave p openings) t values
-
-  given_at : (t u : CType) (r : ValueType) (v : Value) → scalar_value t ≡ scalar_value u → scalar_value t ≡ Some r → HasType p openings r v → (path : List Part) (w : ValueType) →
-      of_one (place_at p.structures path (object_place u)) read_from ≡ Some w → (x : Option Value) × (slice_get (Some v ∷ []) (position p.structures path (Some (object_place u))) ≡ Some x) × MayHave p openings w x
-  given_at t u r v e h k [] w i = (Some v, refl, subst (λ (y : ValueType). HasType p openings y v) (same_Some r w (sym h ∙ e ∙ i)) k)
-  given_at t u r v e h k (s ∷ rest) w i =
-      no_path p.structures order p openings ((x : Option Value) × (slice_get (Some v ∷ []) (position p.structures (s ∷ rest) (Some (object_place u))) ≡ Some x) × MayHave p openings w x) (is_const u) (is_volatile u) u r w s rest (sym e ∙ h) i
-
-  -- a scalar type has one
-  one_scalar : (u : CType) (r : ValueType) (x : shape.Shape-F Shape CType Sig) → out-Shape u.shape ≡ x → scalar_shape x ≡ Some r → 1 ≡ length (zeros p.structures u)
-  one_scalar u r (shape.Int i) e h = sym (ap length (zeros-shape (structure_zeros p.structures) u (shape.Int i) e))
-  one_scalar u r (shape.Pointer to) e h = sym (ap length (zeros-shape (structure_zeros p.structures) u (shape.Pointer to) e))
-  one_scalar u r shape.Void e h = absurd (cc)
-  one_scalar u r (shape.Array of n) e h = absurd (cc)
-  one_scalar u r (shape.Struct i) e h = absurd (cc)
-  one_scalar u r (shape.Func sig) e h = absurd (cc)
-
-  given_local : (t u : CType) (r : ValueType) (v : Value) → scalar_value t ≡ scalar_value u → scalar_value t ≡ Some r → HasType p openings r v → Local u (Some v ∷ [])
-  given_local t u r v e h k = record { count = one_scalar u r (out-Shape u.shape) refl (sym e ∙ h); typed = given_at t u r v e h k }
-
-  unwritten : (t : CType) → Local t (replicate (length (zeros p.structures t)) None)
-  unwritten t = record {
-    count = length-replicate (length (zeros p.structures t)) None;
-    typed = λ path w h. (None, get_replicate None (length (zeros p.structures t)) (position p.structures path (Some (object_place t))) (within p.structures order p openings path (is_const t) (is_volatile t) t w h), tt);
-  }
-
-  as_many : (args : List Value) (locals : List Named) → length (locals_with p args locals) ≡ length locals
-  as_many args [] = refl
-  as_many [] (l ∷ locals) = ap suc (as_many [] locals)
-  as_many (v ∷ args) (l ∷ locals) = ap suc (as_many args locals)
-
-  abbrev LocalAt : List Value → List Named → ℕ → Named → Type 0
-  LocalAt args locals i l = (values : List (Option Value)) × (slice_get (locals_with p args locals) i ≡ Some values) × Local l.1 values
-
-  none_given : (locals : List Named) (i : ℕ) (l : Named) → slice_get locals i ≡ Some l → LocalAt [] locals i l
-  none_given [] i l h = absurd (cc)
-  none_given (x ∷ locals) zero l h =
-      (replicate (length (zeros p.structures x.1)) None, refl, subst (λ (y : Named). Local y.1 (replicate (length (zeros p.structures x.1)) None)) (same_Some x l h) (unwritten x.1))
-  none_given (x ∷ locals) (suc i) l h = none_given locals i l h
-
-  given : (ts : List CType) (locals : List Named) (args : List Value) → are_parameters ts locals ≡ true → AreArguments p openings ts args → (i : ℕ) (l : Named) → slice_get locals i ≡ Some l → LocalAt args locals i l
-  given [] locals [] h k i l e = none_given locals i l e
-  given [] locals (v ∷ args) h k i l e = absurd k
-  given (t ∷ ts) [] args h k i l e = absurd (cc)
-  given (t ∷ ts) (x ∷ locals) [] h k i l e = absurd k
-  given (t ∷ ts) (x ∷ locals) (v ∷ args) h k zero l e =
-      let both = both_true (same_shape t.shape x.1.shape) (are_parameters ts locals) h in
-      let same : scalar_value t ≡ scalar_value x.1 = ap (λ s. scalar_shape (out-Shape s)) (shape_of_same t x.1 both.0) in
-      (Some v ∷ [], refl, subst (λ (y : Named). Local y.1 (Some v ∷ [])) (same_Some x l e) (given_local t x.1 k.0.0 v same k.0.1 k.0.2))
-  given (t ∷ ts) (x ∷ locals) (v ∷ args) h k (suc i) l e = given ts locals args (both_true (same_shape t.shape x.1.shape) (are_parameters ts locals) h).1 k.1 i l e
-
-  -- an activation before its first step
-  pub opened_active : (number id : ℕ) (handler : Bool) (args : List Value) (f : Func) → slice_get p.funcs id ≡ Some f → slice_get openings number ≡ Some id → IsFunc p f → AreArguments p openings (out-Sig f.sig).params args →
-      IsActive p openings (activation p number id handler args f)
-  opened_active number id handler args f e n sound h =
-      goes_active p openings (record { number = number; func = id; handler = handler; locals = locals_with p args f.locals; here = level [] 0 First; around = []; marks = [] })
-      (record { func = f; function = e; number = n; locals = (as_many args f.locals, given (out-Sig f.sig).params f.locals args sound.first h); control = (refl, tt); marks = refl })
-      (close f.body 0 []) (body_sound p f sound.body)
-
--- ---- what tests say
-
-not_void : {C : Type 0} (b : Bool) → b ≡ true → b ≡ false → C
-not_void b h k = absurd (cc)
-
-both_not : {C : Type 0} (a b : Bool) → not a && b ≡ true → a ≡ true → C
-both_not true b h k = absurd (cc)
-both_not false b h k = absurd (cc)
-
-not_empty : (n : ℕ) → nat_eq (suc n) 0 ≡ true → ⊥
-not_empty n h = let e = eqb-true (suc n) 0 h in omega (arith, e)
-
-plain : (t : CType) → is_void t ≡ false → (is_plain_int t ≡ true) ⊎ (is_plain_void t ≡ true) → scalar_value t ≡ Some (Integer int.Int)
-plain t e (inl h) = ap scalar_shape (int_there int.Int (out-Shape t.shape) (both_true (is_unqualified t) (is_int_shape int.Int (out-Shape t.shape)) h).1)
-plain t e (inr h) = not_void (is_void t) (both_true (is_unqualified t) (is_void t) h).1 e
-
--- a void function returns no value
-void_returns : (x : shape.Shape-F Shape CType Sig) (t : Option ValueType) → is_void_shape x ≡ true → is_assignable_some (scalar_shape x) t ≡ true → ⊥
-void_returns shape.Void t h k = absurd (cc)
-void_returns (shape.Int i) t h k = absurd (cc)
-void_returns (shape.Pointer to) t h k = absurd (cc)
-void_returns (shape.Array of n) t h k = absurd (cc)
-void_returns (shape.Struct i) t h k = absurd (cc)
-void_returns (shape.Func sig) t h k = absurd (cc)
-
-handler_by : (f : Func) (id : ℕ) (e : ℕ × Func) (b : Bool) → is_handler f ≡ b → option_map (λ f. (id, f)) (if b then Some f else None) ≡ Some e → (Some f ≡ Some e.1) × (is_handler e.1 ≡ true) × (id ≡ e.0)
-handler_by f id e true h k =
-    let same = same_Some (id, f) e k in
-    (ap (λ (x : ℕ × Func). Some x.1) same, subst (λ (x : ℕ × Func). is_handler x.1 ≡ true) same h, ap (λ (x : ℕ × Func). x.0) same)
-handler_by f id e false h k = absurd (cc)
+use Rattle.cc_states.proofs.LocalLemmas.{opened_active}
+use Rattle.cc_states.proofs.TestLemmas.{not_void, both_not, not_empty, plain, void_returns, handler_by}
 
 module _ (p : Program) (sound : IsSound p) where
   pub order_of : IsInOrder p.structures

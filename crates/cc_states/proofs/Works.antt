@@ -12,7 +12,7 @@ use Rattle.cc_states.specs.Answers.{IsAction, IsMarkOf, AreAnswers}
 same_known : {A : Type 0} (v w : A) (ms ns : List Mark) → Known v ms ≡ Known w ns → v ≡ w
 same_known v w ms ns h = cc
 
-same_action : {A : Type 0} (q : Progress A) (a b : Action) → q ≡ Waits a → q ≡ Waits b → a ≡ b
+pub same_action : {A : Type 0} (q : Progress A) (a b : Action) → q ≡ Waits a → q ≡ Waits b → a ≡ b
 same_action q a b h k = cc
 
 both_used : {A B : Type 0} (g : Get A) (f : A → Get B) (b : A) (ms mid rest : List Mark) (outcome : List Mark → Progress B) →
