@@ -17,10 +17,9 @@ use Rattle.cc_eval.specs.Eval.{next_of}
 use Rattle.cc_eval.specs.Progress.{Waits, Get}
 use Rattle.cc_meaning.specs.State.{Active}
 use Rattle.cc_meaning.specs.Step.{moved, with_mark, at_test, progress_in, progress_of, is_known, passes, begun_at, goes_to, settled_in, settled, marked}
-use Rattle.cc_states.specs.Answers.{IsMarkOf, AreAnswers}
+use Rattle.cc_states.specs.Answers.{IsMarkOf, AreItsMarks}
 use Rattle.cc_states.specs.States.{AreSound, expression_of, AreMarks, context_in, IsActive, AreCalled, AreInOrder}
 use Rattle.cc_states.proofs.ControlLemmas.{behind_sound}
-use Rattle.cc_states.proofs.Works.{same_action}
 
 -- ---- marks
 
@@ -30,7 +29,7 @@ nothing_in (x ∷ front) back m h = absurd (cc)
 
 no_marks : (c : Context) (openings : List ℕ) (x : Option Expr) → AreMarks c openings x []
 no_marks c openings None = refl
-no_marks c openings (Some e) = λ front back m action split w. absurd (nothing_in front back m split)
+no_marks c openings (Some e) = λ front back m split. absurd (nothing_in front back m split)
 
 head_same : (x y : Mark) (xs ys : List Mark) → x ∷ xs ≡ y ∷ ys → x ≡ y
 head_same x y xs ys h = cc
@@ -53,14 +52,13 @@ last_or_not (y ∷ ms) m [] back n h = inr (ms, ap (λ (z : Mark). z ∷ ms) (he
 last_or_not (y ∷ ms) m (x ∷ front) back n h =
     one_further x y m n ms front (head_same y x (ms ++ m ∷ []) (front ++ n ∷ back) h) (last_or_not ms m front back n (tail_same y x (ms ++ m ∷ []) (front ++ n ∷ back) h))
 
-module _ {A : Type 0} (p : Program) (openings : List ℕ) (g : Get A) (ms : List Mark) (m : Mark) (action : Action) (answers : AreAnswers p openings g ms) (waits : g ms ≡ Waits action) (mark : IsMarkOf p openings action m) where
-  answered_by : (front : List Mark) (n : Mark) (other : Action) → g front ≡ Waits other → IsLast ms m front n → IsMarkOf p openings other n
-  answered_by front n other w (inl h) =
-      subst (IsMarkOf p openings other) (sym h.1) (subst (λ (a : Action). IsMarkOf p openings a m) (same_action (g ms) action other waits (ap g (sym h.0) ∙ w)) mark)
-  answered_by front n other w (inr h) = answers front h.0 n other h.1 w
+module _ {A : Type 0} (p : Program) (openings : List ℕ) (g : Get A) (ms : List Mark) (m : Mark) (action : Action) (answers : AreItsMarks p openings g ms) (waits : g ms ≡ Waits action) (mark : IsMarkOf p openings action m) where
+  answered_by : (front : List Mark) (n : Mark) → IsLast ms m front n → (other : Action) × (g front ≡ Waits other) × IsMarkOf p openings other n
+  answered_by front n (inl h) = (action, ap g h.0 ∙ waits, subst (IsMarkOf p openings action) (sym h.1) mark)
+  answered_by front n (inr h) = answers front h.0 n h.1
 
-  pub one_answer : AreAnswers p openings g (ms ++ m ∷ [])
-  one_answer front back n other split w = answered_by front n other w (last_or_not ms m front back n split)
+  pub one_answer : AreItsMarks p openings g (ms ++ m ∷ [])
+  one_answer front back n split = answered_by front n (last_or_not ms m front back n split)
 
 module _ (p : Program) (openings : List ℕ) where
   -- ---- elsewhere in the function

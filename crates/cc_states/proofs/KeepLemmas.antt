@@ -21,7 +21,7 @@ use Rattle.cc_eval.specs.Eval.{next_of}
 use Rattle.cc_meaning.specs.State.{Active}
 use Rattle.cc_syntax.specs.Values.{ValueType, NoValue, Integer, ToObject, ToFunction}
 use Rattle.cc_states.proofs.ListLemmas.{get_before}
-use Rattle.cc_states.specs.Answers.{IsMarkOf, AreAnswers}
+use Rattle.cc_states.specs.Answers.{IsMarkOf, AreItsMarks}
 use Rattle.cc_states.specs.States.{AreStatics, AreLocals, expression_of, AreMarks, context_in, IsActive, AreActive, AreScalars}
 use Rattle.cc_states.specs.Typed.{IsOpened, IsAddress, HasType, MayHave, AreArguments}
 
@@ -69,7 +69,8 @@ module _ (p : Program) (openings more : List ℕ) where
   marks_more : (c : Context) (x : Option Expr) (ms : List Mark) → c.program ≡ p → AreMarks c openings x ms → AreMarks c all x ms
   marks_more c None ms e h = h
   marks_more c (Some x) ms e h =
-      subst (λ (q : Program). AreAnswers q all (next_of c x) ms) (sym e) (λ front back m action split w. mark_more action m (subst (λ (q : Program). IsMarkOf q openings action m) e (h front back m action split w)))
+      subst (λ (q : Program). AreItsMarks q all (next_of c x) ms) (sym e)
+      (λ front back m split. let a = subst (λ (q : Program). AreItsMarks q openings (next_of c x) ms) e h front back m split in (a.0, a.1, mark_more a.0 m a.2))
 
   static_more : (statics : List (List Value)) → AreStatics p openings statics → (i : ℕ) (o : Object) → slice_get p.objects i ≡ Some o →
       (values : List Value) × (slice_get statics i ≡ Some values) × AreScalars p (HasType p all) o.ctype values

@@ -24,6 +24,7 @@ use Rattle.cc_cells.specs.Scalars.{position}
 use Rattle.cc_eval.specs.declared.action.Action.{Action}
 use Rattle.cc_eval.specs.declared.action.Action.TheVariants.{Read, Write, Choose, Call, Flag, Save}
 use Rattle.cc_eval.specs.Context.{local_type, object_type}
+use Rattle.cc_eval.specs.Eval.{next_of}
 use Rattle.cc_eval.specs.Progress.{Waits}
 use Rattle.cc_eval.proofs.Links.{type_linked}
 use Rattle.cc_meaning.specs.Access.{is_open}
@@ -42,6 +43,7 @@ use Rattle.cc_states.specs.Typed.{HasType, MayHave, cell_type, IsThere, AreArgum
 use Rattle.cc_states.proofs.EvalTypes.{meaning_typed}
 use Rattle.cc_states.proofs.Options.{mapped}
 use Rattle.cc_states.proofs.SoundLemmas.{level_typed}
+use Rattle.cc_states.proofs.Works.{answers_of}
 
 -- ---- what is asked for can be done
 
@@ -51,7 +53,7 @@ module _ (p : Program) (openings : List ℕ) where
   asked_by a h action None e m w = absurd (cc)
   asked_by a h action (Some e') e m w =
       let t = level_typed p h.func a.here a.around h.control e' e in
-      (meaning_typed (context_in p a h.func) openings (record { function = h.function; number = h.number }) e' t.0 (type_linked (context_in p a h.func) e' ∙ t.1) no_one).waits a.marks action m w
+      (meaning_typed (context_in p a h.func) openings (record { function = h.function; number = h.number }) e' t.0 (type_linked (context_in p a h.func) e' ∙ t.1) no_one).waits a.marks action (answers_of p openings (next_of (context_in p a h.func) e') a.marks m) w
 
   pub asked : (a : Active) → IsActive p openings a → (action : Action) → progress_of p a (expression_of a) ≡ Waits action → IsAction p openings action
   asked a h action w =

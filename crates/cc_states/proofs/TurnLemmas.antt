@@ -24,6 +24,7 @@ use Rattle.cc_eval.specs.declared.action.Action.{Action}
 use Rattle.cc_eval.specs.declared.action.Action.TheVariants.{Read, Write, Choose, Call, Flag, Save}
 use Rattle.cc_eval.specs.declared.mark.Mark.{Mark}
 use Rattle.cc_eval.specs.declared.mark.Mark.TheVariants.{Gave, Did, Chose}
+use Rattle.cc_eval.specs.Eval.{next_of}
 use Rattle.cc_eval.specs.Progress.{Progress, Known, Waits, Traps, no_value}
 use Rattle.cc_eval.proofs.Links.{type_linked}
 use Rattle.cc_meaning.specs.declared.event.End.TheVariants.{Exit, Trap}
@@ -52,6 +53,7 @@ use Rattle.cc_states.proofs.Options.{either_true}
 use Rattle.cc_states.proofs.SoundLemmas.{typed, parts, labelled}
 use Rattle.cc_states.proofs.StateLemmas.{asked}
 use Rattle.cc_states.proofs.StepLemmas.{event_state, flag_state, stopped_state, with_top, did_state, read_state, write_state}
+use Rattle.cc_states.proofs.Works.{answers_of}
 use Rattle.cc_states.proofs.TypedLemmas.{promoted_value, widened}
 use Rattle.cc_states.proofs.LocalLemmas.{opened_active}
 use Rattle.cc_states.proofs.TestLemmas.{not_void, both_not, not_empty, plain, void_returns, handler_by}
@@ -234,7 +236,7 @@ module _ (p : Program) (sound : IsSound p) where
     value_typed : (e : Expr) (t : ValueType) (v : Value) (ms : List Mark) → expression_of a ≡ Some e → type_of p fn.locals e ≡ Some t → progress_of p a (Some e) ≡ Known (Some v) ms → HasType p openings t v
     value_typed e t v ms x k w =
         ((meaning_typed (context_in p a fn) openings (record { function = act.function; number = act.number }) e t (type_linked (context_in p a fn) e ∙ k) no_one).known a.marks ms (Some v)
-        (subst (λ (y : Option Expr). AreMarks (context_in p a fn) openings y a.marks) x act.marks) (ap (λ (y : Option Func). progress_in p a.number a.func a.marks y (Some e)) (sym act.function) ∙ w)).1
+        (answers_of p openings (next_of (context_in p a fn) e) a.marks (subst (λ (y : Option Expr). AreMarks (context_in p a fn) openings y a.marks) x act.marks)) (ap (λ (y : Option Func). progress_in p a.number a.func a.marks y (Some e)) (sym act.function) ∙ w)).1
 
     returned_results : (x : Option Expr) (v : Value) (ms : List Mark) → returns p fn x ≡ true → expression_of a ≡ x → progress_of p a x ≡ Known (Some v) ms → Results openings s h a below top v
     returned_results None v ms r x w e = not_void (is_void (out-Sig fn.sig).result) r e

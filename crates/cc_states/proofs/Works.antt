@@ -7,7 +7,7 @@ use Rattle.cc_eval.specs.declared.mark.Mark.{Mark}
 use Rattle.cc_eval.specs.Marks.{IsUsed}
 use Rattle.cc_eval.specs.Progress.{Progress, Known, Waits, Traps, Get, known, trap, ask, and_then, bind, needs}
 use Rattle.cc_eval.proofs.Uses.{uses_known, uses_ask}
-use Rattle.cc_states.specs.Answers.{IsAction, IsMarkOf, AreAnswers}
+use Rattle.cc_states.specs.Answers.{IsAction, IsMarkOf, AreAnswers, AreItsMarks}
 
 same_known : {A : Type 0} (v w : A) (ms ns : List Mark) → Known v ms ≡ Known w ns → v ≡ w
 same_known v w ms ns h = cc
@@ -24,6 +24,12 @@ both_used g f b ms mid rest outcome u v = (
 )
 
 module _ (p : Program) (openings : List ℕ) where
+  -- there is one step that was asked for
+  pub answers_of : {A : Type 0} (g : Get A) (ms : List Mark) → AreItsMarks p openings g ms → AreAnswers p openings g ms
+  answers_of g ms h front back m action split w =
+      let a = h front back m split in
+      subst (λ (x : Action). IsMarkOf p openings x m) (same_action (g front) a.0 action a.1 w) a.2
+
   pub record Works {A : Type 0} (P : A → Type 0) (g : Get A) : Type 0 where
     pub known : (ms rest : List Mark) (a : A) → AreAnswers p openings g ms → g ms ≡ Known a rest → IsUsed g (Known a) ms rest × P a
     pub waits : (ms : List Mark) (action : Action) → AreAnswers p openings g ms → g ms ≡ Waits action → IsAction p openings action

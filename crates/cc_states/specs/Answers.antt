@@ -68,9 +68,13 @@ module _ (p : Program) (openings : List ℕ) where
   IsMarkOf action Did = given_type p action ≡ Some NoValue
   IsMarkOf action (Chose b) = action ≡ Choose b
 
-  -- each mark is one of the step that was asked for at the marks in front of it
+  -- where a step was asked for at the marks in front of one, that is a mark of the step
   abbrev pub AreAnswers : {A : Type 0} → Get A → List Mark → Type 0
   AreAnswers g ms = (front back : List Mark) (m : Mark) (action : Action) → ms ≡ front ++ m ∷ back → g front ≡ Waits action → IsMarkOf action m
+
+  -- and one was asked for there in front of each
+  abbrev pub AreItsMarks : {A : Type 0} → Get A → List Mark → Type 0
+  AreItsMarks g ms = (front back : List Mark) (m : Mark) → ms ≡ front ++ m ∷ back → (action : Action) × (g front ≡ Waits action) × IsMarkOf action m
 
 -- a full expression is worked in an activation that was opened, of its function
 pub record IsActivation (c : Context) (openings : List ℕ) : Type 0 where

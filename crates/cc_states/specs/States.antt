@@ -34,7 +34,7 @@ use Rattle.cc_syntax.specs.Initial.{place_at}
 use Rattle.cc_syntax.specs.Statements.{is_sound_stmt}
 use Rattle.cc_syntax.specs.Types.{Named}
 use Rattle.cc_syntax.specs.Values.{ValueType, object_place, read_from}
-use Rattle.cc_states.specs.Answers.{AreAnswers}
+use Rattle.cc_states.specs.Answers.{AreItsMarks}
 use Rattle.cc_states.specs.Typed.{HasType, MayHave}
 
 -- ---- values
@@ -83,9 +83,10 @@ expression_of a = worked_at a.here a.here.rest
 
 -- ---- activations
 
+-- what was done of the full expression that is worked
 abbrev pub AreMarks : Context → List ℕ → Option Expr → List Mark → Type 0
 AreMarks c openings None ms = ms ≡ []
-AreMarks c openings (Some e) ms = AreAnswers c.program openings (next_of c e) ms
+AreMarks c openings (Some e) ms = AreItsMarks c.program openings (next_of c e) ms
 
 abbrev pub context_in : Program → Active → Func → Context
 context_in p a f = record { program = p; number = a.number; id = a.func; func = f }
