@@ -107,7 +107,3 @@ module _ (structures : List Structure) where
   -- the name of a type (6.7.6)
   pub data ShowsTypeName : CType → TypeName → Type 0 where
     NamesType : (b t : CType) (ss : List (At Spec)) (d : At Declr) → ShowsBase b ss → Declares b d.node (Plain None) t → ShowsTypeName t (record { specs = ss; declr = d })
-
--- the name of an integer type
-pub data ShowsIntName : IntType → TypeName → Type 0 where
-  NamesInt : (i : IntType) (ss : List (At Spec)) (at : ℕ) → ShowsWords (int_words i) ss → ShowsIntName i (record { specs = ss; declr = record { at = at; node = declr.Nothing } })

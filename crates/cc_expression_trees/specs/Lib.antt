@@ -1,0 +1,4 @@
+pub mod Constants
+pub mod Exprs
+pub mod Read
+pub mod Names

@@ -1,0 +1,6 @@
+//! The trees that show expressions.
+#![tactic(auto)]
+
+mod laws;
+
+pub use laws::expressions_read_back;
