@@ -1,0 +1,3 @@
+pub mod Effects
+pub mod Blocks
+pub mod Lines
