@@ -1,0 +1,11 @@
+pub mod Attributes
+pub mod BasicTypes
+pub mod Bounds
+pub mod Declarators
+pub mod Derivations
+pub mod Modes
+pub mod Objects
+pub mod Parameters
+pub mod Places
+pub mod Specifiers
+pub mod Storage
