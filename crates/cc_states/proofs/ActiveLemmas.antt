@@ -18,8 +18,10 @@ use Rattle.cc_eval.specs.Progress.{Waits, Get}
 use Rattle.cc_meaning.specs.State.{Active}
 use Rattle.cc_meaning.specs.Step.{moved, with_mark, at_test, progress_in, progress_of, is_known, passes, begun_at, goes_to, settled_in, settled, marked}
 use Rattle.cc_states.specs.Answers.{IsMarkOf, AreItsMarks}
+use Rattle.cc_states.specs.Inside.{AreInside}
 use Rattle.cc_states.specs.States.{AreSound, expression_of, AreMarks, context_in, IsActive, AreCalled, AreInOrder}
 use Rattle.cc_states.proofs.ControlLemmas.{behind_sound}
+use Rattle.cc_states.proofs.InsideLemmas.{HasFirst, behind_inside}
 
 -- ---- marks
 
@@ -27,7 +29,7 @@ nothing_in : (front back : List Mark) (m : Mark) → [] ≡ front ++ m ∷ back 
 nothing_in [] back m h = absurd (cc)
 nothing_in (x ∷ front) back m h = absurd (cc)
 
-no_marks : (c : Context) (openings : List ℕ) (x : Option Expr) → AreMarks c openings x []
+pub no_marks : (c : Context) (openings : List ℕ) (x : Option Expr) → AreMarks c openings x []
 no_marks c openings None = refl
 no_marks c openings (Some e) = λ front back m split. absurd (nothing_in front back m split)
 
@@ -64,7 +66,7 @@ module _ (p : Program) (openings : List ℕ) where
   -- ---- elsewhere in the function
 
   abbrev Stands : Func → Control → Type 0
-  Stands f at = AreSound p f (at.0 ∷ at.1)
+  Stands f at = AreSound p f (at.0 ∷ at.1) × AreInside f.body (at.0 ∷ at.1)
 
   pub moved_active : (a : Active) (h : IsActive p openings a) (at : Control) → Stands h.func at → IsActive p openings (moved a at)
   moved_active a h at k = record {
@@ -72,11 +74,12 @@ module _ (p : Program) (openings : List ℕ) where
     function = h.function;
     number = h.number;
     locals = h.locals;
-    control = k;
+    control = k.0;
+    inside = k.1;
     marks = no_marks (context_in p a h.func) openings (expression_of (moved a at));
   }
 
-  begun_by : (f : Func) (at : Control) (b : Bool) → Stands f at → Stands f (if b then (at_test at.0, at.1) else at)
+  pub begun_by : (f : Func) (at : Control) (b : Bool) → Stands f at → Stands f (if b then (at_test at.0, at.1) else at)
   begun_by f at true h = h
   begun_by f at false h = h
 
@@ -87,22 +90,22 @@ module _ (p : Program) (openings : List ℕ) where
   either_active true these those h k = h
   either_active false these those h k = k
 
-  settled_by : (x : is.Stmt-F Stmt Case) (a : Active) → IsActive p openings a → IsActive p openings (settled_in p x a)
-  settled_by (is.Do e) a h = either_active (is_known (progress_of p a (Some e))) (goes_to p a (behind a.here a.around)) a (goes_active a h (behind a.here a.around) (behind_sound p h.func a.here a.around h.control)) h
-  settled_by (is.If e these those) a h = h
-  settled_by (is.While e body) a h = h
-  settled_by (is.DoWhile body e) a h = h
-  settled_by (is.For first test again body) a h = either_active (passes p a.number a.func a.marks a.here) (moved a (at_test a.here, a.around)) a (moved_active a h (at_test a.here, a.around) h.control) h
-  settled_by (is.Switch e cases) a h = h
-  settled_by is.Break a h = h
-  settled_by is.Continue a h = h
-  settled_by (is.Return e) a h = h
-  settled_by is.Empty a h = h
-  settled_by (is.Block body) a h = h
+  settled_by : (x : is.Stmt-F Stmt Case) (a : Active) → HasFirst a.here.rest → IsActive p openings a → IsActive p openings (settled_in p x a)
+  settled_by (is.Do e) a f h = either_active (is_known (progress_of p a (Some e))) (goes_to p a (behind a.here a.around)) a (goes_active a h (behind a.here a.around) (behind_sound p h.func a.here a.around h.control, behind_inside h.func.body a.here a.around f h.inside)) h
+  settled_by (is.If e these those) a f h = h
+  settled_by (is.While e body) a f h = h
+  settled_by (is.DoWhile body e) a f h = h
+  settled_by (is.For first test again body) a f h = either_active (passes p a.number a.func a.marks a.here) (moved a (at_test a.here, a.around)) a (moved_active a h (at_test a.here, a.around) (h.control, h.inside)) h
+  settled_by (is.Switch e cases) a f h = h
+  settled_by is.Break a f h = h
+  settled_by is.Continue a f h = h
+  settled_by (is.Return e) a f h = h
+  settled_by is.Empty a f h = h
+  settled_by (is.Block body) a f h = h
 
-  settled_active : (list : List Stmt) (a : Active) → IsActive p openings a → IsActive p openings (settled p list a)
-  settled_active [] a h = h
-  settled_active (s ∷ rest) a h = settled_by (out-Stmt s) a h
+  settled_active : (list : List Stmt) (a : Active) → a.here.rest ≡ list → IsActive p openings a → IsActive p openings (settled p list a)
+  settled_active [] a e h = h
+  settled_active (s ∷ rest) a e h = settled_by (out-Stmt s) a (s, rest, e) h
 
   -- ---- one more mark
 
@@ -118,11 +121,12 @@ module _ (p : Program) (openings : List ℕ) where
     number = h.number;
     locals = h.locals;
     control = h.control;
+    inside = h.inside;
     marks = marks_by a h m action (expression_of a) h.marks (ap (λ (f : Option Func). progress_in p a.number a.func a.marks f (expression_of a)) (sym h.function) ∙ w) i;
   }
 
   pub marked_active : (a : Active) → IsActive p openings a → (m : Mark) (action : Action) → progress_of p a (expression_of a) ≡ Waits action → IsMarkOf p openings action m → IsActive p openings (marked p a m)
-  marked_active a h m action w i = settled_active a.here.rest (with_mark a m) (with_mark_active a h m action w i)
+  marked_active a h m action w i = settled_active a.here.rest (with_mark a m) refl (with_mark_active a h m action w i)
 
 -- ---- what was called stays so
 

@@ -97,6 +97,7 @@ module _ (p : Program) (openings more : List ℕ) where
     number = get_more openings more a.number a.func h.number;
     locals = locals_more h.func a.locals h.locals;
     control = h.control;
+    inside = h.inside;
     marks = marks_more (context_in p a h.func) (expression_of a) a.marks refl h.marks;
   }
 

@@ -3,6 +3,7 @@ pub mod AlikeLemmas
 pub mod ControlLemmas
 pub mod EvalTypes
 pub mod GivenLemmas
+pub mod InsideLemmas
 pub mod KeepLemmas
 pub mod ListLemmas
 pub mod LocalLemmas

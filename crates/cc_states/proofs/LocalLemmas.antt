@@ -14,20 +14,20 @@ use Rattle.cc_program.specs.declared.types.Sig.{out-Sig, Sig}
 use Rattle.cc_program.specs.declared.value.Part.{Part}
 use Rattle.cc_program.specs.declared.value.Value.{Value}
 use Rattle.cc_cells.specs.Scalars.{zeros, structure_zeros, position}
-use Rattle.cc_control.specs.declared.phase.Phase.TheVariants.{First}
-use Rattle.cc_control.specs.Control.{level, close}
+use Rattle.cc_control.specs.Control.{close}
 use Rattle.cc_meaning.specs.State.{locals_with}
-use Rattle.cc_meaning.specs.Step.{activation}
+use Rattle.cc_meaning.specs.Step.{activation, passes}
 use Rattle.cc_syntax.specs.Expressions.{of_one}
 use Rattle.cc_syntax.specs.SameTypes.{same_shape}
 use Rattle.cc_syntax.specs.Sound.{IsFunc, are_parameters}
 use Rattle.cc_syntax.specs.Types.{Named, IsInOrder}
 use Rattle.cc_syntax.specs.Values.{ValueType, scalar_shape, scalar_value, object_place, read_from}
 use Rattle.cc_syntax.proofs.Prefixes.{both_true}
-use Rattle.cc_states.specs.States.{AreScalars, IsActive}
+use Rattle.cc_states.specs.States.{AreScalars, IsActive, context_in, expression_of}
 use Rattle.cc_states.specs.Typed.{HasType, MayHave, AreArguments}
-use Rattle.cc_states.proofs.ActiveLemmas.{goes_active}
+use Rattle.cc_states.proofs.ActiveLemmas.{no_marks, begun_by}
 use Rattle.cc_states.proofs.ControlLemmas.{body_sound}
+use Rattle.cc_states.proofs.InsideLemmas.{body_inside}
 use Rattle.cc_states.proofs.PathLemmas.{within, no_path}
 use Rattle.cc_states.proofs.ZeroLemmas.{zeros-shape}
 use Rattle.cc_states.proofs.SameLemmas.{shape_of_same}
@@ -94,6 +94,13 @@ module _ (p : Program) (openings : List ℕ) (order : IsInOrder p.structures) wh
   pub opened_active : (number id : ℕ) (handler : Bool) (args : List Value) (f : Func) → slice_get p.funcs id ≡ Some f → slice_get openings number ≡ Some id → IsFunc p f → AreArguments p openings (out-Sig f.sig).params args →
       IsActive p openings (activation p number id handler args f)
   opened_active number id handler args f e n sound h =
-      goes_active p openings (record { number = number; func = id; handler = handler; locals = locals_with p args f.locals; here = level [] 0 First; around = []; marks = [] })
-      (record { func = f; function = e; number = n; locals = (as_many args f.locals, given (out-Sig f.sig).params f.locals args sound.first h); control = (refl, tt); marks = refl })
-      (close f.body 0 []) (body_sound p f sound.body)
+      let begun = begun_by p openings f (close f.body 0 []) (passes p number id [] (close f.body 0 []).0) (body_sound p f sound.body, body_inside f.body) in
+      record {
+        func = f;
+        function = e;
+        number = n;
+        locals = (as_many args f.locals, given (out-Sig f.sig).params f.locals args sound.first h);
+        control = begun.0;
+        inside = begun.1;
+        marks = no_marks (context_in p (activation p number id handler args f) f) openings (expression_of (activation p number id handler args f));
+      }

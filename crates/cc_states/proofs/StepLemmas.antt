@@ -217,7 +217,7 @@ module _ (p : Program) (openings : List ℕ) where
         (length-set a.locals local (slice_set values.0 (position p.structures path (Some (object_place l.1))) (Some v)) ∙ h.locals.0, λ j q i. locals_by h.func a.locals h.locals local l path w v e (ap (λ (y : Option PlaceType). of_one (of_one y (place_at p.structures path)) read_from) (sym place) ∙ k) t values.0 values.1 values.2 j q (local == j) refl i)
 
     active_written : (a : Active) (h : IsActive p openings a) (locals : List (List (Option Value))) → AreLocals p openings h.func locals → IsActive p openings (with_locals a locals)
-    active_written a h locals k = record { func = h.func; function = h.function; number = h.number; locals = k; control = h.control; marks = h.marks }
+    active_written a h locals k = record { func = h.func; function = h.function; number = h.number; locals = k; control = h.control; inside = h.inside; marks = h.marks }
 
     stack_by : (a : Active) → IsActive p openings a → (below : List Active) → AreActive p openings below → (number func local : ℕ) (path : List Part) (w : ValueType) (v : Value) (b : Bool) → a.number == number ≡ b → slice_get openings number ≡ Some func →
         cell_type p (cell.At (root.Auto number func local) path) ≡ Some w → HasType p openings w v → AreActive p openings (with_local below number local (cell_position p (root.Auto number func local) path) v) →

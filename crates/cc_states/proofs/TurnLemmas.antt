@@ -43,6 +43,7 @@ use Rattle.cc_syntax.proofs.Parts.{all_at}
 use Rattle.cc_syntax.proofs.Prefixes.{both_true}
 use Rattle.cc_meaning.proofs.TurnLemmas.{sound-sized}
 use Rattle.cc_states.specs.Answers.{IsAction, IsMarkOf, result_in}
+use Rattle.cc_states.specs.Inside.{AreInside}
 use Rattle.cc_states.specs.States.{may_break, may_continue, AreSound, worked_at, expression_of, AreMarks, context_in, IsActive, AreActive, AreCalled, IsStateOf, IsState, AreInOrder}
 use Rattle.cc_states.specs.Typed.{HasType, AreArguments}
 use Rattle.cc_states.proofs.ActiveLemmas.{marked_active, goes_active, marked_call, called_again, gone, in_order_again}
@@ -53,6 +54,7 @@ use Rattle.cc_states.proofs.Options.{either_true}
 use Rattle.cc_states.proofs.SoundLemmas.{typed, parts, labelled}
 use Rattle.cc_states.proofs.StateLemmas.{asked}
 use Rattle.cc_states.proofs.StepLemmas.{event_state, flag_state, stopped_state, with_top, did_state, read_state, write_state}
+use Rattle.cc_states.proofs.InsideLemmas.{next_inside}
 use Rattle.cc_states.proofs.Works.{answers_of}
 use Rattle.cc_states.proofs.TypedLemmas.{promoted_value, widened}
 use Rattle.cc_states.proofs.LocalLemmas.{opened_active}
@@ -247,7 +249,7 @@ module _ (p : Program) (sound : IsSound p) where
     done_by x v ms false r e w = (
       openings,
       with_top p openings s h a (goes_to p a (next_place x a v)) below top
-          (goes_active p openings a act (next_place x a v) (subst (λ y. AreSound p fn ((next_place y a v).0 ∷ (next_place y a v).1)) e (next_sound p fn a st rest here act.control v))) (gone p a (next_place x a v)),
+          (goes_active p openings a act (next_place x a v) ((subst (λ y. AreSound p fn ((next_place y a v).0 ∷ (next_place y a v).1)) e (next_sound p fn a st rest here act.control v)), subst (λ y. AreInside fn.body ((next_place y a v).0 ∷ (next_place y a v).1)) e (next_inside fn.body p fn a st rest here act.control act.inside v))) (gone p a (next_place x a v)),
     )
     done_by (is.Return e') v ms true r e w =
         returned_state openings s h a below top v (returned_results e' v ms (ap (λ y. sound_step p fn (parts p fn y) (may_break a.around) (may_continue a.around)) (sym e) ∙ statement) (is_worked ∙ ap (λ y. worked y a.here.phase) e) w)

@@ -35,6 +35,7 @@ use Rattle.cc_syntax.specs.Statements.{is_sound_stmt}
 use Rattle.cc_syntax.specs.Types.{Named}
 use Rattle.cc_syntax.specs.Values.{ValueType, object_place, read_from}
 use Rattle.cc_states.specs.Answers.{AreItsMarks}
+use Rattle.cc_states.specs.Inside.{AreInside}
 use Rattle.cc_states.specs.Typed.{HasType, MayHave}
 
 -- ---- values
@@ -97,6 +98,7 @@ pub record IsActive (p : Program) (openings : List ℕ) (a : Active) : Type 0 wh
   pub number : slice_get openings a.number ≡ Some a.func
   pub locals : AreLocals p openings func a.locals
   pub control : AreSound p func (a.here ∷ a.around)
+  pub inside : AreInside func.body (a.here ∷ a.around)
   pub marks : AreMarks (context_in p a func) openings (expression_of a) a.marks
 
 abbrev pub AreActive : Program → List ℕ → List Active → Type 0

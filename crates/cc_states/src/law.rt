@@ -35,6 +35,7 @@ ghost use Rattle.cc_syntax.specs.Statements.{is_sound_body};
 ghost use Rattle.cc_syntax.specs.Values.{ValueType, PlaceType, object_place, read_from};
 ghost use Rattle.cc_values.specs.Values.{takes, takes_both};
 ghost use Rattle.cc_states.specs.Answers.{IsActivation, AreAnswers, IsAction};
+ghost use Rattle.cc_states.specs.Inside.{AreInside};
 ghost use Rattle.cc_states.specs.States.{AreScalars, may_break, may_continue, AreSound, expression_of, IsState, IsPossible};
 ghost use Rattle.cc_states.specs.Typed.{HasType, IsSpot};
 
@@ -78,7 +79,12 @@ pub fn state_laws()
     ensures exits { (p : Program) → IsSound p → (s : State) → IsState p s → (a : Active) (below : List Active) → s.stack ≡ a ∷ below → (b : Stmt) (rest : List Stmt) → a.here.rest ≡ b ∷ rest →
         (e : Expr) (v : Value) (ms : List Mark) → below ≡ [] → out-Stmt b ≡ is.Return (Some e) → progress_of p a (Some e) ≡ Known (Some v) ms → (n : ℤ) × (v ≡ Int n) }
 
-    // An activation stands inside its function: from there it goes on to where what is left of each list is sound, and it begins there.
+    // An activation stands inside the body of its function: what is left of each list, and its position.
+    ensures lists { (p : Program) (f : Func) (a : Active) (s : Stmt) (rest : List Stmt) → a.here.rest ≡ s ∷ rest → AreSound p f (a.here ∷ a.around) → AreInside f.body (a.here ∷ a.around) →
+        (v : Value) → AreInside f.body ((next_place (out-Stmt s) a v).0 ∷ (next_place (out-Stmt s) a v).1) }
+    ensures begins { (f : Func) → AreInside f.body ((close f.body 0 []).0 ∷ (close f.body 0 []).1) }
+
+    // From there it goes on to where what is left of each list is sound, and it begins there.
     ensures places { (p : Program) (f : Func) (a : Active) (s : Stmt) (rest : List Stmt) → a.here.rest ≡ s ∷ rest → AreSound p f (a.here ∷ a.around) →
         (v : Value) → AreSound p f ((next_place (out-Stmt s) a v).0 ∷ (next_place (out-Stmt s) a v).1) }
     ensures bodies { (p : Program) (f : Func) → is_sound_body p f f.body ≡ true → AreSound p f ((close f.body 0 []).0 ∷ (close f.body 0 []).1) }

@@ -1,3 +1,4 @@
+use Rattle.cc_states.proofs.InsideLemmas.{next_inside, body_inside}
 use Rattle.cc_states.proofs.StartLemmas.{start_state, run_state}
 use Rattle.cc_states.proofs.TurnLemmas.{turn_state, switched_integer, exit_integer}
 use Rattle.cc_states.proofs.ControlLemmas.{next_sound, body_sound, may_break_there, may_continue_there}
@@ -48,3 +49,9 @@ returns-clause-switches c = λ p sound s h a below top b rest here e cases v ms 
 
 pub returns-clause-exits : goal.returns-clause-exits
 returns-clause-exits c = λ p sound s h a below top b rest here e v ms end x w. exit_integer p sound h.0 s h.1 a below top b rest here e v ms end x w
+
+pub returns-clause-lists : goal.returns-clause-lists
+returns-clause-lists c = λ p f a s rest here sound places v. next_inside f.body p f a s rest here sound places v
+
+pub returns-clause-begins : goal.returns-clause-begins
+returns-clause-begins c = λ f. body_inside f.body
