@@ -41,29 +41,29 @@ use Rattle.cc_tree.specs.Tokens.{Tokens, at as at_of}
 use Rattle.cc_statement_trees.specs.Effects.{ShowsArguments, NoArgument, MoreArguments, ShowsRight, ShowsCall, ShowsIntrinsic, ShowsIntrinsicOf, AnotherValue, ShowsEffect, ShowsAssignment, ShowsDone}
 
 module _ (p : Program) (f : Func) where
-  abbrev IsTyped : Expr → Type 0
+  abbrev pub IsTyped : Expr → Type 0
   IsTyped e = is_some (type_of p f.locals e) ≡ true
 
   -- ---- what is said of parts
 
-  operand-of : (e : Expr) → is_operand p.target f e ≡ true → IsTyped e → IsOperand p f e
+  pub operand-of : (e : Expr) → is_operand p.target f e ≡ true → IsTyped e → IsOperand p f e
   operand-of e h t = record { typed = t; pure = (and-true ((effects_of f e).pure no_one) (is_folded p.target e) h).0 }
 
-  register-soft : (r : Option ℕ) → is_some r ≡ true → is_soft r no_one ≡ true
+  pub register-soft : (r : Option ℕ) → is_some r ≡ true → is_soft r no_one ≡ true
   register-soft None h = absurd (cc)
   register-soft (Some r) h = refl
 
   register-place : (a : Place) → is_register_place p.target f a ≡ true → is_some (place_type p f.locals a) ≡ true → IsOperandPlace p f a
   register-place a h t = record { typed = t; pure = soft-place p f a (register-soft (place_effects_of f a).register h) }
 
-  other-place : (a : Place) → is_other_place p.target f a ≡ true → is_some (place_type p f.locals a) ≡ true → IsOperandPlace p f a
+  pub other-place : (a : Place) → is_other_place p.target f a ≡ true → is_some (place_type p f.locals a) ≡ true → IsOperandPlace p f a
   other-place a h t =
       let q = and-true (not (is_register_place p.target f a)) ((place_effects_of f a).pure no_one && is_folded_place p.target a) h in
       record { typed = t; pure = (and-true ((place_effects_of f a).pure no_one) (is_folded_place p.target a) q.1).0 }
 
   -- ---- arguments
 
-  abbrev TypedEach : List Expr → Type 0
+  abbrev pub TypedEach : List Expr → Type 0
   TypedEach [] = Unit {0}
   TypedEach (e ∷ es) = IsTyped e × TypedEach es
 
@@ -72,7 +72,7 @@ module _ (p : Program) (f : Func) where
   assigned-some (Some t) None h = absurd (cc)
   assigned-some (Some t) (Some v) h = refl
 
-  args-typed : (ts : List CType) (es : List Expr) → are_assignable ts (map (type_of p f.locals) es) ≡ true → TypedEach es
+  pub args-typed : (ts : List CType) (es : List Expr) → are_assignable ts (map (type_of p f.locals) es) ≡ true → TypedEach es
   args-typed ts [] h = tt
   args-typed [] (e ∷ es) h = absurd (cc)
   args-typed (t ∷ ts) (e ∷ es) h =
@@ -124,17 +124,17 @@ module _ (p : Program) (f : Func) where
   -- ---- what is called
 
   -- what a level says, of an expression that has it
-  at-type : (e : Expr) (x : one.Expr-F Expr Place) → out-Expr e ≡ x → IsTyped e → is_some (expr_step p f.locals (map-Expr Expr Place (Option ValueType) (Option PlaceType) (type_of p f.locals) (place_type p f.locals) x)) ≡ true
+  pub at-type : (e : Expr) (x : one.Expr-F Expr Place) → out-Expr e ≡ x → IsTyped e → is_some (expr_step p f.locals (map-Expr Expr Place (Option ValueType) (Option PlaceType) (type_of p f.locals) (place_type p f.locals) x)) ≡ true
   at-type e x h t = subst (λ o. is_some o ≡ true) (ap (type_of p f.locals) (sym (roll-out-Expr e) ∙ ap roll-Expr h) ∙ type-roll p f x) t
 
-  at-text : (e : Expr) (x : one.Expr-F Expr Place) → out-Expr e ≡ x → written p f e ≡ expr_written p f (map-Expr Expr Place Written WrittenPlace (written p f) (place p f) x)
+  pub at-text : (e : Expr) (x : one.Expr-F Expr Place) → out-Expr e ≡ x → written p f e ≡ expr_written p f (map-Expr Expr Place Written WrittenPlace (written p f) (place p f) x)
   at-text e x h = ap (written p f) (sym (roll-out-Expr e) ∙ ap roll-Expr h) ∙ level p f x
 
   function-some : (o : Option Func) → is_some (function_type o) ≡ true → is_some o ≡ true
   function-some None h = absurd (cc)
   function-some (Some g) h = refl
 
-  one-some : {A B : Type 0} (a : Option A) (g : A → Option B) → is_some (of_one a g) ≡ true → is_some a ≡ true
+  pub one-some : {A B : Type 0} (a : Option A) (g : A → Option B) → is_some (of_one a g) ≡ true → is_some a ≡ true
   one-some None g h = absurd (cc)
   one-some (Some a) g h = refl
 
@@ -159,7 +159,7 @@ module _ (p : Program) (f : Func) where
   abbrev ReadsRight : Option CType → Expr → Effect → Type 0
   ReadsRight to e x = (l at : ℕ) (ps : Pieces) → l ≤ 1 → ReadsTree (ShowsRight p f to e) l at (right_side_at p f to e x ps) ps
 
-  call-types : (o : Option ValueType) (args : List (Option ValueType)) → is_some (of_one o (λ v. call_type v args)) ≡ true → (is_some o ≡ true) × (are_assignable (parameters_of o) args ≡ true)
+  pub call-types : (o : Option ValueType) (args : List (Option ValueType)) → is_some (of_one o (λ v. call_type v args)) ≡ true → (is_some o ≡ true) × (are_assignable (parameters_of o) args ≡ true)
   call-types None args h = absurd (cc)
   call-types (Some NoValue) args h = absurd (cc)
   call-types (Some (Integer t)) args h = absurd (cc)
@@ -177,7 +177,7 @@ module _ (p : Program) (f : Func) where
       call-read (ShowsRight p f to e) (ShowsExpr p f g) ts args (λ x xs i j. ShowsCall to e g args x xs h i j) q.1 (args-typed ts args c.1) _ ps l at (omega (arith, u))
       (callee-read g (out-Expr g) refl q.0 c.0 at (punct m.LParen ∷ arguments p f ts args (punct m.RParen ∷ ps)))
 
-  intrinsic-operand : (i : Intr) (o : Option ValueType) → is_some (intrinsic_type i (Some o)) ≡ true → is_some o ≡ true
+  pub intrinsic-operand : (i : Intr) (o : Option ValueType) → is_some (intrinsic_type i (Some o)) ≡ true → is_some o ≡ true
   intrinsic-operand i (Some v) h = refl
   intrinsic-operand intr.Off None h = absurd (cc)
   intrinsic-operand intr.On None h = absurd (cc)
@@ -206,7 +206,7 @@ module _ (p : Program) (f : Func) where
   value-read : (to : Option CType) (e : Expr) → IsOperand p f e → (l at : ℕ) (ps : Pieces) → l ≤ 1 → ReadsTree (ShowsRight p f to e) l at (expr p f e (Whole to) ps) ps
   value-read to e h l at ps u = showing (λ x i. AnotherValue to e x i) (expr-reads p f e h (Whole to) l at ps (omega (arith, u)))
 
-  rolled : (e : Expr) (x : one.Expr-F Expr Place) → out-Expr e ≡ x → IsOperand p f e → IsOperand p f (roll-Expr x)
+  pub rolled : (e : Expr) (x : one.Expr-F Expr Place) → out-Expr e ≡ x → IsOperand p f e → IsOperand p f (roll-Expr x)
   rolled e x h = subst (IsOperand p f) (sym (roll-out-Expr e) ∙ ap roll-Expr h)
 
   -- no operand calls
@@ -242,12 +242,12 @@ module _ (p : Program) (f : Func) where
 
   -- ---- expression statements
 
-  assign-types : (a : Place) (r : Expr) (e : Expr) → out-Expr e ≡ one.Assign a r → IsTyped e → (is_some (place_type p f.locals a) ≡ true) × IsTyped r
+  pub assign-types : (a : Place) (r : Expr) (e : Expr) → out-Expr e ≡ one.Assign a r → IsTyped e → (is_some (place_type p f.locals a) ≡ true) × IsTyped r
   assign-types a r e h t =
       let q = two-some (of_one (place_type p f.locals a) written_to) (type_of p f.locals r) _ (at-type e (one.Assign a r) h t) in
       (one-some (place_type p f.locals a) written_to q.0, q.1)
 
-  sides : (a : Place) (r : Expr) → is_assignment p.target f a r ≡ true → is_some (place_type p f.locals a) ≡ true → IsOperandPlace p f a × ((is_operand p.target f r || (is_place_read p.target f (form_of r) || is_call p.target f (form_of r))) ≡ true)
+  pub sides : (a : Place) (r : Expr) → is_assignment p.target f a r ≡ true → is_some (place_type p f.locals a) ≡ true → IsOperandPlace p f a × ((is_operand p.target f r || (is_place_read p.target f (form_of r) || is_call p.target f (form_of r))) ≡ true)
   sides a r h t = by (is_register_place p.target f a) refl where
     or-first : (b c : Bool) → b ≡ true → (b || c) ≡ true
     or-first true c h = refl

@@ -1,3 +1,4 @@
 pub mod Effects
 pub mod Blocks
 pub mod Lines
+pub mod Fitting

@@ -41,15 +41,15 @@ use Rattle.cc_statement_trees.specs.Read.{ReadsLine}
 use Rattle.cc_statement_trees.proofs.Blocks.{ReadsBody, block-read, empty-read, ReadsStmtText, EachReads, stmts-read, labels-read}
 use Rattle.cc_statement_trees.proofs.Effects.{effect-read}
 
-condition-some : (o : Option ValueType) → is_condition o ≡ true → is_some o ≡ true
+pub condition-some : (o : Option ValueType) → is_condition o ≡ true → is_some o ≡ true
 condition-some None h = absurd (cc)
 condition-some (Some v) h = refl
 
-labels-some : (target : Target) (ls : List (Option ℤ)) (o : Option ValueType) → labels_fit target ls o ≡ true → is_some o ≡ true
+pub labels-some : (target : Target) (ls : List (Option ℤ)) (o : Option ValueType) → labels_fit target ls o ≡ true → is_some o ≡ true
 labels-some target ls None h = absurd (cc)
 labels-some target ls (Some v) h = refl
 
-assigned-some : (to o : Option ValueType) → is_assignable_some to o ≡ true → is_some o ≡ true
+pub assigned-some : (to o : Option ValueType) → is_assignable_some to o ≡ true → is_some o ≡ true
 assigned-some None o h = absurd (cc)
 assigned-some (Some t) None h = absurd (cc)
 assigned-some (Some t) (Some v) h = refl
@@ -60,24 +60,24 @@ module _ (p : Program) (f : Func) where
   operand-of : (e : Expr) → is_operand p.target f e ≡ true → is_some (type_of p f.locals e) ≡ true → IsOperand p f e
   operand-of e h t = record { typed = t; pure = (and-true ((effects_of f e).pure no_one) (is_folded p.target e) h).0 }
 
-  effects-at : (e : Expr) (x : one.Expr-F Expr Place) → out-Expr e ≡ x → effects_of f e ≡ effect_step (map-Expr Expr Place Effects PlaceEffects (effects_of f) (place_effects_of f) x)
+  pub effects-at : (e : Expr) (x : one.Expr-F Expr Place) → out-Expr e ≡ x → effects_of f e ≡ effect_step (map-Expr Expr Place Effects PlaceEffects (effects_of f) (place_effects_of f) x)
   unfolding effects_of place_effects_of
   effects-at e x h = ap (effects_of f) (sym (roll-out-Expr e) ∙ ap roll-Expr h) ∙ fold-roll-Expr Effects PlaceEffects effect_step (place_effect_step f) x
 
   -- a constant has no effect
-  one-pure : (e : Expr) (x : one.Expr-F Expr Place) → out-Expr e ≡ x → is_one (form_at x) ≡ true → (effects_of f e).pure no_one ≡ true
+  pub one-pure : (e : Expr) (x : one.Expr-F Expr Place) → out-Expr e ≡ x → is_one (form_at x) ≡ true → (effects_of f e).pure no_one ≡ true
   one-pure e (one.Const n t) h k = ap (λ a. a.pure no_one) (effects-at e (one.Const n t) h)
   one-pure e _ h k = absurd (cc)
 
   -- ---- levels
 
-  abbrev casing : Case → CaseText
+  abbrev pub casing : Case → CaseText
   casing c = fold-Case StmtText CaseText (stmt_step p f) (case_step p f) c
 
-  abbrev normal_in : Case → Bool
+  abbrev pub normal_in : Case → Bool
   normal_in c = fold-Case Bool Bool (normal_step p.target f) (λ c. list_all (λ b. b) c.body) c
 
-  abbrev sound_in : Case → SoundCase
+  abbrev pub sound_in : Case → SoundCase
   sound_in c = fold-Case SoundWhere SoundCase (sound_step p f) sound_case c
 
   pub record IsFine (s : Stmt) : Type 0 where
@@ -86,11 +86,11 @@ module _ (p : Program) (f : Func) where
     pub continues : Bool
     pub sound : is_sound_stmt p f s breaks continues ≡ true
 
-  record IsFineCase (c : Case) : Type 0 where
-    normal : normal_in c ≡ true
-    breaks : Bool
-    continues : Bool
-    sound : (sound_in c).body breaks continues ≡ true
+  pub record IsFineCase (c : Case) : Type 0 where
+    pub normal : normal_in c ≡ true
+    pub breaks : Bool
+    pub continues : Bool
+    pub sound : (sound_in c).body breaks continues ≡ true
 
   abbrev Read : Stmt → Type 0
   Read s = IsFine s → ReadsStmtText p f s (stmt p f s)
@@ -180,10 +180,10 @@ module _ (p : Program) (f : Func) where
         is = ASwitch [] r.tree (block b.brace b.lines) (here, 6) (here + 6 + 1, 1) (r.next, 1) _ _ _ r.is b.is;
       }
 
-  abbrev Normal : is.Stmt-F Stmt Case → Type 0
+  abbrev pub Normal : is.Stmt-F Stmt Case → Type 0
   Normal x = normal_step p.target f (map-Stmt Stmt Case Bool Bool (is_normal_stmt p.target f) normal_in x) ≡ true
 
-  abbrev Sound : is.Stmt-F Stmt Case → Bool → Bool → Type 0
+  abbrev pub Sound : is.Stmt-F Stmt Case → Bool → Bool → Type 0
   Sound x b c = sound_step p f (map-Stmt Stmt Case SoundWhere SoundCase (is_sound_stmt p f) sound_in x) b c ≡ true
 
   made-level : (x : is.Stmt-F Stmt Case) → StmtParts Read CaseRead x → Normal x → (b c : Bool) → Sound x b c → ReadsLevel x
@@ -239,13 +239,13 @@ module _ (p : Program) (f : Func) where
   made-level is.Empty h n b c s = absurd (cc)
   made-level (is.Block a) h n b c s = absurd (cc)
 
-  stmt-roll : (x : is.Stmt-F Stmt Case) → stmt p f (roll-Stmt x) ≡ stmt_step p f (map-Stmt Stmt Case StmtText CaseText (stmt p f) casing x)
+  pub stmt-roll : (x : is.Stmt-F Stmt Case) → stmt p f (roll-Stmt x) ≡ stmt_step p f (map-Stmt Stmt Case StmtText CaseText (stmt p f) casing x)
   stmt-roll x = fold-roll-Stmt StmtText CaseText (stmt_step p f) (case_step p f) x
 
-  normal-roll : (x : is.Stmt-F Stmt Case) → is_normal_stmt p.target f (roll-Stmt x) ≡ normal_step p.target f (map-Stmt Stmt Case Bool Bool (is_normal_stmt p.target f) normal_in x)
+  pub normal-roll : (x : is.Stmt-F Stmt Case) → is_normal_stmt p.target f (roll-Stmt x) ≡ normal_step p.target f (map-Stmt Stmt Case Bool Bool (is_normal_stmt p.target f) normal_in x)
   normal-roll x = fold-roll-Stmt Bool Bool (normal_step p.target f) (λ c. list_all (λ b. b) c.body) x
 
-  sound-roll : (x : is.Stmt-F Stmt Case) → is_sound_stmt p f (roll-Stmt x) ≡ sound_step p f (map-Stmt Stmt Case SoundWhere SoundCase (is_sound_stmt p f) sound_in x)
+  pub sound-roll : (x : is.Stmt-F Stmt Case) → is_sound_stmt p f (roll-Stmt x) ≡ sound_step p f (map-Stmt Stmt Case SoundWhere SoundCase (is_sound_stmt p f) sound_in x)
   sound-roll x = fold-roll-Stmt SoundWhere SoundCase (sound_step p f) sound_case x
 
   made : (x : is.Stmt-F Stmt Case) → StmtParts Read CaseRead x → Read (roll-Stmt x)
@@ -254,13 +254,13 @@ module _ (p : Program) (f : Func) where
 
   -- ---- cases
 
-  case-roll : (x : is.Case-F Stmt Case) → casing (roll-Case x) ≡ case_step p f (map-Case Stmt Case StmtText CaseText (stmt p f) casing x)
+  pub case-roll : (x : is.Case-F Stmt Case) → casing (roll-Case x) ≡ case_step p f (map-Case Stmt Case StmtText CaseText (stmt p f) casing x)
   case-roll x = fold-roll-Case StmtText CaseText (stmt_step p f) (case_step p f) x
 
-  case-normal-roll : (x : is.Case-F Stmt Case) → normal_in (roll-Case x) ≡ list_all (λ b. b) (map (is_normal_stmt p.target f) x.body)
+  pub case-normal-roll : (x : is.Case-F Stmt Case) → normal_in (roll-Case x) ≡ list_all (λ b. b) (map (is_normal_stmt p.target f) x.body)
   case-normal-roll x = fold-roll-Case Bool Bool (normal_step p.target f) (λ c. list_all (λ b. b) c.body) x
 
-  case-sound-roll : (x : is.Case-F Stmt Case) → sound_in (roll-Case x) ≡ sound_case (map-Case Stmt Case SoundWhere SoundCase (is_sound_stmt p f) sound_in x)
+  pub case-sound-roll : (x : is.Case-F Stmt Case) → sound_in (roll-Case x) ≡ sound_case (map-Case Stmt Case SoundWhere SoundCase (is_sound_stmt p f) sound_in x)
   case-sound-roll x = fold-roll-Case SoundWhere SoundCase (sound_step p f) sound_case x
 
   body-read : (c : Case) (labels : List (Option ℤ)) (body : List Stmt) → (out-Case c).labels ≡ labels → (out-Case c).body ≡ body → EachReads p f (stmt p f) body → (t : IntType) (level : ℕ) →
