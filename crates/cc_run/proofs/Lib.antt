@@ -1,0 +1,3 @@
+pub mod Coming
+pub mod HandlerLemmas
+pub mod LineLemmas
