@@ -1,13 +1,16 @@
-//! Reads a script of cases for cc_cost, and prints it with what each case gives.
+//! Reads a script of cases for files that are read, and prints it with what each case gives.
 //!
 //! The settings, and what the cases behind them may be:
 //!
 //!     $ profile   the text of a profile, and what is printed is what it has other than the default, or the row that
 //!                 breaks a rule, and the rule
 //!     $ default   any text, and what is printed is what the default profile has other than the profile of no rows
+//!     $ inputs    the text of inputs, and what is printed is the inputs, or the first row that gives none
+//!     $ arrivals  the text of arrivals, likewise; `runs.rt` says at which program
 #![tactic(auto)]
 
 mod profiles;
+mod runs;
 
 use cases_script::{Line, Page, line_of};
 use std::alloc::Global;
@@ -19,6 +22,8 @@ enum Subject {
     Nothing,
     Profile,
     Default,
+    Inputs,
+    Arrivals,
 }
 
 /// What a setting says that the cases behind it are about.
@@ -26,6 +31,8 @@ fn subject_of(setting: &str) -> Subject {
     match setting {
         "profile" => Subject::Profile,
         "default" => Subject::Default,
+        "inputs" => Subject::Inputs,
+        "arrivals" => Subject::Arrivals,
         _ => Subject::Nothing,
     }
 }
@@ -36,6 +43,8 @@ fn write_outcome(alloc: Global, page: &mut Page, subject: Subject, case: &str) {
         Subject::Nothing => page.put("unclear"),
         Subject::Profile => profiles::write_read(alloc, page, case),
         Subject::Default => profiles::write_default(alloc, page),
+        Subject::Inputs => runs::write_inputs(alloc, page, case),
+        Subject::Arrivals => runs::write_arrivals(alloc, page, case),
     }
 }
 

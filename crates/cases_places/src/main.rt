@@ -21,6 +21,10 @@ use cc_ranges::Span;
 use cc_sets::Vals;
 use std::alloc::Global;
 use std::io;
+use std::mem::size_of;
+
+// A set of numbers stands in at most 1,100 bytes, members and all.
+const _: () = prove!(size_of::<Vals>() <= 1100);
 
 /// What the cases of a section are about.
 #[derive(Clone, Copy)]
