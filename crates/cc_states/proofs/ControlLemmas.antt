@@ -8,11 +8,9 @@ use Rattle.std.specs.Option.{option_or}
 use Rattle.cc_program.specs.declared.func.Func.{Func}
 use Rattle.cc_program.specs.declared.program.Program.{Program}
 use Rattle.cc_program.specs.declared.stmt.Case.{Case, out-Case, fold_out-Case}
-use Rattle.cc_program.specs.declared.stmt.Stmt.{Stmt, out-Stmt, roll-Stmt, out-roll-Stmt}
+use Rattle.cc_program.specs.declared.stmt.Stmt.{Stmt, out-Stmt}
 use Rattle.cc_program.specs.declared.stmt.Stmt.TheOpen as is
 use Rattle.cc_program.specs.declared.value.Value.{Value}
-use Rattle.cc_program.proofs.Each.{Each}
-use Rattle.cc_program.proofs.StmtInduction.{StmtParts, by_stmt}
 use Rattle.cc_control.specs.Control.{Level, Control, level, counted, is_loop, is_left_by_break, behind_body, opening, begun, behind_first, first_is, around_list, close, behind, broken, continued, arm, bodies, from_label, is_label, is_default}
 use Rattle.cc_control.proofs.Begun.{begun_stands, begun_enters}
 use Rattle.cc_meaning.specs.State.{Active}
@@ -21,6 +19,7 @@ use Rattle.cc_syntax.specs.Statements.{SoundWhere, Labelled, sound_case, sound_s
 use Rattle.cc_syntax.proofs.Prefixes.{both_true}
 use Rattle.cc_values.specs.Values.{is_true}
 use Rattle.cc_states.specs.States.{may_break, may_continue, is_sound_in, AreSound}
+use Rattle.cc_states.proofs.Openings.{by_opening}
 use Rattle.cc_states.proofs.SameLemmas.{and_true}
 use Rattle.cc_states.proofs.SoundLemmas.{typed, labelled, parts, sound-opens}
 
@@ -57,22 +56,6 @@ module _ (p : Program) (f : Func) where
   abbrev Begins : Stmt → Type 0
   Begins s = (n : ℕ) (rest : List Stmt) (around : List Level) → is_sound_in p f around (s ∷ rest) ≡ true → AreSound p f around → Stands (begun s n rest around)
 
-  abbrev AnyCase : Case → Type 0
-  AnyCase c = Unit {0}
-
-  first_part : (x : is.Stmt-F Stmt Case) (t : Stmt) (ts : List Stmt) → StmtParts Begins AnyCase x → opening x ≡ t ∷ ts → Begins t
-  first_part (is.Do e) t ts h k = absurd (cc)
-  first_part (is.If e these those) t ts h k = absurd (cc)
-  first_part (is.While e body) t ts h k = absurd (cc)
-  first_part (is.DoWhile body e) t ts h k = (subst (Each Begins) k h).0
-  first_part (is.For first test again body) t ts h k = absurd (cc)
-  first_part (is.Switch e cases) t ts h k = absurd (cc)
-  first_part is.Break t ts h k = absurd (cc)
-  first_part is.Continue t ts h k = absurd (cc)
-  first_part (is.Return e) t ts h k = absurd (cc)
-  first_part is.Empty t ts h k = absurd (cc)
-  first_part (is.Block body) t ts h k = (subst (Each Begins) k h).0
-
   begins_by : (s : Stmt) (o : List Stmt) → opening (out-Stmt s) ≡ o → ((t : Stmt) (ts : List Stmt) → opening (out-Stmt s) ≡ t ∷ ts → Begins t) → Begins s
   begins_by s [] e h n rest around k l = subst Stands (sym (begun_stands s n rest around e)) (k, l)
   begins_by s (t ∷ ts) e h n rest around k l =
@@ -84,9 +67,7 @@ module _ (p : Program) (f : Func) where
       (k, l))
 
   begins : (s : Stmt) → Begins s
-  begins = by_stmt Begins AnyCase
-      (λ x h. begins_by (roll-Stmt x) (opening (out-Stmt (roll-Stmt x))) refl (λ t ts e. first_part x t ts h (ap opening (sym (out-roll-Stmt x)) ∙ e)))
-      (λ x h. tt)
+  begins = by_opening Begins (λ s h. begins_by s (opening (out-Stmt s)) refl h)
 
   -- ---- lists that are done
 

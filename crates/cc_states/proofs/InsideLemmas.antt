@@ -7,11 +7,9 @@ use Rattle.cc_program.specs.declared.expr.Expr.{Expr}
 use Rattle.cc_program.specs.declared.func.Func.{Func}
 use Rattle.cc_program.specs.declared.program.Program.{Program}
 use Rattle.cc_program.specs.declared.stmt.Case.{Case}
-use Rattle.cc_program.specs.declared.stmt.Stmt.{Stmt, out-Stmt, roll-Stmt, out-roll-Stmt}
+use Rattle.cc_program.specs.declared.stmt.Stmt.{Stmt, out-Stmt}
 use Rattle.cc_program.specs.declared.stmt.Stmt.TheOpen as is
 use Rattle.cc_program.specs.declared.value.Value.{Value}
-use Rattle.cc_program.proofs.Each.{Each}
-use Rattle.cc_program.proofs.StmtInduction.{StmtParts, by_stmt}
 use Rattle.cc_control.specs.Control.{Level, Control, level, counted, is_loop, is_left_by_break, behind_body, opening, begun, behind_first, first_is, around_list, close, behind, broken, continued, arm, bodies, from_label, is_label, is_default}
 use Rattle.cc_control.proofs.Begun.{begun_stands, begun_enters}
 use Rattle.cc_meaning.specs.State.{Active}
@@ -19,6 +17,7 @@ use Rattle.cc_meaning.specs.Step.{in_case, looped, is_passed, next_place, number
 use Rattle.cc_values.specs.Values.{is_true}
 use Rattle.cc_states.specs.Inside.{IsListIn, IsListInFirst, IsLeft, StandsIn, AreInside}
 use Rattle.cc_states.specs.States.{may_break, may_continue, AreSound}
+use Rattle.cc_states.proofs.Openings.{by_opening}
 use Rattle.cc_states.proofs.ControlLemmas.{may_break_there, may_continue_there}
 
 -- ---- positions
@@ -101,22 +100,6 @@ module _ (body : List Stmt) where
   abbrev Begins : Stmt → Type 0
   Begins s = (n : ℕ) (rest : List Stmt) (around : List Level) → StandsIn body around (s ∷ rest) n → AreInside body around → Inside (begun s n rest around)
 
-  abbrev AnyCase : Case → Type 0
-  AnyCase c = Unit {0}
-
-  first_part : (x : is.Stmt-F Stmt Case) (t : Stmt) (ts : List Stmt) → StmtParts Begins AnyCase x → opening x ≡ t ∷ ts → Begins t
-  first_part (is.Do e) t ts h k = absurd (cc)
-  first_part (is.If e these those) t ts h k = absurd (cc)
-  first_part (is.While e body) t ts h k = absurd (cc)
-  first_part (is.DoWhile body e) t ts h k = (subst (Each Begins) k h).0
-  first_part (is.For first test again body) t ts h k = absurd (cc)
-  first_part (is.Switch e cases) t ts h k = absurd (cc)
-  first_part is.Break t ts h k = absurd (cc)
-  first_part is.Continue t ts h k = absurd (cc)
-  first_part (is.Return e) t ts h k = absurd (cc)
-  first_part is.Empty t ts h k = absurd (cc)
-  first_part (is.Block body) t ts h k = (subst (Each Begins) k h).0
-
   begins_by : (s : Stmt) (o : List Stmt) → opening (out-Stmt s) ≡ o → ((t : Stmt) (ts : List Stmt) → opening (out-Stmt s) ≡ t ∷ ts → Begins t) → Begins s
   begins_by s [] e h n rest around k l = subst Inside (sym (begun_stands s n rest around e)) (k, l)
   begins_by s (t ∷ ts) e h n rest around k l =
@@ -124,9 +107,7 @@ module _ (body : List Stmt) where
       (h t ts e 0 ts (level (s ∷ rest) n (behind_body (out-Stmt s)) ∷ around) (t ∷ ts, 0, opening_in (out-Stmt s) t ts e, whole_left (t ∷ ts)) (k, l))
 
   begins : (s : Stmt) → Begins s
-  begins = by_stmt Begins AnyCase
-      (λ x h. begins_by (roll-Stmt x) (opening (out-Stmt (roll-Stmt x))) refl (λ t ts e. first_part x t ts h (ap opening (sym (out-roll-Stmt x)) ∙ e)))
-      (λ x h. tt)
+  begins = by_opening Begins (λ s h. begins_by s (opening (out-Stmt s)) refl h)
 
   -- ---- lists that are done
 

@@ -7,6 +7,7 @@ pub mod InsideLemmas
 pub mod KeepLemmas
 pub mod ListLemmas
 pub mod LocalLemmas
+pub mod Openings
 pub mod Options
 pub mod PathLemmas
 pub mod PlaceLemmas
