@@ -69,7 +69,7 @@ fn write_profile(page: &mut Page, profile: &Profile) {
 
 fn write_fault(page: &mut Page, fault: ProfileFault) {
     match fault {
-        ProfileFault::Row { row, rule } => page.show(format_args!(" row {row} rule {rule}")),
+        ProfileFault::Row { row, rule } => page.show(format_args!(" broken {rule} in row {row}")),
         ProfileFault::NoMemory => page.put(" no memory"),
     }
 }
