@@ -5,8 +5,8 @@ use Rattle.csv.proofs.OnLiterals.{csv_on_literals}
 use Rattle.cc_words.specs.Names.{is_name}
 use Rattle.cc_words.specs.Words.{word_of}
 use Rattle.cc_cost.specs.Keys.{key_of}
-use Rattle.cc_cost.specs.Numbers.{number_in}
-use Rattle.cc_cost.specs.Rows.{rows_of}
+use Rattle.cc_rows.specs.Numbers.{number_in}
+use Rattle.cc_rows.specs.Rows.{rows_of}
 use Rattle.cc_cost.specs.Rules.{first_from, first_fault}
 
 pub numbers : map (number_in 0 1000) (codes "0" ∷ codes "1000" ∷ codes "1001" ∷ codes "01" ∷ codes "+1" ∷ [] ∷ []) ≡ Some 0 ∷ Some 1000 ∷ None ∷ None ∷ None ∷ None ∷ []

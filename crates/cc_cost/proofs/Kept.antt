@@ -18,7 +18,7 @@ use Rattle.cc_cost.specs.declared.setting.Line.{Line}
 use Rattle.cc_cost.specs.declared.setting.Line.TheVariants as line
 use Rattle.cc_cost.specs.Given.{third_or, intrinsic_for, handler_of, handlers_in, level_of, levels_in, count_of, counts_in}
 use Rattle.cc_cost.specs.Keys.{spelling}
-use Rattle.cc_cost.specs.Numbers.{is_number, value_of, number_in}
+use Rattle.cc_rows.specs.Numbers.{is_number, value_of, number_in}
 use Rattle.cc_cost.specs.Rules.{default_of, defaults, taken, is_among, rule_of, or_later, first_from}
 use Rattle.cc_cost.specs.Settings.{Thing, thing_of, same_thing, second_if, has_second, given, is_allowed, ends_early, is_empty, role_of, function_name, may_be, has_names, settings_of}
 use Rattle.cc_cost.proofs.Distinct.{times, times-append, times-nil, same, same_self, or-false, and-true, apart-more}

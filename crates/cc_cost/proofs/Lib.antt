@@ -3,7 +3,6 @@ pub mod Examples
 pub mod FaultLemmas
 pub mod Kept
 pub mod LineLemmas
-pub mod NumberLemmas
 pub mod RoleLemmas
 pub mod RowLemmas
 pub mod SetLemmas

@@ -10,7 +10,7 @@ use Rattle.cc_cost.specs.declared.key.Key.TheVariants as key
 use Rattle.cc_cost.specs.declared.setting.Setting.{Setting}
 use Rattle.cc_cost.specs.declared.setting.Line.{Line}
 use Rattle.cc_cost.specs.Given.{intrinsic_for, handlers_in, levels_in, count_of, counts_in}
-use Rattle.cc_cost.specs.Numbers.{is_number, value_of, number_in}
+use Rattle.cc_rows.specs.Numbers.{is_number, value_of, number_in}
 use Rattle.cc_cost.specs.Rules.{default_of, defaults, first_from}
 use Rattle.cc_cost.specs.Settings.{role_of, settings_of}
 use Rattle.cc_cost.proofs.Distinct.{times, times-append, at_most_once, apart}

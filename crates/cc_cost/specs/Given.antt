@@ -8,8 +8,8 @@ use Rattle.cc_cost.specs.declared.key.Key.{Key}
 use Rattle.cc_cost.specs.declared.key.Key.TheVariants as key
 use Rattle.cc_cost.specs.declared.profile.Profile.{Profile}
 use Rattle.cc_cost.specs.declared.setting.Setting.{Setting}
-use Rattle.cc_cost.specs.Numbers.{number_in}
-use Rattle.cc_cost.specs.Rows.{Row}
+use Rattle.cc_rows.specs.Numbers.{number_in}
+use Rattle.cc_rows.specs.Rows.{Row}
 use Rattle.cc_cost.specs.Settings.{given, line_of, settings_of}
 
 -- ---- fields

@@ -1,5 +1,3 @@
-pub mod Rows
-pub mod Numbers
 pub mod Keys
 pub mod Settings
 pub mod Rules

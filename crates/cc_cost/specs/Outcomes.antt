@@ -2,7 +2,7 @@
 use Rattle.std.specs.Prelude.{◌≡◌, ⊤, List, Some}
 use Rattle.cc_cost.specs.declared.fault.ProfileFault.{ProfileFault}
 use Rattle.cc_cost.specs.declared.fault.ProfileFault.TheVariants as fault
-use Rattle.cc_cost.specs.Rows.{Row}
+use Rattle.cc_rows.specs.Rows.{Row}
 use Rattle.cc_cost.specs.Rules.{first_fault}
 
 -- the first row that breaks a rule, and the least rule that it breaks; memory may run out anywhere

@@ -6,7 +6,7 @@ use Rattle.std.specs.Str.{bytes_eq}
 use Rattle.cc_cost.specs.declared.setting.Setting.{Setting}
 use Rattle.cc_cost.specs.declared.setting.Line.{Line}
 use Rattle.cc_cost.specs.declared.setting.Line.TheVariants as line
-use Rattle.cc_cost.specs.Rows.{Row}
+use Rattle.cc_rows.specs.Rows.{Row}
 use Rattle.cc_cost.specs.Settings.{Thing, thing_of, same_thing, given, is_allowed, ends_early, is_empty, role_of, has_names, line_of, settings_of}
 
 -- ---- names of roles

@@ -10,8 +10,8 @@ use Rattle.cc_cost.specs.declared.setting.Setting.{Setting}
 use Rattle.cc_cost.specs.declared.setting.Line.{Line}
 use Rattle.cc_cost.specs.declared.setting.Line.TheVariants as line
 use Rattle.cc_cost.specs.Keys.{key_of, spelling}
-use Rattle.cc_cost.specs.Numbers.{number_in}
-use Rattle.cc_cost.specs.Rows.{Row}
+use Rattle.cc_rows.specs.Numbers.{number_in}
+use Rattle.cc_rows.specs.Rows.{Row}
 
 -- ---- rows
 

@@ -1,16 +1,14 @@
 //! What the fields of a row may be.
 
-ghost use Rattle.std.specs.Prelude.{◌≡◌, ◌≤◌, ◌<◌, ◌^◌, ◌-◌, ◌∷◌, [], min, IfSome, codes};
-ghost use Rattle.std.specs.List.{list_all};
+ghost use Rattle.std.specs.Prelude.{◌≡◌, ◌∷◌, [], codes};
 ghost use Rattle.std.specs.Option.{option_map};
 ghost use Rattle.std.specs.Str.{bytes_eq};
-ghost use Rattle.cc_words.specs.Names.{is_digit};
-ghost use Rattle.cc_cost.specs.Numbers.{is_number as is_number_field, number_in as number_in_field, value_of};
 ghost use Rattle.cc_cost.specs.Keys.{spelling};
 ghost use Rattle.cc_cost.specs.Settings.{thing_of, same_thing, is_allowed as is_allowed_setting, is_one_of, has_second as has_second_field, ends_early as ends_early_key, role_of as role_of_setting, has_names as has_names_in};
 
 use crate::key::Key;
 use crate::setting::Setting;
+use cc_rows::number_in;
 use cc_words::is_name;
 
 /// Whether a field is this word.
@@ -18,55 +16,6 @@ pub fn is(field: &[u8], word: &str) -> bool
     ensures { result ≡ bytes_eq field.now word.now }
 {
     field == word.as_bytes()
-}
-
-fn are_digits(field: &[u8]) -> bool
-    ensures { result ≡ list_all is_digit field.now }
-{
-    field.iter().all(|b| matches!(b, b'0'..=b'9'))
-}
-
-/// Whether a field is decimal digits without a leading zero.
-fn is_number(field: &[u8]) -> bool
-    ensures { result ≡ is_number_field field.now }
-{
-    match field {
-        [] => false,
-        [digit] => matches!(digit, b'0'..=b'9'),
-        [first, rest @ ..] => matches!(first, b'1'..=b'9') && are_digits(rest),
-    }
-}
-
-/// The number that digits write, or the greatest of its type where that is less.
-#[tactic(auto, using(crate::proofs::NumberLemmas::of_values))]
-fn value(digits: &[u8]) -> u64
-    ensures { result ≡ min (value_of digits.now) (2 ^ 64 - 1) }
-{
-    let mut number: u64 = 0;
-    for digit in digits {
-        number = number
-            .saturating_mul(10)
-            .saturating_add(u64::from(digit.saturating_sub(b'0')));
-    }
-    number
-}
-
-/// The number of a field that writes one within these bounds.
-#[tactic(auto, unfolding(crate::specs::Numbers::number_in))]
-pub fn number_in(least: u64, most: u64, field: &[u8]) -> Option<u64>
-    requires { most < 2 ^ 64 - 1 }
-    ensures value { result ≡ number_in_field least most field.now }
-    ensures bounds { IfSome result (λ n. (least ≤ n) × (n ≤ most)) }
-{
-    if !is_number(field) {
-        return None;
-    }
-    let number = value(field);
-    if least <= number && number <= most {
-        Some(number)
-    } else {
-        None
-    }
 }
 
 /// Whether the values of a row are allowed.

@@ -3,20 +3,21 @@
 ghost use Rattle.std.specs.Prelude.{◌≡◌, ◌||◌, ◌&&◌, ◌≤◌, ◌^◌, ◌-◌, [], ◌∷◌, nat_eq, nat_le, map, not, IfOk, IfSome, IsTrue, None as NoneOf, codes, true};
 ghost use Rattle.std.specs.List.{list_all};
 ghost use Rattle.std.specs.Option.{option_copied, option_map, option_map_or, option_to_list, unwrap_or};
-ghost use Rattle.cc_cost.specs.Numbers.{number_in as number_in_field};
+ghost use Rattle.cc_rows.specs.Numbers.{number_in as number_in_field};
 ghost use Rattle.std.specs.Str.{bytes_eq};
 ghost use Rattle.cc_cost.specs.Given.{second_for as second_in, third_for as third_in, two_or_four as two_or_four_bytes, one_to_four as one_to_four_bytes, handlers_in, levels_in, counts_in, intrinsic_for as intrinsic_in, weight_for as weight_in, budget_for as budget_in, GivesTarget, GivesRoles, GivesProfile};
 ghost use Rattle.cc_cost.specs.Keys.{spelling};
 ghost use Rattle.cc_cost.specs.Rules.{first_from};
 ghost use Rattle.cc_cost.specs.Settings.{settings_of};
 
-use crate::field::{is, number_in};
+use crate::field::is;
 use crate::key::Key;
 use crate::profile::Profile;
 use crate::rules::given;
 use crate::setting::Line;
 use cc_num::{List, Name, NoMemory, Target};
 use cc_program::{Roles, copy_list};
+use cc_rows::number_in;
 use std::alloc::Global;
 
 /// The second field of the row for a key; no field where there is no such row.

@@ -1,8 +1,8 @@
 //! What the definitions say of some rows.
 
 ghost use Rattle.std.specs.Prelude.{◌≡◌, [], ◌∷◌, map, Some, None, codes};
-ghost use Rattle.cc_cost.specs.Numbers.{number_in};
-ghost use Rattle.cc_cost.specs.Rows.{rows_of};
+ghost use Rattle.cc_rows.specs.Numbers.{number_in};
+ghost use Rattle.cc_rows.specs.Rows.{rows_of};
 ghost use Rattle.cc_cost.specs.Rules.{first_fault};
 
 /// Numbers, rows and faults, for example. The call does nothing.

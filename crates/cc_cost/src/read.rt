@@ -3,15 +3,16 @@
 ghost use Rattle.std.specs.Prelude.{◌≡◌, ◌<◌, ◌^◌, [], ℕ, IfOk, IfErr, OnOk, Some as SomeOf, None as NoneOf, length};
 ghost use Rattle.cc_cost.specs.Given.{Gives};
 ghost use Rattle.cc_cost.specs.Outcomes.{TellsFault};
-ghost use Rattle.cc_cost.specs.Rows.{rows_of};
+ghost use Rattle.cc_rows.specs.Rows.{rows_of};
 ghost use Rattle.cc_cost.specs.Rules.{first_fault as first_fault_in};
 
 use crate::fault::ProfileFault;
 use crate::given::profile_of;
 use crate::profile::Profile;
-use crate::row::lines_of;
 use crate::rules::first_fault;
+use crate::setting::Line;
 use cc_num::NoMemory;
+use cc_rows::lines_of;
 use std::alloc::Global;
 
 /// The profile of a text: lines of three fields with commas between them, each a setting; the default stands where
@@ -26,7 +27,7 @@ pub fn read_profile(alloc: Global, text: &[u8]) -> Result<Profile, ProfileFault>
     // A row is told exactly where one breaks a rule: the first one, with the least rule that it breaks.
     ensures fault { IfErr result (λ fault. TellsFault (rows_of text.now) fault) }
 {
-    let lines = lines_of(alloc, text)?;
+    let lines: Vec<Line> = lines_of(alloc, text)?;
     match first_fault(alloc, lines.as_slice())? {
         Some(fault) => Err(ProfileFault::Row {
             row: fault.row,

@@ -1,14 +1,14 @@
-//! The rows of a text.
+//! What a row says.
 
-ghost use Rattle.std.specs.Prelude.{◌≡◌, ◌≤◌, IfOk, length, map};
+ghost use Rattle.std.specs.Prelude.{◌≡◌, IfOk};
 ghost use Rattle.csv.specs.Records.{fields_of};
-ghost use Rattle.cc_cost.specs.Rows.{rows_of};
 ghost use Rattle.cc_cost.specs.Settings.{line_of as line_of_row, says as says_fields};
 
 use crate::key::{Key, key_of};
 use crate::setting::{Line, Setting};
 use cc_num::{List, NoMemory};
-use csv::{ByteRecord, ReaderBuilder};
+use cc_rows::FromRow;
+use csv::ByteRecord;
 use std::alloc::Global;
 
 /// What a row of three fields says.
@@ -34,21 +34,10 @@ fn line_of(alloc: Global, row: &ByteRecord) -> Result<Line, NoMemory>
     }
 }
 
-/// The rows of a text.
-pub fn lines_of(alloc: Global, text: &[u8]) -> Result<Vec<Line>, NoMemory>
-    ensures lines { IfOk result (λ lines. lines.items ≡ map line_of_row (rows_of text.now)) }
-    ensures few { IfOk result (λ lines. length lines.items ≤ length text.now) }
-{
-    let reader = ReaderBuilder::new()
-        .has_headers(false)
-        .flexible(true)
-        .from_reader(alloc, text);
-    let mut lines = Vec::new(alloc);
-    for row in reader.into_byte_records() {
-        match row {
-            Err(_) => return Err(NoMemory),
-            Ok(row) => lines.push(line_of(alloc, &row)?)?,
-        }
+impl FromRow for Line {
+    ghost said_by = { line_of_row };
+
+    fn from_row(alloc: Global, row: &ByteRecord) -> Result<Line, NoMemory> {
+        line_of(alloc, row)
     }
-    Ok(lines)
 }
