@@ -66,6 +66,7 @@ pub fn fetched_at<'p, 'm>(
 }
 
 /// Reads where a place leads, once that is known.
+#[inline(never)]
 pub fn fetched<'p, 'm>(
     alloc: Global,
     c: Context<'p>,
@@ -138,6 +139,7 @@ fn changed(
 }
 
 /// `a = e`, once it is known where a leads and what e gives.
+#[inline(never)]
 pub fn assigned<'p, 'm>(
     alloc: Global,
     c: Context<'p>,
@@ -184,6 +186,7 @@ fn written_back<'p, 'm>(
 }
 
 /// `a op= e`, once it is known where a leads and what e gives.
+#[inline(never)]
 pub fn changed_by<'p, 'm>(
     alloc: Global,
     c: Context<'p>,
@@ -266,6 +269,7 @@ fn moved_on<'p, 'm>(
 }
 
 /// `a++` and `a--`, once it is known where a leads.
+#[inline(never)]
 pub fn stepped_by_one<'p, 'm>(
     alloc: Global,
     c: Context<'p>,
@@ -300,6 +304,7 @@ fn pointer_to_spot(s: Option<Spot>) -> Option<Value>
 }
 
 /// `&a`, once it is known where a leads.
+#[inline(never)]
 pub fn addressed<'m>(s: Stage<'m, Option<Spot>>) -> Stage<'m, Option<Value>>
     ensures { progress_of result ≡ and_then (progress_of s.entry) (λ s. known (address_of_spot s)) }
 {
@@ -326,6 +331,7 @@ fn element_at(
 }
 
 /// `a[i]`, once it is known where a leads and what i gives.
+#[inline(never)]
 pub fn subscripted<'p, 'm>(
     alloc: Global,
     c: Context<'p>,
@@ -363,6 +369,7 @@ fn member_at(
 }
 
 /// `a.m`, once it is known where a leads.
+#[inline(never)]
 pub fn selected<'p, 'm>(
     alloc: Global,
     c: Context<'p>,

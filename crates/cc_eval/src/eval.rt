@@ -111,6 +111,7 @@ pub fn next<'e, 'm>(
 }
 
 /// Two operands, from left to right.
+#[inline(never)]
 #[cycle(next)]
 fn two<'e, 'm>(
     alloc: Global,
@@ -131,6 +132,7 @@ fn two<'e, 'm>(
 }
 
 /// Where a place leads, and then an operand.
+#[inline(never)]
 #[cycle(next)]
 fn place_and_one<'e, 'm>(
     alloc: Global,
@@ -199,6 +201,7 @@ fn whole(alloc: Global, object: Root) -> Spot
 }
 
 /// `a && b`.
+#[inline(never)]
 #[cycle(next)]
 fn both<'e, 'm>(
     alloc: Global,
@@ -228,6 +231,7 @@ fn both<'e, 'm>(
 }
 
 /// `a || b`.
+#[inline(never)]
 #[cycle(next)]
 fn either<'e, 'm>(
     alloc: Global,
@@ -257,6 +261,7 @@ fn either<'e, 'm>(
 }
 
 /// `d ? a : b`; the other arm counts as a later operand.
+#[inline(never)]
 #[cycle(next)]
 fn chosen_arm<'e, 'm>(
     alloc: Global,
@@ -321,6 +326,7 @@ fn each<'e, 'm>(
 }
 
 /// A call, once it is known what is called (C99 6.5.2.2, 10).
+#[inline(never)]
 #[cycle(next)]
 fn call<'e, 'm>(
     alloc: Global,
@@ -342,6 +348,7 @@ fn call<'e, 'm>(
 }
 
 /// A comma: a bad left operand would be dropped (C99 6.5.17).
+#[inline(never)]
 #[cycle(next)]
 fn sequence<'e, 'm>(
     alloc: Global,

@@ -24,6 +24,7 @@ use std::alloc::Global;
 pub type Two = (Option<Value>, Option<Value>);
 
 /// An operator of one operand.
+#[inline(never)]
 pub fn unary_of<'m>(
     op: UnOp,
     t: IntType,
@@ -40,6 +41,7 @@ pub fn unary_of<'m>(
 }
 
 /// An operator of two operands.
+#[inline(never)]
 pub fn binary_of<'m>(
     op: BinOp,
     t: IntType,
@@ -56,6 +58,7 @@ pub fn binary_of<'m>(
 }
 
 /// A conversion.
+#[inline(never)]
 pub fn converted<'m>(
     t: IntType,
     target: &Target,
@@ -71,6 +74,7 @@ pub fn converted<'m>(
 }
 
 /// A pointer that is moved.
+#[inline(never)]
 pub fn moved_by<'m>(
     alloc: Global,
     back: bool,
@@ -88,6 +92,7 @@ pub fn moved_by<'m>(
 }
 
 /// The difference of two pointers.
+#[inline(never)]
 pub fn gap_between<'m>(target: &Target, operands: Stage<'m, Two>) -> Stage<'m, Option<Value>>
     ensures { progress_of result ≡ and_then (progress_of operands.entry) (λ p. known (gap_value target.now p.0 p.1)) }
 {
@@ -99,6 +104,7 @@ pub fn gap_between<'m>(target: &Target, operands: Stage<'m, Two>) -> Stage<'m, O
 }
 
 /// A comparison of two pointers.
+#[inline(never)]
 pub fn compared<'m>(op: BinOp, operands: Stage<'m, Two>) -> Stage<'m, Option<Value>>
     ensures { progress_of result ≡ and_then (progress_of operands.entry) (λ p. known (comparison_value op p.0 p.1)) }
 {

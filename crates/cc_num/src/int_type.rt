@@ -69,7 +69,7 @@ impl IntType {
         ensures high { result ≤ℤ pos 0 }
     {
         if self.is_signed(target) {
-            -(2i128.pow(self.bits(target) - 1))
+            -(1i128 << (self.bits(target) - 1))
         } else {
             0
         }
@@ -83,8 +83,8 @@ impl IntType {
     {
         match self {
             IntType::Bool => 1,
-            _ if self.is_signed(target) => 2i128.pow(self.bits(target) - 1) - 1,
-            _ => 2i128.pow(self.bits(target)) - 1,
+            _ if self.is_signed(target) => (1i128 << (self.bits(target) - 1)) - 1,
+            _ => (1i128 << self.bits(target)) - 1,
         }
     }
 

@@ -21,7 +21,7 @@ impl Range {
         ensures { result ≡ low_of self.now }
     {
         if self.signed {
-            -(2i128.pow(self.bits - 1))
+            -(1i128 << (self.bits - 1))
         } else {
             0
         }
@@ -32,9 +32,9 @@ impl Range {
         ensures { result ≡ high_of self.now }
     {
         if self.signed {
-            2i128.pow(self.bits - 1) - 1
+            (1i128 << (self.bits - 1)) - 1
         } else {
-            2i128.pow(self.bits) - 1
+            (1i128 << self.bits) - 1
         }
     }
 
