@@ -3,7 +3,7 @@
 
 It builds each program by `rt run` in its crate's folder, which proves it, and prints a row a case: the processor time of the
 program, its start and the making of what it works on included. It ends with status 1 where a case takes a second,
-two seconds for a million turns of a run, or a fifth of one for calls of a domain that are worked many times: 200
+two seconds for a million turns of a run, three where handlers enter, or a fifth of one for calls of a domain that are worked many times: 200
 microseconds for an operator of two sets of 64 members, 4 for one of 8, and 2 for a join.
 """
 import os
@@ -14,6 +14,7 @@ import sys
 TOP = os.path.dirname(os.path.dirname(os.path.abspath(__file__)))
 MOST = 1.0
 MOST_OF_TURNS = 2.0
+MOST_OF_ENTRIES = 3.0
 MOST_OF_CALLS = 0.2
 
 # a loop over ten statements: scalars, elements, `if`, `?:`, postfix and compound assignment, and an empty statement
@@ -26,6 +27,10 @@ LOOP = (
     " local:0 static:0 load conv:int 3:int gt:int 1:int 2:int choose conv:uchar assign do"
     " static:0 static:1 local:0 load element load assign do } while int fun:main:0"
 )
+
+# the same with a handler that arrives every 50 turns
+HANDLED = LOOP.replace("object:a uchar name:i", "object:a static:0 after:up do signal void fun:tick:0 uchar name:i on do")
+ARRIVALS = " ".join(f"{turn},tick" for turn in range(50, 1000001, 50))
 
 # the program, the setting, the case, and what its answer begins with
 ROWS = (
@@ -48,7 +53,8 @@ ROWS = (
     ("cases_domains", "often 50000", "Rem 0..7 0..7 ULongLong", "5800000"),
     ("cases_domains", "often 50000", "Xor 0..7 0..7 ULongLong", "5750000"),
     ("cases_domains", "often 100000", "join 0..31 32..63", "5900000"),
-    ("cases_meaning", "turns", f"{LOOP} | | | 1000000", "end,going, 1000000"),
+    ("cases_meaning", "trace", f"{LOOP} | | | 1000000", "end,going,"),
+    ("cases_meaning", "trace", f"{HANDLED} | | {ARRIVALS} | 1000000", "enter,tick, enter,tick,"),
 )
 
 
@@ -80,11 +86,13 @@ def measured(program, setting, case, wanted):
     return best
 
 
-def most_of(setting):
+def most_of(setting, wanted):
     """The seconds that a case may take."""
+    if wanted.startswith("enter"):
+        return MOST_OF_ENTRIES
     if setting.startswith("often"):
         return MOST_OF_CALLS
-    return MOST_OF_TURNS if setting == "turns" else MOST
+    return MOST_OF_TURNS if setting == "trace" else MOST
 
 
 def main():
@@ -93,7 +101,7 @@ def main():
     for crate, setting, case, wanted in ROWS:
         took = measured(programs[crate], setting, case, wanted)
         print(f"{crate}, {setting} {case if len(case) < 40 else case[-20:]}: {took:.3f} s")
-        failed = failed or took >= most_of(setting)
+        failed = failed or took >= most_of(setting, wanted)
     sys.exit(1 if failed else 0)
 
 

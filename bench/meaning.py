@@ -2,10 +2,11 @@
 """meaning.py < crates/cases_meaning/stdin > crates/cases_meaning/stdout
 
 Runs the programs of a script of cases, and writes it with what each run gives. It is written from C99, docs/SUBSET.md and docs/DECISIONS.md,
-apart from the machine of crates/cc_meaning: a function that runs is a coroutine here, which stops before each of its steps.
+apart from the runs of crates/cc_steps: a function that runs is a coroutine here, which stops before each of its steps.
 
-A case is a program in the words of crates/cases_program, and behind bars the inputs, the arrivals `TURN:FUNCTION` and how many
-turns there are at the most: `WORDS | 1 2 | 5:0 7:0 | 100`. The words of a setting, `$ WORDS`, stand in front of each case.
+A case is a program in the words of crates/cases_program, and behind bars the rows of its inputs, those of its arrivals
+`TURN,HANDLER`, and how many turns there are at the most: `WORDS | 1 2 | 5,tick 7,tick | 100`. Behind `$ trace` the number of
+turns is left out.
 """
 import sys
 
@@ -734,28 +735,35 @@ def with_qualifiers(t, of):
     return dict(t, const=t["const"] or of["const"], volatile=t["volatile"] or of["volatile"])
 
 
-def outcome(front, case):
+def arrivals_of(p, rows):
+    """The handler that arrives at each turn, by its number."""
+    numbers = {f["name"]: number for number, f in enumerate(p.funcs)}
+    return {int(turn): numbers[name] for turn, name in (row.split(",") for row in rows.split())}
+
+
+def outcome(setting, case):
     words, inputs, arrivals, most = [part.strip() for part in (case.split("|") + ["", "", ""])[:4]]
-    p = Program(front + " " + words)
+    p = Program(words)
     run = Run(p, [int(n) for n in inputs.split()])
-    due = dict(tuple(map(int, w.split(":"))) for w in arrivals.split())
+    due = arrivals_of(p, arrivals)
     turns = 0
     while run.end is None and turns < int(most or 1000):
         turns += 1
         run.take(due.get(turns))
-    return " ".join(run.trace + [f"end,{run.end or 'going,'}", str(turns)])
+    count = "" if setting == "trace" else str(turns)
+    return " ".join(run.trace + [f"end,{run.end or 'going,'}", count])
 
 
 def main():
-    front, count = "", 0
+    setting, count = "", 0
     for line in sys.stdin:
         line = line.rstrip("\n")
         if line.startswith("== "):
-            front = ""
+            setting = ""
         elif line.startswith("$ "):
-            front += " " + line[2:]
+            setting = line[2:]
         elif line:
-            line += " => " + outcome(front, line)
+            line += " => " + outcome(setting, line)
             count += 1
         print(line)
     print(f"cases: {count}")

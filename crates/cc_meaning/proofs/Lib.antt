@@ -1,14 +1,1 @@
-pub mod BoundaryLemmas
-pub mod FirstLemmas
-pub mod InputLemmas
-pub mod LocalLemmas
-pub mod NewestLemmas
-pub mod OpenedLemmas
-pub mod ReturnLemmas
-pub mod RunLaws
-pub mod StackLemmas
-pub mod StartLemmas
-pub mod StepLemmas
-pub mod SwitchLemmas
-pub mod TurnLemmas
-pub mod WriteLemmas
+pub mod Kept

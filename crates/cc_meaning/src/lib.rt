@@ -1,26 +1,12 @@
-//! The meaning of whole programs: states, steps, turns and runs, as definitions in `specs/`, and a machine that is proved
-//! to take those steps. Handlers may enter between any two steps.
+//! The meaning of whole programs: a machine that makes the turns of a run. What a turn is, and what a run is, stands in
+//! `cc_steps`; that each machine is in a state of its program is proved of it, by the laws of `cc_states`.
 #![tactic(auto)]
 
-mod accesses;
-mod activation;
-mod boundary;
-mod calls;
-mod choices;
-mod content;
-mod event;
-mod initial;
-mod laws;
 mod machine;
-mod progress;
-mod returns;
-mod stack;
-mod step;
-mod turn;
+mod turns;
 
-pub use activation::Activation;
-pub use content::Content;
-pub use event::{End, Event, Took};
-pub use initial::start;
-pub use laws::{Simulation, SimulationBack, answers_by, follows_by, orders};
+pub use cc_steps::{
+    Activation, End, Event, Simulation, SimulationBack, Took, answers_by, follows_by, orders,
+};
 pub use machine::Machine;
+pub use turns::start;

@@ -1,13 +1,13 @@
 //! A machine that runs a program.
 
 ghost use Rattle.std.specs.Prelude.{◌≡◌};
-ghost use Rattle.cc_meaning.specs.View.{state_of};
+ghost use Rattle.cc_states.specs.States.{IsState};
+ghost use Rattle.cc_steps.specs.View.{state_of as state_of_run};
 
-use crate::activation::Activation;
-use crate::event::{End, Event};
 use cc_program::{Program, Value};
+use cc_steps::{Activation, End, Event};
 
-/// A run of a program.
+/// A run of a program, in a state of the program.
 #[derive(Drop)]
 pub struct Machine<'p> {
     pub program: &'p Program,
@@ -22,27 +22,5 @@ pub struct Machine<'p> {
     pub(crate) trace: Vec<Event>,
     pub(crate) opened: u64,
     pub(crate) end: End,
-}
-
-impl<'p> Machine<'p> {
-    /// What could be seen of the run so far, in order.
-    pub fn trace(&self) -> &[Event]
-        ensures { result.now ≡ (state_of self.now).memory.trace }
-    {
-        &self.trace
-    }
-
-    /// How the run stands.
-    pub fn end(&self) -> End
-        ensures { result ≡ (state_of self.now).end }
-    {
-        self.end
-    }
-
-    /// How many activations were opened so far.
-    pub fn opened(&self) -> u64
-        ensures { result ≡ (state_of self.now).opened }
-    {
-        self.opened
-    }
+    pub ghost is_state: { ∥ IsState program.now (state_of_run (record { program = program; flag = flag; statics = statics; stack = stack; inputs = inputs; trace = trace; opened = opened; end = end })) ∥₁ },
 }

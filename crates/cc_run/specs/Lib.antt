@@ -1,3 +1,5 @@
 pub mod Arrivals
+pub mod Driven
 pub mod Inputs
 pub mod Outcomes
+pub mod Trace

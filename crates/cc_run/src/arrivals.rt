@@ -1,11 +1,12 @@
 //! Reading arrivals.
 
-ghost use Rattle.std.specs.Prelude.{◌≡◌, ◌∷◌, [], IfOk, IfErr, Some, map, ◌&&◌};
+ghost use Rattle.std.specs.Prelude.{◌≡◌, ◌∷◌, [], IfOk, IfErr, Some, map, ◌&&◌, true};
 ghost use Rattle.std.specs.Str.{bytes_eq};
 ghost use Rattle.csv.specs.Records.{fields_of};
 ghost use Rattle.cc_syntax.specs.Operators.{is_handler};
 ghost use Rattle.cc_rows.specs.Rows.{rows_of};
 ghost use Rattle.cc_run.specs.Arrivals.{written_in as written_in_row, line_of, written_of, id_of as id_of_place, handler_from, handler_named as handler_named_in, arrival_of as arrival_of_line, arrivals_from};
+ghost use Rattle.cc_run.specs.Driven.{turns_ascend};
 ghost use Rattle.cc_run.specs.Outcomes.{TellsRow, first_none};
 
 use crate::fault::{RowFault, row_behind};
@@ -137,9 +138,13 @@ fn arrivals_in(
 
 /// The turns at which handlers of a program arrive, with the handler's id: a text with a turn from 1 to 4,294,967,295,
 /// greater than that of the row before, and the name of a handler in each row.
+#[tactic(auto, using(crate::proofs::AscendLemmas::of_ascending))]
 pub fn read_arrivals(alloc: Global, p: &Program, text: &[u8]) -> Result<Vec<(u32, u32)>, RowFault>
     // Each row gives an arrival behind those before it, and these are they.
     ensures list { IfOk result (λ arrivals. map Some arrivals.items ≡ arrivals_from p.now.funcs 0 (map written_in_row (rows_of text.now))) }
+
+    // Each has a later turn than the one before it.
+    ensures ascend { IfOk result (λ arrivals. turns_ascend 0 arrivals.items ≡ true) }
 
     // A row is told exactly where one gives none: the first one.
     ensures fault { IfErr result (λ fault. TellsRow (first_none (arrivals_from p.now.funcs 0 (map written_in_row (rows_of text.now)))) fault) }

@@ -18,7 +18,7 @@ use Rattle.cc_eval.specs.declared.mark.Mark.{Mark}
 use Rattle.cc_eval.specs.declared.mark.Mark.TheVariants.{Gave, Did, Chose}
 use Rattle.cc_eval.specs.Context.{Context}
 use Rattle.cc_eval.specs.Eval.{next_of}
-use Rattle.cc_meaning.specs.State.{Active}
+use Rattle.cc_steps.specs.State.{Active}
 use Rattle.cc_syntax.specs.Values.{ValueType, NoValue, Integer, ToObject, ToFunction}
 use Rattle.cc_states.proofs.ListLemmas.{get_before}
 use Rattle.cc_states.specs.Answers.{IsMarkOf, AreItsMarks}

@@ -15,8 +15,8 @@ use Rattle.cc_program.specs.declared.value.Part.{Part}
 use Rattle.cc_program.specs.declared.value.Value.{Value}
 use Rattle.cc_cells.specs.Scalars.{zeros, structure_zeros, position}
 use Rattle.cc_control.specs.Control.{close}
-use Rattle.cc_meaning.specs.State.{locals_with}
-use Rattle.cc_meaning.specs.Step.{activation, passes}
+use Rattle.cc_steps.specs.State.{locals_with}
+use Rattle.cc_steps.specs.Step.{activation, passes}
 use Rattle.cc_syntax.specs.Expressions.{of_one}
 use Rattle.cc_syntax.specs.SameTypes.{same_shape}
 use Rattle.cc_syntax.specs.Sound.{IsFunc, are_parameters}

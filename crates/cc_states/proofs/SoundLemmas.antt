@@ -13,7 +13,7 @@ use Rattle.cc_program.specs.declared.types.Sig.{out-Sig}
 use Rattle.cc_control.specs.declared.phase.Phase.{Phase}
 use Rattle.cc_control.specs.declared.phase.Phase.TheVariants.{First, Test, Again}
 use Rattle.cc_control.specs.Control.{Level}
-use Rattle.cc_meaning.specs.Step.{worked}
+use Rattle.cc_steps.specs.Step.{worked}
 use Rattle.cc_syntax.specs.Expressions.{type_of}
 use Rattle.cc_syntax.specs.Statements.{SoundWhere, Labelled, sound_case, sound_step, is_sound_stmt, is_typed, is_condition, is_optional_condition, labels_fit, are_apart, has_label, returns}
 use Rattle.cc_syntax.specs.Values.{ValueType, scalar_value, is_assignable_some}

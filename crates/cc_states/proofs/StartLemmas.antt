@@ -22,10 +22,10 @@ use Rattle.cc_program.specs.declared.value.Root.TheVariants as root
 use Rattle.cc_program.specs.declared.value.Value.{Value}
 use Rattle.cc_program.specs.declared.value.Value.TheVariants.{Int, Place}
 use Rattle.cc_cells.specs.Scalars.{zeros_over, member_zeros, structure_zeros, zeros}
-use Rattle.cc_meaning.specs.Runs.{Arrivals, run}
-use Rattle.cc_meaning.specs.State.{State, first_value, values_or, first_values}
-use Rattle.cc_meaning.specs.Step.{activation}
-use Rattle.cc_meaning.specs.Turn.{start, turn, first_of_stack}
+use Rattle.cc_steps.specs.Runs.{Arrivals, run}
+use Rattle.cc_steps.specs.State.{State, first_value, values_or, first_values}
+use Rattle.cc_steps.specs.Step.{activation}
+use Rattle.cc_steps.specs.Turn.{start, turn, first_of_stack}
 use Rattle.cc_syntax.specs.Initial.{is_address, AreLeaves, OfInteger, OfPointer, OfArray, OfStructure, AreElements, NoElement, Element, AreMembers, NoMember, Member, IsInitial}
 use Rattle.cc_syntax.specs.Operators.{is_handler}
 use Rattle.cc_syntax.specs.Sound.{IsSound, IsFunc, is_main, is_main_there, is_plain_int, is_plain_void, takes_nothing}

@@ -27,9 +27,9 @@ use Rattle.cc_eval.specs.Context.{local_type, object_type}
 use Rattle.cc_eval.specs.Eval.{next_of}
 use Rattle.cc_eval.specs.Progress.{Waits}
 use Rattle.cc_eval.proofs.Links.{type_linked}
-use Rattle.cc_meaning.specs.Access.{is_open}
-use Rattle.cc_meaning.specs.State.{Active, State}
-use Rattle.cc_meaning.specs.Step.{progress_in, progress_of, cell_position}
+use Rattle.cc_steps.specs.Access.{is_open}
+use Rattle.cc_steps.specs.State.{Active, State}
+use Rattle.cc_steps.specs.Step.{progress_in, progress_of, cell_position}
 use Rattle.cc_syntax.specs.Effects.{no_one}
 use Rattle.cc_syntax.specs.Expressions.{of_one, type_of}
 use Rattle.cc_syntax.specs.Initial.{place_at}

@@ -28,16 +28,16 @@ use Rattle.cc_eval.specs.declared.mark.Mark.{Mark}
 use Rattle.cc_eval.specs.declared.mark.Mark.TheVariants.{Gave, Did}
 use Rattle.cc_eval.specs.Context.{local_type, object_type}
 use Rattle.cc_eval.specs.Progress.{Waits}
-use Rattle.cc_meaning.specs.declared.content.Content.{Content}
-use Rattle.cc_meaning.specs.declared.content.Content.TheVariants.{Gone, Unwritten, Holds}
-use Rattle.cc_meaning.specs.declared.event.End.{End}
-use Rattle.cc_meaning.specs.declared.event.End.TheVariants.{Trap, Starved}
-use Rattle.cc_meaning.specs.declared.event.Event.{Event}
-use Rattle.cc_meaning.specs.declared.event.Event.TheVariants as event
-use Rattle.cc_meaning.specs.Access.{content, local_content, with_locals, is_open, with_local}
-use Rattle.cc_meaning.specs.State.{Active, State}
-use Rattle.cc_meaning.specs.Step.{stopped, with_stack, with_flag, with_statics, with_inputs, with_event, static_content, content_at, progress_of, on_top, did, marked, cell_position, has_read, input_read, read, has_written, write}
-use Rattle.cc_meaning.specs.Turn.{is_going}
+use Rattle.cc_steps.specs.declared.content.Content.{Content}
+use Rattle.cc_steps.specs.declared.content.Content.TheVariants.{Gone, Unwritten, Holds}
+use Rattle.cc_steps.specs.declared.event.End.{End}
+use Rattle.cc_steps.specs.declared.event.End.TheVariants.{Trap, Starved}
+use Rattle.cc_steps.specs.declared.event.Event.{Event}
+use Rattle.cc_steps.specs.declared.event.Event.TheVariants as event
+use Rattle.cc_steps.specs.Access.{content, local_content, with_locals, is_open, with_local}
+use Rattle.cc_steps.specs.State.{Active, State}
+use Rattle.cc_steps.specs.Step.{stopped, with_stack, with_flag, with_statics, with_inputs, with_event, static_content, content_at, progress_of, on_top, did, marked, cell_position, has_read, input_read, read, has_written, write}
+use Rattle.cc_steps.specs.Turn.{is_going}
 use Rattle.cc_syntax.specs.Expressions.{of_one}
 use Rattle.cc_syntax.specs.Initial.{place_at}
 use Rattle.cc_syntax.specs.Types.{Named, IsInOrder}

@@ -27,11 +27,11 @@ use Rattle.cc_eval.specs.declared.mark.Mark.TheVariants.{Gave, Did, Chose}
 use Rattle.cc_eval.specs.Eval.{next_of}
 use Rattle.cc_eval.specs.Progress.{Progress, Known, Waits, Traps, no_value}
 use Rattle.cc_eval.proofs.Links.{type_linked}
-use Rattle.cc_meaning.specs.declared.event.End.TheVariants.{Exit, Trap}
-use Rattle.cc_meaning.specs.declared.event.Event.TheVariants.{Enter}
-use Rattle.cc_meaning.specs.State.{Active, State}
-use Rattle.cc_meaning.specs.Step.{stopped, with_stack, with_flag, with_event, worked, next_place, is_return, number_in, gives_nothing, progress_in, progress_of, goes_to, marked, activation, opened, opened_if, call, return_mark, returned, fallen, perform, stepped, active_step, proceed}
-use Rattle.cc_meaning.specs.Turn.{is_going, only_handler, may_enter, entering, entered, turn_by, turn}
+use Rattle.cc_steps.specs.declared.event.End.TheVariants.{Exit, Trap}
+use Rattle.cc_steps.specs.declared.event.Event.TheVariants.{Enter}
+use Rattle.cc_steps.specs.State.{Active, State}
+use Rattle.cc_steps.specs.Step.{stopped, with_stack, with_flag, with_event, worked, next_place, is_return, number_in, gives_nothing, progress_in, progress_of, goes_to, marked, activation, opened, opened_if, call, return_mark, returned, fallen, perform, stepped, active_step, proceed}
+use Rattle.cc_steps.specs.Turn.{is_going, only_handler, may_enter, entering, entered, turn_by, turn}
 use Rattle.cc_syntax.specs.Effects.{no_one}
 use Rattle.cc_syntax.specs.Expressions.{type_of}
 use Rattle.cc_syntax.specs.Operators.{is_handler}
@@ -41,7 +41,7 @@ use Rattle.cc_syntax.specs.Types.{IsInOrder}
 use Rattle.cc_syntax.specs.Values.{ValueType, NoValue, Integer, scalar_value, is_void, is_assignable_some, ToObject, ToFunction}
 use Rattle.cc_syntax.proofs.Parts.{all_at}
 use Rattle.cc_syntax.proofs.Prefixes.{both_true}
-use Rattle.cc_meaning.proofs.TurnLemmas.{sound-sized}
+use Rattle.cc_steps.proofs.TurnLemmas.{sound-sized}
 use Rattle.cc_states.specs.Answers.{IsAction, IsMarkOf, result_in}
 use Rattle.cc_states.specs.Inside.{AreInside}
 use Rattle.cc_states.specs.States.{may_break, may_continue, AreSound, worked_at, expression_of, AreMarks, context_in, IsActive, AreActive, AreCalled, IsStateOf, IsState, AreInOrder}

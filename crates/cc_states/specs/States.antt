@@ -25,10 +25,10 @@ use Rattle.cc_eval.specs.declared.mark.Mark.{Mark}
 use Rattle.cc_eval.specs.Context.{Context}
 use Rattle.cc_eval.specs.Eval.{next_of}
 use Rattle.cc_eval.specs.Progress.{Waits}
-use Rattle.cc_meaning.specs.Access.{is_open}
-use Rattle.cc_meaning.specs.State.{Active, State}
-use Rattle.cc_meaning.specs.Step.{worked, progress_of, cell_position}
-use Rattle.cc_meaning.specs.Turn.{is_going}
+use Rattle.cc_steps.specs.Access.{is_open}
+use Rattle.cc_steps.specs.State.{Active, State}
+use Rattle.cc_steps.specs.Step.{worked, progress_of, cell_position}
+use Rattle.cc_steps.specs.Turn.{is_going}
 use Rattle.cc_syntax.specs.Expressions.{of_one}
 use Rattle.cc_syntax.specs.Initial.{place_at}
 use Rattle.cc_syntax.specs.Statements.{is_sound_stmt}

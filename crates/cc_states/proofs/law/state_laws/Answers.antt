@@ -2,7 +2,7 @@ use Rattle.cc_states.proofs.InsideLemmas.{next_inside, body_inside}
 use Rattle.cc_states.proofs.StartLemmas.{start_state, run_state}
 use Rattle.cc_states.proofs.TurnLemmas.{turn_state, switched_integer, exit_integer}
 use Rattle.cc_states.proofs.ControlLemmas.{next_sound, body_sound, may_break_there, may_continue_there}
-use Rattle.cc_meaning.proofs.TurnLemmas.{sound-sized}
+use Rattle.cc_steps.proofs.TurnLemmas.{sound-sized}
 use Rattle.cc_states.proofs.PathLemmas.{zeros_typed, written_typed}
 use Rattle.cc_states.specs.Typed.{HasType}
 use Rattle.cc_states.proofs.StateLemmas.{step_possible, expression_typed, functions_there}

@@ -1,0 +1,92 @@
+//! What a case asks of a run, and the run.
+
+ghost use Rattle.std.specs.Prelude.{◌≡◌};
+ghost use Rattle.cc_syntax.specs.Sound.{IsSound};
+
+use cc_meaning::{End, start};
+use cc_run::{drive, read_arrivals, read_inputs};
+use cc_syntax::Program;
+use std::alloc::Global;
+
+/// What stands between the bars of a case: the rows of inputs and of arrivals are parted by blanks.
+#[derive(Clone, Copy)]
+pub struct Script<'a> {
+    pub words: &'a str,
+    inputs: &'a str,
+    arrivals: &'a str,
+    /// How many turns are made at the most.
+    most: u32,
+}
+
+/// What stands in front of the first bar, and what stands behind it.
+fn part(text: &str) -> (&str, &str) {
+    text.split_once('|').unwrap_or((text, ""))
+}
+
+fn most(text: &str) -> Option<u32> {
+    let text = text.trim();
+    if text.is_empty() {
+        Some(1000)
+    } else {
+        text.parse().ok()
+    }
+}
+
+impl<'a> Script<'a> {
+    /// What a case says.
+    pub fn of(case: &'a str) -> Option<Script<'a>> {
+        let (words, rest) = part(case);
+        let (inputs, rest) = part(rest);
+        let (arrivals, rest) = part(rest);
+        Some(Script {
+            words,
+            inputs,
+            arrivals,
+            most: most(rest)?,
+        })
+    }
+}
+
+/// The text of a file with a row for each word.
+fn rows(alloc: Global, words: &str) -> Option<Vec<u8>> {
+    let mut text = Vec::new(alloc);
+    for word in words.split_whitespace() {
+        text.extend_from_slice(word.as_bytes()).ok()?;
+        text.push(b'\n').ok()?;
+    }
+    Some(text)
+}
+
+/// The text of the trace of a program after the turns of a script.
+pub fn trace(alloc: Global, p: &Program, script: Script) -> Option<Vec<u8>>
+    requires { IsSound p.now }
+{
+    let inputs = read_inputs(alloc, &rows(alloc, script.inputs)?).ok()?;
+    let arrivals = read_arrivals(alloc, p, &rows(alloc, script.arrivals)?).ok()?;
+    drive(alloc, p, inputs, &arrivals, script.most).ok()
+}
+
+/// Who arrives at a turn.
+fn arrival_at(arrivals: &[(u32, u32)], turn: u32) -> Option<u32> {
+    for (at, handler) in arrivals {
+        if *at == turn {
+            return Some(*handler);
+        }
+    }
+    None
+}
+
+/// How many turns a run makes up to its end, of those of a script.
+pub fn turns_made(alloc: Global, p: &Program, script: Script) -> Option<u32>
+    requires { IsSound p.now }
+{
+    let inputs = read_inputs(alloc, &rows(alloc, script.inputs)?).ok()?;
+    let arrivals = read_arrivals(alloc, p, &rows(alloc, script.arrivals)?).ok()?;
+    let mut m = start(alloc, p, inputs).ok()?;
+    let mut turns = 0;
+    while turns < script.most && m.end() == End::Going && m.opened() < u64::MAX {
+        turns += 1;
+        m.step(alloc, arrival_at(&arrivals, turns)).ok()?;
+    }
+    Some(turns)
+}

@@ -1,7 +1,0 @@
-use Rattle.std.proofs.Common.{◌≡◌, map, take}
-use Rattle.cc_cells.specs.Cells.{cells_of}
-use Rattle.cc_meaning.specs.Whole.{values_over}
-use Rattle.cc_meaning.proofs.initial.statics.Given as goal
-
-abbrev pub invariant-loop-object : goal.invariant-loop-object
-invariant-loop-object l = cells_of l.all.items ≡ map (values_over l.structures) (take l.object-index l.objects)

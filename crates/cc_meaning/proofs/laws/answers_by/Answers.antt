@@ -1,6 +1,0 @@
-use Rattle.cc_meaning.proofs.RunLaws.{Answers-by_simulation}
-use Rattle.cc_meaning.proofs.laws.answers_by.Goals as goal
-
-pub returns : goal.returns
-returns g c q p h =
-    let s = g.S.SimulationBack in Answers-by_simulation q p (s.related q p) (s.same q p h) (s.starts q p h) (s.turns q p h)
