@@ -1,0 +1,4 @@
+pub mod Declarations
+pub mod Members
+pub mod Fitting
+pub mod Items
