@@ -1,0 +1,5 @@
+pub mod Conditions
+pub mod Jumps
+pub mod Labels
+pub mod Statements
+pub mod Switch

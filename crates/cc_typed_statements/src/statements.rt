@@ -1,0 +1,85 @@
+//! Choices and loops of which the parts have types (C99 6.8.4.1, 6.8.5).
+
+ghost use Rattle.std.specs.Prelude.{◌≡◌, ◌∷◌, [], IfOk, option_map};
+ghost use Rattle.cc_operands.specs.Verdicts.{Judges};
+ghost use Rattle.cc_operands.specs.View.{operand_view};
+ghost use Rattle.cc_typed_statements.specs.Statements.{if_of, while_of, do_of, for_of};
+
+use crate::conditions::{condition, maybe_condition};
+use cc_num::{Boxed, List, NoMemory};
+use cc_operands::{Breach, Operand};
+use cc_syntax::{Expr, Stmt};
+use std::alloc::Global;
+
+/// A statement alone.
+pub fn one(alloc: Global, statement: Stmt) -> Result<List<Stmt>, NoMemory>
+    ensures { IfOk result (λ r. r ≡ statement ∷ []) }
+{
+    let mut statements = Vec::new(alloc);
+    statements.push(statement)?;
+    Ok(List::of(statements))
+}
+
+/// `if` (C99 6.8.4.1).
+pub fn if_statement(
+    alloc: Global,
+    x: Operand,
+    these: List<Stmt>,
+    those: List<Stmt>,
+) -> Result<List<Stmt>, Breach>
+    ensures { Judges (λ ss. ss) result (if_of (operand_view x) these those) }
+{
+    match condition(x) {
+        Err(rule) => Err(Breach::Breaks(rule)),
+        Ok(e) => Ok(one(alloc, Stmt::If(e.into_inner(), these, those))?),
+    }
+}
+
+/// `while` (C99 6.8.5.1).
+pub fn while_statement(alloc: Global, x: Operand, body: List<Stmt>) -> Result<List<Stmt>, Breach>
+    ensures { Judges (λ ss. ss) result (while_of (operand_view x) body) }
+{
+    match condition(x) {
+        Err(rule) => Err(Breach::Breaks(rule)),
+        Ok(e) => Ok(one(alloc, Stmt::While(e.into_inner(), body))?),
+    }
+}
+
+/// `do` (C99 6.8.5.2).
+pub fn do_statement(alloc: Global, body: List<Stmt>, x: Operand) -> Result<List<Stmt>, Breach>
+    ensures { Judges (λ ss. ss) result (do_of body (operand_view x)) }
+{
+    match condition(x) {
+        Err(rule) => Err(Breach::Breaks(rule)),
+        Ok(e) => Ok(one(alloc, Stmt::DoWhile(body, e.into_inner()))?),
+    }
+}
+
+/// What is in a box, where there is one.
+fn unboxed(e: Option<Boxed<Expr>>) -> Option<Expr>
+    ensures { result ≡ e }
+{
+    match e {
+        None => None,
+        Some(e) => Some(e.into_inner()),
+    }
+}
+
+/// `for` (C99 6.8.5.3): what is done first, the test, and what is done behind each turn.
+pub fn for_statement(
+    alloc: Global,
+    first: Option<Expr>,
+    test: Option<Operand>,
+    step: Option<Boxed<Expr>>,
+    body: List<Stmt>,
+) -> Result<List<Stmt>, Breach>
+    ensures { Judges (λ ss. ss) result (for_of first (option_map operand_view test) step body) }
+{
+    match maybe_condition(test) {
+        Err(rule) => Err(Breach::Breaks(rule)),
+        Ok(test) => {
+            let statement = Stmt::For(first, unboxed(test), unboxed(step), body);
+            Ok(one(alloc, statement)?)
+        }
+    }
+}
