@@ -1,5 +1,5 @@
 -- Names that are given, worked out.
-use Rattle.std.proofs.Common.{◌≡◌, List, [], ◌∷◌, ℕ, refl}
+use Rattle.std.proofs.Common.{◌≡◌, [], ◌∷◌, refl}
 use Rattle.std.specs.Prelude.{codes}
 use Rattle.cc_names.specs.Names.{Own, Numbered, with_number, names_for}
 

@@ -1,8 +1,11 @@
 -- Names for wishes, one more at a time.
 use Rattle.std.proofs.Common.{◌≡◌, ◌∙◌, ◌<◌, ◌≤◌, ◌+◌, ℕ, zero, suc, List, [], ◌∷◌, ◌++◌, length, get_or, drop, map, refl, ap, sym, append_assoc, drop-cons, arith}
 use Rattle.std.proofs.lemmas.List.{append-nil}
-use Rattle.cc_names.specs.Names.{Wish, name_for, names_for}
-use Rattle.cc_names.specs.View.{wish_of, wishes_of}
+use Rattle.std.proofs.lemmas.List.Folds.{list_any-append}
+use Rattle.std.specs.Prelude.{◌||◌}
+use Rattle.std.specs.Str.{bytes_eq}
+use Rattle.cc_names.specs.Names.{Wish, Own, Numbered, name_for, names_for}
+use Rattle.cc_names.specs.View.{HaveSame, has_wished, wish_of, wishes_of}
 use Rattle.cc_names.specs.declared.wish.Wish.{Wish as WishOf}
 
 pub wishes-next : (ws : List WishOf) (i : ℕ) (w : WishOf) → i < length ws → wishes_of (drop i ws) ≡ wish_of (get_or ws i w) ∷ wishes_of (drop (i + 1) ws)
@@ -36,3 +39,19 @@ drop-past (x ∷ xs) (suc i) h = drop-past xs i (omega (arith, h))
 
 pub wishes-done : (ws : List WishOf) (i : ℕ) → length ws ≤ i → wishes_of (drop i ws) ≡ []
 wishes-done ws i h = ap wishes_of (drop-past ws i h) ∙ wishes-none
+
+-- ---- whether the name of a wish is there
+
+pub wished-same : (xs ys : List (List ℕ)) (w : Wish) → HaveSame xs ys → has_wished xs w ≡ has_wished ys w
+wished-same xs ys (Own x) h = h x
+wished-same xs ys (Numbered base) h = refl
+
+-- in one of two lists
+pub wished-append : (xs ys : List (List ℕ)) (w : Wish) → has_wished (xs ++ ys) w ≡ (has_wished xs w || has_wished ys w)
+wished-append xs ys (Own x) = list_any-append (bytes_eq x) xs ys
+wished-append xs ys (Numbered base) = refl
+
+pub wished-both : (outer inner had done : List (List ℕ)) (w : Wish) → HaveSame outer had → HaveSame inner done → (has_wished outer w || has_wished inner w) ≡ has_wished (had ++ done) w
+wished-both outer inner had done w h k =
+    ap (λ b. b || has_wished inner w) (wished-same outer had w h)
+    ∙ (ap (λ b. has_wished had w || b) (wished-same inner done w k) ∙ sym (wished-append had done w))

@@ -1,6 +1,6 @@
 -- What the code keeps of the names that are taken.
 use Rattle.std.specs.Str.{bytes_eq}
-use Rattle.std.specs.Prelude.{◌≡◌, ◌≤◌, ◌<◌, ◌⊎◌, ◌+◌, ℕ, suc, if◌then◌else◌, Bool, true, false, List, ◌++◌, length, Option, Some, Vec}
+use Rattle.std.specs.Prelude.{◌≡◌, ◌≤◌, ◌<◌, ◌⊎◌, ◌+◌, ℕ, suc, if◌then◌else◌, true, false, List, ◌++◌, length, Option, Some, Vec}
 use Rattle.std.specs.Cmp.Lexicographic.{pointwise}
 use Rattle.std.specs.Prelude.{nat_eq}
 use Rattle.std.specs.declared.alloc.Global.{Global}

@@ -1,5 +1,5 @@
 -- What the code's wishes and sets of names stand for.
-use Rattle.std.specs.Prelude.{◌≡◌, ◌≤◌, ◌<◌, ◌+◌, ℕ, Bool, true, ◌||◌, List, [], ◌∷◌, ◌++◌, map, length, Option, Some, if◌then◌else◌}
+use Rattle.std.specs.Prelude.{◌≡◌, ◌+◌, ℕ, Bool, false, List, [], ◌∷◌, ◌++◌, map, if◌then◌else◌}
 use Rattle.std.specs.Prelude.{Vec}
 use Rattle.std.specs.declared.alloc.Global.{Global}
 use Rattle.std.specs.declared.hash.BuildHasherDefault.{BuildHasherDefault}
@@ -32,3 +32,8 @@ with_name names x = if is_among x names then names else names ++ x ∷ []
 -- two lists have the same names
 abbrev pub HaveSame : List (List ℕ) → List (List ℕ) → Type 0
 HaveSame xs ys = (x : List ℕ) → is_among x xs ≡ is_among x ys
+
+-- whether the name that is wished for is there
+abbrev pub has_wished : List (List ℕ) → Wish → Bool
+has_wished names (Own x) = is_among x names
+has_wished names (Numbered base) = false

@@ -5,6 +5,6 @@ mod names;
 mod taken;
 mod wish;
 
-pub use names::names_for;
+pub use names::{inner_names_for, names_for};
 pub use taken::{Names, Taken};
 pub use wish::Wish;

@@ -1,28 +1,45 @@
 //! Names for wishes, one after the other.
 
-ghost use Rattle.std.specs.Prelude.{◌≡◌, ◌++◌, ℕ, List, [], ◌∷◌, IfOk};
+ghost use Rattle.std.specs.Prelude.{◌≡◌, ◌++◌, ◌||◌, ℕ, List, [], ◌∷◌, IfOk};
 ghost use Rattle.cc_names.specs.Holds.{Holds};
 ghost use Rattle.cc_names.specs.Names.{name_for as name_for_wish, names_for as names_for_wishes};
-ghost use Rattle.cc_names.specs.View.{HaveSame, wish_of, wishes_of};
+ghost use Rattle.cc_names.specs.View.{HaveSame, has_wished as has_wished_name, wish_of, wishes_of};
 
 use crate::taken::{Names, Taken};
 use crate::wish::Wish;
 use cc_num::{List as ListOf, Name, NoMemory};
 use std::alloc::Global;
 
-/// The name for a wish, which is taken from now on.
+/// Whether a set has the name that is wished for.
+fn has_wished(space: &Names, wish: Wish<'_>) -> bool
+    ensures { result ≡ has_wished_name space.now (wish_of wish.entry) }
+{
+    match wish {
+        Wish::Own(name) => space.has(name),
+        Wish::Numbered(_) => false,
+    }
+}
+
+/// Whether one of two sets has the name that is wished for.
+fn either_has_wished(outer: &Names, inner: &Names, wish: Wish<'_>) -> bool
+    ensures { result ≡ (has_wished_name outer.now (wish_of wish.entry) || has_wished_name inner.now (wish_of wish.entry)) }
+{
+    has_wished(outer, wish) || has_wished(inner, wish)
+}
+
+/// The name for a wish, which is taken from now on, where its space has it already or not.
 fn name_for(
     alloc: Global,
     taken: &mut Taken,
-    space: &Names,
+    is_there: bool,
     wish: Wish<'_>,
 ) -> Result<Vec<u8>, NoMemory>
-    ensures name { IfOk result (λ name. (reserved given names : List (List ℕ)) → Holds taken.old reserved given → HaveSame space.now names → name.items ≡ name_for_wish reserved given names (wish_of wish.entry)) }
+    ensures name { IfOk result (λ name. (reserved given names : List (List ℕ)) → Holds taken.old reserved given → is_there ≡ has_wished_name names (wish_of wish.entry) → name.items ≡ name_for_wish reserved given names (wish_of wish.entry)) }
     ensures taken { IfOk result (λ name. (reserved given : List (List ℕ)) → Holds taken.old reserved given → Holds taken.new reserved (given ++ name.items ∷ [])) }
 {
     match wish {
         Wish::Own(name) => {
-            if space.has(name) {
+            if is_there {
                 return taken.rename(alloc, name);
             }
             taken.give(alloc, name)?;
@@ -45,8 +62,31 @@ pub fn names_for(
 {
     let mut names = Vec::new(alloc);
     for wish in wishes {
-        let name = name_for(alloc, taken, space, *wish)?;
+        let is_there = has_wished(space, *wish);
+        let name = name_for(alloc, taken, is_there, *wish)?;
         space.add(alloc, name.as_slice())?;
+        names.push(ListOf::of(name))?;
+    }
+    Ok(names)
+}
+
+/// The names for wishes, one after the other, in a space of their own inside one that has some names (C99 6.2.1, 4).
+/// The outer space stays as it is.
+pub fn inner_names_for(
+    alloc: Global,
+    taken: &mut Taken,
+    outer: &Names,
+    wishes: &[Wish<'_>],
+) -> Result<Vec<Name>, NoMemory>
+    ensures names { IfOk result (λ names. (reserved given had : List (List ℕ)) → Holds taken.old reserved given → HaveSame outer.now had → names.items ≡ names_for_wishes reserved given had (wishes_of wishes.now)) }
+    ensures taken { IfOk result (λ names. (reserved given : List (List ℕ)) → Holds taken.old reserved given → Holds taken.new reserved (given ++ names.items)) }
+{
+    let mut inner = Names::new(alloc);
+    let mut names = Vec::new(alloc);
+    for wish in wishes {
+        let is_there = either_has_wished(outer, &inner, *wish);
+        let name = name_for(alloc, taken, is_there, *wish)?;
+        inner.add(alloc, name.as_slice())?;
         names.push(ListOf::of(name))?;
     }
     Ok(names)

@@ -1,10 +1,10 @@
-use Rattle.std.proofs.Common.{◌≡◌, ◌∙◌, ◌++◌, ◌+◌, ℕ, List, [], ◌∷◌, drop, ap, sym, subst, append_assoc}
+use Rattle.std.proofs.Common.{◌≡◌, ◌∙◌, ◌++◌, ◌+◌, [], ◌∷◌, drop, ap, sym, subst, append_assoc}
 use Rattle.std.proofs.lemmas.List.{append-nil}
 use Rattle.cc_names.specs.Holds.{Holds}
 use Rattle.cc_names.specs.Names.{is_among, names_for}
 use Rattle.cc_names.specs.View.{with_name, wishes_of}
 use Rattle.cc_names.proofs.Takings.{same-with}
-use Rattle.cc_names.proofs.Wishes.{wishes-next, wishes-done, names-next, names-none, names-start}
+use Rattle.cc_names.proofs.Wishes.{wished-same, wishes-next, wishes-done, names-next, names-none, names-start}
 use Rattle.cc_names.proofs.names.names_for.Goals as goal
 
 pub loop-wish-init : goal.loop-wish-init
@@ -28,7 +28,7 @@ loop-wish-preserved c =
       names = λ r g had h k.
           c.loop-wish.invariant.names r g had h k
           ∙ (ap (λ ws. done ++ names_for r (g ++ done) (had ++ done) ws) (wishes-next c.args.wishes.now c.loop-wish.wish-index _ c.loop-wish-test.true)
-          ∙ (names-next r g had done _ (wishes_of (drop (c.loop-wish.wish-index + 1) c.args.wishes.now)) x (c.in_ok-name.ensures.name r (g ++ done) (had ++ done) (c.loop-wish.invariant.taken r g h) (c.loop-wish.invariant.space had k))
+          ∙ (names-next r g had done _ (wishes_of (drop (c.loop-wish.wish-index + 1) c.args.wishes.now)) x (c.in_ok-name.ensures.name r (g ++ done) (had ++ done) (c.loop-wish.invariant.taken r g h) (c.has_wished-is_there.ensures ∙ wished-same c.loop-wish.space (had ++ done) _ (c.loop-wish.invariant.space had k)))
           ∙ ap (λ l. l ++ names_for r (g ++ l) (had ++ l) (wishes_of (drop (c.loop-wish.wish-index + 1) c.args.wishes.now))) (sym p)));
     }
 

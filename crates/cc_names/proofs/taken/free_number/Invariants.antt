@@ -1,4 +1,4 @@
-use Rattle.std.proofs.Common.{◌≡◌, ◌≤◌, ◌+◌, ◌-◌, true}
+use Rattle.std.proofs.Common.{◌≤◌, ◌+◌, ◌-◌}
 use Rattle.cc_names.specs.Holds.{AreTaken, FailUpTo}
 use Rattle.cc_names.proofs.taken.free_number.Given as goal
 
