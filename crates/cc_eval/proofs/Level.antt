@@ -1,13 +1,21 @@
 -- What an expression does next, opened at its top.
 use Rattle.std.proofs.Common.{◌≡◌, refl, ap, sym, ◌∙◌, List, map, Result, Ok, Err, IfOk}
-use Rattle.cc_program.specs.declared.expr.Expr.{Expr, Both, Either, Call, roll-Expr, map-Expr}
-use Rattle.cc_program.specs.declared.expr.Expr.TheVariants.{rolls-Both, rolls-Either, rolls-Call}
+use Rattle.cc_num.specs.declared.int_type.IntType.{IntType}
+use Rattle.cc_num.specs.declared.op.BinOp.{BinOp}
+use Rattle.cc_program.specs.declared.expr.Expr.{Expr, Bin, Move, Gap, Compare, Both, Either, Call, roll-Expr, map-Expr}
+use Rattle.cc_program.specs.declared.expr.Expr.TheVariants.{rolls-Bin, rolls-Move, rolls-Gap, rolls-Compare, rolls-Both, rolls-Either, rolls-Call}
 use Rattle.cc_program.specs.declared.expr.Expr.TheOpen as one
 use Rattle.cc_program.specs.declared.expr.Place.{Place}
 use Rattle.cc_eval.specs.declared.mark.Mark.{Mark}
 use Rattle.cc_eval.specs.Context.{Context}
 use Rattle.cc_syntax.specs.Effects.{Registers}
-use Rattle.cc_eval.specs.Eval.{Meaning, Designation, expr_meaning, meaning, designation, both, either, called}
+use Rattle.cc_eval.specs.Eval.{Meaning, Designation, expr_meaning, meaning, designation, both_values, both, either, called}
+use Rattle.cc_eval.specs.declared.operators.TwoOperands.{TwoOperands}
+use Rattle.cc_eval.specs.declared.operators.TwoOperands.TheVariants as two
+use Rattle.cc_eval.specs.Operands.{two_give}
+use Rattle.cc_eval.specs.Progress.{Progress, and_then}
+use Rattle.cc_program.specs.declared.value.Value.{Value}
+use Rattle.std.specs.Prelude.{Option, Bool}
 use Rattle.cc_eval.proofs.Links.{level}
 
 -- an outcome that is the same as another one
@@ -30,3 +38,18 @@ module _ (c : Context) where
   pub call_level : (e f : Expr) (args : List Expr) → e ≡ Call f args → (later : Registers) (ms : List Mark) →
       called (meaning c f) (map (meaning c) args) later ms ≡ (meaning c e).next later ms
   call_level e f args h later ms = rw (opened e (one.Call f args) (h ∙ sym (rolls-Call f args))) refl
+
+  abbrev pub two_next : TwoOperands → Expr → Expr → Registers → List Mark → Progress (Option Value)
+  two_next kind a b later ms = and_then (both_values (meaning c a) (meaning c b) later ms) (two_give kind c.program.target)
+
+  pub bin_level : (e : Expr) (o : BinOp) (t : IntType) (a b : Expr) → e ≡ Bin o t a b → (later : Registers) (ms : List Mark) → two_next (two.Operator o t) a b later ms ≡ (meaning c e).next later ms
+  bin_level e o t a b h later ms = rw (opened e (one.Bin o t a b) (h ∙ sym (rolls-Bin o t a b))) refl
+
+  pub move_level : (e a b : Expr) (back : Bool) → e ≡ Move a b back → (later : Registers) (ms : List Mark) → two_next (two.Movement back) a b later ms ≡ (meaning c e).next later ms
+  move_level e a b back h later ms = rw (opened e (one.Move a b back) (h ∙ sym (rolls-Move a b back))) refl
+
+  pub gap_level : (e a b : Expr) → e ≡ Gap a b → (later : Registers) (ms : List Mark) → two_next two.Difference a b later ms ≡ (meaning c e).next later ms
+  gap_level e a b h later ms = rw (opened e (one.Gap a b) (h ∙ sym (rolls-Gap a b))) refl
+
+  pub compare_level : (e : Expr) (o : BinOp) (a b : Expr) → e ≡ Compare o a b → (later : Registers) (ms : List Mark) → two_next (two.Comparison o) a b later ms ≡ (meaning c e).next later ms
+  compare_level e o a b h later ms = rw (opened e (one.Compare o a b) (h ∙ sym (rolls-Compare o a b))) refl

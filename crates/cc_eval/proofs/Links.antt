@@ -1,12 +1,11 @@
 -- The type of what an expression or a place means, and what is known of it before it runs, are those of the expression or place.
-use Rattle.std.proofs.Common.{◌≡◌, refl, Option}
+use Rattle.std.proofs.Common.{◌≡◌, refl}
 use Rattle.cc_program.specs.declared.expr.Expr.{Expr, roll-Expr, map-Expr, fold-roll-Expr}
 use Rattle.cc_program.specs.declared.expr.Expr.TheOpen as one
 use Rattle.cc_program.specs.declared.expr.Place.{Place, roll-Place, map-Place, fold-roll-Place}
 use Rattle.cc_program.proofs.FoldFusion.{fused, place_fused}
-use Rattle.cc_syntax.specs.Effects.{Effects, PlaceEffects, effect_step, place_effect_step, effects_of, place_effects_of}
+use Rattle.cc_syntax.specs.Effects.{effect_step, place_effect_step, effects_of, place_effects_of}
 use Rattle.cc_syntax.specs.Expressions.{expr_step, place_step, type_of, place_type}
-use Rattle.cc_syntax.specs.Values.{ValueType, PlaceType}
 use Rattle.cc_eval.specs.Context.{Context}
 use Rattle.cc_eval.specs.Eval.{Meaning, Designation, expr_meaning, place_meaning, meaning, designation}
 

@@ -3,6 +3,7 @@
 ghost use Rattle.std.specs.Prelude.{◌≡◌, IfOk, map};
 ghost use Rattle.cc_syntax.specs.Sizes.{AreSized};
 ghost use Rattle.cc_eval.specs.Eval.{meaning, designation, both_values, place_and_value, both as both_of, either as either_of, chosen_arm as chosen_arm_of, each as each_of, called_with as called_with_of, intrinsic as intrinsic_of, restored as restored_of, sequence as sequence_of, next_of as next_of_whole};
+ghost use Rattle.cc_eval.specs.Operands.{one_gives, two_give, place_gives, change_gives};
 ghost use Rattle.cc_eval.specs.Progress.{and_then};
 ghost use Rattle.cc_eval.specs.View.{context_of, later_of, progress_of};
 
@@ -16,6 +17,7 @@ use crate::operations::{
     arm_of, as_condition, binary_of, both_known, called_by, compared, condition, converted,
     flagged, gap_between, moved_by, place_and_known, restored_by, saved, spot_of, unary_of,
 };
+use crate::operators::{AtPlace, OneOperand, ToPlace, TwoOperands};
 use crate::progress::{Stage, outcome};
 use crate::spots::Spot;
 use cc_num::{List, NoMemory};
@@ -35,32 +37,46 @@ pub fn next<'e, 'm>(
     requires { AreSized c.program.now.structures c.program.now.target }
     ensures { IfOk result (λ s. progress_of s ≡ (meaning (context_of c.entry) e.now).next (later_of (context_of c.entry) later.now) marks.now) }
 {
-    let target = &c.program.target;
     match e {
         Expr::Const(n, _) => Ok(Stage::Known(Some(Value::Int(*n)), marks)),
         Expr::Null(_) => Ok(Stage::Known(Some(Value::Place(Address::Null)), marks)),
         Expr::FuncAddr(f) => Ok(Stage::Known(Some(Value::Place(Address::Func(*f))), marks)),
-        Expr::Load(a) => fetched(alloc, c, a, later, leads(alloc, c, a, later, marks)?),
-        Expr::AddrOf(a) => Ok(addressed(leads(alloc, c, a, later, marks)?)),
+        Expr::Load(a) => at_place(alloc, c, AtPlace::Load, a, later, marks),
+        Expr::AddrOf(a) => at_place(alloc, c, AtPlace::Address, a, later, marks),
         Expr::Un(op, t, a) => {
-            Ok(unary_of(*op, *t, target, next(alloc, c, a.get(), later, marks)?))
+            of_one(
+                alloc,
+                c,
+                OneOperand::Operator(*op, *t),
+                a.get(),
+                later,
+                marks,
+            )
         }
         Expr::Bin(op, t, a, b) => {
-            Ok(binary_of(
-                *op,
-                *t,
-                target,
-                two(alloc, c, a.get(), b.get(), later, marks)?,
-            ))
+            let operator = TwoOperands::Operator(*op, *t);
+            of_both(alloc, c, operator, a.get(), b.get(), later, marks)
         }
-        Expr::Conv(t, a) => Ok(converted(*t, target, next(alloc, c, a.get(), later, marks)?)),
+        Expr::Conv(t, a) => of_one(alloc, c, OneOperand::Conversion(*t), a.get(), later, marks),
         Expr::Qualify(_, a) => next(alloc, c, a.get(), later, marks),
         Expr::Move(a, b, back) => {
-            moved_by(alloc, *back, two(alloc, c, a.get(), b.get(), later, marks)?)
+            let movement = TwoOperands::Movement(*back);
+            of_both(alloc, c, movement, a.get(), b.get(), later, marks)
         }
-        Expr::Gap(a, b) => Ok(gap_between(target, two(alloc, c, a.get(), b.get(), later, marks)?)),
+        Expr::Gap(a, b) => {
+            of_both(
+                alloc,
+                c,
+                TwoOperands::Difference,
+                a.get(),
+                b.get(),
+                later,
+                marks,
+            )
+        }
         Expr::Compare(op, a, b) => {
-            Ok(compared(*op, two(alloc, c, a.get(), b.get(), later, marks)?))
+            let comparison = TwoOperands::Comparison(*op);
+            of_both(alloc, c, comparison, a.get(), b.get(), later, marks)
         }
         Expr::Both(a, b) => {
             let is_pure = is_pure(c, e, later);
@@ -74,21 +90,11 @@ pub fn next<'e, 'm>(
             let is_pure = is_pure(c, e, later);
             chosen_arm(alloc, c, is_pure, d.get(), a.get(), b.get(), later, marks)
         }
-        Expr::Assign(a, e) => {
-            assigned(
-                alloc,
-                c,
-                a,
-                place_and_one(alloc, c, a, e.get(), later, marks)?,
-            )
-        }
+        Expr::Assign(a, e) => to_place(alloc, c, ToPlace::Assign, a, e.get(), later, marks),
         Expr::Change(a, op, t, e) => {
-            let operands = place_and_one(alloc, c, a, e.get(), later, marks)?;
-            changed_by(alloc, c, a, *op, *t, later, operands)
+            to_place(alloc, c, ToPlace::Change(*op, *t), a, e.get(), later, marks)
         }
-        Expr::After(a, down) => {
-            stepped_by_one(alloc, c, a, *down, later, leads(alloc, c, a, later, marks)?)
-        }
+        Expr::After(a, down) => at_place(alloc, c, AtPlace::Step(*down), a, later, marks),
         Expr::Call(f, args) => {
             let callee = next(
                 alloc,
@@ -104,9 +110,100 @@ pub fn next<'e, 'm>(
         Expr::Intr(Intr::Save, _) => saved(alloc, marks),
         Expr::Intr(Intr::Restore, None) => Ok(Stage::Traps(marks)),
         Expr::Intr(Intr::Restore, Some(a)) => {
-            restored_by(alloc, next(alloc, c, a.get(), later, marks)?)
+            of_one(alloc, c, OneOperand::Restore, a.get(), later, marks)
         }
         Expr::Seq(a, b) => sequence(alloc, c, a.get(), b.get(), later, marks),
+    }
+}
+
+/// What one operand gives. The calls for each kind of expression stand apart from one another: a function pays at its entry
+/// for the values of all its arms.
+#[inline(never)]
+#[cycle(next)]
+fn of_one<'e, 'm>(
+    alloc: Global,
+    c: Context<'e>,
+    kind: OneOperand,
+    a: &'e Expr,
+    later: &'e Later<'e>,
+    marks: &'m [Mark],
+) -> Result<Stage<'m, Option<Value>>, NoMemory>
+    requires { AreSized c.program.now.structures c.program.now.target }
+    ensures { IfOk result (λ s. progress_of s ≡ and_then ((meaning (context_of c.entry) a.now).next (later_of (context_of c.entry) later.now) marks.now) (one_gives kind (context_of c.entry).program.target)) }
+{
+    let operand = next(alloc, c, a, later, marks)?;
+    match kind {
+        OneOperand::Operator(op, t) => Ok(unary_of(op, t, &c.program.target, operand)),
+        OneOperand::Conversion(t) => Ok(converted(t, &c.program.target, operand)),
+        OneOperand::Restore => restored_by(alloc, operand),
+    }
+}
+
+/// What two operands give.
+#[inline(never)]
+#[cycle(next)]
+fn of_both<'e, 'm>(
+    alloc: Global,
+    c: Context<'e>,
+    kind: TwoOperands,
+    a: &'e Expr,
+    b: &'e Expr,
+    later: &'e Later<'e>,
+    marks: &'m [Mark],
+) -> Result<Stage<'m, Option<Value>>, NoMemory>
+    requires { AreSized c.program.now.structures c.program.now.target }
+    ensures { IfOk result (λ s. progress_of s ≡ and_then (both_values (meaning (context_of c.entry) a.now) (meaning (context_of c.entry) b.now) (later_of (context_of c.entry) later.now) marks.now) (two_give kind (context_of c.entry).program.target)) }
+{
+    let operands = two(alloc, c, a, b, later, marks)?;
+    match kind {
+        TwoOperands::Operator(op, t) => Ok(binary_of(op, t, &c.program.target, operands)),
+        TwoOperands::Movement(back) => moved_by(alloc, back, operands),
+        TwoOperands::Difference => Ok(gap_between(&c.program.target, operands)),
+        TwoOperands::Comparison(op) => Ok(compared(op, operands)),
+    }
+}
+
+/// What is done where a place leads.
+#[inline(never)]
+#[cycle(next)]
+fn at_place<'e, 'm>(
+    alloc: Global,
+    c: Context<'e>,
+    kind: AtPlace,
+    a: &'e Place,
+    later: &'e Later<'e>,
+    marks: &'m [Mark],
+) -> Result<Stage<'m, Option<Value>>, NoMemory>
+    requires { AreSized c.program.now.structures c.program.now.target }
+    ensures { IfOk result (λ s. progress_of s ≡ and_then ((designation (context_of c.entry) a.now).leads (later_of (context_of c.entry) later.now) marks.now) (place_gives (context_of c.entry) kind (designation (context_of c.entry) a.now) (later_of (context_of c.entry) later.now))) }
+{
+    let spot = leads(alloc, c, a, later, marks)?;
+    match kind {
+        AtPlace::Load => fetched(alloc, c, a, later, spot),
+        AtPlace::Address => Ok(addressed(spot)),
+        AtPlace::Step(down) => stepped_by_one(alloc, c, a, down, later, spot),
+    }
+}
+
+/// What an operand changes where a place leads.
+#[inline(never)]
+#[cycle(next)]
+fn to_place<'e, 'm>(
+    alloc: Global,
+    c: Context<'e>,
+    kind: ToPlace,
+    a: &'e Place,
+    e: &'e Expr,
+    later: &'e Later<'e>,
+    marks: &'m [Mark],
+) -> Result<Stage<'m, Option<Value>>, NoMemory>
+    requires { AreSized c.program.now.structures c.program.now.target }
+    ensures { IfOk result (λ s. progress_of s ≡ and_then (place_and_value (designation (context_of c.entry) a.now) (meaning (context_of c.entry) e.now) (later_of (context_of c.entry) later.now) marks.now) (change_gives (context_of c.entry) kind (designation (context_of c.entry) a.now) (later_of (context_of c.entry) later.now))) }
+{
+    let operands = place_and_one(alloc, c, a, e, later, marks)?;
+    match kind {
+        ToPlace::Assign => assigned(alloc, c, a, operands),
+        ToPlace::Change(op, t) => changed_by(alloc, c, a, op, t, later, operands),
     }
 }
 

@@ -9,6 +9,7 @@ mod eval;
 mod law;
 mod mark;
 mod operations;
+mod operators;
 mod progress;
 mod spots;
 

@@ -5,7 +5,8 @@ use Rattle.cc_eval.specs.Progress.{and_then}
 use Rattle.cc_eval.specs.View.{context_of, later_of, progress_of}
 use Rattle.cc_eval.proofs.EachLemmas.{each_waits, each_traps, each_known}
 use Rattle.cc_eval.proofs.LaterLemmas.{all_behind, rest_behind}
-use Rattle.cc_eval.proofs.Level.{same_outcome, both_level, either_level, call_level}
+use Rattle.cc_eval.proofs.Level.{same_outcome, two_next, bin_level, move_level, gap_level, compare_level, both_level, either_level, call_level}
+use Rattle.cc_eval.specs.declared.operators.TwoOperands.TheVariants as two
 use Rattle.cc_eval.proofs.eval.+next.Goals as goal
 
 -- src/eval.rt:25:1
@@ -71,3 +72,35 @@ each-loop-i-preserved t c =
     c.loop-i-test.true c.index-args-i.is c.loop-i.invariant
     (sym (ap (λ s. progress_of s) c.in-Known.is) ∙ c.in_ok-v.ensures ∙
     ap (λ l. (meaning at c.index-args-i.result).next l c.loop-i.left.now) (rest_behind at c.args.args.now c.loop-i.i _ c.args.later refl)))
+
+pub next-returns-in-Bin : goal.next-returns-in-Bin
+next-returns-in-Bin t c =
+    let at = context_of c.args.c in
+    let later = later_of at c.args.later.now in
+    same_outcome c.of_both.result (λ s. progress_of s) (two_next at (two.Operator c.in-Bin.op c.in-Bin.t) c.get-in-Bin.result.now c.get-in-Bin-2.result.now later c.args.marks.now) _
+    (rw (c.get-in-Bin.ensures, c.get-in-Bin-2.ensures) (bin_level at c.args.e.now c.in-Bin.op c.in-Bin.t c.in-Bin.a c.in-Bin.b c.in-Bin.is later c.args.marks.now))
+    c.of_both.ensures
+
+pub next-returns-in-Move : goal.next-returns-in-Move
+next-returns-in-Move t c =
+    let at = context_of c.args.c in
+    let later = later_of at c.args.later.now in
+    same_outcome c.of_both-in-Move.result (λ s. progress_of s) (two_next at (two.Movement c.in-Move.back) c.get-in-Move.result.now c.get-in-Move-2.result.now later c.args.marks.now) _
+    (rw (c.get-in-Move.ensures, c.get-in-Move-2.ensures) (move_level at c.args.e.now c.in-Move.a c.in-Move.b c.in-Move.back c.in-Move.is later c.args.marks.now))
+    c.of_both-in-Move.ensures
+
+pub next-returns-in-Gap : goal.next-returns-in-Gap
+next-returns-in-Gap t c =
+    let at = context_of c.args.c in
+    let later = later_of at c.args.later.now in
+    same_outcome c.of_both-in-Gap.result (λ s. progress_of s) (two_next at two.Difference c.get-in-Gap.result.now c.get-in-Gap-2.result.now later c.args.marks.now) _
+    (rw (c.get-in-Gap.ensures, c.get-in-Gap-2.ensures) (gap_level at c.args.e.now c.in-Gap.a c.in-Gap.b c.in-Gap.is later c.args.marks.now))
+    c.of_both-in-Gap.ensures
+
+pub next-returns-in-Compare : goal.next-returns-in-Compare
+next-returns-in-Compare t c =
+    let at = context_of c.args.c in
+    let later = later_of at c.args.later.now in
+    same_outcome c.of_both-in-Compare.result (λ s. progress_of s) (two_next at (two.Comparison c.in-Compare.op) c.get-in-Compare.result.now c.get-in-Compare-2.result.now later c.args.marks.now) _
+    (rw (c.get-in-Compare.ensures, c.get-in-Compare-2.ensures) (compare_level at c.args.e.now c.in-Compare.op c.in-Compare.a c.in-Compare.b c.in-Compare.is later c.args.marks.now))
+    c.of_both-in-Compare.ensures

@@ -40,3 +40,15 @@ decreases-each l = 4 * goal.size-each l + 2
 
 abbrev pub decreases-call : goal.decreases-call
 decreases-call l = 4 * goal.size-call l + 3
+
+abbrev pub decreases-of_one : goal.decreases-of_one
+decreases-of_one l = 4 * size-Expr l.a.now + 1
+
+abbrev pub decreases-of_both : goal.decreases-of_both
+decreases-of_both l = 4 * max (size-Expr l.a.now) (size-Expr l.b.now) + 3
+
+abbrev pub decreases-at_place : goal.decreases-at_place
+decreases-at_place l = 4 * size-Place l.a.now + 1
+
+abbrev pub decreases-to_place : goal.decreases-to_place
+decreases-to_place l = 4 * max (size-Place l.a.now) (size-Expr l.e.now) + 3
