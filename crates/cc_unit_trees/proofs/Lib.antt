@@ -1,0 +1,3 @@
+pub mod Each
+pub mod Externals
+pub mod Programs

@@ -1,0 +1,5 @@
+use Rattle.cc_unit_trees.proofs.Programs.{program-reads}
+use Rattle.cc_unit_trees.proofs.laws.programs_read_back.Goals as goal
+
+pub returns : goal.returns
+returns c = record { sentence = program-reads }

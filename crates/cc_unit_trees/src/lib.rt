@@ -1,0 +1,6 @@
+//! The trees that show whole programs.
+#![tactic(auto)]
+
+mod laws;
+
+pub use laws::programs_read_back;
