@@ -1,3 +1,4 @@
 pub mod Each
 pub mod Externals
+pub mod Names
 pub mod Programs
