@@ -1,0 +1,50 @@
+//! Parameters of functions (C99 6.7.5.3).
+
+ghost use Rattle.std.specs.Prelude.{◌≡◌, []};
+ghost use Rattle.cc_scopes.specs.Outcomes.{Gives};
+ghost use Rattle.cc_scopes.specs.View.{state_of};
+ghost use Rattle.cc_scopes.specs.State.{empty};
+ghost use Rattle.cc_declarators.specs.Parameters.{parameter_bound as parameter_bound_of};
+
+use crate::names::new_name;
+use cc_num::List;
+use cc_operands::{Breach, Rule};
+use cc_scopes::{Designated, Scope, State, Stop, placed};
+use cc_specifiers::Parameter;
+use cc_syntax::Roles;
+use std::alloc::Global;
+
+/// No parameters, in a scope of their own.
+pub fn no_parameters(alloc: Global) -> (List<Parameter>, Scope)
+    ensures { result ≡ ([], empty) }
+{
+    let scope = Scope::new(alloc);
+    (List::of(Vec::new(alloc)), scope)
+}
+
+/// A parameter is declared where it has a name; in a function definition it has one (C99 6.9.1, 5).
+#[tactic(auto, using(cc_scopes::proofs::Outcomes::of_outcomes))]
+pub fn parameter_bound(
+    alloc: Global,
+    roles: &Roles,
+    unnamed: bool,
+    position: u32,
+    p: Parameter,
+    state: &mut State,
+) -> Result<Parameter, Stop>
+    ensures { Gives (λ p. p) result (state_of state.new) (parameter_bound_of roles.now unnamed position p (state_of state.old) p.name) }
+{
+    match &p.name {
+        None => {
+            if !unnamed {
+                return placed(p.at, Err(Breach::Breaks(Rule::DeclaredTwice)));
+            }
+        }
+        Some(x) => {
+            placed(p.at, new_name(roles, x.all(), state))?;
+            let t = p.ctype.copy(alloc)?;
+            state.bind(alloc, x.all(), Designated::Automatic(position, t))?;
+        }
+    }
+    Ok(p)
+}
