@@ -1,0 +1,8 @@
+use Rattle.std.proofs.Common.{◌≡◌, false, take}
+use Rattle.std.specs.List.{list_any}
+use Rattle.cc_things.specs.Things.{is_func_kind}
+use Rattle.cc_things.specs.View.{views_of}
+use Rattle.cc_things.proofs.facts.is_func.Given as goal
+
+abbrev pub invariant-loop-m : goal.invariant-loop-m
+invariant-loop-m l = list_any (λ m. is_func_kind m.name.kind) (views_of (take l.m-index l.t.mentions.items)) ≡ false
