@@ -1,0 +1,6 @@
+use Rattle.std.proofs.Common.{sym}
+use Rattle.cc_initialisers.proofs.Forms.{members-scalar}
+use Rattle.cc_initialisers.proofs.content.Content.is_scalar.Goals as goal
+
+pub returns-in-Members : goal.returns-in-Members
+returns-in-Members c = sym (members-scalar c.args.self c.in-Members.field-0 c.in-Members.is)

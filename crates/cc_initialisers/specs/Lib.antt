@@ -1,0 +1,5 @@
+pub mod Contents
+pub mod Counts
+pub mod Initialisers
+pub mod Scalars
+pub mod View
