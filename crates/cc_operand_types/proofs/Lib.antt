@@ -1,0 +1,17 @@
+pub mod SameLemmas
+pub mod AlikeLemmas
+pub mod Rolls
+pub mod Agreement
+pub mod Constants
+pub mod Requalified
+pub mod Operands
+pub mod Integers
+pub mod Nulls
+pub mod Pointers
+pub mod Usual
+pub mod Choices
+pub mod Standing
+pub mod Stores
+pub mod Places
+pub mod Calls
+pub mod Casts

@@ -1,0 +1,13 @@
+use Rattle.cc_operand_types.proofs.Places.{value_typed, address_typed, element_of_typed, subscripted_typed, indirection_typed, dot_typed, arrow_typed}
+use Rattle.cc_operand_types.proofs.law.designator_laws.Goals as goal
+
+pub returns : goal.returns
+returns c = record {
+  values = λ p locals a t r h e. value_typed p locals a t r h e;
+  addresses = λ p locals a r h e. address_typed p locals a r h e;
+  elements = λ p locals a t i r h k e. element_of_typed p locals a t i r h k e;
+  subscripts = λ p locals x i r h k e. subscripted_typed p locals x i r h k e;
+  indirections = λ p locals x r h e. indirection_typed p locals x r h e;
+  members = λ p locals m name a r h e. dot_typed p locals m name a r h e;
+  arrows = λ p locals m name x r h e. arrow_typed p locals m name x r h e;
+}

@@ -1,0 +1,87 @@
+ghost use Rattle.std.specs.Prelude.{◌≡◌, ℕ, ℤ, Bool, true, List, Ok, Some};
+ghost use Rattle.cc_designators.specs.Assignments.{assign_of, stepped_after, stepped_before};
+ghost use Rattle.cc_designators.specs.Calls.{called};
+ghost use Rattle.cc_designators.specs.Casts.{cast_of, size_value};
+ghost use Rattle.cc_designators.specs.Designators.{TypedExpr, null, value_at};
+ghost use Rattle.cc_designators.specs.Postfix.{address, arrow, dot, element, indirection, subscripted};
+ghost use Rattle.cc_lex.specs.declared.token.Mark.{Mark};
+ghost use Rattle.cc_num.specs.declared.int_type.IntType.{IntType};
+ghost use Rattle.cc_num.specs.Integers.{is_value_of};
+ghost use Rattle.cc_operands.specs.Arithmetic.{binary_of};
+ghost use Rattle.cc_operands.specs.Assignments.{assigned};
+ghost use Rattle.cc_operands.specs.Choices.{choose_of, comma_of};
+ghost use Rattle.cc_operands.specs.Operands.{Operand, cast_to, converted_to, integer, is_pointer, null_of};
+ghost use Rattle.cc_operands.specs.Operators.{operator_of};
+ghost use Rattle.cc_operands.specs.Qualified.{unqualified};
+ghost use Rattle.cc_operands.specs.Unary.{unary_of};
+ghost use Rattle.cc_operands.specs.declared.operator.Operator.{Operator};
+ghost use Rattle.cc_operands.specs.declared.operator.UnaryOperator.{UnaryOperator};
+ghost use Rattle.cc_program.proofs.Each.{Each};
+ghost use Rattle.cc_program.specs.declared.expr.Place.{Place};
+ghost use Rattle.cc_program.specs.declared.program.Program.{Program};
+ghost use Rattle.cc_program.specs.declared.types.CType.{CType};
+ghost use Rattle.cc_program.specs.declared.types.Shape.{out-Shape};
+ghost use Rattle.cc_program.specs.declared.types.Shape.TheOpen as shape;
+ghost use Rattle.cc_syntax.specs.Types.{Named};
+ghost use Rattle.cc_syntax.specs.Values.{Integer, PlaceType, ValueType};
+ghost use Rattle.cc_operand_types.specs.Typed.{HasType, IsAssigned, IsNullType, IsTypedExpr, IsTypedOperand, IsTypedPlace, MembersStand, stands};
+
+/// What holds of constants, conversions and operators, over any program and locals, where the operands are typed (C99 6.5.3.3, 6.5.5 to 6.5.15, 6.5.17). The call does nothing.
+pub fn operator_laws()
+    // A constant that fits its type is typed, and so is an operand that is converted, with the type that it is converted to.
+    ensures constants { (p : Program) (locals : List Named) → (n : ℤ) (t : IntType) → is_value_of t p.target n ≡ true → IsTypedOperand p locals (integer n t) }
+    ensures casts { (p : Program) (locals : List Named) → (t s : IntType) (x : Operand) → IsTypedOperand p locals x → x.type ≡ Integer s →
+        IsTypedOperand p locals (cast_to p.target t x) × ((cast_to p.target t x).type ≡ Integer t) }
+    ensures conversions { (p : Program) (locals : List Named) → (t s : IntType) (x : Operand) → IsTypedOperand p locals x → x.type ≡ Integer s →
+        IsTypedOperand p locals (converted_to p.target t x) × ((converted_to p.target t x).type ≡ Integer t) }
+
+    // A null of a type that may stand has that type.
+    ensures nulls { (p : Program) (locals : List Named) → (t : ValueType) → is_pointer t ≡ true → stands p t ≡ true → HasType p locals (null_of t) t }
+
+    // Unary and binary operators, `c ? a : b` and `a, b`.
+    ensures unary { (p : Program) (locals : List Named) → (o : UnaryOperator) (x r : Operand) → IsTypedOperand p locals x → unary_of p.target o x ≡ Ok r → IsTypedOperand p locals r }
+    ensures binary { (p : Program) (locals : List Named) → (mark : Mark) (o : Operator) → operator_of mark ≡ Some o → (x y r : Operand) → IsTypedOperand p locals x → IsTypedOperand p locals y →
+        binary_of p.target p.structures o x y ≡ Ok r → IsTypedOperand p locals r }
+    ensures choices { (p : Program) (locals : List Named) → (c x y r : Operand) → IsTypedOperand p locals c → IsTypedOperand p locals x → IsTypedOperand p locals y →
+        choose_of p.target c x y ≡ Ok r → IsTypedOperand p locals r }
+    ensures commas { (p : Program) (locals : List Named) → (x y r : Operand) → IsTypedOperand p locals x → IsTypedOperand p locals y → comma_of x y ≡ Ok r → IsTypedOperand p locals r }
+{}
+
+/// What holds of assignments, over any program and locals, where what is assigned to and the operand are typed (C99 6.5.16, 6.5.2.4, 6.5.3.1). The call does nothing.
+pub fn assignment_laws()
+    // What is converted as if by assignment can be assigned.
+    ensures assigned { (p : Program) (locals : List Named) → (to : ValueType) (x y : Operand) → stands p to ≡ true → IsTypedOperand p locals x → assigned p.target to x ≡ Ok y → IsAssigned p locals to y.value }
+
+    // `a = b`, `a op= b`, `++a`, `--a`, `a++` and `a--`.
+    ensures assignments { (p : Program) (locals : List Named) → (mark : Mark) (a : TypedExpr) (x r : Operand) → IsTypedExpr p locals a → IsTypedOperand p locals x →
+        assign_of p.target p.structures mark a x ≡ Ok r → IsTypedOperand p locals r }
+    ensures before { (p : Program) (locals : List Named) → (down : Bool) (a : TypedExpr) (r : Operand) → IsTypedExpr p locals a → stepped_before p.target p.structures down a ≡ Ok r → IsTypedOperand p locals r }
+    ensures after { (p : Program) (locals : List Named) → (down : Bool) (a : TypedExpr) (r : Operand) → IsTypedExpr p locals a → stepped_after p.structures down a ≡ Ok r → IsTypedOperand p locals r }
+{}
+
+/// What holds of what expressions designate, over any program and locals, where the parts are typed (C99 6.3.2.1, 6.5.2.1, 6.5.2.3, 6.5.3.2). The call does nothing.
+pub fn designator_laws()
+    // The value of a place, and the address of what is designated.
+    ensures values { (p : Program) (locals : List Named) → (a : Place) (t : PlaceType) (r : Operand) → IsTypedPlace p locals a t → value_at a t ≡ Ok r → IsTypedOperand p locals r }
+    ensures addresses { (p : Program) (locals : List Named) → (a : TypedExpr) (r : Operand) → IsTypedExpr p locals a → address a ≡ Ok r → IsTypedOperand p locals r }
+
+    // `a[i]`, of an array and of a pointer, and `*p`.
+    ensures elements { (p : Program) (locals : List Named) → (a : Place) (t : PlaceType) (i : Operand) (r : TypedExpr) → IsTypedPlace p locals a t → IsTypedOperand p locals i → element a t i ≡ Ok r → IsTypedExpr p locals r }
+    ensures subscripts { (p : Program) (locals : List Named) → (x i : Operand) (r : TypedExpr) → IsTypedOperand p locals x → IsTypedOperand p locals i → subscripted p.structures x i ≡ Ok r → IsTypedExpr p locals r }
+    ensures indirections { (p : Program) (locals : List Named) → (x : Operand) (r : TypedExpr) → IsTypedOperand p locals x → indirection x ≡ Ok r → IsTypedExpr p locals r }
+
+    // `a.m` and `p->m`.
+    ensures members { (p : Program) (locals : List Named) → MembersStand p → (name : List ℕ) (a r : TypedExpr) → IsTypedExpr p locals a → dot p.structures name a ≡ Ok r → IsTypedExpr p locals r }
+    ensures arrows { (p : Program) (locals : List Named) → MembersStand p → (name : List ℕ) (x : Operand) (r : TypedExpr) → IsTypedOperand p locals x → arrow p.structures name x ≡ Ok r → IsTypedExpr p locals r }
+{}
+
+/// What holds of calls, casts and sizes, over any program and locals, where the operands are typed (C99 6.5.2.2, 6.5.4, 6.5.3.4). The call does nothing.
+pub fn call_laws()
+    ensures calls { (p : Program) (locals : List Named) → (f : Operand) (xs : List Operand) (r : Operand) → IsTypedOperand p locals f → Each (IsTypedOperand p locals) xs → called p.target f xs ≡ Ok r → IsTypedOperand p locals r }
+
+    // A cast to a type of pointers asks that a null may have it.
+    ensures casts { (p : Program) (locals : List Named) → (at : ℕ) (t : CType) (x : Operand) (r : TypedExpr) → ((to : CType) → out-Shape t.shape ≡ shape.Pointer to → IsNullType p (unqualified t)) →
+        IsTypedOperand p locals x → cast_of p.target at t x ≡ Ok r → IsTypedExpr p locals r }
+    ensures nulls { (p : Program) (locals : List Named) → (t : CType) → IsNullType p t → IsTypedOperand p locals (null t) }
+    ensures sizes { (p : Program) (locals : List Named) → (n : ℕ) (r : Operand) → size_value p.target n ≡ Ok r → IsTypedOperand p locals r }
+{}
