@@ -1,0 +1,10 @@
+pub mod Constants
+pub mod Declarators
+pub mod Expressions
+pub mod InTurn
+pub mod Members
+pub mod Meanings
+pub mod Operations
+pub mod Specifiers
+pub mod Structures
+pub mod Terms

@@ -1,0 +1,90 @@
+//! Declarators (C99 6.7.5).
+
+ghost use Rattle.cc_operands.specs.Verdicts.{Judges};
+ghost use Rattle.cc_operands.specs.View.{operand_view};
+ghost use Rattle.cc_scopes.specs.Outcomes.{Gives};
+ghost use Rattle.cc_scopes.specs.View.{state_of};
+ghost use Rattle.cc_terms.specs.Declarators.{without_bound as without_bound_of, with_bound as with_bound_of};
+ghost use Rattle.cc_terms.specs.Terms.{declr_of};
+
+use crate::parameters::params;
+use crate::trees::boxed_operand;
+use cc_declarators::{ScopedDeclarator, copied, declarator_of, is_next_to_name, suffix};
+use cc_num::Target;
+use cc_operands::{Breach, Operand, Rule};
+use cc_scopes::{State, Stop, placed};
+use cc_specifiers::{Allowed, Derivation, bound_judged, pointer_derivation};
+use cc_syntax::Roles;
+use cc_tree::Declr;
+use std::alloc::Global;
+
+/// An array without a bound, which is missing next to the name alone (C99 6.7.5.2).
+fn without_bound(at: u32, allowed: Allowed, d: ScopedDeclarator) -> Result<ScopedDeclarator, Breach>
+    ensures { Judges (λ d. d) result (without_bound_of at allowed d) }
+{
+    if allowed.unbounded && is_next_to_name(&d) {
+        Ok(d.with_derivation(at, Derivation::Array(None))?)
+    } else {
+        Err(Breach::Breaks(Rule::ArrayBound))
+    }
+}
+
+/// An array with this bound.
+fn with_bound(at: u32, d: ScopedDeclarator, x: &Operand) -> Result<ScopedDeclarator, Breach>
+    ensures { Judges (λ d. d) result (with_bound_of at d (operand_view x.now)) }
+{
+    let n = bound_judged(x)?;
+    Ok(d.with_derivation(at, Derivation::Array(Some(n)))?)
+}
+
+/// A declarator that begins at this place (C99 6.7.5).
+#[cycle(terms)]
+#[tactic(auto, using(cc_scopes::proofs::Outcomes::of_outcomes), unfolding(crate::specs::Terms::declr_of, crate::specs::Terms::params_of, crate::specs::Terms::tree_of))]
+pub fn declr(
+    d: &Declr,
+    at: u32,
+    allowed: Allowed,
+    alloc: Global,
+    target: &Target,
+    roles: &Roles,
+    state: &mut State,
+) -> Result<ScopedDeclarator, Stop>
+    ensures { Gives (λ d. d) result (state_of state.new) (declr_of target.now roles.now d.now allowed at (state_of state.old)) }
+{
+    match d {
+        Declr::Nothing => Ok(declarator_of(alloc, None)),
+        Declr::Named(x) => {
+            let x = copied(alloc, x.all())?;
+            Ok(declarator_of(alloc, Some(x)))
+        }
+        Declr::Paren(d) => {
+            let d = d.get();
+            declr(&d.node, d.at, allowed, alloc, target, roles, state)
+        }
+        Declr::Pointer(words, d) => {
+            let d = d.get();
+            let x = declr(&d.node, d.at, allowed, alloc, target, roles, state)?;
+            Ok(x.with_derivation(at, pointer_derivation(words.all()))?)
+        }
+        Declr::Array(d, bound) => {
+            let d = d.get();
+            let x = declr(&d.node, d.at, allowed, alloc, target, roles, state)?;
+            suffix(false, &x)?;
+            match bound {
+                None => placed(at, without_bound(at, allowed, x)),
+                Some(e) => {
+                    let n = boxed_operand(e, alloc, target, roles, state)?;
+                    placed(at, with_bound(at, x, &n))
+                }
+            }
+        }
+        Declr::Func(d, ps) => {
+            let d = d.get();
+            let x = declr(&d.node, d.at, allowed, alloc, target, roles, state)?;
+            suffix(true, &x)?;
+            let unnamed = allowed.unnamed || !is_next_to_name(&x);
+            let (ps, scope) = params(ps, unnamed, alloc, target, roles, state)?;
+            Ok(x.with_derivation(at, Derivation::Function(ps, scope))?)
+        }
+    }
+}

@@ -1,0 +1,93 @@
+//! Declarations of members (C99 6.7.2.1).
+
+ghost use Rattle.std.specs.Prelude.{map};
+ghost use Rattle.cc_scopes.specs.Outcomes.{Gives};
+ghost use Rattle.cc_scopes.specs.View.{state_of};
+ghost use Rattle.cc_terms.specs.Members.{member_found, declared_members as declared_members_of};
+ghost use Rattle.cc_terms.specs.Structures.{member_behind as member_behind_of};
+ghost use Rattle.cc_terms.specs.Terms.{members_of, declr_of, declr_here};
+
+use crate::declarators::declr;
+use crate::specifiers::specified;
+use cc_declarators::{Members, ScopedDeclarator, derived_type, with_member};
+use cc_num::{List, Target};
+use cc_scopes::{State, Stop, placed};
+use cc_specifiers::{Allowed, Entity, Setting, Where};
+use cc_syntax::{CType, Roles};
+use cc_tree::{At, Declr, MemberDecl};
+use std::alloc::Global;
+
+/// A declaration of members, behind those before.
+#[cycle(terms)]
+#[tactic(auto, using(cc_scopes::proofs::Outcomes::of_outcomes), unfolding(crate::specs::Terms::members_of, crate::specs::Terms::spec_of, crate::specs::Terms::declr_of))]
+pub fn member_decl(
+    d: &MemberDecl,
+    members: Members,
+    alloc: Global,
+    target: &Target,
+    roles: &Roles,
+    state: &mut State,
+) -> Result<Members, Stop>
+    ensures { Gives (λ ms. ms) result (state_of state.new) (members_of target.now roles.now d.now members (state_of state.old)) }
+{
+    let setting = Setting::of(alloc, Where::AsMember, Entity::Member)?;
+    let base = specified(&d.specs, &setting, alloc, target, roles, state)?;
+    declared_members(&d.declrs, members, &base.ctype, alloc, target, roles, state)
+}
+
+/// The members that declarators declare, behind those before.
+#[cycle(terms)]
+#[tactic(auto, using(crate::proofs::InTurn::of_turns))]
+fn declared_members(
+    ds: &List<At<Declr>>,
+    members: Members,
+    base: &CType,
+    alloc: Global,
+    target: &Target,
+    roles: &Roles,
+    state: &mut State,
+) -> Result<Members, Stop>
+    ensures { Gives (λ ms. ms) result (state_of state.new) (declared_members_of target.now base.now (map (declr_here target.now roles.now) ds.now) members (state_of state.old)) }
+{
+    let mut members = members;
+    for d in ds.all() {
+        members = member(&d.node, d.at, members, base, alloc, target, roles, state)?;
+    }
+    Ok(members)
+}
+
+/// The member that a declarator declares, behind those before.
+#[cycle(terms)]
+fn member(
+    d: &Declr,
+    at: u32,
+    members: Members,
+    base: &CType,
+    alloc: Global,
+    target: &Target,
+    roles: &Roles,
+    state: &mut State,
+) -> Result<Members, Stop>
+    ensures { Gives (λ ms. ms) result (state_of state.new) (member_found target.now base.now (record { at = at; node = declr_of target.now roles.now d.now }) members (state_of state.old)) }
+{
+    let x = declr(d, at, Allowed::nothing_more(), alloc, target, roles, state)?;
+    member_behind(base, at, members, x, alloc, target, state)
+}
+
+/// What a declarator declares of this type, behind the members before.
+#[tactic(auto, using(cc_scopes::proofs::Outcomes::of_outcomes))]
+fn member_behind(
+    base: &CType,
+    at: u32,
+    members: Members,
+    d: ScopedDeclarator,
+    alloc: Global,
+    target: &Target,
+    state: &State,
+) -> Result<Members, Stop>
+    ensures { Gives (λ ms. ms) result (state_of state.now) (member_behind_of target.now base.now at members d (state_of state.now)) }
+{
+    let base = base.copy(alloc)?;
+    let t = derived_type(alloc, target, Allowed::nothing_more(), base, &d, state)?;
+    placed(at, with_member(target, state, members, d.name, t))
+}
