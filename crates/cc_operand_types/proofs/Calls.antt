@@ -60,7 +60,7 @@ module _ (p : Program) (locals : List Named) where
   result_typed e None r k s h = absurd (cc)
   result_typed e (Some t) r k s h = subst Typed (ok_is h) (gives_by e t k (s t refl))
 
-  with_typed : (call : List Expr → Expr) (sig : Sig) (xs : List Operand) (r : Operand) → is_sig p.structures (length p.structures) p.target sig ≡ true → AreTyped xs →
+  pub with_typed : (call : List Expr → Expr) (sig : Sig) (xs : List Operand) (r : Operand) → is_sig p.structures (length p.structures) p.target sig ≡ true → AreTyped xs →
       ((args : List Expr) → are_assignable (out-Sig sig).params (map (type_of p locals) args) ≡ true → type_of p locals (call args) ≡ result_value (out-Sig sig).result) → called_with p.target call sig xs ≡ Ok r → Typed r
   with_typed call sig xs r s hx k h =
       let g = then_ok (passed p.target (out-Sig sig).params xs) (λ args. result_of (call args) (result_value (out-Sig sig).result)) r h in

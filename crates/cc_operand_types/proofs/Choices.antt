@@ -154,7 +154,7 @@ module _ (p : Program) (locals : List Named) where
   choose_type : (c a b : Expr) (s u v : ValueType) → type_of p locals c ≡ Some s → is_scalar s ≡ true → type_of p locals a ≡ Some u → type_of p locals b ≡ Some v → type_of p locals (Choose c a b) ≡ Some (common_type p.target u v)
   choose_type c a b s u v h k l m = type-Choose p locals c a b s u v (Some (common_type p.target u v)) h l m (when_one (is_scalar s) (common_type p.target u v) k)
 
-  condition : (c : Operand) → Typed c → is_scalar c.type ≡ true → (s : ValueType) × (type_of p locals c.value ≡ Some s) × (is_scalar s ≡ true)
+  pub condition : (c : Operand) → Typed c → is_scalar c.type ≡ true → (s : ValueType) × (type_of p locals c.value ≡ Some s) × (is_scalar s ≡ true)
   condition c hc h = let v = value_of p locals c hc (scalar_there c.type h) in (v.own, v.typed, scalar_agrees v.own c.type v.agrees ∙ h)
 
   -- ---- two integers

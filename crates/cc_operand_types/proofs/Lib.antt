@@ -15,3 +15,6 @@ pub mod Stores
 pub mod Places
 pub mod Calls
 pub mod Casts
+pub mod Intrinsics
+pub mod Literals
+pub mod Leaves

@@ -32,7 +32,7 @@ module _ (p : Program) (locals : List Named) where
   unfolding type_of place_type
   expr-roll e x h = ap (type_of p locals) (sym h) ∙ fold-roll-Expr (Option ValueType) (Option PlaceType) (expr_step p locals) (place_step p locals) x
 
-  place-roll : (a : Place) (x : one.Place-F Expr Place) → roll-Place x ≡ a → place_type p locals a ≡ place_step p locals (map-Place Expr Place (Option ValueType) (Option PlaceType) (type_of p locals) (place_type p locals) x)
+  pub place-roll : (a : Place) (x : one.Place-F Expr Place) → roll-Place x ≡ a → place_type p locals a ≡ place_step p locals (map-Place Expr Place (Option ValueType) (Option PlaceType) (type_of p locals) (place_type p locals) x)
   unfolding type_of place_type
   place-roll a x h = ap (place_type p locals) (sym h) ∙ fold-roll-Place (Option ValueType) (Option PlaceType) (expr_step p locals) (place_step p locals) x
 

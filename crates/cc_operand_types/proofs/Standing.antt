@@ -10,7 +10,7 @@ use Rattle.cc_program.specs.declared.types.Shape.{Shape, out-Shape}
 use Rattle.cc_program.specs.declared.types.Shape.TheOpen as shape
 use Rattle.cc_program.specs.declared.types.Sig.{Sig, out-Sig, fold_out-Sig}
 use Rattle.cc_program.specs.declared.types.Structure.{Structure}
-use Rattle.cc_syntax.specs.Kinds.{Kind, IsVoid, IsScalar, IsStructure, IsArray, IsIncomplete, IsFunction, bytes_in, is_small, array_kind, pointer_kind, is_result, is_plain_scalar, shape_kind, type_kind, is_signature, kind_of, kind_in, is_sig}
+use Rattle.cc_syntax.specs.Kinds.{Kind, IsVoid, IsScalar, IsStructure, IsArray, IsIncomplete, IsFunction, bytes_in, is_small, array_kind, pointer_kind, is_result, is_plain_scalar, is_object_type, shape_kind, type_kind, is_signature, kind_of, kind_in, is_sig}
 use Rattle.cc_syntax.specs.SameTypes.{is_void_shape}
 use Rattle.cc_syntax.specs.Types.{Named, has_members}
 use Rattle.cc_syntax.specs.Values.{ValueType, NoValue, Integer, ToObject, ToFunction, PlaceType, DevicePlace, ObjectPlace, FunctionPlace, pointer_shape, pointer_to, scalar_shape, scalar_value, result_value, is_void, written_to, pointed_to, element_shape, element_of, member_at, member_in, member_shape, member_of, address_of}
@@ -18,6 +18,16 @@ use Rattle.cc_syntax.proofs.Prefixes.{both_true}
 use Rattle.cc_operand_types.specs.Typed.{is_pointed_kind, stands, place_stands, MembersStand}
 use Rattle.cc_operand_types.proofs.Nulls.{is_func, to_object}
 use Rattle.cc_operand_types.proofs.Requalified.{kind_at, shaped, qualified, arrayed, there, not_void, any_pointed, element_kind}
+
+-- an object's type may be pointed to
+pub object_type : (o : Option Kind) → is_object_type o ≡ true → is_pointed_kind false o ≡ true
+object_type None h = absurd (cc)
+object_type (Some IsVoid) h = absurd (cc)
+object_type (Some (IsScalar q n)) h = refl
+object_type (Some (IsStructure n)) h = refl
+object_type (Some (IsArray n)) h = refl
+object_type (Some IsIncomplete) h = absurd (cc)
+object_type (Some IsFunction) h = absurd (cc)
 
 module _ (p : Program) where
   -- ---- elements
@@ -154,7 +164,7 @@ module _ (p : Program) where
 
   -- ---- functions
 
-  sig-opens : (s : Sig) → is_sig p.structures (length p.structures) p.target s ≡ (is_result (kind_in p (out-Sig s).result) && list_all is_plain_scalar (map (kind_of p.structures (length p.structures) p.target) (out-Sig s).params))
+  pub sig-opens : (s : Sig) → is_sig p.structures (length p.structures) p.target s ≡ (is_result (kind_in p (out-Sig s).result) && list_all is_plain_scalar (map (kind_of p.structures (length p.structures) p.target) (out-Sig s).params))
   unfolding is_sig kind_of
   sig-opens s = fold_out-Sig (Option Kind) (Option Kind) Bool (shape_kind p.structures (length p.structures) p.target) (type_kind p.structures (length p.structures) p.target) (is_signature p.structures (length p.structures) p.target) s
 

@@ -1,33 +1,51 @@
-ghost use Rattle.std.specs.Prelude.{◌≡◌, ℕ, ℤ, Bool, true, List, Ok, Some};
+ghost use Rattle.std.specs.Prelude.{◌≡◌, ◌<◌, ◌^◌, ℕ, ℤ, pos, Bool, true, false, List, length, Ok, Option, Some, slice_get};
 ghost use Rattle.cc_designators.specs.Assignments.{assign_of, stepped_after, stepped_before};
-ghost use Rattle.cc_designators.specs.Calls.{called};
+ghost use Rattle.cc_designators.specs.Calls.{called, intrinsic};
 ghost use Rattle.cc_designators.specs.Casts.{cast_of, size_value};
-ghost use Rattle.cc_designators.specs.Designators.{TypedExpr, null, value_at};
+ghost use Rattle.cc_designators.specs.Designators.{TypedExpr, IsPlace, IsFunction, null, value_at};
 ghost use Rattle.cc_designators.specs.Postfix.{address, arrow, dot, element, indirection, subscripted};
 ghost use Rattle.cc_lex.specs.declared.token.Mark.{Mark};
+ghost use Rattle.cc_lex.specs.declared.token.Suffix.{Suffix};
 ghost use Rattle.cc_num.specs.declared.int_type.IntType.{IntType};
+ghost use Rattle.cc_num.specs.declared.int_type.IntType.TheVariants as int;
 ghost use Rattle.cc_num.specs.Integers.{is_value_of};
 ghost use Rattle.cc_operands.specs.Arithmetic.{binary_of};
 ghost use Rattle.cc_operands.specs.Assignments.{assigned};
 ghost use Rattle.cc_operands.specs.Choices.{choose_of, comma_of};
-ghost use Rattle.cc_operands.specs.Operands.{Operand, cast_to, converted_to, integer, is_pointer, null_of};
+ghost use Rattle.cc_operands.specs.Operands.{Operand, cast_to, character_value, converted_to, integer, is_pointer, null_of, number_type};
 ghost use Rattle.cc_operands.specs.Operators.{operator_of};
 ghost use Rattle.cc_operands.specs.Qualified.{unqualified};
 ghost use Rattle.cc_operands.specs.Unary.{unary_of};
 ghost use Rattle.cc_operands.specs.declared.operator.Operator.{Operator};
 ghost use Rattle.cc_operands.specs.declared.operator.UnaryOperator.{UnaryOperator};
 ghost use Rattle.cc_program.proofs.Each.{Each};
-ghost use Rattle.cc_program.specs.declared.expr.Place.{Place};
+ghost use Rattle.cc_program.specs.declared.expr.Intr.{Intr as Intrinsic};
+ghost use Rattle.cc_program.specs.declared.expr.Place.{Place, Local, Static, Device as DeviceAt};
+ghost use Rattle.cc_program.specs.declared.func.Func.{Func};
+ghost use Rattle.cc_program.specs.declared.object.Device.{Device};
+ghost use Rattle.cc_program.specs.declared.object.Object.{Object};
 ghost use Rattle.cc_program.specs.declared.program.Program.{Program};
 ghost use Rattle.cc_program.specs.declared.types.CType.{CType};
 ghost use Rattle.cc_program.specs.declared.types.Shape.{out-Shape};
 ghost use Rattle.cc_program.specs.declared.types.Shape.TheOpen as shape;
+ghost use Rattle.cc_syntax.specs.Expressions.{type_of};
+ghost use Rattle.cc_syntax.specs.Kinds.{Kind, is_object_type, is_sig, kind_in};
+ghost use Rattle.cc_syntax.specs.Operators.{is_handler};
 ghost use Rattle.cc_syntax.specs.Types.{Named};
-ghost use Rattle.cc_syntax.specs.Values.{Integer, PlaceType, ValueType};
-ghost use Rattle.cc_operand_types.specs.Typed.{HasType, IsAssigned, IsNullType, IsTypedExpr, IsTypedOperand, IsTypedPlace, MembersStand, stands};
+ghost use Rattle.cc_syntax.specs.Values.{DevicePlace, Integer, PlaceType, ValueType, is_scalar, object_place};
+ghost use Rattle.cc_operand_types.specs.Typed.{HasType, IsAssigned, IsNullType, IsTypedExpr, IsTypedOperand, IsTypedPlace, MembersStand, is_pointed_kind, stands};
 
 /// What holds of constants, conversions and operators, over any program and locals, where the operands are typed (C99 6.5.3.3, 6.5.5 to 6.5.15, 6.5.17). The call does nothing.
 pub fn operator_laws()
+    // A typed operand that is no structure has a type; an integer has just its own, and a scalar that of a scalar.
+    ensures types { (p : Program) (locals : List Named) → (x : Operand) → IsTypedOperand p locals x → x.structure ≡ false → (t : ValueType) × (type_of p locals x.value ≡ Some t) }
+    ensures integers { (p : Program) (locals : List Named) → (x : Operand) (t : IntType) → IsTypedOperand p locals x → x.type ≡ Integer t → type_of p locals x.value ≡ Some (Integer t) }
+    ensures scalars { (p : Program) (locals : List Named) → (x : Operand) → IsTypedOperand p locals x → is_scalar x.type ≡ true → (t : ValueType) × (type_of p locals x.value ≡ Some t) × (is_scalar t ≡ true) }
+
+    // The type of an integer constant and that of a character have its value.
+    ensures numbers { (p : Program) → (n : ℕ) (suffix : Suffix) → n < 2 ^ 64 → is_value_of (number_type p.target n suffix) p.target (pos n) ≡ true }
+    ensures characters { (p : Program) → (byte : ℕ) → is_value_of int.Int p.target (character_value p.target byte) ≡ true }
+
     // A constant that fits its type is typed, and so is an operand that is converted, with the type that it is converted to.
     ensures constants { (p : Program) (locals : List Named) → (n : ℤ) (t : IntType) → is_value_of t p.target n ≡ true → IsTypedOperand p locals (integer n t) }
     ensures casts { (p : Program) (locals : List Named) → (t s : IntType) (x : Operand) → IsTypedOperand p locals x → x.type ≡ Integer s →
@@ -61,6 +79,16 @@ pub fn assignment_laws()
 
 /// What holds of what expressions designate, over any program and locals, where the parts are typed (C99 6.3.2.1, 6.5.2.1, 6.5.2.3, 6.5.3.2). The call does nothing.
 pub fn designator_laws()
+    // The type of an object may stand where an object is designated.
+    ensures object_types { (o : Option Kind) → is_object_type o ≡ true → is_pointed_kind false o ≡ true }
+
+    // What names stand for: a local, a static object, a device, and a function that is no handler.
+    ensures locals { (p : Program) (locals : List Named) → (r : ℕ) (l : Named) → slice_get locals r ≡ Some l → is_pointed_kind false (kind_in p l.1) ≡ true → IsTypedExpr p locals (IsPlace (Local r) (object_place l.1)) }
+    ensures objects { (p : Program) (locals : List Named) → (i : ℕ) (o : Object) → slice_get p.objects i ≡ Some o → is_pointed_kind false (kind_in p o.ctype) ≡ true → IsTypedExpr p locals (IsPlace (Static i) (object_place o.ctype)) }
+    ensures devices { (p : Program) (locals : List Named) → (i : ℕ) (d : Device) → slice_get p.devices i ≡ Some d → IsTypedExpr p locals (IsPlace (DeviceAt i) (DevicePlace d.constant d.int)) }
+    ensures functions { (p : Program) (locals : List Named) → (i : ℕ) (f : Func) → slice_get p.funcs i ≡ Some f → is_handler f ≡ false → is_sig p.structures (length p.structures) p.target f.sig ≡ true →
+        IsTypedExpr p locals (IsFunction i f.sig) }
+
     // The value of a place, and the address of what is designated.
     ensures values { (p : Program) (locals : List Named) → (a : Place) (t : PlaceType) (r : Operand) → IsTypedPlace p locals a t → value_at a t ≡ Ok r → IsTypedOperand p locals r }
     ensures addresses { (p : Program) (locals : List Named) → (a : TypedExpr) (r : Operand) → IsTypedExpr p locals a → address a ≡ Ok r → IsTypedOperand p locals r }
@@ -78,6 +106,7 @@ pub fn designator_laws()
 /// What holds of calls, casts and sizes, over any program and locals, where the operands are typed (C99 6.5.2.2, 6.5.4, 6.5.3.4). The call does nothing.
 pub fn call_laws()
     ensures calls { (p : Program) (locals : List Named) → (f : Operand) (xs : List Operand) (r : Operand) → IsTypedOperand p locals f → Each (IsTypedOperand p locals) xs → called p.target f xs ≡ Ok r → IsTypedOperand p locals r }
+    ensures intrinsics { (p : Program) (locals : List Named) → (i : Intrinsic) (xs : List Operand) (r : Operand) → Each (IsTypedOperand p locals) xs → intrinsic p.target i xs ≡ Ok r → IsTypedOperand p locals r }
 
     // A cast to a type of pointers asks that a null may have it.
     ensures casts { (p : Program) (locals : List Named) → (at : ℕ) (t : CType) (x : Operand) (r : TypedExpr) → ((to : CType) → out-Shape t.shape ≡ shape.Pointer to → IsNullType p (unqualified t)) →
