@@ -1,0 +1,6 @@
+pub mod Categories
+pub mod Linked
+pub mod Names
+pub mod Tags
+pub mod Types
+pub mod Values
