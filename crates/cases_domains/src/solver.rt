@@ -1,5 +1,7 @@
 //! Systems of constraints: what the solver makes of the chain.
 
+ghost use Rattle.std.specs.Prelude.{◌<◌};
+
 use crate::chain::{Chain, Truth};
 use cases_script::Page;
 use cc_fix::least;
@@ -37,6 +39,26 @@ fn write_least(alloc: Global, page: &mut Page) -> Result<(), NoMemory> {
     Ok(())
 }
 
+/// Whether facts meet a constraint of any system.
+fn is_met<S: System>(
+    alloc: Global,
+    system: &S,
+    index: u32,
+    facts: &S::Facts,
+) -> Result<bool, NoMemory>
+    requires fitting { S.IsFitting system.now facts.now }
+    requires index { index < S.count_of system.now }
+{
+    system.met(alloc, index, facts)
+}
+
+/// How far facts of any system may rise.
+fn room_of<S: System>(system: &S, facts: &S::Facts) -> u128
+    requires { S.IsFitting system.now facts.now }
+{
+    system.room(facts)
+}
+
 /// Writes how the lowest facts of the chain and its least solution are ordered, joined and copied.
 #[tactic(auto, using(crate::specs::ChainLaws::chains_alike))]
 fn write_order(alloc: Global, page: &mut Page) -> Result<(), NoMemory> {
@@ -53,9 +75,9 @@ fn write_order(alloc: Global, page: &mut Page) -> Result<(), NoMemory> {
     page.put(", in a copy of the lowest ");
     page.show(yes_in(&copied(alloc, &lowest)?));
     page.put("; rooms ");
-    page.show(chain.room(&lowest));
+    page.show(room_of(&chain, &lowest));
     page.put(" and ");
-    page.show(chain.room(&solution));
+    page.show(room_of(&chain, &solution));
     Ok(())
 }
 
@@ -67,11 +89,11 @@ fn write_met(alloc: Global, page: &mut Page) -> Result<(), NoMemory> {
     let lowest = chain.lowest(alloc)?;
     let solution = least(alloc, &chain)?;
     page.put("of part 0 ");
-    page.debug(chain.met(alloc, 0, &lowest)?);
+    page.debug(is_met(alloc, &chain, 0, &lowest)?);
     page.put(", of part 999 ");
-    page.debug(chain.met(alloc, 499, &lowest)?);
+    page.debug(is_met(alloc, &chain, 499, &lowest)?);
     page.put(", in the solution ");
-    page.debug(chain.met(alloc, 499, &solution)?);
+    page.debug(is_met(alloc, &chain, 499, &solution)?);
     Ok(())
 }
 
