@@ -1,5 +1,3 @@
-pub mod SameLemmas
-pub mod AlikeLemmas
 pub mod Rolls
 pub mod Agreement
 pub mod Constants
