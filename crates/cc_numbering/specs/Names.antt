@@ -3,35 +3,24 @@ use Rattle.std.specs.Prelude.{ℕ, zero, suc, Bool, List, [], ◌∷◌, map, Op
 use Rattle.cc_program.specs.declared.func.Entry.{Entry}
 use Rattle.cc_program.specs.declared.func.Func.{Func}
 use Rattle.cc_scopes.specs.declared.unit.Declared.{Declared}
-use Rattle.cc_scopes.specs.declared.unit.Linkage.{Linkage as KnownLinkage}
-use Rattle.cc_scopes.specs.declared.unit.Linkage.TheVariants as known_linkage
-use Rattle.cc_scopes.specs.declared.unit.UnitKind.{UnitKind as KnownKind}
-use Rattle.cc_scopes.specs.declared.unit.UnitKind.TheVariants as known
 use Rattle.cc_unit.specs.Renumbered.{type_renumbered, sig_renumbered, stmt_renumbered}
 use Rattle.cc_unit.specs.declared.ids.Id.{Id}
 use Rattle.cc_unit.specs.declared.ids.Id.TheVariants as id
 use Rattle.cc_unit.specs.declared.ids.Ids.{Ids}
-use Rattle.cc_unit.specs.declared.unit.Linkage.{Linkage}
-use Rattle.cc_unit.specs.declared.unit.Linkage.TheVariants as linkage
 use Rattle.cc_unit.specs.declared.unit.UnitKind.{UnitKind}
 use Rattle.cc_unit.specs.declared.unit.UnitKind.TheVariants as kind
 use Rattle.cc_unit.specs.declared.unit.UnitName.{UnitName}
 use Rattle.cc_numbering.specs.Structures.{all_named_in}
 
 -- what a name is, by its position
-abbrev pub own_id : ℕ → KnownKind → Id
-own_id i (known.Object leaves) = id.Object i
-own_id i (known.Device d) = id.Device i
-own_id i (known.Func entry body) = id.Func i
+abbrev pub own_id : ℕ → UnitKind → Id
+own_id i (kind.Object leaves) = id.Object i
+own_id i (kind.Device d) = id.Device i
+own_id i (kind.Func entry body) = id.Func i
 
 abbrev pub own_ids : ℕ → List Declared → List Id
 own_ids i [] = []
 own_ids i (d ∷ ds) = own_id i d.kind ∷ own_ids (suc i) ds
-
-abbrev pub linkage_in : KnownLinkage → Linkage
-linkage_in known_linkage.External = linkage.External
-linkage_in known_linkage.Internal = linkage.Internal
-linkage_in known_linkage.Local = linkage.Local
 
 -- tentative definitions count as one, and as none beside another (C99 6.9.2, 2)
 abbrev pub count_of : Bool → ℕ → ℕ
@@ -49,15 +38,15 @@ module _ (ids : Ids) where
     body = map (stmt_renumbered ids) f.body;
   }
 
-  abbrev pub kind_in : KnownKind → UnitKind
-  kind_in (known.Object leaves) = kind.Object leaves
-  kind_in (known.Device d) = kind.Device d
-  kind_in (known.Func entry body) = kind.Func entry (option_map (function_in entry) body)
+  abbrev pub kind_in : UnitKind → UnitKind
+  kind_in (kind.Object leaves) = kind.Object leaves
+  kind_in (kind.Device d) = kind.Device d
+  kind_in (kind.Func entry body) = kind.Func entry (option_map (function_in entry) body)
 
   abbrev pub name_in : Declared → UnitName
   name_in d = record {
     name = d.name;
-    linkage = linkage_in d.linkage;
+    linkage = d.linkage;
     ctype = type_renumbered ids.structures d.ctype;
     first = d.first;
     count = count_of d.tentative d.definitions;

@@ -1,23 +1,23 @@
 //! Objects, devices and functions as the unit has them.
 
 ghost use Rattle.std.specs.Prelude.{◌≡◌, IfOk, map, option_map};
-ghost use Rattle.cc_numbering.specs.Names.{own_id as own_id_of, own_ids as own_ids_of, linkage_in as linkage_in_of, count_of as count_of_definitions, function_in as function_in_of, kind_in as kind_in_of, name_in as name_in_of};
+ghost use Rattle.cc_numbering.specs.Names.{own_id as own_id_of, own_ids as own_ids_of, count_of as count_of_definitions, function_in as function_in_of, kind_in as kind_in_of, name_in as name_in_of};
 
 use crate::structures::{copy_name, renumber_named};
 use cc_num::{Boxed, List, NoMemory};
 use cc_program::copy_list;
-use cc_scopes::{Declared, Linkage as KnownLinkage, UnitKind as KnownKind};
+use cc_scopes::Declared;
 use cc_syntax::{Entry, Func, Leaf};
-use cc_unit::{Id, Ids, Linkage, UnitKind, UnitName, renumber_sig, renumber_stmts, renumber_type};
+use cc_unit::{Id, Ids, UnitKind, UnitName, renumber_sig, renumber_stmts, renumber_type};
 use std::alloc::Global;
 
-fn own_id(i: u32, kind: &KnownKind) -> Id
+fn own_id(i: u32, kind: &UnitKind) -> Id
     ensures { result ≡ own_id_of i kind.now }
 {
     match kind {
-        KnownKind::Object(_) => Id::Object(i),
-        KnownKind::Device(_) => Id::Device(i),
-        KnownKind::Func(_, _) => Id::Func(i),
+        UnitKind::Object(_) => Id::Object(i),
+        UnitKind::Device(_) => Id::Device(i),
+        UnitKind::Func(_, _) => Id::Func(i),
     }
 }
 
@@ -34,16 +34,6 @@ pub fn own_ids(alloc: Global, names: &[Declared]) -> Result<List<Id>, NoMemory>
         ids.push(own_id(i, &d.kind))?;
     }
     Ok(List::of(ids))
-}
-
-fn linkage_in(linkage: KnownLinkage) -> Linkage
-    ensures { result ≡ linkage_in_of linkage }
-{
-    match linkage {
-        KnownLinkage::External => Linkage::External,
-        KnownLinkage::Internal => Linkage::Internal,
-        KnownLinkage::Local => Linkage::Local,
-    }
 }
 
 /// How many definitions there are: tentative ones count as one, and as none beside another (C99 6.9.2, 2).
@@ -100,13 +90,13 @@ fn body_in(
     }
 }
 
-fn kind_in(alloc: Global, ids: &Ids, kind: &KnownKind) -> Result<UnitKind, NoMemory>
+fn kind_in(alloc: Global, ids: &Ids, kind: &UnitKind) -> Result<UnitKind, NoMemory>
     ensures { IfOk result (λ r. r ≡ kind_in_of ids.now kind.now) }
 {
     match kind {
-        KnownKind::Object(leaves) => Ok(UnitKind::Object(copy_leaves(alloc, leaves.all())?)),
-        KnownKind::Device(device) => Ok(UnitKind::Device(device.copy(alloc)?)),
-        KnownKind::Func(entry, body) => {
+        UnitKind::Object(leaves) => Ok(UnitKind::Object(copy_leaves(alloc, leaves.all())?)),
+        UnitKind::Device(device) => Ok(UnitKind::Device(device.copy(alloc)?)),
+        UnitKind::Func(entry, body) => {
             Ok(UnitKind::Func(*entry, body_in(alloc, ids, *entry, body)?))
         }
     }
@@ -120,7 +110,7 @@ fn name_in(alloc: Global, ids: &Ids, d: &Declared) -> Result<UnitName, NoMemory>
     let kind = kind_in(alloc, ids, &d.kind)?;
     Ok(UnitName {
         name,
-        linkage: linkage_in(d.linkage),
+        linkage: d.linkage,
         ctype,
         first: d.first,
         count: count_of(d.tentative, d.definitions),

@@ -13,9 +13,9 @@ use Rattle.cc_program.specs.declared.types.Sig.{Sig}
 use Rattle.cc_scopes.specs.State.{State, Name, bind, with_declared, with_locals}
 use Rattle.cc_scopes.specs.declared.designated.Designated.TheVariants as means
 use Rattle.cc_scopes.specs.declared.unit.Declared.{Declared}
-use Rattle.cc_scopes.specs.declared.unit.Linkage.TheVariants as linkage
-use Rattle.cc_scopes.specs.declared.unit.UnitKind.{UnitKind}
-use Rattle.cc_scopes.specs.declared.unit.UnitKind.TheVariants as kind
+use Rattle.cc_unit.specs.declared.unit.Linkage.TheVariants as linkage
+use Rattle.cc_unit.specs.declared.unit.UnitKind.{UnitKind}
+use Rattle.cc_unit.specs.declared.unit.UnitKind.TheVariants as kind
 
 -- ---- objects with linkage; the names are those of the objects that the unit defines
 

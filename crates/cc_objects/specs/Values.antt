@@ -14,8 +14,8 @@ use Rattle.cc_program.specs.declared.value.Leaf.{Leaf}
 use Rattle.cc_program.specs.declared.value.Leaf.TheVariants as leaf
 use Rattle.cc_scopes.specs.State.{State, structures_of}
 use Rattle.cc_scopes.specs.declared.unit.Declared.{Declared}
-use Rattle.cc_scopes.specs.declared.unit.UnitKind.{UnitKind}
-use Rattle.cc_scopes.specs.declared.unit.UnitKind.TheVariants as kind
+use Rattle.cc_unit.specs.declared.unit.UnitKind.{UnitKind}
+use Rattle.cc_unit.specs.declared.unit.UnitKind.TheVariants as kind
 use Rattle.cc_syntax.specs.Values.{ValueType, NoValue, Integer, ToObject, ToFunction}
 
 -- ---- a scalar for which there is no expression

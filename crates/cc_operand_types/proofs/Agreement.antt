@@ -14,8 +14,8 @@ use Rattle.cc_syntax.specs.Values.{ValueType, NoValue, Integer, ToObject, ToFunc
 use Rattle.cc_operand_types.specs.Typed.{Agree, Same, Pointers, PlacesAgree, SamePlace, Objects}
 use Rattle.cc_syntax.proofs.Prefixes.{both_true as both}
 use Rattle.std.proofs.lemmas.Option.{same_Some as some_is}
-use Rattle.cc_states.proofs.SameLemmas.{Alike, SameShape, Arrays, and_true}
-use Rattle.cc_states.proofs.AlikeLemmas.{shares, tested, alike_mirrored, alike_joined, alike-scalar}
+use Rattle.cc_syntax.proofs.SameLemmas.{Alike, SameShape, Arrays, and_true}
+use Rattle.cc_syntax.proofs.AlikeLemmas.{shares, tested, alike_mirrored, alike_joined, alike-scalar}
 
 -- ---- which types agree with one of a form
 

@@ -19,7 +19,7 @@ use Rattle.cc_operand_types.specs.Typed.{stands, IsTypedOperand, Void}
 use Rattle.cc_operand_types.proofs.Agreement.{function_agrees}
 use Rattle.cc_operand_types.proofs.Operands.{ok_is, value_ok, value_as, exact, as_operand}
 use Rattle.cc_operand_types.proofs.Rolls.{type-Call}
-use Rattle.cc_states.proofs.SameLemmas.{and_true}
+use Rattle.cc_syntax.proofs.SameLemmas.{and_true}
 use Rattle.cc_operand_types.proofs.Standing.{scalar_stands, result_stands, params_stand, plain_pointed}
 use Rattle.cc_operand_types.proofs.Stores.{then_ok, assigned_typed}
 

@@ -20,7 +20,7 @@ use Rattle.cc_syntax.specs.Types.{Named}
 use Rattle.cc_syntax.specs.Values.{ValueType, NoValue, Integer, ToObject, ToFunction, is_scalar, is_void, point_alike}
 use Rattle.cc_syntax.proofs.Prefixes.{both_true}
 use Rattle.cc_operand_types.specs.Typed.{Agree, Same, Pointers, is_pointed_kind, stands, HasType, IsTypedOperand, Valued, Void, Structure}
-use Rattle.cc_states.proofs.AlikeLemmas.{alike_itself, alike_mirrored, alike_joined}
+use Rattle.cc_syntax.proofs.AlikeLemmas.{alike_itself, alike_mirrored, alike_joined}
 use Rattle.cc_operand_types.proofs.Agreement.{scalar_agrees, void_alike}
 use Rattle.cc_operand_types.proofs.Constants.{chosen_fits}
 use Rattle.cc_operand_types.proofs.Integers.{when_one, usual_is}
@@ -29,7 +29,7 @@ use Rattle.cc_operand_types.proofs.Operands.{ok_is, must_ok, value_ok, structure
 use Rattle.cc_operand_types.proofs.Pointers.{scalar_there, pointer_there, alike_there}
 use Rattle.cc_operand_types.proofs.Requalified.{not_void, any_pointed}
 use Rattle.cc_operand_types.proofs.Rolls.{type-Choose, type-Seq}
-use Rattle.cc_states.proofs.SameLemmas.{int_itself, sig_compared}
+use Rattle.cc_syntax.proofs.SameLemmas.{int_itself, sig_compared}
 
 -- ---- the common type of types that agree
 

@@ -26,11 +26,11 @@ use Rattle.cc_syntax.specs.Values.{ValueType, NoValue, Integer, scalar_shape, sc
 use Rattle.cc_syntax.proofs.Prefixes.{both_true}
 use Rattle.cc_program.proofs.Each.{Each}
 use Rattle.cc_operand_types.specs.Typed.{IsTypedOperand}
-use Rattle.cc_states.proofs.AlikeLemmas.{integer_as}
+use Rattle.cc_syntax.proofs.AlikeLemmas.{integer_as}
 use Rattle.cc_operand_types.proofs.Calls.{with_typed}
 use Rattle.cc_operand_types.proofs.Requalified.{kind_at}
 use Rattle.cc_operand_types.proofs.Rolls.{expr-roll}
-use Rattle.cc_states.proofs.SameLemmas.{int_itself, and_true}
+use Rattle.cc_syntax.proofs.SameLemmas.{int_itself, and_true}
 use Rattle.cc_operand_types.proofs.Standing.{sig-opens}
 
 void_result : result_value (plain Void) ≡ Some NoValue

@@ -18,7 +18,7 @@ use Rattle.cc_syntax.specs.SameTypes.{is_void_shape}
 use Rattle.cc_syntax.specs.Types.{Named}
 use Rattle.cc_syntax.specs.Values.{ValueType, NoValue, Integer, ToObject, ToFunction, pointer_shape, pointer_to, is_void}
 use Rattle.cc_operand_types.specs.Typed.{Pointers, is_pointed_kind, stands, IsNullType, HasType, IsTypedOperand}
-use Rattle.cc_states.proofs.AlikeLemmas.{tested, alike_mirrored}
+use Rattle.cc_syntax.proofs.AlikeLemmas.{tested, alike_mirrored}
 use Rattle.cc_operand_types.proofs.Operands.{exact, as_operand}
 use Rattle.cc_operand_types.proofs.Requalified.{kind_at, Requalified, requalifies, there, widened, not_void, pointer_plain, function_plain}
 use Rattle.cc_operand_types.proofs.Rolls.{type-Null}

@@ -20,7 +20,7 @@ use Rattle.cc_operand_types.specs.Typed.{Same, stands, HasType, IsTypedOperand, 
 use Rattle.cc_operand_types.proofs.Agreement.{integer_agrees}
 use Rattle.cc_operand_types.proofs.Constants.{Fits, converted_fits}
 use Rattle.cc_operand_types.proofs.Rolls.{expr-roll, type-Const, type-Conv}
-use Rattle.cc_states.proofs.SameLemmas.{int_same}
+use Rattle.cc_syntax.proofs.SameLemmas.{int_same}
 
 -- ---- verdicts
 

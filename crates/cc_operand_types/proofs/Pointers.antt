@@ -27,14 +27,14 @@ use Rattle.cc_syntax.specs.Values.{ValueType, NoValue, Integer, ToObject, ToFunc
 use Rattle.cc_syntax.proofs.Prefixes.{both_true}
 use Rattle.cc_operand_types.specs.Typed.{HasType, IsTypedOperand}
 use Rattle.std.proofs.lemmas.Option.{same_Some as some_same}
-use Rattle.cc_states.proofs.AlikeLemmas.{alike_itself}
+use Rattle.cc_syntax.proofs.AlikeLemmas.{alike_itself}
 use Rattle.cc_operand_types.proofs.Agreement.{scalar_agrees, integral_agrees, object_agrees, pointers_alike}
 use Rattle.cc_operand_types.proofs.Constants.{both_fits, either_fits}
 use Rattle.cc_operand_types.proofs.Integers.{when_one, when_two, arithmetic_typed, integers_typed, integer_typed, plus_typed}
 use Rattle.cc_operand_types.proofs.Nulls.{null_typed}
 use Rattle.cc_operand_types.proofs.Operands.{ok_is, must_ok, value_ok, value_of, as_operand, integer_operand, as_folded}
 use Rattle.cc_operand_types.proofs.Rolls.{type-Move, type-Gap, type-Compare, type-Both, type-Either}
-use Rattle.cc_states.proofs.SameLemmas.{sig_compared}
+use Rattle.cc_syntax.proofs.SameLemmas.{sig_compared}
 
 -- ---- what has a value
 

@@ -18,7 +18,7 @@ use Rattle.cc_syntax.specs.Values.{is_void}
 use Rattle.cc_syntax.specs.SameTypes.{is_void_shape}
 use Rattle.cc_syntax.proofs.KindRolls.{parts_kind, kind-opens}
 use Rattle.cc_operand_types.specs.Typed.{is_pointed_kind}
-use Rattle.cc_states.proofs.SameLemmas.{Alike, SameShape, Arrays}
+use Rattle.cc_syntax.proofs.SameLemmas.{Alike, SameShape, Arrays}
 
 or_false : (b : Bool) → (b || false) ≡ b
 or_false true = refl

@@ -32,7 +32,7 @@ use Rattle.cc_syntax.specs.SameTypes.{same_int}
 use Rattle.cc_syntax.specs.Types.{Named, is_complete}
 use Rattle.cc_syntax.specs.Values.{ValueType, NoValue, Integer, ToObject, ToFunction, PlaceType, DevicePlace, ObjectPlace, FunctionPlace, is_assignable, scalar_shape, scalar_value, pointer_to, written_to}
 use Rattle.cc_operand_types.specs.Typed.{stands, HasType, IsTypedPlace, IsTypedOperand, IsTypedExpr, IsAssigned}
-use Rattle.cc_states.proofs.AlikeLemmas.{alike_itself, implies_itself, assignable_object, function_itself}
+use Rattle.cc_syntax.proofs.AlikeLemmas.{alike_itself, implies_itself, assignable_object, function_itself}
 use Rattle.cc_operand_types.proofs.Agreement.{assigned_from, written_agrees}
 use Rattle.cc_operand_types.proofs.Constants.{truth_fits}
 use Rattle.cc_operand_types.proofs.Integers.{when_one, when_two, when_three, promoted_is}
@@ -40,7 +40,7 @@ use Rattle.cc_operand_types.proofs.Nulls.{null_typed, points_something}
 use Rattle.cc_operand_types.proofs.Operands.{ok_is, must_ok, value_ok, structure_ok, value_of, integer_as, exact, as_operand, as_constant, IsInteger, cast_typed, converted_typed, value_integer}
 use Rattle.cc_operand_types.proofs.Pointers.{against_typed}
 use Rattle.cc_operand_types.proofs.Rolls.{type-Assign, type-Change, type-After}
-use Rattle.cc_states.proofs.SameLemmas.{int_same, int_itself, and_true}
+use Rattle.cc_syntax.proofs.SameLemmas.{int_same, int_itself, and_true}
 use Rattle.cc_operand_types.proofs.Standing.{written_stands}
 use Rattle.cc_operand_types.proofs.Usual.{usual_again}
 

@@ -15,9 +15,9 @@ use Rattle.cc_program.specs.declared.types.Sig.{Sig}
 use Rattle.cc_scopes.specs.State.{State, with_declared}
 use Rattle.cc_scopes.specs.Verdicts.{Found, whole, and_then}
 use Rattle.cc_scopes.specs.declared.unit.Declared.{Declared}
-use Rattle.cc_scopes.specs.declared.unit.Linkage.TheVariants as linkage
-use Rattle.cc_scopes.specs.declared.unit.UnitKind.{UnitKind}
-use Rattle.cc_scopes.specs.declared.unit.UnitKind.TheVariants as kind
+use Rattle.cc_unit.specs.declared.unit.Linkage.TheVariants as linkage
+use Rattle.cc_unit.specs.declared.unit.UnitKind.{UnitKind}
+use Rattle.cc_unit.specs.declared.unit.UnitKind.TheVariants as kind
 use Rattle.cc_syntax.specs.Sound.{is_same_device}
 use Rattle.cc_syntax.specs.Values.{DevicePlace}
 use Rattle.cc_primary.specs.Values.{valued}

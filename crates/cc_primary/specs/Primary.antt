@@ -29,9 +29,9 @@ use Rattle.cc_operands.specs.declared.rule.Rule.TheVariants as rule
 use Rattle.cc_scopes.specs.declared.designated.Designated.{Designated}
 use Rattle.cc_scopes.specs.declared.designated.Designated.TheVariants as means
 use Rattle.cc_scopes.specs.declared.unit.Declared.{Declared}
-use Rattle.cc_scopes.specs.declared.unit.Linkage.TheVariants as linkage
-use Rattle.cc_scopes.specs.declared.unit.UnitKind.{UnitKind}
-use Rattle.cc_scopes.specs.declared.unit.UnitKind.TheVariants as kind
+use Rattle.cc_unit.specs.declared.unit.Linkage.TheVariants as linkage
+use Rattle.cc_unit.specs.declared.unit.UnitKind.{UnitKind}
+use Rattle.cc_unit.specs.declared.unit.UnitKind.TheVariants as kind
 
 -- ---- names (6.5.1, 2)
 

@@ -8,7 +8,7 @@ ghost use Rattle.cc_operands.specs.declared.rule.Rule.TheVariants as rule;
 ghost use Rattle.cc_program.specs.declared.types.Shape.{Int};
 ghost use Rattle.cc_rule_examples.specs.Examples.{narrow, type_of_words};
 ghost use Rattle.cc_scopes.specs.Structures.{enumeration_constant};
-ghost use Rattle.cc_scopes.specs.declared.unit.Linkage.TheVariants as linked;
+ghost use Rattle.cc_unit.specs.declared.unit.Linkage.TheVariants as linked;
 ghost use Rattle.cc_specifiers.specs.Attributes.{attribute_of, has_meaning};
 ghost use Rattle.cc_specifiers.specs.Bounds.{bound_in};
 ghost use Rattle.cc_specifiers.specs.Storage.{storage_fits};

@@ -19,7 +19,7 @@ ghost use Rattle.cc_program.specs.declared.types.Shape.TheOpen as shape;
 ghost use Rattle.cc_program.specs.declared.value.Leaf.TheVariants as leaf;
 ghost use Rattle.cc_rule_examples.specs.Examples.{narrow, wide, suffix, register};
 ghost use Rattle.cc_scopes.specs.State.{State, at_first, with_declared};
-ghost use Rattle.cc_scopes.specs.declared.unit.UnitKind.TheVariants as kind;
+ghost use Rattle.cc_unit.specs.declared.unit.UnitKind.TheVariants as kind;
 ghost use Rattle.cc_syntax.specs.Values.{DevicePlace};
 
 /// The types of integer constants (C99 6.4.4.1, 5).

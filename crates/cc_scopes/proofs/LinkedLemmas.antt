@@ -12,8 +12,8 @@ use Rattle.cc_scopes.specs.Linked.{is_linked, has_name, linked_from, key_if, key
 use Rattle.cc_scopes.specs.Maps.{Key, named_entries}
 use Rattle.cc_scopes.specs.State.{Name, change_at, find_name, or_else, with_name}
 use Rattle.cc_scopes.specs.declared.unit.Declared.{Declared}
-use Rattle.cc_scopes.specs.declared.unit.Linkage.{Linkage}
-use Rattle.cc_scopes.specs.declared.unit.Linkage.TheVariants as linkage
+use Rattle.cc_unit.specs.declared.unit.Linkage.{Linkage}
+use Rattle.cc_unit.specs.declared.unit.Linkage.TheVariants as linkage
 
 -- ---- a name that is put among others
 

@@ -1,12 +1,12 @@
 -- What definitions and attributes add to what is known of a name (C99 6.9.1, 6.9.2).
 use Rattle.std.specs.Prelude.{ℕ, suc, true, List, Option, Some, None}
 use Rattle.cc_program.specs.declared.func.Entry.{Entry}
-use Rattle.cc_program.specs.declared.func.Entry.TheVariants as entry
 use Rattle.cc_program.specs.declared.types.CType.{CType}
 use Rattle.cc_program.specs.declared.value.Leaf.{Leaf}
 use Rattle.cc_scopes.specs.declared.unit.Declared.{Declared}
-use Rattle.cc_scopes.specs.declared.unit.UnitKind.{UnitKind}
-use Rattle.cc_scopes.specs.declared.unit.UnitKind.TheVariants as kind
+use Rattle.cc_unit.specs.Entries.{both_entries}
+use Rattle.cc_unit.specs.declared.unit.UnitKind.{UnitKind}
+use Rattle.cc_unit.specs.declared.unit.UnitKind.TheVariants as kind
 
 abbrev pub first_or : Option ℕ → ℕ → Option ℕ
 first_or None at = Some at
@@ -17,13 +17,6 @@ tentative_at at d = record { name = d.name; linkage = d.linkage; ctype = d.ctype
 
 abbrev pub defined_at : ℕ → CType → UnitKind → Declared → Declared
 defined_at at t k d = record { name = d.name; linkage = d.linkage; ctype = t; first = first_or d.first at; tentative = d.tentative; definitions = suc d.definitions; kind = k }
-
--- a handler: `signal` wins over `interrupt`
-abbrev pub both_entries : Option Entry → Option Entry → Option Entry
-both_entries None b = b
-both_entries (Some entry.Signal) b = Some entry.Signal
-both_entries (Some a) None = Some a
-both_entries (Some a) (Some b) = Some b
 
 abbrev pub entry_added : Option Entry → UnitKind → UnitKind
 entry_added entry (kind.Func before body) = kind.Func (both_entries before entry) body

@@ -3,8 +3,8 @@ use Rattle.std.specs.Prelude.{ℕ, suc, Bool, true, false, ◌&&◌, List, [], �
 use Rattle.std.specs.Str.{bytes_eq}
 use Rattle.cc_scopes.specs.State.{State, Name}
 use Rattle.cc_scopes.specs.declared.unit.Declared.{Declared}
-use Rattle.cc_scopes.specs.declared.unit.Linkage.{Linkage}
-use Rattle.cc_scopes.specs.declared.unit.Linkage.TheVariants as linkage
+use Rattle.cc_unit.specs.declared.unit.Linkage.{Linkage}
+use Rattle.cc_unit.specs.declared.unit.Linkage.TheVariants as linkage
 
 abbrev pub is_linked : Linkage → Bool
 is_linked linkage.External = true

@@ -13,6 +13,7 @@ mod tags;
 mod unit;
 mod verdict;
 
+pub use cc_unit::{Linkage, UnitKind};
 pub use designated::{Designated, Tagged};
 pub use law::laws;
 pub use scope::Scope;
@@ -21,5 +22,5 @@ pub use tags::{
     begin_list, closed, declare_tag, enumeration_closed, enumeration_constant, enumeration_named,
     has_tag_here, is_enumeration_here, is_member_name, opened, structure_named,
 };
-pub use unit::{Declared, Linkage, UnitKind};
+pub use unit::Declared;
 pub use verdict::{Fault, Stop, placed};

@@ -8,8 +8,9 @@ ghost use Rattle.cc_scopes.specs.State.{find_name};
 
 mod definitions;
 
-use crate::unit::{Declared, Linkage};
+use crate::unit::Declared;
 use cc_num::NoMemory;
+use cc_unit::Linkage;
 use indexmap::IndexMap;
 use std::alloc::Global;
 

@@ -20,7 +20,7 @@ use Rattle.cc_syntax.proofs.Prefixes.{both_true}
 use Rattle.cc_values.specs.Values.{is_true}
 use Rattle.cc_states.specs.States.{may_break, may_continue, is_sound_in, AreSound}
 use Rattle.cc_states.proofs.Openings.{by_opening}
-use Rattle.cc_states.proofs.SameLemmas.{and_true}
+use Rattle.cc_syntax.proofs.SameLemmas.{and_true}
 use Rattle.cc_states.proofs.SoundLemmas.{typed, labelled, parts, sound-opens}
 
 module _ (p : Program) (f : Func) where

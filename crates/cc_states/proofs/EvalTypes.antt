@@ -38,7 +38,7 @@ use Rattle.cc_syntax.proofs.Prefixes.{both_true}
 use Rattle.cc_values.specs.Values.{address_in, truth, of_truth, unary, binary, conversion, movement, gap, comparison}
 use Rattle.cc_states.specs.Answers.{IsActivation}
 use Rattle.cc_states.specs.Typed.{MayHave, MayLead}
-use Rattle.cc_states.proofs.AlikeLemmas.{function_itself}
+use Rattle.cc_syntax.proofs.AlikeLemmas.{function_itself}
 use Rattle.cc_states.proofs.Options.{with_one, with_two, when_true, when_is, mapped}
 use Rattle.cc_states.proofs.SpotLemmas.{may_lead_member, may_lead_element}
 use Rattle.cc_states.proofs.TypedLemmas.{may_widen, promoted_value, has_unary, has_binary, has_conversion, has_truth, has_movement, has_gap, has_comparison}

@@ -37,9 +37,9 @@ use Rattle.cc_syntax.proofs.Prefixes.{both_true}
 use Rattle.cc_values.specs.Values.{address_in, binary, conversion}
 use Rattle.cc_states.specs.Answers.{IsCall, IsMarkOf, given_type, result_in}
 use Rattle.cc_states.specs.Typed.{IsOpened, place_in, IsAddress, HasType, MayHave, IsSpot, MayLead, cell_type, IsThere, AreArguments}
-use Rattle.cc_states.proofs.AlikeLemmas.{alike_itself, implies_itself, assignable_object, function_itself}
+use Rattle.cc_syntax.proofs.AlikeLemmas.{alike_itself, implies_itself, assignable_object, function_itself}
 use Rattle.cc_states.proofs.Options.{when_is, right_true}
-use Rattle.cc_states.proofs.SameLemmas.{and_true, int_itself, sig_compared}
+use Rattle.cc_syntax.proofs.SameLemmas.{and_true, int_itself, sig_compared}
 use Rattle.cc_states.proofs.SpotLemmas.{cell_there}
 use Rattle.cc_states.proofs.PlaceLemmas.{CanPoint, real}
 use Rattle.cc_states.proofs.TypedLemmas.{may_widen, has_conversion, has_movement}

@@ -1,5 +1,4 @@
 pub mod ActiveLemmas
-pub mod AlikeLemmas
 pub mod ControlLemmas
 pub mod EvalTypes
 pub mod GivenLemmas
@@ -11,7 +10,6 @@ pub mod Openings
 pub mod Options
 pub mod PathLemmas
 pub mod PlaceLemmas
-pub mod SameLemmas
 pub mod SoundLemmas
 pub mod SpotLemmas
 pub mod StartLemmas

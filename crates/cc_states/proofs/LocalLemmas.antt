@@ -30,7 +30,7 @@ use Rattle.cc_states.proofs.ControlLemmas.{body_sound}
 use Rattle.cc_states.proofs.InsideLemmas.{body_inside}
 use Rattle.cc_states.proofs.PathLemmas.{within, no_path}
 use Rattle.cc_states.proofs.ZeroLemmas.{zeros-shape}
-use Rattle.cc_states.proofs.SameLemmas.{shape_of_same}
+use Rattle.cc_syntax.proofs.SameLemmas.{shape_of_same}
 
 pub get_replicate : {A : Type 0} → (x : A) (n k : ℕ) → k < n → slice_get (replicate n x) k ≡ Some x
 get_replicate x zero k h = absurd (omega (arith, h))

@@ -28,7 +28,7 @@ use Rattle.cc_syntax.proofs.Parts.{all_at}
 use Rattle.cc_syntax.proofs.Prefixes.{get_taken}
 use Rattle.cc_states.specs.States.{AreScalars}
 use Rattle.cc_states.specs.Typed.{HasType}
-use Rattle.cc_states.proofs.AlikeLemmas.{same_of}
+use Rattle.cc_syntax.proofs.AlikeLemmas.{same_of}
 use Rattle.cc_states.proofs.Options.{with_one}
 use Rattle.cc_states.proofs.TypedLemmas.{promoted_value}
 use Rattle.cc_states.proofs.ListLemmas.{get_repeat, get_member, row_same, member_same, set_here, set_elsewhere, same_struct, not_equal}

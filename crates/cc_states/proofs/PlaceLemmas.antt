@@ -20,8 +20,8 @@ use Rattle.cc_syntax.specs.SameTypes.{alike}
 use Rattle.cc_syntax.specs.Values.{ToObject, PlaceType, DevicePlace, ObjectPlace, FunctionPlace, address_of, element_shape, element_of, implies, is_assignable_some}
 use Rattle.cc_syntax.proofs.Prefixes.{both_true}
 use Rattle.cc_states.specs.Typed.{place_in}
-use Rattle.cc_states.proofs.AlikeLemmas.{same_of, alike_joined, shares, array_view, alike_mirrored, assignable_object}
-use Rattle.cc_states.proofs.SameLemmas.{Alike, SameShape, Arrays}
+use Rattle.cc_syntax.proofs.AlikeLemmas.{same_of, alike_joined, shares, array_view, alike_mirrored, assignable_object}
+use Rattle.cc_syntax.proofs.SameLemmas.{Alike, SameShape, Arrays}
 
 pub step_on : (structures : List Structure) (step : Part) (path : List Part) (x : Option PlaceType) →
     ((a : PlaceType) → place_at structures (path ++ step ∷ []) a ≡ of_one (place_at structures path a) (step_into structures step)) →

@@ -30,9 +30,9 @@ use Rattle.cc_syntax.specs.Types.{Named}
 use Rattle.cc_syntax.specs.Values.{ValueType, Integer, ToObject, PlaceType, DevicePlace, ObjectPlace, FunctionPlace, scalar_value, read_from, address_of, element_shape, element_of, member_at, member_in, member_shape, member_of, implies, is_assignable_some}
 use Rattle.cc_values.specs.Values.{integer, index_in}
 use Rattle.cc_states.specs.Typed.{IsOpened, place_in, IsAddress, IsSpot, MayLead, cell_type, IsThere}
-use Rattle.cc_states.proofs.AlikeLemmas.{alike_itself, shares, array_view, tested, alike-scalar, alike-struct, assignable_object}
+use Rattle.cc_syntax.proofs.AlikeLemmas.{alike_itself, shares, array_view, tested, alike-scalar, alike-struct, assignable_object}
 use Rattle.cc_states.proofs.Options.{one_as_then, either_true, left_true}
-use Rattle.cc_states.proofs.SameLemmas.{and_true}
+use Rattle.cc_syntax.proofs.SameLemmas.{and_true}
 use Rattle.cc_states.proofs.TypedLemmas.{within}
 use Rattle.cc_states.proofs.PlaceLemmas.{in_more, leads_member, RealPlace, CanPoint, real, element_place, whole_place, below_count, taken_step, elements_by, not_whole, no_true}
 

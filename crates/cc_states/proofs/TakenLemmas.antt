@@ -19,7 +19,7 @@ use Rattle.cc_syntax.proofs.Prefixes.{both_true}
 use Rattle.cc_values.specs.Values.{takes, takes_both}
 use Rattle.cc_states.specs.Typed.{HasType}
 use Rattle.cc_states.proofs.Options.{when_true}
-use Rattle.cc_states.proofs.SameLemmas.{and_true, int_same, int_itself}
+use Rattle.cc_syntax.proofs.SameLemmas.{and_true, int_same, int_itself}
 
 of_type : (t : IntType) (a : ValueType) → is_of t a ≡ true → a ≡ Integer t
 of_type t NoValue h = absurd (cc)

@@ -14,7 +14,7 @@ use Rattle.cc_syntax.specs.SameTypes.{is_int_shape, is_void_shape}
 use Rattle.cc_syntax.specs.Sound.{is_plain_int, is_plain_void}
 use Rattle.cc_syntax.specs.Values.{ValueType, Integer, scalar_shape, scalar_value, is_void, is_assignable_some}
 use Rattle.cc_syntax.proofs.Prefixes.{both_true}
-use Rattle.cc_states.proofs.SameLemmas.{int_there}
+use Rattle.cc_syntax.proofs.SameLemmas.{int_there}
 
 pub not_void : {C : Type 0} (b : Bool) → b ≡ true → b ≡ false → C
 not_void b h k = absurd (cc)

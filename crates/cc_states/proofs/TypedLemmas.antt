@@ -33,9 +33,9 @@ use Rattle.cc_syntax.proofs.Prefixes.{both_true}
 use Rattle.cc_values.specs.Values as value
 use Rattle.cc_values.specs.Values.{integer, address_in, takes, takes_both, unary, binary, conversion, is_true, truth, of_truth, index_in, element_at, offset, moved_address, movement, in_one_array, difference, gap, ordered, compared, comparison}
 use Rattle.cc_states.specs.Typed.{place_in, IsAddress, HasType, MayHave}
-use Rattle.cc_states.proofs.AlikeLemmas.{assigned_on_some, points_as, integer_as, function_as}
+use Rattle.cc_syntax.proofs.AlikeLemmas.{assigned_on_some, points_as, integer_as, function_as}
 use Rattle.cc_states.proofs.Options.{either_true, left_true, right_true}
-use Rattle.cc_states.proofs.SameLemmas.{and_true}
+use Rattle.cc_syntax.proofs.SameLemmas.{and_true}
 
 -- ---- addresses
 

@@ -13,3 +13,5 @@ pub mod PartLemmas
 pub mod SizeLemmas
 pub mod StructureLemmas
 pub mod ExamplePrograms
+pub mod SameLemmas
+pub mod AlikeLemmas

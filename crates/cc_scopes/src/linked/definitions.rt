@@ -1,13 +1,13 @@
 //! What definitions and attributes add to what is known of a name (C99 6.9.1, 6.9.2).
 
 ghost use Rattle.std.specs.Prelude.{◌≡◌, OnOk};
-ghost use Rattle.cc_scopes.specs.Definitions.{first_or as first_or_of, tentative_at, defined_at, both_entries as both_entries_of, entry_added as entry_added_of, with_entry, with_values};
+ghost use Rattle.cc_scopes.specs.Definitions.{first_or as first_or_of, tentative_at, defined_at, entry_added as entry_added_of, with_entry, with_values};
 ghost use Rattle.cc_scopes.specs.State.{change_at};
 
 use crate::linked::Names;
-use crate::unit::UnitKind;
 use cc_num::{List, NoMemory};
 use cc_syntax::{CType, Entry, Leaf};
+use cc_unit::{UnitKind, both_entries};
 use std::alloc::Global;
 use std::mem::replace;
 
@@ -17,20 +17,6 @@ fn first_or(first: Option<u32>, at: u32) -> Option<u32>
     match first {
         None => Some(at),
         Some(first) => Some(first),
-    }
-}
-
-/// How a function is a handler of which two declarations say so: `signal` wins over `interrupt`.
-fn both_entries(before: Option<Entry>, entry: Option<Entry>) -> Option<Entry>
-    ensures { result ≡ both_entries_of before entry }
-{
-    match before {
-        None => entry,
-        Some(Entry::Signal) => Some(Entry::Signal),
-        Some(before) => match entry {
-            None => Some(before),
-            Some(entry) => Some(entry),
-        },
     }
 }
 

@@ -9,7 +9,7 @@ use Rattle.cc_syntax.specs.Initial.{bound_shape}
 use Rattle.cc_syntax.specs.SameTypes.{alike}
 use Rattle.cc_syntax.specs.Values.{ValueType, NoValue, Integer, ToObject, ToFunction, scalar_shape, scalar_value, implies, is_assignable, is_assignable_some}
 use Rattle.cc_syntax.proofs.Prefixes.{both_true}
-use Rattle.cc_states.proofs.SameLemmas.{Alike, SameShape, Arrays, compared, sig_compared, arrays_compared, int_same, and_true}
+use Rattle.cc_syntax.proofs.SameLemmas.{Alike, SameShape, Arrays, compared, sig_compared, arrays_compared, int_same, and_true}
 
 pub shares : (t u : CType) → alike t u ≡ true → Alike t u
 shares t u h = (compared t).shares u h
