@@ -9,7 +9,7 @@ use Rattle.cc_program.specs.declared.types.Sig.{Sig, fold-Sig}
 use Rattle.cc_program.specs.declared.types.Structure.{Structure}
 use Rattle.cc_syntax.specs.SameTypes.{alike, is_void_shape}
 use Rattle.cc_syntax.specs.Types.{complete_shape, is_complete}
-use Rattle.cc_syntax.specs.Operators.{is_integer, points_to_object}
+use Rattle.cc_syntax.specs.Operators.{is_integer, points_to_object, has_difference}
 use Rattle.cc_syntax.specs.Values.{ValueType, NoValue, Integer, ToObject, ToFunction, PlaceType, ObjectPlace, is_scalar, is_void, point_alike, is_assignable, implies, pointed_to, element_of, element_shape, member_of, member_shape, address_of, read_from, written_to, scalar_value}
 use Rattle.cc_operand_types.specs.Typed.{Agree, Same, Pointers, PlacesAgree, SamePlace, Objects}
 use Rattle.cc_syntax.proofs.Prefixes.{both_true as both}
@@ -72,6 +72,10 @@ module _ (structures : List Structure) where
   pub object_agrees : (u t : ValueType) → Agree u t → points_to_object structures u ≡ points_to_object structures t
   object_agrees _ _ (Same t) = refl
   object_agrees _ _ (Pointers c v t u h) = complete_alike t u h
+
+  pub difference_agrees : (u t : ValueType) → Agree u t → has_difference structures u ≡ has_difference structures t
+  difference_agrees _ _ (Same t) = refl
+  difference_agrees _ _ (Pointers c v t u h) = complete_alike t u h
 
   member_shares : (c v : Bool) (m : ℕ) (t u : CType) → Alike t u → member_shape structures c v m (out-Shape t.shape) ≡ member_shape structures c v m (out-Shape u.shape)
   member_shares c v m _ _ (SameShape t u e) = ap (member_shape structures c v m) e

@@ -11,7 +11,7 @@ use Rattle.cc_num.specs.declared.op.UnOp.TheVariants as unary
 use Rattle.cc_program.specs.declared.expr.Expr.{Expr, Move, Gap, Compare, Both, Either}
 use Rattle.cc_program.specs.declared.program.Program.{Program}
 use Rattle.cc_program.specs.declared.types.Structure.{Structure}
-use Rattle.cc_operands.specs.Arithmetic.{truth, is_equality, both, either, scalars, is_null_beside, pointers_compared, moved, has_difference, sum_by, gap, difference_by, compared_by, binary_by, binary_of}
+use Rattle.cc_operands.specs.Arithmetic.{truth, is_equality, both, either, scalars, is_null_beside, pointers_compared, moved, sum_by, gap, difference_by, compared_by, binary_by, binary_of}
 use Rattle.cc_operands.specs.Operands.{Operand, operand, constancy, is_pointer, is_nothing, is_null_constant, null_of, against_null}
 use Rattle.cc_operands.specs.Operators.{operator_of}
 use Rattle.cc_operands.specs.Unary.{not_by, unary_by, unary_of}
@@ -21,16 +21,16 @@ use Rattle.cc_operands.specs.declared.operator.UnaryOperator.{UnaryOperator}
 use Rattle.cc_operands.specs.declared.operator.UnaryOperator.TheVariants as unary_operator
 use Rattle.cc_operands.specs.declared.rule.Rule.TheVariants as rule
 use Rattle.cc_syntax.specs.Folding.{both_constant, either_constant}
-use Rattle.cc_syntax.specs.Operators.{when, is_comparison, is_integer, difference_type, points_to_object}
+use Rattle.cc_syntax.specs.Operators.{when, is_comparison, is_integer, difference_type, has_difference, points_to_object}
 use Rattle.cc_syntax.specs.Types.{Named}
 use Rattle.cc_syntax.specs.Values.{ValueType, NoValue, Integer, ToObject, ToFunction, is_scalar, point_alike}
 use Rattle.cc_syntax.proofs.Prefixes.{both_true}
 use Rattle.cc_operand_types.specs.Typed.{HasType, IsTypedOperand}
 use Rattle.std.proofs.lemmas.Option.{same_Some as some_same}
 use Rattle.cc_syntax.proofs.AlikeLemmas.{alike_itself}
-use Rattle.cc_operand_types.proofs.Agreement.{scalar_agrees, integral_agrees, object_agrees, pointers_alike}
+use Rattle.cc_operand_types.proofs.Agreement.{scalar_agrees, integral_agrees, object_agrees, difference_agrees, pointers_alike}
 use Rattle.cc_operand_types.proofs.Constants.{both_fits, either_fits}
-use Rattle.cc_operand_types.proofs.Integers.{when_one, when_two, arithmetic_typed, integers_typed, integer_typed, plus_typed}
+use Rattle.cc_operand_types.proofs.Integers.{when_two, arithmetic_typed, integers_typed, integer_typed, plus_typed}
 use Rattle.cc_operand_types.proofs.Nulls.{null_typed}
 use Rattle.cc_operand_types.proofs.Operands.{ok_is, must_ok, value_ok, value_of, as_operand, integer_operand, as_folded}
 use Rattle.cc_operand_types.proofs.Rolls.{type-Move, type-Gap, type-Compare, type-Both, type-Either}
@@ -231,13 +231,15 @@ module _ (p : Program) (locals : List Named) where
   gap_typed : (x y r : Operand) → Typed x → Typed y → gap p.target p.structures x y ≡ Ok r → Typed r
   gap_typed x y r hx hy h =
       let m = must_ok (point_alike x.type y.type && has_difference p.structures x.type) rule.NoSum (Ok (operand (Gap x.value y.value) (Integer (difference_type p.target)))) r h in
-      let a = (both_true (point_alike x.type y.type) (has_difference p.structures x.type) m.0).0 in
+      let b = both_true (point_alike x.type y.type) (has_difference p.structures x.type) m.0 in
+      let a = b.0 in
       let t = alike_there x.type y.type a in
       let vx = value_of p locals x hx t.0 in
       let vy = value_of p locals y hy t.1 in
       subst Typed (ok_is m.1) (integer_operand p locals (Gap x.value y.value) (difference_type p.target)
       (type-Gap p locals x.value y.value vx.own vy.own (Some (Integer (difference_type p.target))) vx.typed vy.typed
-      (when_one (point_alike vx.own vy.own) (Integer (difference_type p.target)) (pointers_alike vx.own x.type vy.own y.type vx.agrees vy.agrees a))))
+      (when_two (point_alike vx.own vy.own) (has_difference p.structures vx.own) (Integer (difference_type p.target)) (pointers_alike vx.own x.type vy.own y.type vx.agrees vy.agrees a)
+      (difference_agrees p.structures vx.own x.type vx.agrees ∙ b.1))))
 
   sum_typed : (x y r : Operand) (a b : ValueType) → Typed x → Typed y → x.type ≡ a → y.type ≡ b → sum_by p.target p.structures x y a b ≡ Ok r → Typed r
   sum_typed x y r (Integer i) (Integer j) hx hy e f h = subst Typed (ok_is h) (arithmetic_typed p locals op.Add i j x y hx hy e f)

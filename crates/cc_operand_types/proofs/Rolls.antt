@@ -63,8 +63,8 @@ module _ (p : Program) (locals : List Named) where
   pub type-Move : (a b : Expr) (back : Bool) (u v : ValueType) (r : Option ValueType) → type a ≡ Some u → type b ≡ Some v → moved_type p.structures u v ≡ r → type (Move a b back) ≡ r
   type-Move a b back u v r h k e = expr-roll (Move a b back) (one.Move a b back) (rolls-Move a b back) ∙ two_there (type a) (type b) (moved_type p.structures) u v r h k e
 
-  pub type-Gap : (a b : Expr) (u v : ValueType) (r : Option ValueType) → type a ≡ Some u → type b ≡ Some v → gap_type p.target u v ≡ r → type (Gap a b) ≡ r
-  type-Gap a b u v r h k e = expr-roll (Gap a b) (one.Gap a b) (rolls-Gap a b) ∙ two_there (type a) (type b) (gap_type p.target) u v r h k e
+  pub type-Gap : (a b : Expr) (u v : ValueType) (r : Option ValueType) → type a ≡ Some u → type b ≡ Some v → gap_type p.structures p.target u v ≡ r → type (Gap a b) ≡ r
+  type-Gap a b u v r h k e = expr-roll (Gap a b) (one.Gap a b) (rolls-Gap a b) ∙ two_there (type a) (type b) (gap_type p.structures p.target) u v r h k e
 
   pub type-Compare : (o : BinOp) (a b : Expr) (u v : ValueType) (r : Option ValueType) → type a ≡ Some u → type b ≡ Some v → comparison_type o u v ≡ r → type (Compare o a b) ≡ r
   type-Compare o a b u v r h k e = expr-roll (Compare o a b) (one.Compare o a b) (rolls-Compare o a b) ∙ two_there (type a) (type b) (comparison_type o) u v r h k e

@@ -15,7 +15,7 @@ use Rattle.cc_operands.specs.declared.rule.Rule.TheVariants as rule
 use Rattle.cc_program.specs.declared.expr.Expr.{Expr, Bin, Move, Gap, Compare, Both, Either}
 use Rattle.cc_program.specs.declared.types.Structure.{Structure}
 use Rattle.cc_syntax.specs.Folding.{binary_constant, both_constant, either_constant}
-use Rattle.cc_syntax.specs.Operators.{binary_result, difference_type, points_to_object}
+use Rattle.cc_syntax.specs.Operators.{binary_result, difference_type, has_difference, points_to_object}
 use Rattle.cc_syntax.specs.Values.{ValueType, Integer, ToFunction, is_scalar, point_alike}
 
 abbrev pub truth : Expr → Operand
@@ -49,11 +49,6 @@ pointers_compared o x y =
 
 abbrev pub moved : List Structure → Bool → Operand → Operand → Judged Operand
 moved structures back x y = must (points_to_object structures x.type) rule.NoSum (Ok (operand (Move x.value y.value back) x.type))
-
--- two pointers to one type have a difference: to a complete object type, or to a function, where it traps
-abbrev pub has_difference : List Structure → ValueType → Bool
-has_difference structures (ToFunction sig) = true
-has_difference structures t = points_to_object structures t
 
 module _ (target : Target) where
   -- ---- two integers (6.3.1.8)

@@ -1,10 +1,10 @@
 //! Binary operators on values (C99 6.5.5 to 6.5.14).
 
 ghost use Rattle.std.specs.Prelude.{◌≡◌, IfOk};
-ghost use Rattle.cc_operands.specs.Arithmetic.{truth as truth_of, is_equality as is_equality_of, working_type as working_type_of, second_type as second_type_of, worked as worked_of, arithmetic as arithmetic_of, integers as integers_of, moved as moved_of, sum as sum_of, has_difference as has_difference_of, gap as gap_of, difference as difference_of, is_null_beside as is_null_beside_of, pointers_compared as pointers_compared_of, compared as compared_of, both as both_of, either as either_of, scalars as scalars_of, binary_by as binary_by_of, binary_of};
+ghost use Rattle.cc_operands.specs.Arithmetic.{truth as truth_of, is_equality as is_equality_of, working_type as working_type_of, second_type as second_type_of, worked as worked_of, arithmetic as arithmetic_of, integers as integers_of, moved as moved_of, sum as sum_of, gap as gap_of, difference as difference_of, is_null_beside as is_null_beside_of, pointers_compared as pointers_compared_of, compared as compared_of, both as both_of, either as either_of, scalars as scalars_of, binary_by as binary_by_of, binary_of};
 ghost use Rattle.cc_operands.specs.Verdicts.{Judges};
 ghost use Rattle.cc_operands.specs.View.{operand_view, type_view};
-ghost use Rattle.cc_syntax.specs.Operators.{binary_result as binary_result_of, difference_type as difference_type_of};
+ghost use Rattle.cc_syntax.specs.Operators.{binary_result as binary_result_of, difference_type as difference_type_of, has_difference as has_difference_of};
 
 use crate::operand::{Operand, against_null, converted_to, folded, null_of, typed};
 use crate::operator::Operator;

@@ -427,7 +427,7 @@ module _ (c : Context) (openings : List ℕ) (here : IsActivation c openings) wh
   typed_level (one.Move a b back) h t e later =
       typed_binary t (movement back) (meaning c a) (meaning c b) (rule.moved_type c.program.structures) h.0 h.1 e (λ u w f v y m n. moved_has c.program.structures u w t back v y f m) later
   typed_level (one.Gap a b) h t e later =
-      typed_binary t (gap c.program.target) (meaning c a) (meaning c b) (rule.gap_type c.program.target) h.0 h.1 e
+      typed_binary t (gap c.program.target) (meaning c a) (meaning c b) (rule.gap_type c.program.structures c.program.target) h.0 h.1 e
       (λ u w f v y m n. value_as (Integer (rule.difference_type c.program.target)) t (gap c.program.target v y) (when_is _ (Integer (rule.difference_type c.program.target)) t f) (has_gap c.program openings v y)) later
   typed_level (one.Compare o a b) h t e later =
       typed_binary t (comparison o) (meaning c a) (meaning c b) (rule.comparison_type o) h.0 h.1 e

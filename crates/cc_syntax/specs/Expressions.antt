@@ -30,7 +30,7 @@ module _ (p : Program) (locals : List Named) where
   expr_step (one.Conv t a) = of_one a (conversion_type t)
   expr_step (one.Qualify t a) = of_one a (qualified_type p t)
   expr_step (one.Move a b back) = of_two a b (moved_type p.structures)
-  expr_step (one.Gap a b) = of_two a b (gap_type p.target)
+  expr_step (one.Gap a b) = of_two a b (gap_type p.structures p.target)
   expr_step (one.Compare o a b) = of_two a b (comparison_type o)
   expr_step (one.Both a b) = of_two a b logical_type
   expr_step (one.Either a b) = of_two a b logical_type

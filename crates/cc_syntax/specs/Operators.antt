@@ -174,8 +174,13 @@ points_to_object structures (ToFunction sig) = false
 abbrev pub moved_type : List Structure → ValueType → ValueType → Option ValueType
 moved_type structures a i = when (points_to_object structures a && is_integer i) a
 
-abbrev pub gap_type : Target → ValueType → ValueType → Option ValueType
-gap_type target a b = when (point_alike a b) (Integer (difference_type target))
+-- two pointers to one type have a difference: to a complete object type (6.5.6, 3), or to a function, where it traps
+abbrev pub has_difference : List Structure → ValueType → Bool
+has_difference structures (ToFunction sig) = true
+has_difference structures t = points_to_object structures t
+
+abbrev pub gap_type : List Structure → Target → ValueType → ValueType → Option ValueType
+gap_type structures target a b = when (point_alike a b && has_difference structures a) (Integer (difference_type target))
 
 abbrev pub comparison_type : BinOp → ValueType → ValueType → Option ValueType
 comparison_type o a b = when (is_comparison o && point_alike a b) (Integer int.Int)

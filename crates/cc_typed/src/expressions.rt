@@ -162,7 +162,7 @@ impl<'p> Scope<'p> {
             }
             Expr::Gap(a, b) => {
                 let a = self.type_of(a.get())?;
-                a.gap(self.type_of(b.get())?, &p.target)
+                a.gap(self.type_of(b.get())?, p.structures.all(), &p.target)
             }
             Expr::Compare(op, a, b) => {
                 let a = self.type_of(a.get())?;

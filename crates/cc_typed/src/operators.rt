@@ -3,7 +3,7 @@
 ghost use Rattle.std.specs.Prelude.{◌≡◌, option_map, slice_get};
 ghost use Rattle.std.specs.Option.{option_copied};
 ghost use Rattle.cc_num.specs.Results.{is_shift as is_shift_of};
-ghost use Rattle.cc_syntax.specs.Operators.{is_promoted as is_promoted_of, is_comparison as is_comparison_of, is_additive as is_additive_of, difference_type as difference_type_of, constant_type as constant_type_of, function_type as function_type_of, is_of as is_of_of, is_promoted_value as is_promoted_value_of, is_integer as is_integer_of, unary_result as unary_result_of, unary_type as unary_type_of, second_fits as second_fits_of, binary_result as binary_result_of, binary_type as binary_type_of, conversion_type as conversion_type_of, points_to_object as points_to_object_of, moved_type as moved_type_of, gap_type as gap_type_of, comparison_type as comparison_type_of, logical_type as logical_type_of, common_type as common_type_of, choice_type as choice_type_of, assignment_type as assignment_type_of, changes_by as changes_by_of, change_type as change_type_of, after_type as after_type_of, subscript_type as subscript_type_of};
+ghost use Rattle.cc_syntax.specs.Operators.{is_promoted as is_promoted_of, is_comparison as is_comparison_of, is_additive as is_additive_of, difference_type as difference_type_of, constant_type as constant_type_of, function_type as function_type_of, is_of as is_of_of, is_promoted_value as is_promoted_value_of, is_integer as is_integer_of, unary_result as unary_result_of, unary_type as unary_type_of, second_fits as second_fits_of, binary_result as binary_result_of, binary_type as binary_type_of, conversion_type as conversion_type_of, points_to_object as points_to_object_of, moved_type as moved_type_of, has_difference as has_difference_of, gap_type as gap_type_of, comparison_type as comparison_type_of, logical_type as logical_type_of, common_type as common_type_of, choice_type as choice_type_of, assignment_type as assignment_type_of, changes_by as changes_by_of, change_type as change_type_of, after_type as after_type_of, subscript_type as subscript_type_of};
 ghost use Rattle.cc_syntax.specs.Types.{is_complete as is_complete_of, has_members as has_members_of};
 ghost use Rattle.cc_typed.specs.View.{value_view, place_view};
 
@@ -195,11 +195,26 @@ impl<'p> ValueType<'p> {
         }
     }
 
-    /// The difference of two pointers (C99 6.5.6, 9).
-    pub fn gap(self, other: ValueType, target: &Target) -> Option<ValueType<'p>>
-        ensures { option_map value_view result ≡ gap_type_of target.now (value_view self.entry) (value_view other.entry) }
+    /// Whether two pointers to one type have a difference: to a complete object type, or to a function, where it traps.
+    fn has_difference(self, structures: &[Structure]) -> bool
+        ensures { result ≡ has_difference_of structures.now (value_view self.entry) }
     {
-        if self.points_alike(other) {
+        match self {
+            ValueType::ToFunction(_) => true,
+            _ => self.points_to_object(structures),
+        }
+    }
+
+    /// The difference of two pointers (C99 6.5.6, 9).
+    pub fn gap(
+        self,
+        other: ValueType,
+        structures: &[Structure],
+        target: &Target,
+    ) -> Option<ValueType<'p>>
+        ensures { option_map value_view result ≡ gap_type_of structures.now target.now (value_view self.entry) (value_view other.entry) }
+    {
+        if self.points_alike(other) && self.has_difference(structures) {
             Some(ValueType::Integer(difference_type(target)))
         } else {
             None
