@@ -1,6 +1,5 @@
--- Values whose opened levels are the same are the same.
+-- Signatures whose opened levels are the same are the same.
 use Rattle.std.proofs.Common.{◌≡◌, refl, ap, sym, ◌∙◌}
-use Rattle.cc_program.specs.declared.stmt.Case.{Case, out-Case, roll-Case, roll-out-Case}
 use Rattle.cc_program.specs.declared.types.Sig.{Sig, out-Sig, roll-Sig, roll-out-Sig}
 
 sig_of_level : (s t : Sig) → out-Sig s ≡ out-Sig t → s ≡ t
@@ -8,9 +7,3 @@ sig_of_level s t h = sym (roll-out-Sig s) ∙ ap roll-Sig h ∙ roll-out-Sig t
 
 pub sig_of_fields : (s t : Sig) → (out-Sig s).result ≡ (out-Sig t).result → (out-Sig s).params ≡ (out-Sig t).params → s ≡ t
 sig_of_fields s t h k = sig_of_level s t (rw (h, k) refl)
-
-case_of_level : (a b : Case) → out-Case a ≡ out-Case b → a ≡ b
-case_of_level a b h = sym (roll-out-Case a) ∙ ap roll-Case h ∙ roll-out-Case b
-
-pub case_of_fields : (a b : Case) → (out-Case a).labels ≡ (out-Case b).labels → (out-Case a).body ≡ (out-Case b).body → a ≡ b
-case_of_fields a b h k = case_of_level a b (rw (h, k) refl)

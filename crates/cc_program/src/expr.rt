@@ -1,4 +1,3 @@
-mod comparisons;
 mod copies;
 
 use crate::CType;

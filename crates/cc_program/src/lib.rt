@@ -2,7 +2,6 @@
 //! An id is a `u32` and is the position in the program's list of that kind.
 #![tactic(auto)]
 
-mod comparisons;
 mod copies;
 mod expr;
 mod func;
@@ -12,12 +11,11 @@ mod stmt;
 mod types;
 mod value;
 
-pub use comparisons::{same_bin, same_int, same_intr, same_un};
 pub use copies::copy_list;
 pub use expr::{Expr, Intr, Place};
 pub use func::{Entry, Func};
 pub use object::{Device, Object};
 pub use program::{Program, Roles, copy_named, copy_names};
-pub use stmt::{Case, Stmt, copy_optional, copy_stmts, same_stmts};
+pub use stmt::{Case, Stmt};
 pub use types::{CType, Shape, Sig, Structure};
 pub use value::{Address, Cell, Leaf, Part, Root, Value};

@@ -1,10 +1,5 @@
-mod comparisons;
-mod copies;
-
 use crate::Expr;
 use cc_num::List;
-pub use comparisons::same_stmts;
-pub use copies::{copy_optional, copy_stmts};
 
 /// A statement (C99 6.8). A body that is a block is the list of the block's statements. An initialiser of a local
 /// (6.7.8) is an assignment where it stands, one for each scalar.

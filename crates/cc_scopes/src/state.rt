@@ -16,9 +16,10 @@ use crate::designated::{Designated, Tagged};
 use crate::known::{Structures, structure_layout, type_layout_in};
 use crate::linked::Names;
 use crate::scope::Scope;
-use crate::unit::{Declared, UnitKind};
+use crate::unit::Declared;
 use cc_num::{List, Name, NoMemory, Target};
 use cc_syntax::{CType, Entry, Layout, Leaf, Place, Structure};
+use cc_unit::UnitKind;
 use std::alloc::Global;
 use std::mem::replace;
 

@@ -1,8 +1,8 @@
-//! Whether values are the same.
+//! Whether addresses are the same.
 
 ghost use Rattle.std.specs.Prelude.{◌≡◌, ◌↔◌, IsTrue};
 
-use crate::{Address, Cell, Leaf, Part, Root, Value};
+use crate::{Address, Part, Root};
 use cc_num::List;
 
 /// Whether two objects are the same one.
@@ -56,53 +56,6 @@ impl Address {
                     index,
                     count,
                 } => same_root(*root, *object) && same_path(way, path) && i == index && n == count,
-                _ => false,
-            },
-        }
-    }
-}
-
-impl Value {
-    /// Whether the values are the same.
-    pub fn same(&self, other: &Value) -> bool
-        ensures { IsTrue result ↔ (self.now ≡ other.now) }
-    {
-        match (self, other) {
-            (Value::Int(m), Value::Int(n)) => m == n,
-            (Value::Place(a), Value::Place(b)) => a.same(b),
-            _ => false,
-        }
-    }
-}
-
-impl Leaf {
-    /// Whether the values are the same.
-    pub fn same(&self, other: &Leaf) -> bool
-        ensures { IsTrue result ↔ (self.now ≡ other.now) }
-    {
-        match (self, other) {
-            (Leaf::Int(m), Leaf::Int(n)) => m == n,
-            (Leaf::Place(a), Leaf::Place(b)) => a.same(b),
-            _ => false,
-        }
-    }
-}
-
-impl Cell {
-    /// Whether the cells are the same.
-    pub fn same(&self, other: &Cell) -> bool
-        ensures { IsTrue result ↔ (self.now ≡ other.now) }
-    {
-        match self {
-            Cell::Device(d) => match other {
-                Cell::Device(e) => d == e,
-                _ => false,
-            },
-            Cell::At {
-                object: root,
-                path: way,
-            } => match other {
-                Cell::At { object, path } => same_root(*root, *object) && same_path(way, path),
                 _ => false,
             },
         }
