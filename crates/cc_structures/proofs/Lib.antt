@@ -1,0 +1,17 @@
+pub mod Behind
+pub mod ClassLemmas
+pub mod Elements
+pub mod FirstLemmas
+pub mod Growth
+pub mod KeyLemmas
+pub mod KnownLemmas
+pub mod LookLemmas
+pub mod LookTests
+pub mod Numbered
+pub mod OrderLemmas
+pub mod RefineLemmas
+pub mod SourceLemmas
+pub mod Steps
+pub mod TypeLemmas
+pub mod TypeWords
+pub mod WordLaws

@@ -1,0 +1,14 @@
+use Rattle.std.proofs.Common.{◌∙◌, ap, sym, ◌++◌, ◌∷◌, [], List, filter, cond, append_assoc, Bool}
+use Rattle.cc_structures.specs.Structures.{is_complete}
+use Rattle.cc_structures.specs.View.{known_of, knowns_of}
+use Rattle.cc_structures.specs.declared.known.Known.{Known as KnownOf}
+use Rattle.cc_structures.proofs.OrderLemmas.{complete-more}
+use Rattle.cc_structures.proofs.Steps.{stepped}
+use Rattle.cc_structures.proofs.ordered.put_complete.Goals as goal
+
+pub loop-s-preserved : goal.loop-s-preserved
+loop-s-preserved c =
+    let base = knowns_of c.args.order.now.items in
+    stepped (λ (ks : List KnownOf). base ++ filter is_complete (knowns_of ks)) (λ ks b k. b ++ cond (is_complete (known_of k)) (known_of k ∷ []) [])
+    (λ ks k. ap (λ l. base ++ l) (complete-more ks k) ∙ sym (append_assoc base (filter is_complete (knowns_of ks)) (cond (is_complete (known_of k)) (known_of k ∷ []) [])))
+    c.args.knowns.now c.loop-s.s-index c.s-item.result c.loop-s-test.true c.s-item.is _ _ (c.in_ok-put_if.ensures ∙ ap (λ (b : Bool). knowns_of c.loop-s.order.items ++ cond b (known_of c.s-item.result ∷ []) []) c.is_some.ensures) c.loop-s.invariant
