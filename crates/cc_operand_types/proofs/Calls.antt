@@ -3,15 +3,13 @@ use Rattle.std.proofs.Common.{◌≡◌, Bool, true, List, [], ◌∷◌, map, O
 use Rattle.std.specs.Prelude.{length, if◌then◌else◌}
 use Rattle.std.specs.List.{list_all}
 use Rattle.cc_program.specs.declared.expr.Expr.{Expr, Call}
-use Rattle.cc_program.specs.declared.program.Program.{Program}
 use Rattle.cc_program.specs.declared.types.CType.{CType}
 use Rattle.cc_program.specs.declared.types.Sig.{Sig, out-Sig}
 use Rattle.cc_program.proofs.Each.{Each}
 use Rattle.cc_operands.specs.Operands.{Operand, operand}
 use Rattle.cc_operands.specs.Verdicts.{judge_then}
 use Rattle.cc_designators.specs.Calls.{result_of, passed_to, passed, called_with, called_by, called}
-use Rattle.cc_syntax.specs.Expressions.{type_of}
-use Rattle.cc_syntax.specs.Kinds.{kind_of, kind_in, is_plain_scalar, is_sig}
+use Rattle.cc_syntax.specs.Kinds.{is_plain_scalar}
 use Rattle.cc_syntax.specs.Types.{Named}
 use Rattle.cc_syntax.specs.Values.{ValueType, NoValue, Integer, ToObject, ToFunction, scalar_value, result_value, is_assignable_some, are_assignable}
 use Rattle.cc_syntax.proofs.Prefixes.{both_true}
@@ -22,8 +20,9 @@ use Rattle.cc_operand_types.proofs.Rolls.{type-Call}
 use Rattle.cc_syntax.proofs.SameLemmas.{and_true}
 use Rattle.cc_operand_types.proofs.Standing.{scalar_stands, result_stands, params_stand, plain_pointed}
 use Rattle.cc_operand_types.proofs.Stores.{then_ok, assigned_typed}
+use Rattle.cc_operand_types.specs.Views.{View, type_of, kind_of, kind_in, is_sig}
 
-module _ (p : Program) (locals : List Named) where
+module _ (p : View) (locals : List Named) where
   abbrev Typed : Operand → Type 0
   Typed x = IsTypedOperand p locals x
 
@@ -36,7 +35,7 @@ module _ (p : Program) (locals : List Named) where
       let a = assigned_typed p locals to x y (scalar_stands p true t to (plain_pointed p (kind_in p t) k) e) hx h in
       ap (λ (o : Option ValueType). is_assignable_some o (type_of p locals y.value)) e ∙ ap (is_assignable_some (Some to)) a.typed ∙ a.assignable
 
-  passed_typed : (ts : List CType) (xs : List Operand) (args : List Expr) → list_all is_plain_scalar (map (kind_of p.structures (length p.structures) p.target) ts) ≡ true → AreTyped xs → passed p.target ts xs ≡ Ok args →
+  passed_typed : (ts : List CType) (xs : List Operand) (args : List Expr) → list_all is_plain_scalar (map (kind_of p.target p.extents) ts) ≡ true → AreTyped xs → passed p.target ts xs ≡ Ok args →
       are_assignable ts (map (type_of p locals) args) ≡ true
   passed_typed [] [] args k hx h = ap (λ (es : List Expr). are_assignable [] (map (type_of p locals) es)) (sym (ok_is h))
   passed_typed [] (x ∷ xs) args k hx h = absurd (cc)
@@ -44,7 +43,7 @@ module _ (p : Program) (locals : List Named) where
   passed_typed (t ∷ ts) (x ∷ xs) args k hx h =
       let g = then_ok (passed_to p.target t x (scalar_value t)) (λ y. judge_then (passed p.target ts xs) (λ ys. Ok (y.value ∷ ys))) args h in
       let f = then_ok (passed p.target ts xs) (λ ys. Ok (g.0.value ∷ ys)) args g.2 in
-      let b = both_true (is_plain_scalar (kind_in p t)) (list_all is_plain_scalar (map (kind_of p.structures (length p.structures) p.target) ts)) k in
+      let b = both_true (is_plain_scalar (kind_in p t)) (list_all is_plain_scalar (map (kind_of p.target p.extents) ts)) k in
       subst (λ (es : List Expr). are_assignable (t ∷ ts) (map (type_of p locals) es) ≡ true) (ok_is f.2)
       (and_true (is_assignable_some (scalar_value t) (type_of p locals g.0.value)) (are_assignable ts (map (type_of p locals) f.0)) (passed_one t (scalar_value t) x g.0 refl b.0 hx.0 g.1) (passed_typed ts xs f.0 b.1 hx.1 f.1))
 
@@ -60,7 +59,7 @@ module _ (p : Program) (locals : List Named) where
   result_typed e None r k s h = absurd (cc)
   result_typed e (Some t) r k s h = subst Typed (ok_is h) (gives_by e t k (s t refl))
 
-  pub with_typed : (call : List Expr → Expr) (sig : Sig) (xs : List Operand) (r : Operand) → is_sig p.structures (length p.structures) p.target sig ≡ true → AreTyped xs →
+  pub with_typed : (call : List Expr → Expr) (sig : Sig) (xs : List Operand) (r : Operand) → is_sig p.target p.extents sig ≡ true → AreTyped xs →
       ((args : List Expr) → are_assignable (out-Sig sig).params (map (type_of p locals) args) ≡ true → type_of p locals (call args) ≡ result_value (out-Sig sig).result) → called_with p.target call sig xs ≡ Ok r → Typed r
   with_typed call sig xs r s hx k h =
       let g = then_ok (passed p.target (out-Sig sig).params xs) (λ args. result_of (call args) (result_value (out-Sig sig).result)) r h in

@@ -4,7 +4,6 @@ use Rattle.std.specs.Prelude.{pos, if◌then◌else◌}
 use Rattle.cc_num.specs.declared.int_type.IntType.{IntType}
 use Rattle.cc_num.specs.Integers.{is_value_of}
 use Rattle.cc_program.specs.declared.expr.Expr.{Qualify}
-use Rattle.cc_program.specs.declared.program.Program.{Program}
 use Rattle.cc_program.specs.declared.types.CType.{CType}
 use Rattle.cc_program.specs.declared.types.Shape.{Shape, out-Shape}
 use Rattle.cc_program.specs.declared.types.Shape.TheOpen as shape
@@ -16,7 +15,7 @@ use Rattle.cc_operands.specs.declared.rule.Rule.TheVariants as rule
 use Rattle.cc_designators.specs.Casts.{void_pointer_cast, constant_cast, pointer_cast, integer_cast, cast_by, cast_of, size_value}
 use Rattle.cc_designators.specs.Designators.{TypedExpr, IsValue, null}
 use Rattle.cc_syntax.specs.Folding.{Constant, NoConstant, Value, Traps}
-use Rattle.cc_syntax.specs.Operators.{when, is_unqualified, pointer_type, void_pointer_in, first_of, null_type, when_assignable}
+use Rattle.cc_syntax.specs.Operators.{when, is_unqualified, void_pointer_in, first_of, when_assignable}
 use Rattle.cc_syntax.specs.Types.{Named}
 use Rattle.cc_syntax.specs.Values.{ValueType, NoValue, Integer, ToObject, ToFunction, pointer_to, is_void, is_assignable}
 use Rattle.cc_operand_types.specs.Typed.{stands, IsNullType, IsTypedOperand, Void, IsTypedExpr}
@@ -25,6 +24,7 @@ use Rattle.cc_operand_types.proofs.Nulls.{points_something, null_operand}
 use Rattle.cc_operand_types.proofs.Operands.{ok_is, must_ok, value_ok, structure_ok, value_of, any_type, integer_as, exact, as_operand, as_constant, cast_typed}
 use Rattle.cc_operand_types.proofs.Rolls.{type-Qualify}
 use Rattle.cc_operand_types.proofs.Stores.{assignable_there}
+use Rattle.cc_operand_types.specs.Views.{View, pointer_type, null_type}
 
 first_pointer : (q w u : Bool) (t : ValueType) (rest : Option ValueType) (r : ValueType) → w ≡ false → first_of (when (q && (w && u)) t) rest ≡ Some r → rest ≡ Some r
 first_pointer true true u t rest r e h = absurd (cc)
@@ -37,10 +37,10 @@ pointed t = shape.Pointer t
 pointer_same : (t u : CType) → pointed t ≡ pointed u → t ≡ u
 pointer_same t u h = cc
 
-abbrev stands_to : Program → CType → Type 0
+abbrev stands_to : View → CType → Type 0
 stands_to p to = stands p (pointer_to to) ≡ true
 
-module _ (p : Program) (locals : List Named) where
+module _ (p : View) (locals : List Named) where
   abbrev Typed : Operand → Type 0
   Typed x = IsTypedOperand p locals x
 

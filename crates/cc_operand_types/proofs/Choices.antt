@@ -5,15 +5,12 @@ use Rattle.cc_num.specs.declared.int_type.IntType.{IntType}
 use Rattle.cc_num.specs.declared.target.Target.{Target}
 use Rattle.cc_num.specs.Promotions.{usual_of}
 use Rattle.cc_program.specs.declared.expr.Expr.{Expr, Choose, Seq}
-use Rattle.cc_program.specs.declared.program.Program.{Program}
 use Rattle.cc_program.specs.declared.types.CType.{CType}
 use Rattle.cc_program.specs.declared.types.Sig.{Sig}
 use Rattle.cc_operands.specs.Choices.{chosen_integer, chosen_pointer, pointers_chosen, chosen_by, arms_chosen, choose_of, comma_of}
 use Rattle.cc_operands.specs.Operands.{Operand, operand, constancy, converted_to, is_pointer, is_nothing, is_to_void, is_null_constant, null_of, no_structure}
 use Rattle.cc_operands.specs.declared.rule.Rule.TheVariants as rule
 use Rattle.cc_syntax.specs.Folding.{chosen_constant}
-use Rattle.cc_syntax.specs.Expressions.{type_of}
-use Rattle.cc_syntax.specs.Kinds.{kind_in}
 use Rattle.cc_syntax.specs.Operators.{is_promoted, common_type}
 use Rattle.cc_syntax.specs.SameTypes.{alike, same_sig, same_int}
 use Rattle.cc_syntax.specs.Types.{Named}
@@ -30,6 +27,7 @@ use Rattle.cc_operand_types.proofs.Pointers.{scalar_there, pointer_there, alike_
 use Rattle.cc_operand_types.proofs.Requalified.{not_void, any_pointed}
 use Rattle.cc_operand_types.proofs.Rolls.{type-Choose, type-Seq}
 use Rattle.cc_syntax.proofs.SameLemmas.{int_itself, sig_compared}
+use Rattle.cc_operand_types.specs.Views.{View, type_of, kind_in}
 
 -- ---- the common type of types that agree
 
@@ -119,7 +117,7 @@ module _ (target : Target) where
   is_common (ToFunction s) (ToObject c v t) h e = absurd (cc)
   is_common (ToFunction s) (ToFunction r) h e = ap (λ (b : Bool). is_nothing (if b then ToFunction s else NoValue)) h
 
-module _ (p : Program) where
+module _ (p : View) where
   stands_if : (b : Bool) (c v : Bool) (t : CType) → is_void t ≡ false → is_pointed_kind false (kind_in p t) ≡ true → stands p (if b then ToObject c v t else NoValue) ≡ true
   stands_if true c v t e h = any_pointed p (not (c || v)) (kind_in p t) h
   stands_if false c v t e h = refl
@@ -147,7 +145,7 @@ module _ (p : Program) where
   common_stands (ToFunction s) (ToObject c v t) e h = refl
   common_stands (ToFunction s) (ToFunction r) e h = function_stands (same_sig s r) s h
 
-module _ (p : Program) (locals : List Named) where
+module _ (p : View) (locals : List Named) where
   abbrev Typed : Operand → Type 0
   Typed x = IsTypedOperand p locals x
 

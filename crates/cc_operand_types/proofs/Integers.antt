@@ -9,7 +9,6 @@ use Rattle.cc_num.specs.Promotions.{promoted, usual_of}
 use Rattle.cc_num.specs.Results.{is_shift}
 use Rattle.cc_num.proofs.PromotionLaws.{promoted-promoted, promoted-usual_of}
 use Rattle.cc_program.specs.declared.expr.Expr.{Un, Bin}
-use Rattle.cc_program.specs.declared.program.Program.{Program}
 use Rattle.cc_operands.specs.Arithmetic.{working_type, second_type, worked, arithmetic, integers_by}
 use Rattle.cc_operands.specs.Operands.{Operand, constancy, converted_to}
 use Rattle.cc_operands.specs.Unary.{negated, integer_by, plus_by}
@@ -24,6 +23,7 @@ use Rattle.cc_operand_types.proofs.Constants.{binary_fits, unary_fits}
 use Rattle.cc_operand_types.proofs.Operands.{ok_is, IsInteger, as_folded, converted_typed, value_integer}
 use Rattle.cc_operand_types.proofs.Rolls.{type-Un, type-Bin}
 use Rattle.cc_syntax.proofs.SameLemmas.{int_itself}
+use Rattle.cc_operand_types.specs.Views.{View}
 
 pub when_one : {A : Type 0} (a : Bool) (x : A) → a ≡ true → when a x ≡ Some x
 when_one a x h = rw h refl
@@ -49,7 +49,7 @@ second_by : (b : Bool) (i j : IntType) (target : Target) →
 second_by true i j target = promoted_is j target
 second_by false i j target = int_itself (usual_of i j target)
 
-module _ (p : Program) (locals : List Named) where
+module _ (p : View) (locals : List Named) where
   abbrev Typed : Operand → Type 0
   Typed x = IsTypedOperand p locals x
 

@@ -8,7 +8,6 @@ use Rattle.cc_program.specs.declared.expr.Expr.TheOpen as one
 use Rattle.cc_program.specs.declared.expr.Expr.TheVariants.{rolls-Intr}
 use Rattle.cc_program.specs.declared.expr.Intr.{Intr as Intrinsic}
 use Rattle.cc_program.specs.declared.expr.Intr.TheVariants as intr
-use Rattle.cc_program.specs.declared.program.Program.{Program}
 use Rattle.cc_program.specs.declared.types.CType.{CType}
 use Rattle.cc_program.specs.declared.types.Shape.{Shape, Void}
 use Rattle.cc_program.specs.declared.types.Shape.TheVariants.{outs-Void, outs-Int}
@@ -17,8 +16,7 @@ use Rattle.cc_program.specs.declared.types.Sig.{Sig, out-Sig, out-roll-Sig}
 use Rattle.cc_operands.specs.Operands.{Operand}
 use Rattle.cc_operands.specs.Qualified.{plain}
 use Rattle.cc_designators.specs.Calls.{signature, byte_type, first_or_none, called_with, intrinsic}
-use Rattle.cc_syntax.specs.Expressions.{type_of}
-use Rattle.cc_syntax.specs.Kinds.{kind_of, kind_in, is_result, is_plain_scalar, is_sig}
+use Rattle.cc_syntax.specs.Kinds.{is_result, is_plain_scalar}
 use Rattle.cc_syntax.specs.Operators.{when, is_of, intrinsic_type}
 use Rattle.cc_syntax.specs.SameTypes.{is_void_shape}
 use Rattle.cc_syntax.specs.Types.{Named}
@@ -32,6 +30,7 @@ use Rattle.cc_operand_types.proofs.Requalified.{kind_at}
 use Rattle.cc_operand_types.proofs.Rolls.{expr-roll}
 use Rattle.cc_syntax.proofs.SameLemmas.{int_itself, and_true}
 use Rattle.cc_operand_types.proofs.Standing.{sig-opens}
+use Rattle.cc_operand_types.specs.Views.{View, type_of, kind_of, kind_in, is_sig}
 
 void_result : result_value (plain Void) ≡ Some NoValue
 void_result = ap (λ (x : shape.Shape-F Shape CType Sig). if is_void_shape x then Some NoValue else scalar_shape x) outs-Void
@@ -42,7 +41,7 @@ byte_result = ap (λ (x : shape.Shape-F Shape CType Sig). if is_void_shape x the
 byte_value : scalar_value byte_type ≡ Some (Integer int.UChar)
 byte_value = ap scalar_shape (outs-Int int.UChar)
 
-module _ (p : Program) (locals : List Named) where
+module _ (p : View) (locals : List Named) where
   abbrev Typed : Operand → Type 0
   Typed x = IsTypedOperand p locals x
 
@@ -55,12 +54,12 @@ module _ (p : Program) (locals : List Named) where
   type-given : (i : Intrinsic) (x : Expr) → type_of p locals (Intr i (Some x)) ≡ intrinsic_type i (Some (type_of p locals x))
   type-given i x = expr-roll p locals (Intr i (Some x)) (one.Intr i (Some x)) (rolls-Intr i (Some x))
 
-  signature_is : (result : CType) (params : List CType) → is_result (kind_in p result) ≡ true → list_all is_plain_scalar (map (kind_of p.structures (length p.structures) p.target) params) ≡ true →
-      is_sig p.structures (length p.structures) p.target (signature result params) ≡ true
+  signature_is : (result : CType) (params : List CType) → is_result (kind_in p result) ≡ true → list_all is_plain_scalar (map (kind_of p.target p.extents) params) ≡ true →
+      is_sig p.target p.extents (signature result params) ≡ true
   signature_is result params h k =
       sig-opens p (signature result params)
-      ∙ ap (λ (s : shape.Sig-F Shape CType Sig). is_result (kind_in p s.result) && list_all is_plain_scalar (map (kind_of p.structures (length p.structures) p.target) s.params)) (out-roll-Sig (record { result = result; params = params }))
-      ∙ and_true (is_result (kind_in p result)) (list_all is_plain_scalar (map (kind_of p.structures (length p.structures) p.target) params)) h k
+      ∙ ap (λ (s : shape.Sig-F Shape CType Sig). is_result (kind_in p s.result) && list_all is_plain_scalar (map (kind_of p.target p.extents) s.params)) (out-roll-Sig (record { result = result; params = params }))
+      ∙ and_true (is_result (kind_in p result)) (list_all is_plain_scalar (map (kind_of p.target p.extents) params)) h k
 
   void_is : is_result (kind_in p (plain Void)) ≡ true
   void_is = ap is_result (kind_at p (plain Void) shape.Void outs-Void)
@@ -68,7 +67,7 @@ module _ (p : Program) (locals : List Named) where
   byte_is : is_result (kind_in p byte_type) ≡ true
   byte_is = ap is_result (kind_at p byte_type (shape.Int int.UChar) (outs-Int int.UChar))
 
-  byte_plain : list_all is_plain_scalar (map (kind_of p.structures (length p.structures) p.target) (byte_type ∷ [])) ≡ true
+  byte_plain : list_all is_plain_scalar (map (kind_of p.target p.extents) (byte_type ∷ [])) ≡ true
   byte_plain = and_true (is_plain_scalar (kind_in p byte_type)) true (ap is_plain_scalar (kind_at p byte_type (shape.Int int.UChar) (outs-Int int.UChar))) refl
 
   -- ---- arguments
@@ -90,7 +89,7 @@ module _ (p : Program) (locals : List Named) where
       (sym (ap (λ (o : Option ValueType). is_assignable_some o (type_of p locals x)) byte_value) ∙ (both_true (is_assignable_some (scalar_value byte_type) (type_of p locals x)) true h).0)
   restored (x ∷ y ∷ ys) h = let c : false ≡ true = (both_true (is_assignable_some (scalar_value byte_type) (type_of p locals x)) false h).1 in absurd (cc)
 
-  signed : (i : Intrinsic) (result : CType) (params : List CType) (t : ValueType) → is_sig p.structures (length p.structures) p.target (signature result params) ≡ true →
+  signed : (i : Intrinsic) (result : CType) (params : List CType) (t : ValueType) → is_sig p.target p.extents (signature result params) ≡ true →
       ((args : List Expr) → are_assignable params (types args) ≡ true → type_of p locals (Intr i (first_or_none args)) ≡ Some t) → result_value result ≡ Some t →
       (xs : List Operand) (r : Operand) → Each Typed xs → called_with p.target (λ args. Intr i (first_or_none args)) (signature result params) xs ≡ Ok r → Typed r
   signed i result params t s k v xs r hx h =

@@ -16,3 +16,5 @@ pub mod Casts
 pub mod Intrinsics
 pub mod Literals
 pub mod Leaves
+pub mod KindRolls
+pub mod Programs

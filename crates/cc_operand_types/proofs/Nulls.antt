@@ -2,7 +2,6 @@
 use Rattle.std.proofs.Common.{◌≡◌, Bool, true, false, not, ◌&&◌, ◌||◌, List, length, Some, refl, ap, sym, ◌∙◌, subst}
 use Rattle.cc_program.specs.Qualifiers.{of_element, is_const, is_volatile}
 use Rattle.cc_program.specs.declared.expr.Expr.{Null}
-use Rattle.cc_program.specs.declared.program.Program.{Program}
 use Rattle.cc_program.specs.declared.types.CType.{CType}
 use Rattle.cc_program.specs.declared.types.Shape.{Shape, Pointer, Func, out-Shape}
 use Rattle.cc_program.specs.declared.types.Shape.TheVariants.{outs-Pointer, outs-Func}
@@ -12,8 +11,8 @@ use Rattle.cc_program.proofs.QualifierLemmas.{const-opens, volatile-opens, parts
 use Rattle.cc_operands.specs.Operands.{is_pointer, is_nothing, null_of}
 use Rattle.cc_operands.specs.Qualified.{plain, qualified_as}
 use Rattle.cc_designators.specs.Designators.{pointed_in, null}
-use Rattle.cc_syntax.specs.Kinds.{Kind, is_plain_scalar, shape_kind, qualified_kind, kind_in, is_sig}
-use Rattle.cc_syntax.specs.Operators.{when, is_unqualified, pointer_in, void_pointer_in, first_of, null_type}
+use Rattle.cc_syntax.specs.Kinds.{Kind, is_plain_scalar}
+use Rattle.cc_syntax.specs.Operators.{when, is_unqualified, pointer_in, void_pointer_in, first_of}
 use Rattle.cc_syntax.specs.SameTypes.{is_void_shape}
 use Rattle.cc_syntax.specs.Types.{Named}
 use Rattle.cc_syntax.specs.Values.{ValueType, NoValue, Integer, ToObject, ToFunction, pointer_shape, pointer_to, is_void}
@@ -22,6 +21,7 @@ use Rattle.cc_syntax.proofs.AlikeLemmas.{tested, alike_mirrored}
 use Rattle.cc_operand_types.proofs.Operands.{exact, as_operand}
 use Rattle.cc_operand_types.proofs.Requalified.{kind_at, Requalified, requalifies, there, widened, not_void, pointer_plain, function_plain}
 use Rattle.cc_operand_types.proofs.Rolls.{type-Null}
+use Rattle.cc_operand_types.specs.Views.{View, shape_kind, qualified_kind, kind_in, is_sig, null_type}
 
 abbrev pub is_func : shape.Shape-F Shape CType Sig → Bool
 is_func (shape.Func s) = true
@@ -66,7 +66,7 @@ null_by : (b s : Bool) (u : CType) → (b ≡ false → s ≡ true) → first_of
 null_by true s u h = refl
 null_by false s u h = rw (h refl) refl
 
-module _ (p : Program) where
+module _ (p : View) where
   void_plain : (to : CType) → out-Shape to.shape ≡ shape.Void → is_pointed_kind (not (is_const to || is_volatile to)) (kind_in p to) ≡ true → is_unqualified to ≡ true
   void_plain to e h =
       let c : is_const to ≡ to.constant = const-opens to ∙ ap (λ y. to.constant || of_element (parts_const y)) e ∙ or_false to.constant in
@@ -93,7 +93,7 @@ module _ (p : Program) where
       ∙ null_by (is_void u && is_unqualified u) (is_plain_scalar (kind_in p (pointer u))) u
       (λ e. ap is_plain_scalar (kind_at p (pointer u) (shape.Pointer u) (outs-Pointer u)) ∙ pointer_plain p (kind_in p u) (no_void u (is_void u) refl h e))
 
-  pub function_null : (sig : Sig) → is_sig p.structures (length p.structures) p.target sig ≡ true → null_type p (pointer (plain (Func sig))) ≡ Some (pointer_to (plain (Func sig)))
+  pub function_null : (sig : Sig) → is_sig p.target p.extents sig ≡ true → null_type p (pointer (plain (Func sig))) ≡ Some (pointer_to (plain (Func sig)))
   function_null sig h =
       null_opened (plain (Func sig))
       ∙ null_by (is_void (plain (Func sig)) && is_unqualified (plain (Func sig))) (is_plain_scalar (kind_in p (pointer (plain (Func sig))))) (plain (Func sig))
@@ -102,7 +102,7 @@ module _ (p : Program) where
 
   -- ---- what is pointed to is no function
 
-  func_by : (q good : Bool) (b : Bool) → is_pointed_kind b (qualified_kind p.structures (length p.structures) p.target q (shape_kind p.structures (length p.structures) p.target (shape.Func good))) ≡ true → ⊥
+  func_by : (q good : Bool) (b : Bool) → is_pointed_kind b (qualified_kind q (shape_kind p.target p.extents (shape.Func good))) ≡ true → ⊥
   func_by true true b h = absurd (cc)
   func_by true false b h = absurd (cc)
   func_by false true b h = absurd (cc)
@@ -115,7 +115,7 @@ module _ (p : Program) where
   no_func u b (shape.Array of n) e h = refl
   no_func u b (shape.Struct i) e h = refl
   no_func u b (shape.Func s) e h =
-      absurd (func_by (u.constant || u.volatile) (is_sig p.structures (length p.structures) p.target s) b (sym (ap (is_pointed_kind b) (kind_at p u (shape.Func s) e)) ∙ h))
+      absurd (func_by (u.constant || u.volatile) (is_sig p.target p.extents s) b (sym (ap (is_pointed_kind b) (kind_at p u (shape.Func s) e)) ∙ h))
 
   -- ---- the null of a type
 

@@ -6,11 +6,9 @@ use Rattle.cc_num.specs.Integers.{is_value_of}
 use Rattle.cc_program.specs.declared.expr.Expr.{Expr, Const, Conv, out-Expr, roll-out-Expr, map-Expr}
 use Rattle.cc_program.specs.declared.expr.Expr.TheOpen as one
 use Rattle.cc_program.specs.declared.expr.Place.{Place}
-use Rattle.cc_program.specs.declared.program.Program.{Program}
 use Rattle.cc_operands.specs.Operands.{Operand, operand, integer, constant_at, constancy, folded, cast_to, converted_by, converted_to, is_nothing, is_void_value, with_value, no_structure}
 use Rattle.cc_operands.specs.Verdicts.{Judged, must}
 use Rattle.cc_operands.specs.declared.rule.Rule.{Rule}
-use Rattle.cc_syntax.specs.Expressions.{expr_step, type_of, place_type}
 use Rattle.cc_syntax.specs.Folding.{Constant, NoConstant, Value, Traps, converted_constant}
 use Rattle.cc_syntax.specs.Operators.{when}
 use Rattle.cc_syntax.specs.SameTypes.{same_int}
@@ -21,6 +19,7 @@ use Rattle.cc_operand_types.proofs.Agreement.{integer_agrees}
 use Rattle.cc_operand_types.proofs.Constants.{Fits, converted_fits}
 use Rattle.cc_operand_types.proofs.Rolls.{expr-roll, type-Const, type-Conv}
 use Rattle.cc_syntax.proofs.SameLemmas.{int_same}
+use Rattle.cc_operand_types.specs.Views.{View, expr_step, type_of, place_type}
 
 -- ---- verdicts
 
@@ -53,7 +52,7 @@ folded_type t NoConstant e = refl
 folded_type t (Value n) e = refl
 folded_type t Traps e = refl
 
-module _ (p : Program) (locals : List Named) where
+module _ (p : View) (locals : List Named) where
   -- ---- what follows
 
   pub value_of : (x : Operand) → IsTypedOperand p locals x → is_nothing x.type ≡ false → HasType p locals x.value x.type

@@ -5,7 +5,6 @@ use Rattle.std.proofs.lemmas.Option.{same_Some}
 use Rattle.cc_num.specs.declared.int_type.IntType.TheVariants as int
 use Rattle.cc_program.specs.declared.expr.Expr.{Expr, Const, Load, AddrOf, FuncAddr, Move}
 use Rattle.cc_program.specs.declared.expr.Place.{Place, Element, Member, Deref}
-use Rattle.cc_program.specs.declared.program.Program.{Program}
 use Rattle.cc_program.specs.declared.types.CType.{CType}
 use Rattle.cc_program.specs.declared.types.Shape.{Shape, out-Shape}
 use Rattle.cc_program.specs.declared.types.Shape.TheOpen as shape
@@ -16,7 +15,6 @@ use Rattle.cc_operands.specs.declared.rule.Rule.{Rule}
 use Rattle.cc_operands.specs.declared.rule.Rule.TheVariants as rule
 use Rattle.cc_designators.specs.Designators.{TypedExpr, IsPlace, IsValue, IsFunction, IsIntrinsic, IsAddress, first_element, loaded, value_at}
 use Rattle.cc_designators.specs.Postfix.{element_by, pointed_by, subscripted, element, position_of, member_by, member_at, dot, arrow_to, arrow, address_at, address, pointed_at, indirection}
-use Rattle.cc_syntax.specs.Expressions.{type_of}
 use Rattle.cc_syntax.specs.Operators.{when, is_integer, points_to_object}
 use Rattle.cc_syntax.specs.Types.{Named}
 use Rattle.cc_syntax.specs.Values.{ValueType, NoValue, Integer, ToObject, ToFunction, PlaceType, DevicePlace, ObjectPlace, FunctionPlace, pointer_to, scalar_shape, address_of, pointed_to, element_shape, element_of, member_of}
@@ -29,6 +27,7 @@ use Rattle.cc_operand_types.proofs.Operands.{ok_is, must_ok, value_ok, value_of,
 use Rattle.cc_operand_types.proofs.Pointers.{integer_there, object_there, move_typed}
 use Rattle.cc_operand_types.proofs.Rolls.{type-Const, type-Load, type-AddrOf, place-Element, place-Member, place-Deref}
 use Rattle.cc_operand_types.proofs.Standing.{pointer_stands, pointed_stands, address_stands, elements_stand, members_stand}
+use Rattle.cc_operand_types.specs.Views.{View, type_of}
 
 address_there : (t : PlaceType) (r : ValueType) → address_of t ≡ Some r → is_nothing r ≡ false
 address_there (DevicePlace c i) r h = absurd (cc)
@@ -47,7 +46,7 @@ broken A rule = Err rule
 err_not : (A : Type 0) (rule : Rule) (r : A) → broken A rule ≡ Ok r → ⊥
 err_not A rule r h = absurd (cc)
 
-module _ (p : Program) (locals : List Named) where
+module _ (p : View) (locals : List Named) where
   abbrev Typed : Operand → Type 0
   Typed x = IsTypedOperand p locals x
 

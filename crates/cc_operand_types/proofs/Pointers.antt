@@ -9,7 +9,6 @@ use Rattle.cc_num.specs.declared.op.BinOp.{BinOp}
 use Rattle.cc_num.specs.declared.op.BinOp.TheVariants as op
 use Rattle.cc_num.specs.declared.op.UnOp.TheVariants as unary
 use Rattle.cc_program.specs.declared.expr.Expr.{Expr, Move, Gap, Compare, Both, Either}
-use Rattle.cc_program.specs.declared.program.Program.{Program}
 use Rattle.cc_program.specs.declared.types.Structure.{Structure}
 use Rattle.cc_operands.specs.Arithmetic.{truth, is_equality, both, either, scalars, is_null_beside, pointers_compared, moved, sum_by, gap, difference_by, compared_by, binary_by, binary_of}
 use Rattle.cc_operands.specs.Operands.{Operand, operand, constancy, is_pointer, is_nothing, is_null_constant, null_of, against_null}
@@ -35,6 +34,7 @@ use Rattle.cc_operand_types.proofs.Nulls.{null_typed}
 use Rattle.cc_operand_types.proofs.Operands.{ok_is, must_ok, value_ok, value_of, as_operand, integer_operand, as_folded}
 use Rattle.cc_operand_types.proofs.Rolls.{type-Move, type-Gap, type-Compare, type-Both, type-Either}
 use Rattle.cc_syntax.proofs.SameLemmas.{sig_compared}
+use Rattle.cc_operand_types.specs.Views.{View}
 
 -- ---- what has a value
 
@@ -128,7 +128,7 @@ compares m.AndAnd o h = subst Compares (some_same operator.Both o h) tt
 compares m.OrOr o h = subst Compares (some_same operator.Either o h) tt
 compares mark o h = absurd (cc)
 
-module _ (p : Program) (locals : List Named) where
+module _ (p : View) (locals : List Named) where
   abbrev Typed : Operand → Type 0
   Typed x = IsTypedOperand p locals x
 

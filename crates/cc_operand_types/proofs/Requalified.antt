@@ -3,7 +3,6 @@ use Rattle.std.proofs.Common.{◌≡◌, ℕ, ◌*◌, Bool, true, false, ◌&&�
 use Rattle.std.specs.Prelude.{nat_le, nat_lt, slice_get, if◌then◌else◌}
 use Rattle.std.proofs.lemmas.Option.{same_Some}
 use Rattle.cc_program.specs.Qualifiers.{of_element, is_const, is_volatile}
-use Rattle.cc_program.specs.declared.program.Program.{Program}
 use Rattle.cc_program.specs.declared.types.CType.{CType, fold-CType, fold_out-CType}
 use Rattle.cc_program.specs.declared.types.Shape.{Shape, Array, fold-Shape, fold_out-Shape, map-Shape, out-Shape, roll-Shape, out-roll-Shape}
 use Rattle.cc_program.specs.declared.types.Shape.TheVariants.{outs-Array}
@@ -12,13 +11,13 @@ use Rattle.cc_program.specs.declared.types.Sig.{Sig, fold-Sig}
 use Rattle.cc_program.proofs.QualifierLemmas.{const-opens, volatile-opens, parts_const, parts_volatile}
 use Rattle.cc_program.proofs.TypeInduction.{with_shape, TypeParts, by_type}
 use Rattle.cc_operands.specs.Qualified.{ShapeChange, shape_change, type_change, at_element, with_shape as changed_shape, instead, qualified_as}
-use Rattle.cc_syntax.specs.Kinds.{Kind, IsVoid, IsScalar, IsStructure, IsArray, IsIncomplete, IsFunction, bytes_in, is_small, array_kind, pointer_kind, with_qualifiers, is_plain_scalar, shape_kind, qualified_kind, kind_in, is_sig}
-use Rattle.cc_syntax.specs.Types.{has_members}
+use Rattle.cc_syntax.specs.Kinds.{Kind, IsVoid, IsScalar, IsStructure, IsArray, IsIncomplete, IsFunction, bytes_in, is_small, array_kind, pointer_kind, with_qualifiers, is_plain_scalar}
 use Rattle.cc_syntax.specs.Values.{is_void}
 use Rattle.cc_syntax.specs.SameTypes.{is_void_shape}
-use Rattle.cc_syntax.proofs.KindRolls.{parts_kind, kind-opens}
+use Rattle.cc_operand_types.proofs.KindRolls.{parts_kind, kind-opens}
 use Rattle.cc_operand_types.specs.Typed.{is_pointed_kind}
 use Rattle.cc_syntax.proofs.SameLemmas.{Alike, SameShape, Arrays}
+use Rattle.cc_operand_types.specs.Views.{extent_kind, View, shape_kind, qualified_kind, kind_in, is_sig}
 
 or_false : (b : Bool) → (b || false) ≡ b
 or_false true = refl
@@ -27,7 +26,7 @@ or_false false = refl
 -- ---- a type with other qualifiers, opened
 
 module _ (change : CType → CType) where
-  abbrev parts : shape.Shape-F Shape CType Sig → shape.Shape-F ShapeChange (CType → CType) (Unit {0})
+  abbrev pub parts : shape.Shape-F Shape CType Sig → shape.Shape-F ShapeChange (CType → CType) (Unit {0})
   parts x = map-Shape Shape CType Sig ShapeChange (CType → CType) (Unit {0}) (fold-Shape ShapeChange (CType → CType) (Unit {0}) (shape_change change) (type_change change) (λ s. tt))
       (fold-CType ShapeChange (CType → CType) (Unit {0}) (shape_change change) (type_change change) (λ s. tt)) (fold-Sig ShapeChange (CType → CType) (Unit {0}) (shape_change change) (type_change change) (λ s. tt)) x
 
@@ -38,7 +37,7 @@ module _ (change : CType → CType) where
       ∙ ap (λ (f : ShapeChange). type_change change (record { constant = t.constant; volatile = t.volatile; shape = f }) t)
       (fold_out-Shape ShapeChange (CType → CType) (Unit {0}) (shape_change change) (type_change change) (λ s. tt) t.shape)
 
-  opens_as : (t : CType) (x : shape.Shape-F Shape CType Sig) → out-Shape t.shape ≡ x → at_element change t ≡ changed_shape change t (shape_change change (parts x) x)
+  pub opens_as : (t : CType) (x : shape.Shape-F Shape CType Sig) → out-Shape t.shape ≡ x → at_element change t ≡ changed_shape change t (shape_change change (parts x) x)
   opens_as t x e = element-opens t ∙ ap (λ y. changed_shape change t (shape_change change (parts y) y)) e
 
 abbrev is_array : shape.Shape-F Shape CType Sig → Bool
@@ -82,23 +81,23 @@ requalified_by q q' IsIncomplete k a h g = (IsIncomplete, refl, ap bytes_in (sam
 requalified_by true q' IsFunction k a h g = absurd (cc)
 requalified_by false q' IsFunction k a h g = let c : false ≡ true = ap (λ (z : Kind). is_pointed_kind true (Some z)) (same_Some IsFunction k h) ∙ g in absurd (cc)
 
-module _ (p : Program) where
+module _ (p : View) where
   abbrev pub kind : CType → Option Kind
   kind t = kind_in p t
 
   abbrev pub shaped : shape.Shape-F Shape CType Sig → Option Kind
-  shaped x = shape_kind p.structures (length p.structures) p.target (parts_kind p.structures (length p.structures) p.target x)
+  shaped x = shape_kind p.target p.extents (parts_kind p.target p.extents x)
 
   abbrev pub qualified : Bool → Option Kind → Option Kind
-  qualified q s = qualified_kind p.structures (length p.structures) p.target q s
+  qualified q s = qualified_kind q s
 
   pub kind_at : (t : CType) (x : shape.Shape-F Shape CType Sig) → out-Shape t.shape ≡ x → kind t ≡ qualified (t.constant || t.volatile) (shaped x)
-  kind_at t x e = kind-opens p.structures (length p.structures) p.target t ∙ ap (λ y. qualified (t.constant || t.volatile) (shaped y)) e
+  kind_at t x e = kind-opens p.target p.extents t ∙ ap (λ y. qualified (t.constant || t.volatile) (shaped y)) e
 
-  struct_no_array : (a b : Bool) (n : ℕ) → is_array_kind (if a then Some (IsStructure n) else (if b then Some IsIncomplete else None)) ≡ false
-  struct_no_array true b n = refl
-  struct_no_array false true n = refl
-  struct_no_array false false n = refl
+  struct_no_array : (x : Option (Option ℕ)) → is_array_kind (extent_kind x) ≡ false
+  struct_no_array None = refl
+  struct_no_array (Some None) = refl
+  struct_no_array (Some (Some n)) = refl
 
   pointer_no_array : (n : ℕ) (k : Kind) → is_array_kind (pointer_kind n k) ≡ false
   pointer_no_array n IsVoid = refl
@@ -108,11 +107,11 @@ module _ (p : Program) where
   pointer_no_array n IsIncomplete = refl
   pointer_no_array n IsFunction = refl
 
-  pointed_no_array : (to : Option Kind) → is_array_kind (shape_kind p.structures (length p.structures) p.target (shape.Pointer to)) ≡ false
+  pointed_no_array : (to : Option Kind) → is_array_kind (shape_kind p.target p.extents (shape.Pointer to)) ≡ false
   pointed_no_array None = refl
   pointed_no_array (Some k) = pointer_no_array p.target.pointer_bytes k
 
-  func_no_array : (good : Bool) → is_array_kind (shape_kind p.structures (length p.structures) p.target (shape.Func good)) ≡ false
+  func_no_array : (good : Bool) → is_array_kind (shape_kind p.target p.extents (shape.Func good)) ≡ false
   func_no_array true = refl
   func_no_array false = refl
 
@@ -120,8 +119,8 @@ module _ (p : Program) where
   simple_kind shape.Void h = refl
   simple_kind (shape.Int t) h = refl
   simple_kind (shape.Pointer to) h = pointed_no_array (kind to)
-  simple_kind (shape.Struct i) h = struct_no_array (has_members (slice_get p.structures i)) (nat_lt i (length p.structures)) _
-  simple_kind (shape.Func s) h = func_no_array (is_sig p.structures (length p.structures) p.target s)
+  simple_kind (shape.Struct i) h = struct_no_array (p.extents i)
+  simple_kind (shape.Func s) h = func_no_array (is_sig p.target p.extents s)
   simple_kind (shape.Array of n) h = absurd (cc)
 
   pub any_pointed : (b : Bool) (k : Option Kind) → is_pointed_kind false k ≡ true → is_pointed_kind b k ≡ true
@@ -172,7 +171,7 @@ module _ (p : Program) where
   -- ---- arrays
 
   abbrev pub arrayed : ℕ → Option Kind → Option Kind
-  arrayed n of = shape_kind p.structures (length p.structures) p.target (shape.Array of n)
+  arrayed n of = shape_kind p.target p.extents (shape.Array of n)
 
   unqualified_by : (q : Bool) (b : Bool) (m : ℕ) (k : Kind) → qualified q (if b then Some (IsArray m) else None) ≡ Some k → q ≡ false
   unqualified_by false b m k h = refl
@@ -265,10 +264,10 @@ module _ (p : Program) where
   void_by true k (Some IsFunction) h = absurd (cc)
   void_by false k (Some IsFunction) h = absurd (cc)
 
-  struct_no_void : (a b : Bool) (n : ℕ) → (if a then Some (IsStructure n) else (if b then Some IsIncomplete else None)) ≡ Some IsVoid → ⊥
-  struct_no_void true b n h = absurd (cc)
-  struct_no_void false true n h = absurd (cc)
-  struct_no_void false false n h = absurd (cc)
+  struct_no_void : (x : Option (Option ℕ)) → extent_kind x ≡ Some IsVoid → ⊥
+  struct_no_void None h = absurd (cc)
+  struct_no_void (Some None) h = absurd (cc)
+  struct_no_void (Some (Some n)) h = absurd (cc)
 
   pointer_no_void : (n : ℕ) (k : Kind) → pointer_kind n k ≡ Some IsVoid → ⊥
   pointer_no_void n IsVoid h = absurd (cc)
@@ -278,11 +277,11 @@ module _ (p : Program) where
   pointer_no_void n IsIncomplete h = absurd (cc)
   pointer_no_void n IsFunction h = absurd (cc)
 
-  pointed_no_void : (to : Option Kind) → shape_kind p.structures (length p.structures) p.target (shape.Pointer to) ≡ Some IsVoid → ⊥
+  pointed_no_void : (to : Option Kind) → shape_kind p.target p.extents (shape.Pointer to) ≡ Some IsVoid → ⊥
   pointed_no_void None h = absurd (cc)
   pointed_no_void (Some k) h = pointer_no_void p.target.pointer_bytes k h
 
-  func_no_void : (good : Bool) → shape_kind p.structures (length p.structures) p.target (shape.Func good) ≡ Some IsVoid → ⊥
+  func_no_void : (good : Bool) → shape_kind p.target p.extents (shape.Func good) ≡ Some IsVoid → ⊥
   func_no_void true h = absurd (cc)
   func_no_void false h = absurd (cc)
 
@@ -303,8 +302,8 @@ module _ (p : Program) where
   void_shape (shape.Int t) h = absurd (cc)
   void_shape (shape.Pointer to) h = absurd (pointed_no_void (kind to) h)
   void_shape (shape.Array of n) h = absurd (array_no_void n (kind of) h)
-  void_shape (shape.Struct i) h = absurd (struct_no_void (has_members (slice_get p.structures i)) (nat_lt i (length p.structures)) _ h)
-  void_shape (shape.Func s) h = absurd (func_no_void (is_sig p.structures (length p.structures) p.target s) h)
+  void_shape (shape.Struct i) h = absurd (struct_no_void (p.extents i) h)
+  void_shape (shape.Func s) h = absurd (func_no_void (is_sig p.target p.extents s) h)
 
   pub void_kind : (t : CType) → kind t ≡ Some IsVoid → is_void t ≡ true
   void_kind t h = ap is_void_shape (void_shape (out-Shape t.shape) (void_by (t.constant || t.volatile) IsVoid (shaped (out-Shape t.shape)) (sym (kind_at t (out-Shape t.shape) refl) ∙ h)))
@@ -324,7 +323,7 @@ module _ (p : Program) where
 
   -- ---- pointers to what may be pointed to
 
-  pointer_by : (k : Kind) → is_pointed_kind false (Some k) ≡ true → is_plain_scalar (qualified false (shape_kind p.structures (length p.structures) p.target (shape.Pointer (Some k)))) ≡ true
+  pointer_by : (k : Kind) → is_pointed_kind false (Some k) ≡ true → is_plain_scalar (qualified false (shape_kind p.target p.extents (shape.Pointer (Some k)))) ≡ true
   pointer_by IsVoid h = absurd (cc)
   pointer_by (IsScalar q n) h = refl
   pointer_by (IsStructure n) h = refl
@@ -332,11 +331,11 @@ module _ (p : Program) where
   pointer_by IsIncomplete h = refl
   pointer_by IsFunction h = absurd (cc)
 
-  pub pointer_plain : (k : Option Kind) → is_pointed_kind false k ≡ true → is_plain_scalar (qualified false (shape_kind p.structures (length p.structures) p.target (shape.Pointer k))) ≡ true
+  pub pointer_plain : (k : Option Kind) → is_pointed_kind false k ≡ true → is_plain_scalar (qualified false (shape_kind p.target p.extents (shape.Pointer k))) ≡ true
   pointer_plain None h = absurd (cc)
   pointer_plain (Some k) h = pointer_by k h
 
-  pub function_plain : (k : Option Kind) (s : Sig) → k ≡ qualified false (shaped (shape.Func s)) → is_sig p.structures (length p.structures) p.target s ≡ true → is_plain_scalar (qualified false (shape_kind p.structures (length p.structures) p.target (shape.Pointer k))) ≡ true
+  pub function_plain : (k : Option Kind) (s : Sig) → k ≡ qualified false (shaped (shape.Func s)) → is_sig p.target p.extents s ≡ true → is_plain_scalar (qualified false (shape_kind p.target p.extents (shape.Pointer k))) ≡ true
   function_plain k s e h =
-      ap (λ (z : Option Kind). is_plain_scalar (qualified false (shape_kind p.structures (length p.structures) p.target (shape.Pointer z))))
-      (e ∙ ap (λ (b : Bool). qualified false (shape_kind p.structures (length p.structures) p.target (shape.Func b))) h)
+      ap (λ (z : Option Kind). is_plain_scalar (qualified false (shape_kind p.target p.extents (shape.Pointer z))))
+      (e ∙ ap (λ (b : Bool). qualified false (shape_kind p.target p.extents (shape.Func b))) h)

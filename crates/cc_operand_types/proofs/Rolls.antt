@@ -8,12 +8,12 @@ use Rattle.cc_program.specs.declared.expr.Expr.TheOpen as one
 use Rattle.cc_program.specs.declared.expr.Expr.TheVariants.{rolls-Const, rolls-Null, rolls-Load, rolls-AddrOf, rolls-Un, rolls-Bin, rolls-Conv, rolls-Qualify, rolls-Move, rolls-Gap, rolls-Compare, rolls-Both, rolls-Either, rolls-Choose, rolls-Assign, rolls-Change, rolls-After, rolls-Call, rolls-Seq}
 use Rattle.cc_program.specs.declared.expr.Place.{Place, Element, Member, Deref, roll-Place, map-Place, fold-roll-Place}
 use Rattle.cc_program.specs.declared.expr.Place.TheVariants.{rolls-Element, rolls-Member, rolls-Deref}
-use Rattle.cc_program.specs.declared.program.Program.{Program}
 use Rattle.cc_program.specs.declared.types.CType.{CType}
-use Rattle.cc_syntax.specs.Expressions.{of_one, of_two, expr_step, place_step, type_of, place_type}
-use Rattle.cc_syntax.specs.Operators.{constant_type, null_type, unary_type, binary_type, conversion_type, qualified_type, moved_type, gap_type, comparison_type, logical_type, choice_type, assignment_type, change_type, after_type, call_type, subscript_type}
+use Rattle.cc_syntax.specs.Expressions.{of_one, of_two}
+use Rattle.cc_syntax.specs.Operators.{constant_type, unary_type, binary_type, conversion_type, moved_type, gap_type, comparison_type, logical_type, choice_type, assignment_type, change_type, after_type, call_type, subscript_type}
 use Rattle.cc_syntax.specs.Types.{Named}
 use Rattle.cc_syntax.specs.Values.{ValueType, PlaceType, read_from, written_to, address_of, pointed_to, member_of}
+use Rattle.cc_operand_types.specs.Views.{View, expr_step, place_step, type_of, place_type, null_type, qualified_type}
 
 pub one_there : {A B : Type 0} (a : Option A) (f : A → Option B) (x : A) (r : Option B) → a ≡ Some x → f x ≡ r → of_one a f ≡ r
 one_there a f x r h e = rw h e
@@ -21,7 +21,7 @@ one_there a f x r h e = rw h e
 pub two_there : {A B C : Type 0} (a : Option A) (b : Option B) (f : A → B → Option C) (x : A) (y : B) (r : Option C) → a ≡ Some x → b ≡ Some y → f x y ≡ r → of_two a b f ≡ r
 two_there a b f x y r h k e = rw (h, k) e
 
-module _ (p : Program) (locals : List Named) where
+module _ (p : View) (locals : List Named) where
   abbrev type : Expr → Option ValueType
   type e = type_of p locals e
 

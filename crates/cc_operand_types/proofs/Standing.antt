@@ -4,20 +4,20 @@ use Rattle.std.specs.Prelude.{nat_le, nat_lt, slice_get, if◌then◌else◌}
 use Rattle.std.specs.List.{list_all}
 use Rattle.std.proofs.lemmas.Option.{same_Some}
 use Rattle.cc_program.specs.Qualifiers.{is_const, is_volatile}
-use Rattle.cc_program.specs.declared.program.Program.{Program}
 use Rattle.cc_program.specs.declared.types.CType.{CType}
 use Rattle.cc_program.specs.declared.types.Shape.{Shape, out-Shape}
 use Rattle.cc_program.specs.declared.types.Shape.TheOpen as shape
 use Rattle.cc_program.specs.declared.types.Sig.{Sig, out-Sig, fold_out-Sig}
 use Rattle.cc_program.specs.declared.types.Structure.{Structure}
-use Rattle.cc_syntax.specs.Kinds.{Kind, IsVoid, IsScalar, IsStructure, IsArray, IsIncomplete, IsFunction, bytes_in, is_small, array_kind, pointer_kind, is_result, is_plain_scalar, is_object_type, shape_kind, type_kind, is_signature, kind_of, kind_in, is_sig}
+use Rattle.cc_syntax.specs.Kinds.{Kind, IsVoid, IsScalar, IsStructure, IsArray, IsIncomplete, IsFunction, bytes_in, is_small, array_kind, pointer_kind, is_result, is_plain_scalar, is_object_type}
 use Rattle.cc_syntax.specs.SameTypes.{is_void_shape}
-use Rattle.cc_syntax.specs.Types.{Named, has_members}
+use Rattle.cc_syntax.specs.Types.{Named}
 use Rattle.cc_syntax.specs.Values.{ValueType, NoValue, Integer, ToObject, ToFunction, PlaceType, DevicePlace, ObjectPlace, FunctionPlace, pointer_shape, pointer_to, scalar_shape, scalar_value, result_value, is_void, written_to, pointed_to, element_shape, element_of, member_at, member_in, member_shape, member_of, address_of}
 use Rattle.cc_syntax.proofs.Prefixes.{both_true}
 use Rattle.cc_operand_types.specs.Typed.{is_pointed_kind, stands, place_stands, MembersStand}
 use Rattle.cc_operand_types.proofs.Nulls.{is_func, to_object}
 use Rattle.cc_operand_types.proofs.Requalified.{kind_at, shaped, qualified, arrayed, there, not_void, any_pointed, element_kind}
+use Rattle.cc_operand_types.specs.Views.{extent_kind, View, shape_kind, type_kind, is_signature, kind_of, kind_in, is_sig}
 
 -- an object's type may be pointed to
 pub object_type : (o : Option Kind) → is_object_type o ≡ true → is_pointed_kind false o ≡ true
@@ -29,7 +29,7 @@ object_type (Some (IsArray n)) h = refl
 object_type (Some IsIncomplete) h = absurd (cc)
 object_type (Some IsFunction) h = absurd (cc)
 
-module _ (p : Program) where
+module _ (p : View) where
   -- ---- elements
 
   element_by : (q : Bool) (n : ℕ) (e : Option Kind) (k : Kind) → qualified p q (arrayed p n e) ≡ Some k → is_pointed_kind false e ≡ true
@@ -43,10 +43,10 @@ module _ (p : Program) where
 
   -- ---- what is pointed to
 
-  struct_no_function : (a b : Bool) (n : ℕ) → (if a then Some (IsStructure n) else (if b then Some IsIncomplete else None)) ≡ Some IsFunction → ⊥
-  struct_no_function true b n h = absurd (cc)
-  struct_no_function false true n h = absurd (cc)
-  struct_no_function false false n h = absurd (cc)
+  struct_no_function : (x : Option (Option ℕ)) → extent_kind x ≡ Some IsFunction → ⊥
+  struct_no_function None h = absurd (cc)
+  struct_no_function (Some None) h = absurd (cc)
+  struct_no_function (Some (Some n)) h = absurd (cc)
 
   pointer_no_function : (n : ℕ) (k : Kind) → pointer_kind n k ≡ Some IsFunction → ⊥
   pointer_no_function n IsVoid h = absurd (cc)
@@ -56,7 +56,7 @@ module _ (p : Program) where
   pointer_no_function n IsIncomplete h = absurd (cc)
   pointer_no_function n IsFunction h = absurd (cc)
 
-  pointed_no_function : (to : Option Kind) → shape_kind p.structures (length p.structures) p.target (shape.Pointer to) ≡ Some IsFunction → ⊥
+  pointed_no_function : (to : Option Kind) → shape_kind p.target p.extents (shape.Pointer to) ≡ Some IsFunction → ⊥
   pointed_no_function None h = absurd (cc)
   pointed_no_function (Some k) h = pointer_no_function p.target.pointer_bytes k h
 
@@ -77,7 +77,7 @@ module _ (p : Program) where
   function_shape (shape.Int t) h = absurd (cc)
   function_shape (shape.Pointer to) h = absurd (pointed_no_function (kind_in p to) h)
   function_shape (shape.Array of n) h = absurd (array_no_function n (kind_in p of) h)
-  function_shape (shape.Struct i) h = absurd (struct_no_function (has_members (slice_get p.structures i)) (nat_lt i (length p.structures)) _ h)
+  function_shape (shape.Struct i) h = absurd (struct_no_function (p.extents i) h)
   function_shape (shape.Func s) h = refl
 
   function_by : (q : Bool) (s : Option Kind) → qualified p q s ≡ Some IsFunction → s ≡ Some IsFunction
@@ -105,10 +105,10 @@ module _ (p : Program) where
   pointer_by q None r h = absurd (cc)
   pointer_by q (Some z) r h = (z, refl)
 
-  pointer_some : (q : Bool) (k : Kind) (r : Kind) → qualified p q (shape_kind p.structures (length p.structures) p.target (shape.Pointer (Some k))) ≡ Some r → (z : Kind) × (pointer_kind p.target.pointer_bytes k ≡ Some z)
+  pointer_some : (q : Bool) (k : Kind) (r : Kind) → qualified p q (shape_kind p.target p.extents (shape.Pointer (Some k))) ≡ Some r → (z : Kind) × (pointer_kind p.target.pointer_bytes k ≡ Some z)
   pointer_some q k r h = pointer_by q (pointer_kind p.target.pointer_bytes k) r h
 
-  sig_by : (q good : Bool) (k : Kind) → qualified p q (shape_kind p.structures (length p.structures) p.target (shape.Func good)) ≡ Some k → good ≡ true
+  sig_by : (q good : Bool) (k : Kind) → qualified p q (shape_kind p.target p.extents (shape.Func good)) ≡ Some k → good ≡ true
   sig_by q true k h = refl
   sig_by q false k h = absurd (cc)
 
@@ -118,14 +118,14 @@ module _ (p : Program) where
       ∙ object_pointed (not (is_const to || is_volatile to)) p.target.pointer_bytes k z (is_func x) g (λ d. ap is_func (sym e) ∙ function_kind to (h ∙ ap (λ (y : Kind). Some y) d)) i
 
   pointer_at : (to : CType) (x : shape.Shape-F Shape CType Sig) (k z : Kind) → out-Shape to.shape ≡ x → kind_in p to ≡ Some k → pointer_kind p.target.pointer_bytes k ≡ Some z → stands p (pointer_shape to x) ≡ true
-  pointer_at to (shape.Func s) k z e h g = sig_by (to.constant || to.volatile) (is_sig p.structures (length p.structures) p.target s) k (sym (kind_at p to (shape.Func s) e) ∙ h)
+  pointer_at to (shape.Func s) k z e h g = sig_by (to.constant || to.volatile) (is_sig p.target p.extents s) k (sym (kind_at p to (shape.Func s) e) ∙ h)
   pointer_at to shape.Void k z e h g = pointer_object to shape.Void k z e h g refl
   pointer_at to (shape.Int i) k z e h g = pointer_object to (shape.Int i) k z e h g refl
   pointer_at to (shape.Pointer t) k z e h g = pointer_object to (shape.Pointer t) k z e h g refl
   pointer_at to (shape.Array of n) k z e h g = pointer_object to (shape.Array of n) k z e h g refl
   pointer_at to (shape.Struct i) k z e h g = pointer_object to (shape.Struct i) k z e h g refl
 
-  pointer_from : (to : CType) (q : Bool) (o : Option Kind) (r : Kind) → kind_in p to ≡ o → qualified p q (shape_kind p.structures (length p.structures) p.target (shape.Pointer o)) ≡ Some r → stands p (pointer_to to) ≡ true
+  pointer_from : (to : CType) (q : Bool) (o : Option Kind) (r : Kind) → kind_in p to ≡ o → qualified p q (shape_kind p.target p.extents (shape.Pointer o)) ≡ Some r → stands p (pointer_to to) ≡ true
   pointer_from to q None r e h = absurd (cc)
   pointer_from to q (Some k) r e h =
       let z = pointer_some q k r h in
@@ -164,9 +164,9 @@ module _ (p : Program) where
 
   -- ---- functions
 
-  pub sig-opens : (s : Sig) → is_sig p.structures (length p.structures) p.target s ≡ (is_result (kind_in p (out-Sig s).result) && list_all is_plain_scalar (map (kind_of p.structures (length p.structures) p.target) (out-Sig s).params))
+  pub sig-opens : (s : Sig) → is_sig p.target p.extents s ≡ (is_result (kind_in p (out-Sig s).result) && list_all is_plain_scalar (map (kind_of p.target p.extents) (out-Sig s).params))
   unfolding is_sig kind_of
-  sig-opens s = fold_out-Sig (Option Kind) (Option Kind) Bool (shape_kind p.structures (length p.structures) p.target) (type_kind p.structures (length p.structures) p.target) (is_signature p.structures (length p.structures) p.target) s
+  sig-opens s = fold_out-Sig (Option Kind) (Option Kind) Bool (shape_kind p.target p.extents) type_kind is_signature s
 
   result_pointed : (o : Option Kind) → is_result o ≡ true → is_pointed_kind true o ≡ true
   result_pointed None h = absurd (cc)
@@ -181,13 +181,13 @@ module _ (p : Program) where
   result_by true t r h k = ap (stands p) (sym (same_Some NoValue r k))
   result_by false t r h k = scalar_stands true t r (result_pointed (kind_in p t) h) k
 
-  pub result_stands : (s : Sig) (r : ValueType) → is_sig p.structures (length p.structures) p.target s ≡ true → result_value (out-Sig s).result ≡ Some r → stands p r ≡ true
+  pub result_stands : (s : Sig) (r : ValueType) → is_sig p.target p.extents s ≡ true → result_value (out-Sig s).result ≡ Some r → stands p r ≡ true
   result_stands s r h k =
       result_by (is_void_shape (out-Shape (out-Sig s).result.shape)) (out-Sig s).result r
-      (both_true (is_result (kind_in p (out-Sig s).result)) (list_all is_plain_scalar (map (kind_of p.structures (length p.structures) p.target) (out-Sig s).params)) (sym (sig-opens s) ∙ h)).0 k
+      (both_true (is_result (kind_in p (out-Sig s).result)) (list_all is_plain_scalar (map (kind_of p.target p.extents) (out-Sig s).params)) (sym (sig-opens s) ∙ h)).0 k
 
-  pub params_stand : (s : Sig) → is_sig p.structures (length p.structures) p.target s ≡ true → list_all is_plain_scalar (map (kind_of p.structures (length p.structures) p.target) (out-Sig s).params) ≡ true
-  params_stand s h = (both_true (is_result (kind_in p (out-Sig s).result)) (list_all is_plain_scalar (map (kind_of p.structures (length p.structures) p.target) (out-Sig s).params)) (sym (sig-opens s) ∙ h)).1
+  pub params_stand : (s : Sig) → is_sig p.target p.extents s ≡ true → list_all is_plain_scalar (map (kind_of p.target p.extents) (out-Sig s).params) ≡ true
+  params_stand s h = (both_true (is_result (kind_in p (out-Sig s).result)) (list_all is_plain_scalar (map (kind_of p.target p.extents) (out-Sig s).params)) (sym (sig-opens s) ∙ h)).1
 
   pub plain_pointed : (o : Option Kind) → is_plain_scalar o ≡ true → is_pointed_kind true o ≡ true
   plain_pointed None h = absurd (cc)

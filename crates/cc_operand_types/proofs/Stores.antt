@@ -13,7 +13,6 @@ use Rattle.cc_num.specs.Promotions.{promoted, usual_of}
 use Rattle.cc_num.specs.Results.{is_shift}
 use Rattle.cc_program.specs.declared.expr.Expr.{Expr, Assign, Change, After}
 use Rattle.cc_program.specs.declared.expr.Place.{Place}
-use Rattle.cc_program.specs.declared.program.Program.{Program}
 use Rattle.cc_program.specs.declared.types.CType.{CType}
 use Rattle.cc_program.specs.declared.types.Shape.{Shape, out-Shape}
 use Rattle.cc_program.specs.declared.types.Shape.TheOpen as shape
@@ -26,7 +25,6 @@ use Rattle.cc_operands.specs.Verdicts.{Judged, must, judge_then}
 use Rattle.cc_operands.specs.declared.rule.Rule.TheVariants as rule
 use Rattle.cc_designators.specs.Assignments.{assign_to, change_of, assign_by, assign_of, one, stepped_before, stepped_after}
 use Rattle.cc_designators.specs.Designators.{TypedExpr, IsPlace, IsValue, IsFunction, IsIntrinsic, IsAddress}
-use Rattle.cc_syntax.specs.Expressions.{type_of}
 use Rattle.cc_syntax.specs.Operators.{is_comparison, is_additive, is_integer, is_promoted, changes_by, points_to_object}
 use Rattle.cc_syntax.specs.SameTypes.{same_int}
 use Rattle.cc_syntax.specs.Types.{Named, is_complete}
@@ -43,6 +41,7 @@ use Rattle.cc_operand_types.proofs.Rolls.{type-Assign, type-Change, type-After}
 use Rattle.cc_syntax.proofs.SameLemmas.{int_same, int_itself, and_true}
 use Rattle.cc_operand_types.proofs.Standing.{written_stands}
 use Rattle.cc_operand_types.proofs.Usual.{usual_again}
+use Rattle.cc_operand_types.specs.Views.{View, type_of}
 
 pub then_ok : {A B : Type 0} (j : Judged A) (next : A → Judged B) (r : B) → judge_then j next ≡ Ok r → (x : A) × (j ≡ Ok x) × (next x ≡ Ok r)
 then_ok (Ok x) next r h = (x, refl, h)
@@ -117,7 +116,7 @@ changes_as false s j c =
     and_true (same_int (usual_of s (usual_of s j c) c) (usual_of s j c)) (same_int (usual_of s j c) (usual_of s j c))
     (ap (λ (t : IntType). same_int t (usual_of s j c)) (usual_again s j c) ∙ int_itself (usual_of s j c)) (int_itself (usual_of s j c))
 
-module _ (p : Program) (locals : List Named) where
+module _ (p : View) (locals : List Named) where
   abbrev Typed : Operand → Type 0
   Typed x = IsTypedOperand p locals x
 

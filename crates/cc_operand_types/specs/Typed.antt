@@ -4,17 +4,15 @@ use Rattle.cc_operands.specs.Operands.{Operand, is_nothing, structure_at}
 use Rattle.cc_designators.specs.Designators.{TypedExpr, IsPlace, IsValue, IsFunction, IsIntrinsic, IsAddress}
 use Rattle.cc_program.specs.declared.expr.Expr.{Expr, FuncAddr}
 use Rattle.cc_program.specs.declared.expr.Place.{Place}
-use Rattle.cc_program.specs.declared.program.Program.{Program}
 use Rattle.cc_program.specs.declared.types.CType.{CType}
 use Rattle.cc_program.specs.declared.types.Shape.{out-Shape}
 use Rattle.cc_program.specs.declared.types.Shape.TheOpen as shape
 use Rattle.cc_program.specs.declared.types.Structure.{Structure as Content}
-use Rattle.cc_syntax.specs.Expressions.{type_of, place_type}
-use Rattle.cc_syntax.specs.Kinds.{Kind, IsVoid, IsScalar, IsStructure, IsArray, IsIncomplete, IsFunction as IsOfFunction, kind_in, is_sig}
-use Rattle.cc_syntax.specs.Operators.{null_type}
+use Rattle.cc_syntax.specs.Kinds.{Kind, IsVoid, IsScalar, IsStructure, IsArray, IsIncomplete, IsFunction as IsOfFunction}
 use Rattle.cc_syntax.specs.SameTypes.{alike}
 use Rattle.cc_syntax.specs.Types.{Named}
 use Rattle.cc_syntax.specs.Values.{ValueType, NoValue, Integer, ToObject, ToFunction, PlaceType, DevicePlace, ObjectPlace, FunctionPlace, is_assignable, pointer_to}
+use Rattle.cc_operand_types.specs.Views.{View, type_of, place_type, kind_in, is_sig, null_type}
 
 -- two types of values that are one: the outermost qualifiers in the type that is pointed to say nothing
 pub data Agree : ValueType → ValueType → Type 0 where
@@ -36,18 +34,18 @@ is_pointed_kind void (Some (IsArray n)) = true
 is_pointed_kind void (Some IsIncomplete) = true
 is_pointed_kind void (Some IsOfFunction) = false
 
-module _ (p : Program) where
+module _ (p : View) where
   -- the type may stand in the program; a pointer to void, without qualifiers, is that of a null
   abbrev pub stands : ValueType → Bool
   stands NoValue = true
   stands (Integer t) = true
   stands (ToObject constant volatile t) = is_pointed_kind (not (constant || volatile)) (kind_in p t)
-  stands (ToFunction sig) = is_sig p.structures (length p.structures) p.target sig
+  stands (ToFunction sig) = is_sig p.target p.extents sig
 
   abbrev pub place_stands : PlaceType → Bool
   place_stands (DevicePlace constant t) = true
   place_stands (ObjectPlace constant volatile t) = is_pointed_kind false (kind_in p t)
-  place_stands (FunctionPlace sig) = is_sig p.structures (length p.structures) p.target sig
+  place_stands (FunctionPlace sig) = is_sig p.target p.extents sig
 
   -- a type of pointers that a null may have
   pub record IsNullType (t : CType) : Type 0 where

@@ -1,3 +1,4 @@
+use Rattle.cc_syntax.specs.Values.{ToFunction}
 use Rattle.cc_operand_types.proofs.Leaves.{local_typed, static_typed, device_typed, function_typed}
 use Rattle.cc_operand_types.proofs.Places.{value_typed, address_typed, element_of_typed, subscripted_typed, indirection_typed, dot_typed, arrow_typed}
 use Rattle.cc_operand_types.proofs.Standing.{object_type}
@@ -7,9 +8,9 @@ pub returns : goal.returns
 returns c = record {
   object_types = λ o h. object_type o h;
   locals = λ p locals r l e h. local_typed p locals r l e h;
-  objects = λ p locals i o e h. static_typed p locals i o e h;
-  devices = λ p locals i d e. device_typed p locals i d e;
-  functions = λ p locals i f e n h. function_typed p locals i f e n h;
+  objects = λ p locals i t e h. static_typed p locals i t e h;
+  devices = λ p locals i t e h. device_typed p locals i t e h;
+  functions = λ p locals i sig e h. function_typed p locals i (ToFunction sig) e h;
   values = λ p locals a t r h e. value_typed p locals a t r h e;
   addresses = λ p locals a r h e. address_typed p locals a r h e;
   elements = λ p locals a t i r h k e. element_of_typed p locals a t i r h k e;

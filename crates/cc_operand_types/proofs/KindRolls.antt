@@ -1,0 +1,23 @@
+-- The kind of a type, from its opened shape, by the extents of structures.
+use Rattle.std.proofs.Common.{◌≡◌, ◌||◌, ℕ, Bool, Option, ap, ◌∙◌}
+use Rattle.cc_num.specs.declared.target.Target.{Target}
+use Rattle.cc_program.specs.declared.types.CType.{CType, fold_out-CType}
+use Rattle.cc_program.specs.declared.types.Shape.{Shape, fold-Shape, fold_out-Shape, out-Shape, map-Shape}
+use Rattle.cc_program.specs.declared.types.Shape.TheOpen as shape
+use Rattle.cc_program.specs.declared.types.Sig.{Sig}
+use Rattle.cc_syntax.specs.Kinds.{Kind}
+use Rattle.cc_operand_types.specs.Views.{shape_kind, type_kind, is_signature, qualified_kind, kind_of, is_sig}
+
+module _ (target : Target) (extents : ℕ → Option (Option ℕ)) where
+  -- the kinds of the types in a shape
+  abbrev pub parts_kind : shape.Shape-F Shape CType Sig → shape.Shape-F (Option Kind) (Option Kind) Bool
+  parts_kind x = map-Shape Shape CType Sig (Option Kind) (Option Kind) Bool
+      (fold-Shape (Option Kind) (Option Kind) Bool (shape_kind target extents) type_kind is_signature)
+      (kind_of target extents)
+      (is_sig target extents) x
+
+  pub kind-opens : (t : CType) → kind_of target extents t ≡ qualified_kind (t.constant || t.volatile) (shape_kind target extents (parts_kind (out-Shape t.shape)))
+  unfolding kind_of is_sig
+  kind-opens t =
+      fold_out-CType (Option Kind) (Option Kind) Bool (shape_kind target extents) type_kind is_signature t
+      ∙ ap (qualified_kind (t.constant || t.volatile)) (fold_out-Shape (Option Kind) (Option Kind) Bool (shape_kind target extents) type_kind is_signature t.shape)
