@@ -1,0 +1,5 @@
+pub mod NamedFirst
+pub mod ProgramOrder
+pub mod Standing
+pub mod TypesKept
+pub mod UnitPlaces
