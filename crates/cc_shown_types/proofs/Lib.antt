@@ -1,0 +1,10 @@
+pub mod Numbering
+pub mod Kept
+pub mod Complete
+pub mod Words
+pub mod Bases
+pub mod Identity
+pub mod Standing
+pub mod Derived
+pub mod Declared
+pub mod TypeNames
