@@ -1,0 +1,14 @@
+pub mod Within
+pub mod Founds
+pub mod Growth
+pub mod Outcomes
+pub mod Known
+pub mod TypeKinds
+pub mod NamedTypes
+pub mod Leaves
+pub mod Meant
+pub mod Trees
+pub mod Types
+pub mod TreeInduction
+pub mod Cycle
+pub mod Laws

@@ -1,0 +1,667 @@
+-- What specifiers, declarators, parameters, members and type names give stands, where their parts do (C99 6.7.2 to 6.7.6): construct
+-- by construct, over the meanings of the parts.
+use Rattle.std.proofs.Common.{◌≡◌, inl, inr, ℕ, ℤ, pos, negsuc, ◌+ℤ◌, Bool, true, false, not, ◌&&◌, ◌||◌, List, [], ◌∷◌, ◌++◌, length, Option, Some, None, Ok, Err, refl, ap, sym, ◌∙◌, subst}
+use Rattle.std.specs.Prelude.{is_some, slice_get, if◌then◌else◌}
+use Rattle.cc_declarators.specs.Declarators.{derived_type}
+use Rattle.cc_declarators.specs.Located.{located}
+use Rattle.cc_declarators.specs.Members.{member_judged}
+use Rattle.cc_declarators.specs.Names.{new_name}
+use Rattle.cc_declarators.specs.Parameters.{parameter, parameter_bound}
+use Rattle.cc_declarators.specs.Specifiers.{begin, type_named, marked, as_type, structure_tag, enumeration_tag}
+use Rattle.cc_num.specs.Integers.{is_value_of}
+use Rattle.cc_num.specs.declared.int_type.IntType.{IntType}
+use Rattle.cc_num.specs.declared.int_type.IntType.TheVariants as int
+use Rattle.cc_operands.specs.Operands.{Operand, constancy}
+use Rattle.cc_operands.specs.Qualified.{plain, qualified_by}
+use Rattle.cc_operands.specs.Verdicts.{Judged, must}
+use Rattle.cc_operands.specs.declared.rule.Rule.TheVariants as rule
+use Rattle.cc_operand_types.specs.Views.{View, kind_in}
+use Rattle.cc_operand_types.proofs.Operands.{given, ok_is, must_ok}
+use Rattle.cc_primary.specs.Values.{value_found}
+use Rattle.cc_program.proofs.Each.{Each}
+use Rattle.cc_program.specs.declared.program.Roles.{Roles}
+use Rattle.cc_program.specs.declared.types.CType.{CType}
+use Rattle.cc_program.specs.declared.types.Shape.{Shape, Void, Int}
+use Rattle.cc_scopes.specs.State.{State, Name, Scope, KnownStructure, empty, or_else, designated, tagged, innermost, outer_scopes, entered, left, bind, bind_tag, only_named, with_structures, structures_of, layouts_of}
+use Rattle.cc_scopes.specs.Structures.{structure_type, enumeration_type, with_structure, new_structure, structure_named, opened_by, tagged_option, opened, is_enumeration, has_content, with_members, completed, closed, is_member_name, enumeration_constant, enumeration_tagged, enumeration_closed, in_list, enumeration_named}
+use Rattle.cc_scopes.specs.Verdicts.{Found, whole, and_then}
+use Rattle.cc_scopes.specs.declared.designated.Designated.{Designated}
+use Rattle.cc_scopes.specs.declared.designated.Designated.TheVariants as means
+use Rattle.cc_scopes.specs.declared.designated.Tagged.{Tagged}
+use Rattle.cc_scopes.specs.declared.designated.Tagged.TheVariants as tag
+use Rattle.cc_specifiers.specs.Attributes.{are_meant, attributes_in, attributes}
+use Rattle.cc_specifiers.specs.BasicTypes.{with_word, is_no_word, int_by, char_by, basic_by}
+use Rattle.cc_specifiers.specs.Bounds.{is_bound, bound_by, bound_in, bound_judged}
+use Rattle.cc_specifiers.specs.Declarators.{type_found}
+use Rattle.cc_specifiers.specs.Derivations.{nothing_more, in_parameter, in_type_name, with_derivation, is_next_to_name, suffix_found, pointer_derivation}
+use Rattle.cc_specifiers.specs.Objects.{is_object}
+use Rattle.cc_specifiers.specs.Parameters.{parameter_type}
+use Rattle.cc_specifiers.specs.Places.{JudgedAt}
+use Rattle.cc_specifiers.specs.Specifiers.{no_specifier, with_base, with_storage, base_or_clash, word_beside, type_beside, said, with_mark, with_specifier, shape_or, based, named_type, specified}
+use Rattle.cc_specifiers.specs.Storage.{setting, fits_storage}
+use Rattle.cc_specifiers.specs.declared.attribute.Entity.TheVariants as entity
+use Rattle.cc_specifiers.specs.declared.basic.Basic.{Basic}
+use Rattle.cc_specifiers.specs.declared.basic.Length.{Length}
+use Rattle.cc_specifiers.specs.declared.basic.Length.TheVariants as lengths
+use Rattle.cc_specifiers.specs.declared.derivation.Allowed.{Allowed}
+use Rattle.cc_specifiers.specs.declared.derivation.Declarator.{Declarator}
+use Rattle.cc_specifiers.specs.declared.derivation.Derivation.{Derivation}
+use Rattle.cc_specifiers.specs.declared.derivation.Derivation.TheVariants as to
+use Rattle.cc_specifiers.specs.declared.derivation.Parameter.{Parameter}
+use Rattle.cc_specifiers.specs.declared.specifier.Base.{Base}
+use Rattle.cc_specifiers.specs.declared.specifier.Base.TheVariants as base
+use Rattle.cc_specifiers.specs.declared.specifier.Specified.{Specified}
+use Rattle.cc_specifiers.specs.declared.specifier.Specifier.{Specifier}
+use Rattle.cc_specifiers.specs.declared.specifier.Specifier.TheVariants as specifier
+use Rattle.cc_specifiers.specs.declared.specifier.Specs.{Specs}
+use Rattle.cc_specifiers.specs.declared.storage.Setting.{Setting}
+use Rattle.cc_specifiers.specs.declared.storage.Where.TheVariants as stands
+use Rattle.cc_syntax.specs.Folding.{Constant, NoConstant, Value, Traps}
+use Rattle.cc_syntax.specs.Kinds.{is_object_type}
+use Rattle.cc_syntax.specs.Types.{Named}
+use Rattle.cc_syntax.proofs.Prefixes.{both_true}
+use Rattle.cc_tree.specs.declared.at.At.{At}
+use Rattle.cc_tree.specs.declared.tree.Attr.{Attr}
+use Rattle.cc_words.specs.declared.word.Word.{Word}
+use Rattle.cc_words.specs.declared.word.Word.TheVariants as w
+use Rattle.cc_terms.specs.Constants.{constants_found, enumeration_found, constant_declared, constant_by}
+use Rattle.cc_terms.specs.Declarators.{declarator, without_bound, with_bound, bounded, parameters_found, with_scope, parameter_declared}
+use Rattle.cc_terms.specs.InTurn.{in_turn, one_more}
+use Rattle.cc_terms.specs.Meanings.{TreeMeaning, DeclrMeaning, ParamsMeaning, ParamMeaning, SpecMeaning, MembersMeaning, EnumrMeaning}
+use Rattle.cc_terms.specs.Members.{member_found, declared_members}
+use Rattle.cc_terms.specs.Specifiers.{specifier_found, specifiers_found, specified_found}
+use Rattle.cc_terms.specs.Structures.{structure_opened, members_found, structure_closed, structure_found, member_behind}
+use Rattle.cc_sound_terms.specs.Growing.{Grows, StructureKept, Extends, IsConstant, IsParameter, IsTag}
+use Rattle.cc_sound_terms.specs.Knowing.{Stands, KnowsStructures}
+use Rattle.cc_sound_terms.specs.Standing.{IsDerived, IsNamedType, ParameterStands, IsBounded, DerivationsStand, SpecifierStands, BaseStands, MembersKnown}
+use Rattle.cc_sound_terms.specs.Typing.{KnowsTypes}
+use Rattle.cc_sound_terms.proofs.Founds.{answer, answer_is, then_found, whole_found, located_found, then_judged}
+use Rattle.cc_sound_terms.proofs.Growth.{get_last, tagged-opens, grows_itself, grows_through, as_parameters, bind_grows, bind_tag_grows, structure_grows, structures_changed, scope_left}
+use Rattle.cc_sound_terms.proofs.TypeKinds.{sizes_known, object_stands, structure_stands, void_stands, int_stands, qualified_stands}
+use Rattle.cc_sound_terms.proofs.Known.{types_first, constants_second, parameters_second}
+use Rattle.cc_sound_terms.proofs.Meant.{TypesHold, TreeGrows, DeclrHolds, ParamsHold, ParamHolds, SpecHolds, MembersHold, EnumrHolds, TypeNameHolds, value_grows}
+use Rattle.cc_sound_terms.proofs.NamedTypes.{derived_stands, parameter_stands, only_standing}
+use Rattle.cc_sound_terms.proofs.Outcomes.{Outcome, each_append, chained, in_turn_holds, staying, whole_holds, one_more_given, behind}
+
+module _ (v : View) where
+  abbrev Holds : (A : Type 0) → (A → Type 0) → State → A × State → Type 0
+  Holds A T s r = TypesHold v A T s r
+
+  then_holds : {A B : Type 0} (T : A → Type 0) (U : B → Type 0) (found : Found A) (next : A → State → Found B) (s : State) (r : B × State) →
+      ((x : A × State) → found ≡ Ok x → Holds A T s x) → ((x : A × State) → next x.0 x.1 ≡ Ok r → Holds B (λ y. T x.0 → U y) x.1 r) → and_then found next ≡ Ok r → Holds B U s r
+  then_holds T U found next s r f g h = chained (IsConstant v.target) (KnowsTypes v) (types_first v (IsConstant v.target)) (constants_second v) T U found next s r f g h
+
+  stays : (A : Type 0) (T : A → Type 0) (s : State) (r : A × State) → r.1 ≡ s → (KnowsTypes v s s → T r.0) → Holds A T s r
+  stays A T s r e f = staying (IsConstant v.target) (KnowsTypes v) (types_first v (IsConstant v.target)) (constants_second v) A T s r e f
+
+  judged_holds : (A : Type 0) (T : A → Type 0) (at : ℕ) (s : State) (judged : Judged A) (r : A × State) → ((x : A) → judged ≡ Ok x → KnowsTypes v s s → T x) → whole at s judged ≡ Ok r → Holds A T s r
+  judged_holds A T at s judged r f h = whole_holds (IsConstant v.target) (KnowsTypes v) (types_first v (IsConstant v.target)) (constants_second v) A T at s judged r f h
+
+  list_holds : {A B : Type 0} (find : A → B → State → Found B) (Good : A → Type 0) (P : B → Type 0) → ((x : A) → Good x → (b : B) (s : State) (r : B × State) → find x b s ≡ Ok r → Holds B (λ c. P b → P c) s r) →
+      (xs : List A) → Each Good xs → (b : B) (s : State) (r : B × State) → in_turn find xs b s ≡ Ok r → Holds B (λ c. P b → P c) s r
+  list_holds find Good P f xs g b s r h = in_turn_holds (IsConstant v.target) (KnowsTypes v) (types_first v (IsConstant v.target)) (constants_second v) find Good P f xs g b s r h
+
+  answer_holds : (A : Type 0) (T : A → Type 0) (x : A) (s : State) (r : A × State) → (KnowsTypes v s s → T x) → answer x s ≡ Ok r → Holds A T s r
+  answer_holds A T x s r f h = let e = answer_is x s r h in stays A T s r e.1 (λ k. subst T (sym e.0) (f k))
+
+  -- attributes declare nothing
+  located_then : {A B : Type 0} (U : B → Type 0) (s : State) (judged : JudgedAt A) (next : A → State → Found B) (r : B × State) → ((x : A) → next x s ≡ Ok r → Holds B U s r) → and_then (located s judged) next ≡ Ok r → Holds B U s r
+  located_then U s judged next r f h =
+      let a = then_found (located s judged) next r h in
+      let e = located_found s judged a.0 a.1 in
+      f a.0.0 (ap (λ (t : State). next a.0.0 t) (sym e.1) ∙ a.2)
+
+  -- ---- specifiers
+
+  word_base : (x : Word) (b : Base) → BaseStands v (word_beside x b)
+  word_base x (base.Words b) = one_word (with_word x b)
+    where
+      one_word : (o : Option Basic) → BaseStands v (base_or_clash o)
+      one_word None = tt
+      one_word (Some c) = tt
+  word_base x (base.Itself t) = tt
+  word_base x base.Clash = tt
+
+  same_specs : (a b : Specs) → given a ≡ Ok b → a ≡ b
+  same_specs a b h = ok_is h
+
+  stored_base : (setting : Setting) (x : Word) (s c : Specs) → with_storage setting x s ≡ Ok c → BaseStands v s.base → BaseStands v c.base
+  stored_base setting x s c h k =
+      let one : Specs = record { storage = Some x; constant = s.constant; volatile = s.volatile; base = s.base; marks = s.marks } in
+      let m = must_ok (not (is_some s.storage) && fits_storage setting x) rule.StorageClass (Ok one) c h in
+      subst (λ (d : Specs). BaseStands v d.base) (same_specs one c m.1) k
+
+  kept_base : (a c : Specs) (s : Specs) → given a ≡ Ok c → a.base ≡ s.base → BaseStands v s.base → BaseStands v c.base
+  kept_base a c s h e k = subst (λ (d : Specs). BaseStands v d.base) (same_specs a c h) (subst (BaseStands v) (sym e) k)
+
+  worded : (x : Word) (s c : Specs) → given (with_base (word_beside x s.base) s) ≡ Ok c → BaseStands v c.base
+  worded x s c h = subst (λ (d : Specs). BaseStands v d.base) (same_specs (with_base (word_beside x s.base) s) c h) (word_base x s.base)
+
+  said_base : (setting : Setting) (x : Word) (s c : Specs) → said setting x s ≡ Ok c → BaseStands v s.base → BaseStands v c.base
+  said_base setting w.Typedef s c h k = stored_base setting w.Typedef s c h k
+  said_base setting w.Extern s c h k = stored_base setting w.Extern s c h k
+  said_base setting w.Static s c h k = stored_base setting w.Static s c h k
+  said_base setting w.Auto s c h k = stored_base setting w.Auto s c h k
+  said_base setting w.Register s c h k = stored_base setting w.Register s c h k
+  said_base setting w.Const s c h k = kept_base (record { storage = s.storage; constant = true; volatile = s.volatile; base = s.base; marks = s.marks }) c s h refl k
+  said_base setting w.Volatile s c h k = kept_base (record { storage = s.storage; constant = s.constant; volatile = true; base = s.base; marks = s.marks }) c s h refl k
+  said_base setting w.Restrict s c h k = kept_base s c s h refl k
+  said_base setting w.Inline s c h k = kept_base s c s h refl k
+  said_base setting w.Extension s c h k = kept_base s c s h refl k
+  said_base setting x s c h k = worded x s c h
+
+  type_if : (b : Bool) (t : CType) → Stands v t → BaseStands v (if b then base.Itself t else base.Clash)
+  type_if true t k = k
+  type_if false t k = tt
+
+  type_base : (t : CType) (b : Base) → Stands v t → BaseStands v (type_beside t b)
+  type_base t (base.Words b) k = type_if (is_no_word b) t k
+  type_base t (base.Itself u) k = tt
+  type_base t base.Clash k = tt
+
+  specifier_base : (setting : Setting) (at : ℕ) (p : Specifier) (s c : Specs) → with_specifier setting at p s ≡ Ok c → SpecifierStands v p → BaseStands v s.base → BaseStands v c.base
+  specifier_base setting at (specifier.Word x) s c h p k = said_base setting x s c h k
+  specifier_base setting at (specifier.Type t) s c h p k = subst (λ (d : Specs). BaseStands v d.base) (same_specs (with_base (type_beside t s.base) s) c h) (type_base t s.base p)
+  specifier_base setting at (specifier.Attributes ms) s c h p k =
+      let m = must_ok (are_meant setting.entities ms) rule.Attribute (Ok (with_mark at ms s)) c h in
+      kept_base (with_mark at ms s) c s m.1 refl k
+
+  specifier_holds : (setting : Setting) (x : At SpecMeaning) → SpecHolds v x.node → (specs : Specs) (s : State) (r : Specs × State) → specifier_found setting x specs s ≡ Ok r →
+      Holds Specs (λ c. BaseStands v specs.base → BaseStands v c.base) s r
+  specifier_holds setting x hx specs s r h =
+      then_holds (SpecifierStands v) (λ c. BaseStands v specs.base → BaseStands v c.base) (x.node x.at s) (λ p s. whole x.at s (with_specifier setting x.at p specs)) s r (λ p f. hx x.at s p f)
+      (λ p g. judged_holds Specs (λ c. SpecifierStands v p.0 → BaseStands v specs.base → BaseStands v c.base) x.at p.1 (with_specifier setting x.at p.0 specs) r (λ c e k hp hb. specifier_base setting x.at p.0 specs c e hp hb) g) h
+
+  -- the types that words name
+  shape_ok : (a b : Shape) → Some a ≡ Some b → a ≡ b
+  shape_ok a b h = cc
+
+  int_basic : (t : IntType) (s : Shape) → Some (Int t) ≡ Some s → Stands v (plain s)
+  int_basic t s h = subst (λ (x : Shape). Stands v (plain x)) (shape_ok (Int t) s h) (int_stands v t)
+
+  alone_basic : (b : Bool) (a s : Shape) → (if b then None else Some a) ≡ Some s → Stands v (plain a) → Stands v (plain s)
+  alone_basic true a s h k = absurd (cc)
+  alone_basic false a s h k = subst (λ (x : Shape). Stands v (plain x)) (shape_ok a s h) k
+
+  plain_basic : (b : Bool) (t : IntType) (s : Shape) → (if b then Some (Int t) else None) ≡ Some s → Stands v (plain s)
+  plain_basic true t s h = int_basic t s h
+  plain_basic false t s h = absurd (cc)
+
+  basic_stands : (b : Basic) (l : Length) (s : Shape) → basic_by b l ≡ Some s → Stands v (plain s)
+  basic_stands b lengths.Void s h = alone_basic (is_some b.sign || b.int) Void s h (void_stands v)
+  basic_stands b lengths.Bool s h = alone_basic (is_some b.sign || b.int) (Int int.Bool) s h (int_stands v int.Bool)
+  basic_stands b lengths.Char s h = alone_basic b.int (Int (char_by b.sign)) s h (int_stands v (char_by b.sign))
+  basic_stands b lengths.Short s h = int_basic (int_by b.sign int.Short int.UShort) s h
+  basic_stands b lengths.Long s h = int_basic (int_by b.sign int.Long int.ULong) s h
+  basic_stands b lengths.LongLong s h = int_basic (int_by b.sign int.LongLong int.ULongLong) s h
+  basic_stands b lengths.Plain s h = plain_basic (is_some b.sign || b.int) (int_by b.sign int.Int int.UInt) s h
+
+  type_same : (t u : CType) → given t ≡ Ok u → t ≡ u
+  type_same t u h = ok_is h
+
+  shaped_stands : (b : Basic) (o : Option Shape) (t : CType) → basic_by b b.length ≡ o → shape_or o ≡ Ok t → Stands v t
+  shaped_stands b None t e h = absurd (cc)
+  shaped_stands b (Some s) t e h = subst (Stands v) (type_same (plain s) t h) (basic_stands b b.length s e)
+
+  based_stands : (b : Base) (t : CType) → based b ≡ Ok t → BaseStands v b → Stands v t
+  based_stands (base.Words b) t h k = shaped_stands b (basic_by b b.length) t refl h
+  based_stands (base.Itself u) t h k = subst (Stands v) (type_same u t h) k
+  based_stands base.Clash t h k = absurd (cc)
+
+  same_specified : (a b : Specified) → given a ≡ Ok b → a ≡ b
+  same_specified a b h = ok_is h
+
+  specified_stands : (s : Specs) (x : Specified) → specified s ≡ Ok x → BaseStands v s.base → Stands v x.ctype
+  specified_stands s x h k =
+      let a = then_judged (named_type s) (λ t. Ok (record { specs = s; ctype = t })) x h in
+      let b = then_judged (based s.base) (λ t. Ok (qualified_by s.constant s.volatile t)) a.0 a.1 in
+      let t = qualified_stands v s.constant s.volatile b.0 (based_stands s.base b.0 b.1 k) in
+      subst (λ (y : Specified). Stands v y.ctype) (same_specified (record { specs = s; ctype = a.0 }) x a.2) (subst (Stands v) (type_same (qualified_by s.constant s.volatile b.0) a.0 b.2) t)
+
+  pub specified_holds : (setting : Setting) (xs : List (At SpecMeaning)) → Each (λ x. SpecHolds v x.node) xs → (s : State) (r : Specified × State) → specified_found setting xs s ≡ Ok r → Holds Specified (λ x. Stands v x.ctype) s r
+  specified_holds setting xs hs s r h =
+      then_holds (λ c. BaseStands v c.base) (λ x. Stands v x.ctype) (specifiers_found setting xs s) (λ specs s. whole (begin xs) s (specified specs)) s r
+      (λ c f. let o = list_holds (specifier_found setting) (λ x. SpecHolds v x.node) (λ c. BaseStands v c.base) (specifier_holds setting) xs hs no_specifier s c f in record { grows = o.grows; holds = λ k. o.holds k tt })
+      (λ c g. judged_holds Specified (λ x. BaseStands v c.0.base → Stands v x.ctype) (begin xs) c.1 (specified c.0) r (λ x e k hb. specified_stands c.0 x e hb) g) h
+
+  -- ---- a specifier
+
+  pub word_holds : (x : Word) → SpecHolds v (λ at s. Ok (specifier.Word x, s))
+  word_holds x at s r h = answer_holds Specifier (SpecifierStands v) (specifier.Word x) s r (λ k. tt) h
+
+  same_specifier : (a b : Specifier) → given a ≡ Ok b → a ≡ b
+  same_specifier a b h = ok_is h
+
+  named_stands : (s : State) (x : Name) (o : Option Designated) (p : Specifier) → KnowsTypes v s s → designated x s.scopes ≡ o → type_named o ≡ Ok p → SpecifierStands v p
+  named_stands s x None p k e h = absurd (cc)
+  named_stands s x (Some (means.TypeNamed t)) p k e h = subst (SpecifierStands v) (same_specifier (specifier.Type t) p h) (k.types x t e)
+  named_stands s x (Some (means.Linked i)) p k e h = absurd (cc)
+  named_stands s x (Some (means.Automatic n t)) p k e h = absurd (cc)
+  named_stands s x (Some (means.Enumerator n)) p k e h = absurd (cc)
+
+  pub type_named_holds : (x : Name) → SpecHolds v (λ at s. whole at s (type_named (designated x s.scopes)))
+  type_named_holds x at s r h = judged_holds Specifier (SpecifierStands v) at s (type_named (designated x s.scopes)) r (λ p e k. named_stands s x (designated x s.scopes) p k refl e) h
+
+  marked_stands : (a : Attr) (p : Specifier) → marked a ≡ Ok p → SpecifierStands v p
+  marked_stands a p h =
+      let m = then_judged (attributes_in a.words) (λ ms. Ok (specifier.Attributes ms)) p h in
+      subst (SpecifierStands v) (same_specifier (specifier.Attributes m.0) p m.2) tt
+
+  pub marked_holds : (a : Attr) → SpecHolds v (λ at s. whole at s (marked a))
+  marked_holds a at s r h = judged_holds Specifier (SpecifierStands v) at s (marked a) r (λ p e k. marked_stands a p e) h
+
+  as_type_holds : (T : CType → Type 0) (found : Found CType) (s : State) (r : Specifier × State) → ((x : CType × State) → found ≡ Ok x → Holds CType (Stands v) s x) → as_type found ≡ Ok r → Holds Specifier (SpecifierStands v) s r
+  as_type_holds T found s r f h =
+      then_holds (Stands v) (SpecifierStands v) found (λ t s. Ok (specifier.Type t, s)) s r f
+      (λ x g. answer_holds Specifier (λ p. Stands v x.0 → SpecifierStands v p) (specifier.Type x.0) x.1 r (λ k t. t) g) h
+
+  -- ---- structures
+
+  -- a structure that there is
+  abbrev IsThere : ℕ → Type 0
+  IsThere i = (e : Option ℕ) × (v.extents i ≡ Some e)
+
+  there_in : (t : State) (i : ℕ) (k : KnownStructure) → KnowsStructures v t.structures → slice_get t.structures i ≡ Some k → IsThere i
+  there_in t i k w e = let x = w i k e in (x.extent, x.there)
+
+  tag_is : (i j : ℕ) → tag.StructureTag i ≡ tag.StructureTag j → i ≡ j
+  tag_is i j h = cc
+
+  new_tag : (s : State) (k : KnownStructure) (t : State) → t.structures ≡ s.structures ++ k ∷ [] → IsTag t.structures (tag.StructureTag (length s.structures))
+  new_tag s k t e = λ i f. (k, ap (λ (xs : List KnownStructure). slice_get xs i) e ∙ ap (slice_get (s.structures ++ k ∷ [])) (sym (tag_is (length s.structures) i f)) ∙ get_last s.structures k)
+
+  record IsNew (s : State) (r : ℕ × State) : Type 0 where
+    grows : Extends v.target s r.1
+    kind : KnownStructure
+    at : slice_get r.1.structures r.0 ≡ Some kind
+
+  new_is : (tag : Option Name) (s : State) → IsNew s (new_structure tag s)
+  new_is None s = record { grows = structure_grows (IsConstant v.target) (only_named None) s; kind = only_named None; at = get_last s.structures (only_named None) }
+  new_is (Some x) s =
+      let k = only_named (Some x) in
+      let t = with_structures (s.structures ++ k ∷ []) s in
+      record {
+        grows = grows_through (IsConstant v.target) s t (bind_tag x (tag.StructureTag (length s.structures)) t) (structure_grows (IsConstant v.target) k s)
+            (bind_tag_grows (IsConstant v.target) x (tag.StructureTag (length s.structures)) t (new_tag s k t refl));
+        kind = k;
+        at = get_last s.structures k;
+      }
+
+  named_by_tag : (at : ℕ) (x : Name) (s : State) (o : Option Tagged) (r : CType × State) → tagged x s.scopes ≡ o → structure_named at x s o ≡ Ok r → Holds CType (Stands v) s r
+  named_by_tag at x s None r e h =
+      let n = new_is (Some x) s in
+      let a = answer_is (structure_type (new_structure (Some x) s).0) (new_structure (Some x) s).1 r h in
+      record {
+        grows = subst (λ (t : State). Extends v.target s t) (sym a.1) n.grows;
+        holds = λ k. let d = there_in r.1 (new_structure (Some x) s).0 n.kind k.structures (ap (λ (t : State). slice_get t.structures (new_structure (Some x) s).0) a.1 ∙ n.at) in
+            subst (Stands v) (sym a.0) (structure_stands v (new_structure (Some x) s).0 d.0 d.1);
+      }
+  named_by_tag at x s (Some (tag.StructureTag i)) r e h =
+      answer_holds CType (Stands v) (structure_type i) s r (λ k. let g = k.tags x (tag.StructureTag i) e i refl in let d = there_in s i g.0 k.structures g.1 in structure_stands v i d.0 d.1) h
+  named_by_tag at x s (Some tag.EnumerationTag) r e h = absurd (cc)
+  named_by_tag at x s (Some tag.UnfinishedEnumeration) r e h = absurd (cc)
+
+  pub structure_tag_holds : (x : Option Name) → SpecHolds v (λ at s. structure_tag at x s)
+  structure_tag_holds None at s r h = absurd (cc)
+  structure_tag_holds (Some x) at s r h = as_type_holds (Stands v) (structure_named at x s (tagged x s.scopes)) s r (λ y f. named_by_tag at x s (tagged x s.scopes) y refl f) h
+
+  opened_holds : (x : Option Name) (s : State) (o : Option Tagged) → tagged_option x s ≡ o → Holds ℕ IsThere s (opened_by x s o)
+  opened_holds x s None e = let n = new_is x s in record { grows = n.grows; holds = λ k. there_in (new_structure x s).1 (new_structure x s).0 n.kind k.structures n.at }
+  opened_holds x s (Some (tag.StructureTag i)) e = stays ℕ IsThere s (i, s) refl (λ k. tag_there x s i e k)
+    where
+      tag_there : (x : Option Name) (s : State) (i : ℕ) → tagged_option x s ≡ Some (tag.StructureTag i) → KnowsTypes v s s → IsThere i
+      tag_there None s i e k = absurd (cc)
+      tag_there (Some x) s i e k =
+          let g = k.tags x (tag.StructureTag i) (tagged-opens x s.scopes ∙ ap (λ (o : Option Tagged). or_else o (tagged x (outer_scopes s.scopes))) e) i refl in
+          there_in s i g.0 k.structures g.1
+  opened_holds x s (Some tag.EnumerationTag) e =
+      record { grows = structure_grows (IsConstant v.target) (only_named x) s; holds = λ k. there_in (with_structure x s).1 (length s.structures) (only_named x) k.structures (get_last s.structures (only_named x)) }
+  opened_holds x s (Some tag.UnfinishedEnumeration) e =
+      record { grows = structure_grows (IsConstant v.target) (only_named x) s; holds = λ k. there_in (with_structure x s).1 (length s.structures) (only_named x) k.structures (get_last s.structures (only_named x)) }
+
+  structure_opened_holds : (x : Option Name) (front : List (At Attr)) (s : State) (r : (Bool × ℕ) × State) → structure_opened x front s ≡ Ok r → Holds (Bool × ℕ) (λ n. IsThere n.1) s r
+  structure_opened_holds x front s r h =
+      located_then (λ n. IsThere n.1) s (attributes (entity.Structure ∷ []) front) (λ marks s. Ok ((is_enumeration (tagged_option x s), (opened x s).0), (opened x s).1)) r
+      (λ marks f.
+      let a = answer_is (is_enumeration (tagged_option x s), (opened x s).0) (opened x s).1 r f in
+      let o = opened_holds x s (tagged_option x s) refl in
+      record { grows = subst (λ (t : State). Extends v.target s t) (sym a.1) o.grows; holds = λ k. subst (λ (n : Bool × ℕ). IsThere n.1) (sym a.0) (o.holds (subst (λ (t : State). KnowsTypes v s t) a.1 k)) }) h
+
+  members_hold : (ds : List (At MembersMeaning)) → Each (λ d. MembersHold v d.node) ds → (s : State) (r : List Named × State) → members_found ds s ≡ Ok r → Holds (List Named) (MembersKnown v) s r
+  members_hold ds hs s r h =
+      let o = list_holds (λ (d : At MembersMeaning) ms s. d.node ms s) (λ d. MembersHold v d.node) (MembersKnown v) (λ d hd. hd) ds hs [] s r h in
+      record { grows = o.grows; holds = λ k. o.holds k tt }
+
+  no_content : (k : KnownStructure) (ms : List Named) → has_content (Some k) ≡ false → k.members ≡ Some ms → ⊥
+  no_content k ms h e = let c : true ≡ false = sym (ap (λ (o : Option (List Named)). is_some o) e) ∙ h in absurd (cc)
+
+  completed_kept : (ms : List Named) (i : ℕ) (s : State) (k : KnownStructure) → has_content (slice_get s.structures i) ≡ false → slice_get s.structures i ≡ Some k → StructureKept k (with_members v.target ms s k)
+  completed_kept ms i s k h e = record { members = λ ns f. absurd (no_content k ns (sym (ap has_content e) ∙ h) f); layout = λ ns f. absurd (no_content k ns (sym (ap has_content e) ∙ h) f) }
+
+  completed_grows : (i : ℕ) (ms : List Named) (s : State) → has_content (slice_get s.structures i) ≡ false → Extends v.target s (completed v.target i ms s)
+  completed_grows i ms s h = record {
+    outer = refl;
+    here = λ x. inl refl;
+    tags = λ x. inl refl;
+    structures = structures_changed s.structures i (with_members v.target ms s) (λ k e. completed_kept ms i s k h e);
+    names = (grows_itself (IsConstant v.target) s).names;
+    locals = refl;
+  }
+
+  content_by : (b : Bool) (at i : ℕ) (ms : List Named) (s : State) (r : CType × State) → has_content (slice_get s.structures i) ≡ b → (if b then whole at s (Err rule.NoObjectType) else answer (structure_type i) (completed v.target i ms s)) ≡ Ok r →
+      Holds CType (λ t. IsThere i → Stands v t) s r
+  content_by true at i ms s r e h = absurd (cc)
+  content_by false at i ms s r e h =
+      let a = answer_is (structure_type i) (completed v.target i ms s) r h in
+      record { grows = subst (λ (t : State). Extends v.target s t) (sym a.1) (completed_grows i ms s e); holds = λ k d. subst (Stands v) (sym a.0) (structure_stands v i d.0 d.1) }
+
+  closed_by : (clash : Bool) (at i : ℕ) (ms : List Named) (s : State) (r : CType × State) → closed v.target at clash i ms s ≡ Ok r → Holds CType (λ t. IsThere i → Stands v t) s r
+  closed_by true at i ms s r h = absurd (cc)
+  closed_by false at i ms s r h = content_by (has_content (slice_get s.structures i)) at i ms s r refl h
+
+  structure_closed_holds : (at : ℕ) (last : List (At Attr)) (clash : Bool) (i : ℕ) (ms : List Named) (s : State) (r : Specifier × State) → structure_closed v.target at last clash i ms s ≡ Ok r →
+      Holds Specifier (λ p. MembersKnown v ms → IsThere i → SpecifierStands v p) s r
+  structure_closed_holds at last clash i ms s r h =
+      located_then (λ p. MembersKnown v ms → IsThere i → SpecifierStands v p) s (attributes (entity.Structure ∷ []) last) (λ marks s. as_type (closed v.target at clash i ms s)) r
+      (λ marks f. then_holds (λ t. IsThere i → Stands v t) (λ p. MembersKnown v ms → IsThere i → SpecifierStands v p) (closed v.target at clash i ms s) (λ t s. Ok (specifier.Type t, s)) s r
+      (λ x g. closed_by clash at i ms s x g)
+      (λ x g. answer_holds Specifier (λ p. (IsThere i → Stands v x.0) → MembersKnown v ms → IsThere i → SpecifierStands v p) (specifier.Type x.0) x.1 r (λ k t m d. t d) g) f) h
+
+  pub structure_holds : (x : Option Name) (ds : List (At MembersMeaning)) (front last : List (At Attr)) → Each (λ d. MembersHold v d.node) ds → SpecHolds v (λ at s. structure_found v.target at x ds front last s)
+  structure_holds x ds front last hs at s r h =
+      then_holds (λ n. IsThere n.1) (SpecifierStands v) (structure_opened x front s) (λ new s. and_then (members_found ds s) (λ ms s. structure_closed v.target at last new.0 new.1 ms s)) s r
+      (λ n f. structure_opened_holds x front s n f)
+      (λ n f. then_holds (MembersKnown v) (λ p. IsThere n.0.1 → SpecifierStands v p) (members_found ds n.1) (λ ms s. structure_closed v.target at last n.0.0 n.0.1 ms s) n.1 r
+      (λ ms g. members_hold ds hs n.1 ms g)
+      (λ ms g. structure_closed_holds at last n.0.0 n.0.1 ms.0 ms.1 r g) f) h
+
+  -- ---- enumerations
+
+  no_structure : (structures : List KnownStructure) → IsTag structures tag.EnumerationTag
+  no_structure structures = λ i e. absurd (cc)
+
+  no_structure_yet : (structures : List KnownStructure) → IsTag structures tag.UnfinishedEnumeration
+  no_structure_yet structures = λ i e. absurd (cc)
+
+  tagged_grows : (t : Tagged) (x : Option Name) (s : State) → IsTag s.structures t → Extends v.target s (enumeration_tagged t x s)
+  tagged_grows t None s h = grows_itself (IsConstant v.target) s
+  tagged_grows t (Some x) s h = bind_tag_grows (IsConstant v.target) x t s h
+
+  list_by : (b : Bool) (x : Option Name) (s : State) → Extends v.target s (if b then s else enumeration_tagged tag.UnfinishedEnumeration x s)
+  list_by true x s = grows_itself (IsConstant v.target) s
+  list_by false x s = tagged_grows tag.UnfinishedEnumeration x s (no_structure_yet s.structures)
+
+  constants_hold : (cs : List (At EnumrMeaning)) → Each (λ c. EnumrHolds v c.node) cs → (s : State) (r : ℤ × State) → constants_found cs s ≡ Ok r → Holds ℤ (λ n. Unit {0}) s r
+  constants_hold cs hs s r h =
+      let o = list_holds (λ (c : At EnumrMeaning) next s. c.node next c.at s) (λ c. EnumrHolds v c.node) (λ n. Unit {0}) (λ c hc next s r f. let o = hc next c.at s r f in record { grows = o.grows; holds = λ k u. tt }) cs hs (pos 0) s r h in
+      record { grows = o.grows; holds = λ k. tt }
+
+  enumeration_by : (clash : Bool) (at : ℕ) (x : Option Name) (s : State) (r : CType × State) → enumeration_closed at clash x s ≡ Ok r → Holds CType (Stands v) s r
+  enumeration_by true at x s r h = absurd (cc)
+  enumeration_by false at x s r h =
+      let a = answer_is enumeration_type (enumeration_tagged tag.EnumerationTag x s) r h in
+      record { grows = subst (λ (t : State). Extends v.target s t) (sym a.1) (tagged_grows tag.EnumerationTag x s (no_structure s.structures)); holds = λ k. subst (Stands v) (sym a.0) (int_stands v int.Int) }
+
+  pub enumeration_holds : (x : Option Name) (cs : List (At EnumrMeaning)) → Each (λ c. EnumrHolds v c.node) cs → SpecHolds v (λ at s. enumeration_found at x cs s)
+  enumeration_holds x cs hs at s r h =
+      behind (IsConstant v.target) (KnowsTypes v) (types_first v (IsConstant v.target)) (constants_second v) (SpecifierStands v) s (in_list x s) r (list_by (is_some (tagged_option x s)) x s)
+      (then_holds (λ n. Unit {0}) (SpecifierStands v) (constants_found cs (in_list x s)) (λ next t. as_type (enumeration_closed at (is_some (tagged_option x s)) x t)) (in_list x s) r
+      (λ n f. constants_hold cs hs (in_list x s) n f)
+      (λ n f. let o = as_type_holds (Stands v) (enumeration_closed at (is_some (tagged_option x s)) x n.1) n.1 r (λ y g. enumeration_by (is_some (tagged_option x s)) at x n.1 y g) f in record { grows = o.grows; holds = λ k u. o.holds k }) h)
+
+  enumeration_named_holds : (at : ℕ) (s : State) (o : Option Tagged) (r : CType × State) → enumeration_named at s o ≡ Ok r → Holds CType (Stands v) s r
+  enumeration_named_holds at s None r h = absurd (cc)
+  enumeration_named_holds at s (Some tag.UnfinishedEnumeration) r h = absurd (cc)
+  enumeration_named_holds at s (Some (tag.StructureTag i)) r h = absurd (cc)
+  enumeration_named_holds at s (Some tag.EnumerationTag) r h = answer_holds CType (Stands v) enumeration_type s r (λ k. int_stands v int.Int) h
+
+  pub enumeration_tag_holds : (x : Option Name) → SpecHolds v (λ at s. enumeration_tag at x s)
+  enumeration_tag_holds None at s r h = absurd (cc)
+  enumeration_tag_holds (Some x) at s r h = as_type_holds (Stands v) (enumeration_named at s (tagged x s.scopes)) s r (λ y f. enumeration_named_holds at s (tagged x s.scopes) y f) h
+
+  -- a constant is an int
+  int_same : (n m : ℤ) → given n ≡ Ok m → n ≡ m
+  int_same n m h = ok_is h
+
+  constant_fits : (given : Constant) (n : ℤ) → enumeration_constant v.target given ≡ Ok n → is_value_of int.Int v.target n ≡ true
+  constant_fits NoConstant n h = absurd (cc)
+  constant_fits (Value m) n h = let k = must_ok (is_value_of int.Int v.target m) rule.EnumerationConstant (Ok m) n h in subst (λ (i : ℤ). is_value_of int.Int v.target i ≡ true) (int_same m n k.1) k.0
+  constant_fits Traps n h = absurd (cc)
+
+  module _ (roles : Roles) where
+    declared_holds : (at : ℕ) (x : Name) (given : Constant) (s : State) (r : ℤ × State) → constant_declared v.target roles at x given s ≡ Ok r → Holds ℤ (λ n. Unit {0}) s r
+    declared_holds at x given s r h =
+        let a = then_found (whole at s (enumeration_constant v.target given)) (λ n s. and_then (whole at s (new_name roles x s)) (λ x s. Ok (n +ℤ pos 1, bind x (means.Enumerator n) s))) r h in
+        let b = whole_found at s (enumeration_constant v.target given) a.0 a.1 in
+        let c = then_found (whole at a.0.1 (new_name roles x a.0.1)) (λ x s. Ok (a.0.0 +ℤ pos 1, bind x (means.Enumerator a.0.0) s)) r a.2 in
+        let d = whole_found at a.0.1 (new_name roles x a.0.1) c.0 c.1 in
+        let e = answer_is (a.0.0 +ℤ pos 1) (bind c.0.0 (means.Enumerator a.0.0) c.0.1) r c.2 in
+        let g = bind_grows (IsConstant v.target) c.0.0 (means.Enumerator a.0.0) s (constant_fits given a.0.0 b.0) in
+        record { grows = subst (λ (t : State). Extends v.target s t) (ap (bind c.0.0 (means.Enumerator a.0.0)) (sym (d.1 ∙ b.1)) ∙ sym e.1) g; holds = λ k. tt }
+
+    pub enumr_holds : (x : Name) (o : Option (At TreeMeaning)) → ((e : At TreeMeaning) → o ≡ Some e → TreeGrows v e.node) → EnumrHolds v (λ next at s. constant_by v.target roles at x next s o)
+    enumr_holds x None f next at s r h = declared_holds at x (Value next) s r h
+    enumr_holds x (Some e) f next at s r h =
+        then_holds (λ y. Unit {0}) (λ n. Unit {0}) (value_found e s) (λ y s. constant_declared v.target roles at x (constancy y) s) s r
+        (λ y g. record { grows = value_grows v e (f e refl) s y g; holds = λ k. tt })
+        (λ y g. let o = declared_holds at x (constancy y.0) y.1 r g in record { grows = o.grows; holds = λ k u. tt }) h
+
+  -- ---- declarators
+
+  more_stand : (unbounded : Bool) (ds : List (At (Derivation Scope))) (d : At (Derivation Scope)) → DerivationsStand v unbounded ds → IsBounded v d.node → DerivationsStand v unbounded (ds ++ d ∷ [])
+  more_stand unbounded [] d h k = (inl k, tt)
+  more_stand unbounded (e ∷ ds) d h k = (h.0, each_append (λ e. IsBounded v e.node) ds d h.1 k)
+
+  first_stands : (unbounded : Bool) (ds : List (At (Derivation Scope))) (d : At (Derivation Scope)) → is_next_to_name ds ≡ true → d.node ≡ to.Array None → unbounded ≡ true → DerivationsStand v unbounded (ds ++ d ∷ [])
+  first_stands unbounded [] d h e u = (inr (e, u), tt)
+  first_stands unbounded (c ∷ ds) d h e u = absurd (cc)
+
+  abbrev Declares : Bool → Declarator Scope → Type 0
+  Declares unbounded d = DerivationsStand v unbounded d.derivations
+
+  same_declarator : (a b : Declarator Scope) → given a ≡ Ok b → a ≡ b
+  same_declarator a b h = ok_is h
+
+  pub nothing_holds : DeclrHolds v (λ allowed at s. Ok (record { name = None; derivations = [] }, s))
+  nothing_holds allowed at s r h = answer_holds (Declarator Scope) (Declares allowed.unbounded) (record { name = None; derivations = [] }) s r (λ k. tt) h
+
+  pub name_holds : (x : Name) → DeclrHolds v (λ allowed at s. Ok (record { name = Some x; derivations = [] }, s))
+  name_holds x allowed at s r h = answer_holds (Declarator Scope) (Declares allowed.unbounded) (record { name = Some x; derivations = [] }) s r (λ k. tt) h
+
+  declarator_then : {B : Type 0} (U : B → Type 0) (allowed : Allowed) (d : At DeclrMeaning) → DeclrHolds v d.node → (next : Declarator Scope → State → Found B) (s : State) (r : B × State) →
+      ((x : Declarator Scope × State) → next x.0 x.1 ≡ Ok r → Holds B (λ y. Declares allowed.unbounded x.0 → U y) x.1 r) → declarator allowed d s next ≡ Ok r → Holds B U s r
+  declarator_then U allowed d hd next s r g h = then_holds (Declares allowed.unbounded) U (d.node allowed d.at s) next s r (λ x f. hd allowed d.at s x f) g h
+
+  pub pointer_holds : (words : List Word) (d : At DeclrMeaning) → DeclrHolds v d.node → DeclrHolds v (λ allowed at s. declarator allowed d s (λ d s. Ok (with_derivation at (pointer_derivation words) d, s)))
+  pointer_holds words d hd allowed at s r h =
+      declarator_then (Declares allowed.unbounded) allowed d hd (λ d s. Ok (with_derivation at (pointer_derivation words) d, s)) s r
+      (λ x g. answer_holds (Declarator Scope) (λ y. Declares allowed.unbounded x.0 → Declares allowed.unbounded y) (with_derivation at (pointer_derivation words) x.0) x.1 r
+      (λ k hx. more_stand allowed.unbounded x.0.derivations (record { at = at; node = pointer_derivation words }) hx tt) g) h
+
+  bound_fits : (n m : ℕ) → must (is_bound n) rule.ArrayBound (Ok n) ≡ Ok m → is_bound m ≡ true
+  bound_fits n m h = let k = must_ok (is_bound n) rule.ArrayBound (Ok n) m h in subst (λ (i : ℕ). is_bound i ≡ true) (same_bound n m k.1) k.0
+    where
+      same_bound : (n m : ℕ) → given n ≡ Ok m → n ≡ m
+      same_bound n m h = ok_is h
+
+  bound_of_number : (i : ℤ) (n : ℕ) → bound_by i ≡ Ok n → is_bound n ≡ true
+  bound_of_number (pos m) n h = bound_fits m n h
+  bound_of_number (negsuc m) n h = absurd (cc)
+
+  bound_of_constant : (c : Constant) (n : ℕ) → bound_in c ≡ Ok n → is_bound n ≡ true
+  bound_of_constant NoConstant n h = absurd (cc)
+  bound_of_constant (Value i) n h = bound_of_number i n h
+  bound_of_constant Traps n h = absurd (cc)
+
+  bound_stands : (allowed : Allowed) (at : ℕ) (d c : Declarator Scope) (x : Operand) → with_bound at d x ≡ Ok c → Declares allowed.unbounded d → Declares allowed.unbounded c
+  bound_stands allowed at d c x h k =
+      let n = then_judged (bound_judged x) (λ n. Ok (with_derivation at (to.Array (Some n)) d)) c h in
+      subst (Declares allowed.unbounded) (same_declarator (with_derivation at (to.Array (Some n.0)) d) c n.2)
+      (more_stand allowed.unbounded d.derivations (record { at = at; node = to.Array (Some n.0) }) k (bound_of_constant (constancy x) n.0 n.1))
+
+  no_bound_stands : (allowed : Allowed) (at : ℕ) (d c : Declarator Scope) → without_bound at allowed d ≡ Ok c → Declares allowed.unbounded c
+  no_bound_stands allowed at d c h =
+      let m = must_ok (allowed.unbounded && is_next_to_name d.derivations) rule.ArrayBound (Ok (with_derivation at (to.Array None) d)) c h in
+      let b = both_true allowed.unbounded (is_next_to_name d.derivations) m.0 in
+      subst (Declares allowed.unbounded) (same_declarator (with_derivation at (to.Array None) d) c m.1) (first_stands allowed.unbounded d.derivations (record { at = at; node = to.Array None }) b.1 refl b.0)
+
+  bounded_holds : (at : ℕ) (allowed : Allowed) (d : Declarator Scope) (o : Option (At TreeMeaning)) → ((e : At TreeMeaning) → o ≡ Some e → TreeGrows v e.node) → (s : State) (r : Declarator Scope × State) → bounded at allowed d o s ≡ Ok r →
+      Holds (Declarator Scope) (λ c. Declares allowed.unbounded d → Declares allowed.unbounded c) s r
+  bounded_holds at allowed d None f s r h = judged_holds (Declarator Scope) (λ c. Declares allowed.unbounded d → Declares allowed.unbounded c) at s (without_bound at allowed d) r (λ c e k hd. no_bound_stands allowed at d c e) h
+  bounded_holds at allowed d (Some e) f s r h =
+      then_holds (λ x. Unit {0}) (λ c. Declares allowed.unbounded d → Declares allowed.unbounded c) (value_found e s) (λ x s. whole at s (with_bound at d x)) s r
+      (λ x g. record { grows = value_grows v e (f e refl) s x g; holds = λ k. tt })
+      (λ x g. judged_holds (Declarator Scope) (λ c. Unit {0} → Declares allowed.unbounded d → Declares allowed.unbounded c) at x.1 (with_bound at d x.0) r (λ c i k u hd. bound_stands allowed at d c x.0 i hd) g) h
+
+  pub array_holds : (d : At DeclrMeaning) (n : Option (At TreeMeaning)) → DeclrHolds v d.node → ((e : At TreeMeaning) → n ≡ Some e → TreeGrows v e.node) →
+      DeclrHolds v (λ allowed at s. declarator allowed d s (λ d s. and_then (located s (suffix_found false d.derivations)) (λ done s. bounded at allowed d n s)))
+  array_holds d n hd f allowed at s r h =
+      declarator_then (Declares allowed.unbounded) allowed d hd (λ d s. and_then (located s (suffix_found false d.derivations)) (λ done s. bounded at allowed d n s)) s r
+      (λ x g. located_then (λ c. Declares allowed.unbounded x.0 → Declares allowed.unbounded c) x.1 (suffix_found false x.0.derivations) (λ done s. bounded at allowed x.0 n s) r
+      (λ done k. bounded_holds at allowed x.0 n f x.1 r k) g) h
+
+  pub function_holds : (d : At DeclrMeaning) (ps : ParamsMeaning) → DeclrHolds v d.node → ParamsHold v ps →
+      DeclrHolds v (λ allowed at s. declarator allowed d s (λ d s. and_then (located s (suffix_found true d.derivations)) (λ done s.
+      and_then (ps (allowed.unnamed || not (is_next_to_name d.derivations)) s) (λ ps s. Ok (with_derivation at (to.Function ps.0 ps.1) d, s)))))
+  function_holds d ps hd hp allowed at s r h =
+      declarator_then (Declares allowed.unbounded) allowed d hd
+      (λ d s. and_then (located s (suffix_found true d.derivations)) (λ done s. and_then (ps (allowed.unnamed || not (is_next_to_name d.derivations)) s) (λ ps s. Ok (with_derivation at (to.Function ps.0 ps.1) d, s)))) s r
+      (λ x g. located_then (λ c. Declares allowed.unbounded x.0 → Declares allowed.unbounded c) x.1 (suffix_found true x.0.derivations)
+      (λ done s. and_then (ps (allowed.unnamed || not (is_next_to_name x.0.derivations)) s) (λ ps s. Ok (with_derivation at (to.Function ps.0 ps.1) x.0, s))) r
+      (λ done k. then_holds (λ p. Each (ParameterStands v) p.0) (λ c. Declares allowed.unbounded x.0 → Declares allowed.unbounded c) (ps (allowed.unnamed || not (is_next_to_name x.0.derivations)) x.1)
+      (λ ps s. Ok (with_derivation at (to.Function ps.0 ps.1) x.0, s)) x.1 r (λ p f. hp (allowed.unnamed || not (is_next_to_name x.0.derivations)) x.1 p f)
+      (λ p f. answer_holds (Declarator Scope) (λ c. Each (ParameterStands v) p.0.0 → Declares allowed.unbounded x.0 → Declares allowed.unbounded c) (with_derivation at (to.Function p.0.0 p.0.1) x.0) p.1 r
+      (λ w hs hx. more_stand allowed.unbounded x.0.derivations (record { at = at; node = to.Function p.0.0 p.0.1 }) hx hs) f) k) g) h
+
+  -- ---- the type that a declarator derives
+
+  derived_by : (allowed : Allowed) (base : CType) (d : Declarator Scope) (s : State) (r : CType × State) → derived_type v.target allowed base d s ≡ Ok r →
+      (r.1 ≡ s) × (KnowsTypes v s s → Stands v base → Declares allowed.unbounded d → IsDerived v allowed.void allowed.unbounded r.0)
+  derived_by allowed base d s r h =
+      let e = located_found s (type_found v.target (structures_of s) (layouts_of s) allowed base d.derivations) r h in
+      (e.1, λ k hb hd. derived_stands v (structures_of s) (layouts_of s) (sizes_known v s k.structures) allowed.void allowed.unbounded base d.derivations r.0 hb hd e.0)
+
+  derived_holds : (allowed : Allowed) (base : CType) (d : Declarator Scope) (s : State) (r : CType × State) → derived_type v.target allowed base d s ≡ Ok r →
+      Holds CType (λ t. Declares allowed.unbounded d → Stands v base → IsDerived v allowed.void allowed.unbounded t) s r
+  derived_holds allowed base d s r h = let e = derived_by allowed base d s r h in stays CType (λ t. Declares allowed.unbounded d → Stands v base → IsDerived v allowed.void allowed.unbounded t) s r e.0 (λ k hd hb. e.1 k hb hd)
+
+  pub type_name_holds : (specs : List (At SpecMeaning)) (d : At DeclrMeaning) → Each (λ x. SpecHolds v x.node) specs → DeclrHolds v d.node →
+      TypeNameHolds v (λ cast s. and_then (specified_found (setting stands.InTypeName entity.Nothing) specs s) (λ base s. declarator (in_type_name cast) d s (λ d s. derived_type v.target (in_type_name cast) base.ctype d s)))
+  type_name_holds specs d hs hd cast s r h =
+      then_holds (λ x. Stands v x.ctype) (IsNamedType v cast) (specified_found (setting stands.InTypeName entity.Nothing) specs s) (λ base s. declarator (in_type_name cast) d s (λ d s. derived_type v.target (in_type_name cast) base.ctype d s)) s r
+      (λ x f. specified_holds (setting stands.InTypeName entity.Nothing) specs hs s x f)
+      (λ x f. declarator_then (λ t. Stands v x.0.ctype → IsNamedType v cast t) (in_type_name cast) d hd (λ d s. derived_type v.target (in_type_name cast) x.0.ctype d s) x.1 r
+      (λ y g. derived_holds (in_type_name cast) x.0.ctype y.0 y.1 r g) f) h
+
+  -- ---- members
+
+  same_members : (a b : List Named) → given a ≡ Ok b → a ≡ b
+  same_members a b h = ok_is h
+
+  new_member : (b : Bool) (x : Name) (t : CType) (ms ns : List Named) → (if b then Err rule.MemberTwice else Ok (ms ++ (x, t) ∷ [])) ≡ Ok ns → is_object_type (kind_in v t) ≡ true → MembersKnown v ms → MembersKnown v ns
+  new_member true x t ms ns h o k = absurd (cc)
+  new_member false x t ms ns h o k = subst (MembersKnown v) (same_members (ms ++ (x, t) ∷ []) ns h) (each_append (λ (m : Named). is_object_type (kind_in v m.1) ≡ true) ms (x, t) k o)
+
+  member_known : (t : CType) (ms : List Named) (s : State) (x : Option Name) (ns : List Named) → KnowsTypes v s s → Stands v t → member_judged v.target t ms s x ≡ Ok ns → MembersKnown v ms → MembersKnown v ns
+  member_known t ms s None ns w k h m = subst (MembersKnown v) (same_members ms ns h) m
+  member_known t ms s (Some x) ns w k h m =
+      let o = must_ok (is_object v.target (structures_of s) (layouts_of s) t) rule.NoObjectType (if is_member_name x ms then Err rule.MemberTwice else Ok (ms ++ (x, t) ∷ [])) ns h in
+      new_member (is_member_name x ms) x t ms ns o.1 (object_stands v (structures_of s) (layouts_of s) (sizes_known v s w.structures) t k.0 k.1 o.0) m
+
+  member_holds : (base : CType) (d : At DeclrMeaning) → DeclrHolds v d.node → (ms : List Named) (s : State) (r : List Named × State) → member_found v.target base d ms s ≡ Ok r → Holds (List Named) (λ ns. Stands v base → MembersKnown v ms → MembersKnown v ns) s r
+  member_holds base d hd ms s r h =
+      declarator_then (λ ns. Stands v base → MembersKnown v ms → MembersKnown v ns) nothing_more d hd (λ x s. member_behind v.target base d.at ms x s) s r
+      (λ x g. then_holds (λ t. Declares false x.0 → Stands v base → IsDerived v false false t) (λ ns. Declares false x.0 → Stands v base → MembersKnown v ms → MembersKnown v ns) (derived_type v.target nothing_more base x.0 x.1)
+      (λ t s. whole d.at s (member_judged v.target t ms s x.0.name)) x.1 r (λ t f. derived_holds nothing_more base x.0 x.1 t f)
+      (λ t f. judged_holds (List Named) (λ ns. (Declares false x.0 → Stands v base → IsDerived v false false t.0) → Declares false x.0 → Stands v base → MembersKnown v ms → MembersKnown v ns) d.at t.1 (member_judged v.target t.0 ms t.1 x.0.name) r
+      (λ ns e w derived hd hb hm. member_known t.0 ms t.1 x.0.name ns w (only_standing v t.0 (derived hd hb)) e hm) f) g) h
+
+  declared_hold : (base : CType) (ds : List (At DeclrMeaning)) → Each (λ d. DeclrHolds v d.node) ds → (ms : List Named) (s : State) (r : List Named × State) → declared_members v.target base ds ms s ≡ Ok r →
+      Holds (List Named) (λ ns. Stands v base → MembersKnown v ms → MembersKnown v ns) s r
+  declared_hold base ds hs ms s r h =
+      let o = list_holds (member_found v.target base) (λ d. DeclrHolds v d.node) (λ ns. Stands v base → MembersKnown v ns)
+      (λ d hd ms s r f. let o = member_holds base d hd ms s r f in record { grows = o.grows; holds = λ k known hb. o.holds k hb (known hb) }) ds hs ms s r h in
+      record { grows = o.grows; holds = λ k hb hm. o.holds k (λ b. hm) hb }
+
+  pub member_list_holds : (specs : List (At SpecMeaning)) (ds : List (At DeclrMeaning)) → Each (λ x. SpecHolds v x.node) specs → Each (λ d. DeclrHolds v d.node) ds →
+      MembersHold v (λ ms s. and_then (specified_found (setting stands.AsMember entity.Member) specs s) (λ base s. declared_members v.target base.ctype ds ms s))
+  member_list_holds specs ds hs hd ms s r h =
+      then_holds (λ x. Stands v x.ctype) (λ ns. MembersKnown v ms → MembersKnown v ns) (specified_found (setting stands.AsMember entity.Member) specs s) (λ base s. declared_members v.target base.ctype ds ms s) s r
+      (λ x f. specified_holds (setting stands.AsMember entity.Member) specs hs s x f)
+      (λ x f. declared_hold x.0.ctype ds hd ms x.1 r f) h
+
+  -- ---- parameters
+
+  abbrev Binds : (A : Type 0) → (A → Type 0) → State → A × State → Type 0
+  Binds A T s r = Outcome (IsParameter v.target) (KnowsTypes v) A T s r
+
+  as_binds : (A : Type 0) (T : A → Type 0) (s : State) (r : A × State) → Holds A T s r → Binds A T s r
+  as_binds A T s r o = record { grows = as_parameters v.target s r.1 o.grows; holds = o.holds }
+
+  then_binds : {A B : Type 0} (T : A → Type 0) (U : B → Type 0) (found : Found A) (next : A → State → Found B) (s : State) (r : B × State) →
+      ((x : A × State) → found ≡ Ok x → Binds A T s x) → ((x : A × State) → next x.0 x.1 ≡ Ok r → Binds B (λ y. T x.0 → U y) x.1 r) → and_then found next ≡ Ok r → Binds B U s r
+  then_binds T U found next s r f g h = chained (IsParameter v.target) (KnowsTypes v) (types_first v (IsParameter v.target)) (parameters_second v) T U found next s r f g h
+
+  same_parameter : (a b : Parameter) → given a ≡ Ok b → a ≡ b
+  same_parameter a b h = ok_is h
+
+  bound_parameter : (roles : Roles) (unnamed : Bool) (i : ℕ) (p : Parameter) (s : State) (x : Option Name) (r : Parameter × State) → parameter_bound roles unnamed i p s x ≡ Ok r → Binds Parameter (λ q. ParameterStands v p → ParameterStands v q) s r
+  bound_parameter roles unnamed i p s None r h =
+      as_binds Parameter (λ q. ParameterStands v p → ParameterStands v q) s r
+      (judged_holds Parameter (λ q. ParameterStands v p → ParameterStands v q) p.at s (must unnamed rule.DeclaredTwice (Ok p)) r
+      (λ q e k w. subst (ParameterStands v) (same_parameter p q (must_ok unnamed rule.DeclaredTwice (Ok p) q e).1) w) h)
+  bound_parameter roles unnamed i p s (Some x) r h =
+      let a = then_found (whole p.at s (new_name roles x s)) (λ x s. Ok (p, bind x (means.Automatic i p.ctype) s)) r h in
+      let b = whole_found p.at s (new_name roles x s) a.0 a.1 in
+      let e = answer_is p (bind a.0.0 (means.Automatic i p.ctype) a.0.1) r a.2 in
+      record {
+        grows = subst (λ (t : State). Grows (IsParameter v.target) s t) (ap (bind a.0.0 (means.Automatic i p.ctype)) (sym b.1) ∙ sym e.1) (bind_grows (IsParameter v.target) a.0.0 (means.Automatic i p.ctype) s tt);
+        holds = λ k w. subst (ParameterStands v) (sym e.0) w;
+      }
+
+  module _ (roles : Roles) where
+    parameter_declared_binds : (unnamed : Bool) (before : List Parameter) (base : CType) (at : ℕ) (x : Declarator Scope) (s : State) (r : List Parameter × State) → parameter_declared v.target roles unnamed before base at x s ≡ Ok r →
+        Binds (List Parameter) (λ ps. Declares true x → Stands v base → Each (ParameterStands v) before → Each (ParameterStands v) ps) s r
+    parameter_declared_binds unnamed before base at x s r h =
+        then_binds (λ t. Declares true x → Stands v base → IsDerived v false true t) (λ ps. Declares true x → Stands v base → Each (ParameterStands v) before → Each (ParameterStands v) ps) (derived_type v.target in_parameter base x s)
+        (λ t s. and_then (whole at s (parameter_type t)) (λ t s. one_more before (parameter_bound roles unnamed (length before) (parameter at x.name t) s x.name))) s r
+        (λ t f. as_binds CType (λ t. Declares true x → Stands v base → IsDerived v false true t) s t (derived_holds in_parameter base x s t f))
+        (λ t f. then_binds (λ u. IsDerived v false true t.0 → ParameterStands v (parameter at x.name u)) (λ ps. (Declares true x → Stands v base → IsDerived v false true t.0) → Declares true x → Stands v base → Each (ParameterStands v) before → Each (ParameterStands v) ps)
+        (whole at t.1 (parameter_type t.0)) (λ t s. one_more before (parameter_bound roles unnamed (length before) (parameter at x.name t) s x.name)) t.1 r
+        (λ u g. as_binds CType (λ u. IsDerived v false true t.0 → ParameterStands v (parameter at x.name u)) t.1 u
+        (judged_holds CType (λ u. IsDerived v false true t.0 → ParameterStands v (parameter at x.name u)) at t.1 (parameter_type t.0) u (λ u e k w. let p = parameter_stands v t.0 u w e in record { plain = p.0; pointed = p.1 }) g))
+        (λ u g.
+        let p = parameter at x.name u.0 in
+        let o = one_more_given (IsParameter v.target) (KnowsTypes v) (types_first v (IsParameter v.target)) (parameters_second v) (ParameterStands v p) (ParameterStands v) before (parameter_bound roles unnamed (length before) p u.1 x.name) u.1 r
+        (λ q k. bound_parameter roles unnamed (length before) p u.1 x.name q k) g in
+        record { grows = o.grows; holds = λ k f derived hd hb hs. o.holds k (f (derived hd hb)) hs }) f) h
+
+    pub param_holds : (specs : List (At SpecMeaning)) (d : At DeclrMeaning) → Each (λ x. SpecHolds v x.node) specs → DeclrHolds v d.node →
+        ParamHolds v (λ unnamed before s. and_then (specified_found (setting stands.AsParameter entity.Parameter) specs s) (λ base s. declarator in_parameter d s (λ x s. parameter_declared v.target roles unnamed before base.ctype d.at x s)))
+    param_holds specs d hs hd unnamed before s r h =
+        then_binds (λ x. Stands v x.ctype) (λ ps. Each (ParameterStands v) before → Each (ParameterStands v) ps) (specified_found (setting stands.AsParameter entity.Parameter) specs s)
+        (λ base s. declarator in_parameter d s (λ x s. parameter_declared v.target roles unnamed before base.ctype d.at x s)) s r
+        (λ x f. as_binds Specified (λ x. Stands v x.ctype) s x (specified_holds (setting stands.AsParameter entity.Parameter) specs hs s x f))
+        (λ x f. then_binds (Declares true) (λ ps. Stands v x.0.ctype → Each (ParameterStands v) before → Each (ParameterStands v) ps) (d.node in_parameter d.at x.1) (λ y s. parameter_declared v.target roles unnamed before x.0.ctype d.at y s) x.1 r
+        (λ y g. as_binds (Declarator Scope) (Declares true) x.1 y (hd in_parameter d.at x.1 y g))
+        (λ y g. parameter_declared_binds unnamed before x.0.ctype d.at y.0 y.1 r g) f) h
+
+  no_parameters_hold : (s : State) (r : (List Parameter × Scope) × State) → answer ([], empty) s ≡ Ok r → Holds (List Parameter × Scope) (λ p. Each (ParameterStands v) p.0) s r
+  no_parameters_hold s r h = answer_holds (List Parameter × Scope) (λ p. Each (ParameterStands v) p.0) ([], empty) s r (λ k. tt) h
+
+  pub empty_holds : ParamsHold v (λ unnamed s. Ok (([], empty), s))
+  empty_holds unnamed s r h = no_parameters_hold s r h
+
+  entered_known : (s t : State) → KnowsTypes v s (left t) → KnowsTypes v (entered empty s) t
+  entered_known s t k = record { structures = k.structures; types = k.types; tags = k.tags }
+
+  pub many_hold : (ps : List (At ParamMeaning)) → Each (λ p. ParamHolds v p.node) ps → ParamsHold v (λ unnamed s. with_scope (parameters_found unnamed ps (entered empty s)))
+  many_hold ps hs unnamed s r h =
+      let a = then_found (parameters_found unnamed ps (entered empty s)) (λ ps s. Ok ((ps, innermost s.scopes), left s)) r h in
+      let e = answer_is (a.0.0, innermost a.0.1.scopes) (left a.0.1) r a.2 in
+      let o = in_turn_holds (IsParameter v.target) (KnowsTypes v) (types_first v (IsParameter v.target)) (parameters_second v) (λ (p : At ParamMeaning) before s. p.node unnamed before s) (λ p. ParamHolds v p.node) (Each (ParameterStands v))
+      (λ p hp. hp unnamed) ps hs [] (entered empty s) a.0 a.1 in
+      record {
+        grows = subst (λ (t : State). Extends v.target s t) (sym e.1) (scope_left (IsParameter v.target) v.target s a.0.1 o.grows);
+        holds = λ k. subst (λ (p : List Parameter × Scope). Each (ParameterStands v) p.0) (sym e.0) (o.holds (entered_known s a.0.1 (subst (λ (t : State). KnowsTypes v s t) e.1 k)) tt);
+      }

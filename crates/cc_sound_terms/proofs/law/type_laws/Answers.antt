@@ -1,0 +1,11 @@
+use Rattle.std.proofs.Common.{[]}
+use Rattle.cc_sound_terms.proofs.Cycle.{declr_holds, type_name_is}
+use Rattle.cc_sound_terms.proofs.Laws.{specifiers_stand}
+use Rattle.cc_sound_terms.proofs.law.type_laws.Goals as goal
+
+pub returns : goal.returns
+returns c = record {
+  type_names = λ v roles members t f cast s r h. let o = type_name_is v [] members roles t f cast s r h in (o.grows, o.holds);
+  specifiers = λ v roles members setting specs f s r h. let o = specifiers_stand v members roles setting specs f s r h in (o.grows, o.holds);
+  declarators = λ v roles members d f allowed at s r h. let o = declr_holds v [] members roles d f allowed at s r h in (o.grows, o.holds);
+}

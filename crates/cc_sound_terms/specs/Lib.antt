@@ -1,0 +1,5 @@
+pub mod Growing
+pub mod Knowing
+pub mod Standing
+pub mod Typing
+pub mod Ranges
