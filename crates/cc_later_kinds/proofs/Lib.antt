@@ -1,0 +1,2 @@
+pub mod LaterKinds
+pub mod Members
