@@ -1,0 +1,8 @@
+use Rattle.std.proofs.Common.{◌≡◌, None, map, take}
+use Rattle.std.specs.Prelude.{find}
+use Rattle.cc_things.specs.View.{thing_view}
+use Rattle.cc_causes.specs.Causes.{types_differ}
+use Rattle.cc_causes.proofs.causes.first_with_two_types.Given as goal
+
+abbrev pub invariant-loop-t : goal.invariant-loop-t
+invariant-loop-t l = find (types_differ l.structures) (map thing_view (take l.t-index l.things)) ≡ None
