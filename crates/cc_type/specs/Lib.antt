@@ -1,0 +1,4 @@
+pub mod Defined
+pub mod Functions
+pub mod Typed
+pub mod Units
