@@ -1,0 +1,5 @@
+pub mod Loops
+pub mod Positions
+pub mod Sources
+pub mod Unique
+pub mod AtMostOne
