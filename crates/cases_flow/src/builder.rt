@@ -31,8 +31,8 @@ pub struct Builder {
     funcs: Vec<Func>,
 }
 
-fn condition() -> Expr {
-    Expr::Load(Place::Local(0))
+fn condition(alloc: Global) -> Option<Boxed<Expr>> {
+    Boxed::new(alloc, Expr::Load(Place::Local(0))).ok()
 }
 
 impl Builder {
@@ -55,12 +55,14 @@ impl Builder {
     /// A write to the first device.
     pub fn put_write(&mut self) -> Option<()> {
         let zero = Boxed::new(self.alloc, Expr::Const(0, IntType::UChar)).ok()?;
-        self.put(Stmt::Do(Expr::Assign(Place::Device(0), zero)))
+        let write = Boxed::new(self.alloc, Expr::Assign(Place::Device(0), zero)).ok()?;
+        self.put(Stmt::Do(write))
     }
 
     /// `irq_on()`.
     pub fn put_on(&mut self) -> Option<()> {
-        self.put(Stmt::Do(Expr::Intr(Intr::On, None)))
+        let on = Boxed::new(self.alloc, Expr::Intr(Intr::On, None)).ok()?;
+        self.put(Stmt::Do(on))
     }
 
     /// Opens a list of a statement.
@@ -119,24 +121,28 @@ impl Builder {
 
     fn close_switch(&mut self) -> Option<()> {
         let cases = self.cases.pop()?;
-        self.put(Stmt::Switch(condition(), List::of(cases)))
+        let condition = condition(self.alloc)?;
+        self.put(Stmt::Switch(condition, List::of(cases)))
     }
 
     fn close_loop(&mut self) -> Option<()> {
         let body = self.close_list()?;
-        self.put(Stmt::While(Expr::Const(1, IntType::Int), body))
+        let one = Boxed::new(self.alloc, Expr::Const(1, IntType::Int)).ok()?;
+        self.put(Stmt::While(one, body))
     }
 
     fn close_then(&mut self) -> Option<()> {
         let these = self.close_list()?;
         let those = List::of(Vec::new(self.alloc));
-        self.put(Stmt::If(condition(), these, those))
+        let condition = condition(self.alloc)?;
+        self.put(Stmt::If(condition, these, those))
     }
 
     fn close_else(&mut self) -> Option<()> {
         let those = self.close_list()?;
         let these = self.close_list()?;
-        self.put(Stmt::If(condition(), these, those))
+        let condition = condition(self.alloc)?;
+        self.put(Stmt::If(condition, these, those))
     }
 
     /// Closes the innermost statement.

@@ -1,7 +1,7 @@
 //! Statements.
 
 use crate::builder::{Builder, last_few};
-use cc_num::List;
+use cc_num::{Boxed, List};
 use cc_syntax::{Case, Expr, Stmt};
 use std::mem;
 
@@ -36,19 +36,21 @@ fn case(b: &mut Builder, rest: &str) -> Option<()> {
     b.cases.push(Case { labels, body }).ok()
 }
 
+/// The last expression, in a box.
+fn last(b: &mut Builder) -> Option<Boxed<Expr>> {
+    let e = b.exprs.pop()?;
+    Boxed::new(b.alloc, e).ok()
+}
+
 fn branch(b: &mut Builder) -> Option<Stmt> {
     let second = b.ended.pop()?;
     let first = b.ended.pop()?;
-    Some(Stmt::If(b.exprs.pop()?, first, second))
+    Some(Stmt::If(last(b)?, first, second))
 }
 
 /// An expression of a `for`, which is missing where the mark is 0.
-fn clause(b: &mut Builder, mark: Option<&u8>) -> Option<Expr> {
-    if mark == Some(&b'0') {
-        None
-    } else {
-        b.exprs.pop()
-    }
+fn clause(b: &mut Builder, mark: Option<&u8>) -> Option<Boxed<Expr>> {
+    if mark == Some(&b'0') { None } else { last(b) }
 }
 
 fn counted(b: &mut Builder, rest: &str) -> Option<Stmt> {
@@ -62,12 +64,12 @@ fn counted(b: &mut Builder, rest: &str) -> Option<Stmt> {
 
 fn switch(b: &mut Builder, rest: &str) -> Option<Stmt> {
     let cases = last_few(&mut b.cases, rest.parse().ok()?)?;
-    Some(Stmt::Switch(b.exprs.pop()?, cases))
+    Some(Stmt::Switch(last(b)?, cases))
 }
 
-fn value(b: &mut Builder, rest: &str) -> Option<Option<Expr>> {
+fn value(b: &mut Builder, rest: &str) -> Option<Option<Boxed<Expr>>> {
     if rest == "1" {
-        Some(Some(b.exprs.pop()?))
+        Some(Some(last(b)?))
     } else {
         Some(None)
     }
@@ -81,11 +83,11 @@ fn compound(b: &mut Builder, head: &str, rest: &str) -> Option<Stmt> {
     match head {
         "while" => {
             let body = b.ended.pop()?;
-            Some(Stmt::While(b.exprs.pop()?, body))
+            Some(Stmt::While(last(b)?, body))
         }
         "dowhile" => {
             let body = b.ended.pop()?;
-            Some(Stmt::DoWhile(body, b.exprs.pop()?))
+            Some(Stmt::DoWhile(body, last(b)?))
         }
         "for" => counted(b, rest),
         "switch" => switch(b, rest),
@@ -102,7 +104,7 @@ fn is_simple(head: &str) -> bool {
 
 fn simple(b: &mut Builder, head: &str, rest: &str) -> Option<Stmt> {
     match head {
-        "do" => Some(Stmt::Do(b.exprs.pop()?)),
+        "do" => Some(Stmt::Do(last(b)?)),
         "break" => Some(Stmt::Break),
         "continue" => Some(Stmt::Continue),
         "return" => Some(Stmt::Return(value(b, rest)?)),

@@ -2,19 +2,19 @@
 
 use crate::expressions::write_expr;
 use cases_script::Page;
-use cc_num::List;
+use cc_num::{Boxed, List};
 use cc_program::{Case, Expr, Stmt};
 
-fn write_word(page: &mut Page, word: &str, e: &Expr) {
+fn write_word(page: &mut Page, word: &str, e: &Boxed<Expr>) {
     page.put(word);
-    write_expr(page, e);
+    write_expr(page, e.get());
 }
 
-fn write_maybe(page: &mut Page, e: &Option<Expr>) {
+fn write_maybe(page: &mut Page, e: &Option<Boxed<Expr>>) {
     page.put(" ");
     match e {
         None => page.put("-"),
-        Some(e) => write_expr(page, e),
+        Some(e) => write_expr(page, e.get()),
     }
 }
 

@@ -1,7 +1,6 @@
 //! Statements in normal form (C99 6.8), a line each.
 
 ghost use Rattle.std.specs.Prelude.{◌≡◌, ◌∷◌, ◌+◌, OnOk, IfOk, map, option_map, slice_get};
-ghost use Rattle.std.specs.Option.{option_copied};
 ghost use Rattle.cc_pieces.specs.Pieces.{indent, keyword};
 ghost use Rattle.cc_pieces.specs.View.{pieces_of};
 ghost use Rattle.cc_program.specs.declared.types.Sig.{out-Sig};
@@ -14,7 +13,7 @@ use crate::effects::put_done;
 use crate::exprs::{Context, put_expr};
 use crate::spots::Spot;
 use cc_lex::Mark;
-use cc_num::{IntType, NoMemory, Target};
+use cc_num::{Boxed, IntType, NoMemory, Target};
 use cc_pieces::{Piece, mark, put, put_constant, word};
 use cc_program::{Case, Expr, Stmt};
 use cc_typed::{Scope, ValueType};
@@ -83,15 +82,15 @@ fn put_head<'p>(
 fn put_returned<'p>(
     out: &mut Vec<Piece<'p>>,
     c: Context<'p>,
-    e: Option<&'p Expr>,
+    e: &'p Option<Boxed<Expr>>,
 ) -> Result<(), NoMemory>
     requires { AreSized c.program.now.structures c.program.now.target }
-    ensures { OnOk result (pieces_of out.new.items ≡ returned c.entry.program.now c.entry.func.now (option_copied e.entry) (pieces_of out.old.items)) }
+    ensures { OnOk result (pieces_of out.new.items ≡ returned c.entry.program.now c.entry.func.now e.now (pieces_of out.old.items)) }
 {
     match e {
         None => Ok(()),
         Some(e) => {
-            put_expr(out, c, e, Spot::Whole(Some(&c.func.sig.result)))?;
+            put_expr(out, c, e.get(), Spot::Whole(Some(&c.func.sig.result)))?;
             put(out, Piece::Space)
         }
     }
@@ -174,33 +173,33 @@ fn put_stmt<'p>(
     match s {
         Stmt::Do(e) => {
             put_ended(out)?;
-            put_done(out, c, e)?;
+            put_done(out, c, e.get())?;
             put(out, Piece::Indent(level))
         }
         Stmt::If(e, a, b) => {
             put_closed(out, level)?;
             put_else(out, c, b.all(), level)?;
             put_list(out, c, a.all(), deeper(level)?)?;
-            put_head(out, c, Word::If, e, level)?;
+            put_head(out, c, Word::If, e.get(), level)?;
             Ok(())
         }
         Stmt::While(e, a) => {
             put_closed(out, level)?;
             put_list(out, c, a.all(), deeper(level)?)?;
-            put_head(out, c, Word::While, e, level)?;
+            put_head(out, c, Word::While, e.get(), level)?;
             Ok(())
         }
         Stmt::Switch(e, cases) => {
             put_closed(out, level)?;
-            put_cases(out, c, label_type_in(c, e), cases.all(), level)?;
-            put_head(out, c, Word::Switch, e, level)?;
+            put_cases(out, c, label_type_in(c, e.get()), cases.all(), level)?;
+            put_head(out, c, Word::Switch, e.get(), level)?;
             Ok(())
         }
         Stmt::Break => put_word_line(out, Word::Break, level),
         Stmt::Continue => put_word_line(out, Word::Continue, level),
         Stmt::Return(e) => {
             put_ended(out)?;
-            put_returned(out, c, e.as_ref())?;
+            put_returned(out, c, e)?;
             word(out, Word::Return)?;
             put(out, Piece::Indent(level))
         }

@@ -61,14 +61,14 @@ fn passed(
 }
 
 /// What a call gives of a function of such a result.
-fn result_of(alloc: Global, call: Expr, ctype: &CType) -> Result<Operand, Breach>
+fn result_of(alloc: Global, call: Boxed<Expr>, ctype: &CType) -> Result<Operand, Breach>
     ensures { Judges operand_view result (result_of_type call (result_value_of ctype.now)) }
 {
     match result_value(ctype) {
         None => Err(Breach::Breaks(Rule::Callee)),
         Some(t) => {
             let t = owned(alloc, t)?;
-            Ok(typed(Boxed::new(alloc, call)?, t))
+            Ok(typed(call, t))
         }
     }
 }
@@ -86,7 +86,8 @@ fn called_by(
         return Err(Breach::Breaks(Rule::Callee));
     };
     let args = passed(alloc, target, sig.get().params.all(), args)?;
-    result_of(alloc, Expr::Call(value, args), &sig.get().result)
+    let call = Boxed::new(alloc, Expr::Call(value, args))?;
+    result_of(alloc, call, &sig.get().result)
 }
 
 /// `f(a, ..)` (C99 6.5.2.2).
@@ -161,5 +162,6 @@ pub fn intrinsic(
     let sig = intrinsic_signature(alloc, i)?;
     let args = passed(alloc, target, sig.params.all(), args)?;
     let first = first_or_none(alloc, args)?;
-    result_of(alloc, Expr::Intr(i, first), &sig.result)
+    let call = Boxed::new(alloc, Expr::Intr(i, first))?;
+    result_of(alloc, call, &sig.result)
 }

@@ -29,7 +29,7 @@ front-begins (b ∷ w) (c ∷ text) h =
 
 -- ---- the first of a list that is in order
 
-abbrev Every : (Mark → Type 0) → List Mark → Type 0
+abbrev pub Every : (Mark → Type 0) → List Mark → Type 0
 Every P [] = Unit {0}
 Every P (m ∷ ms) = P m × Every P ms
 
@@ -65,7 +65,7 @@ found-in p (m ∷ ms) o =
     found-at p m ms (p m) refl o (found-in p ms f.1)
 
 -- each mark is in the list
-every-mark : (P : Mark → Type 0) → Every P marks → (m : Mark) → P m
+pub every-mark : (P : Mark → Type 0) → Every P marks → (m : Mark) → P m
 every-mark P h mark.Dots = h.0
 every-mark P h mark.ShlAssign = h.1.0
 every-mark P h mark.ShrAssign = h.1.1.0

@@ -63,7 +63,7 @@ fn behind_stmt(next: u64, s: &Stmt) -> Option<u64>
     ensures { result ≡ next_of next (devices_of s.now) }
 {
     match s {
-        Stmt::Do(e) => behind_effect(next, e),
+        Stmt::Do(e) => behind_effect(next, e.get()),
         Stmt::If(_, a, b) => {
             let next = behind_list(next, a)?;
             behind_list(next, b)

@@ -5,7 +5,7 @@ ghost use Rattle.cc_syntax.specs.Effects.{no_one, effects_of, place_effects_of};
 ghost use Rattle.cc_syntax.specs.Normal.{is_operand as is_operand_of, is_optional_operand as is_optional_operand_of, is_register_place as is_register_place_of, is_other_place as is_other_place_of};
 
 use crate::folding::{folding_of, is_folded_place};
-use cc_num::Target;
+use cc_num::{Boxed, Target};
 use cc_syntax::{Expr, Func, Place};
 use cc_typed::is_register;
 
@@ -73,12 +73,12 @@ impl<'p> Body<'p> {
     }
 
     /// Whether an expression, where there is one, is an operand.
-    pub fn is_optional_operand(self, e: &Option<Expr>) -> bool
+    pub fn is_optional_operand(self, e: &Option<Boxed<Expr>>) -> bool
         ensures { result ≡ is_optional_operand_of self.entry.target.now self.entry.func.now e.now }
     {
         match e {
             None => true,
-            Some(e) => self.is_operand(e),
+            Some(e) => self.is_operand(e.get()),
         }
     }
 

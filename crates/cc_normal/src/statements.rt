@@ -88,10 +88,12 @@ impl<'p> Body<'p> {
         ensures { result ≡ is_normal_stmt_of self.entry.target.now self.entry.func.now s.now }
     {
         match s {
-            Stmt::Do(e) => self.is_expression_statement(e),
-            Stmt::If(e, a, b) => self.is_operand(e) && self.are_normal(a) && self.are_normal(b),
-            Stmt::While(e, a) => is_one(e) && self.are_normal(a),
-            Stmt::Switch(e, cases) => self.is_operand(e) && self.are_normal_cases(cases),
+            Stmt::Do(e) => self.is_expression_statement(e.get()),
+            Stmt::If(e, a, b) => self.is_operand(e.get())
+                && self.are_normal(a)
+                && self.are_normal(b),
+            Stmt::While(e, a) => is_one(e.get()) && self.are_normal(a),
+            Stmt::Switch(e, cases) => self.is_operand(e.get()) && self.are_normal_cases(cases),
             Stmt::Return(e) => self.is_optional_operand(e),
             Stmt::Break | Stmt::Continue => true,
             Stmt::DoWhile(_, _) => false,

@@ -13,6 +13,7 @@ use Rattle.cc_lex.specs.ScanParts.{begins_fraction}
 use Rattle.cc_lex.specs.Scan.{marks}
 use Rattle.cc_lex.specs.Separators.{begins_comment}
 use Rattle.cc_lex.proofs.Booleans.{or-false, not-true, eq-same, true-false, le-true}
+use Rattle.cc_lex.proofs.LongestMark.{Every, every-mark}
 use Rattle.cc_lex.proofs.Runs.{no-number-front, number-some}
 use Rattle.cc_piece_tokens.specs.Parts.{extends, makes_other, is_apart}
 
@@ -26,58 +27,6 @@ longer-front (a ∷ v) (c ∷ w) b rest behind e h =
     let f : a ≡ c = cc e in
     let g : v ++ b ∷ rest ≡ w ++ behind = cc e in
     rw (f, eq-same c) (longer-front v w b rest behind g (omega (arith, h)))
-
-abbrev Every : (Mark → Type 0) → List Mark → Type 0
-Every P [] = Unit {0}
-Every P (m ∷ ms) = P m × Every P ms
-
-every-mark : (P : Mark → Type 0) → Every P marks → (m : Mark) → P m
-every-mark P h mark.Dots = h.0
-every-mark P h mark.ShlAssign = h.1.0
-every-mark P h mark.ShrAssign = h.1.1.0
-every-mark P h mark.Arrow = h.1.1.1.0
-every-mark P h mark.PlusPlus = h.1.1.1.1.0
-every-mark P h mark.MinusMinus = h.1.1.1.1.1.0
-every-mark P h mark.Shl = h.1.1.1.1.1.1.0
-every-mark P h mark.Shr = h.1.1.1.1.1.1.1.0
-every-mark P h mark.Le = h.1.1.1.1.1.1.1.1.0
-every-mark P h mark.Ge = h.1.1.1.1.1.1.1.1.1.0
-every-mark P h mark.EqEq = h.1.1.1.1.1.1.1.1.1.1.0
-every-mark P h mark.NotEq = h.1.1.1.1.1.1.1.1.1.1.1.0
-every-mark P h mark.AndAnd = h.1.1.1.1.1.1.1.1.1.1.1.1.0
-every-mark P h mark.OrOr = h.1.1.1.1.1.1.1.1.1.1.1.1.1.0
-every-mark P h mark.StarAssign = h.1.1.1.1.1.1.1.1.1.1.1.1.1.1.0
-every-mark P h mark.SlashAssign = h.1.1.1.1.1.1.1.1.1.1.1.1.1.1.1.0
-every-mark P h mark.PercentAssign = h.1.1.1.1.1.1.1.1.1.1.1.1.1.1.1.1.0
-every-mark P h mark.PlusAssign = h.1.1.1.1.1.1.1.1.1.1.1.1.1.1.1.1.1.0
-every-mark P h mark.MinusAssign = h.1.1.1.1.1.1.1.1.1.1.1.1.1.1.1.1.1.1.0
-every-mark P h mark.AndAssign = h.1.1.1.1.1.1.1.1.1.1.1.1.1.1.1.1.1.1.1.0
-every-mark P h mark.XorAssign = h.1.1.1.1.1.1.1.1.1.1.1.1.1.1.1.1.1.1.1.1.0
-every-mark P h mark.OrAssign = h.1.1.1.1.1.1.1.1.1.1.1.1.1.1.1.1.1.1.1.1.1.0
-every-mark P h mark.LBracket = h.1.1.1.1.1.1.1.1.1.1.1.1.1.1.1.1.1.1.1.1.1.1.0
-every-mark P h mark.RBracket = h.1.1.1.1.1.1.1.1.1.1.1.1.1.1.1.1.1.1.1.1.1.1.1.0
-every-mark P h mark.LParen = h.1.1.1.1.1.1.1.1.1.1.1.1.1.1.1.1.1.1.1.1.1.1.1.1.0
-every-mark P h mark.RParen = h.1.1.1.1.1.1.1.1.1.1.1.1.1.1.1.1.1.1.1.1.1.1.1.1.1.0
-every-mark P h mark.LBrace = h.1.1.1.1.1.1.1.1.1.1.1.1.1.1.1.1.1.1.1.1.1.1.1.1.1.1.0
-every-mark P h mark.RBrace = h.1.1.1.1.1.1.1.1.1.1.1.1.1.1.1.1.1.1.1.1.1.1.1.1.1.1.1.0
-every-mark P h mark.Dot = h.1.1.1.1.1.1.1.1.1.1.1.1.1.1.1.1.1.1.1.1.1.1.1.1.1.1.1.1.0
-every-mark P h mark.Amp = h.1.1.1.1.1.1.1.1.1.1.1.1.1.1.1.1.1.1.1.1.1.1.1.1.1.1.1.1.1.0
-every-mark P h mark.Star = h.1.1.1.1.1.1.1.1.1.1.1.1.1.1.1.1.1.1.1.1.1.1.1.1.1.1.1.1.1.1.0
-every-mark P h mark.Plus = h.1.1.1.1.1.1.1.1.1.1.1.1.1.1.1.1.1.1.1.1.1.1.1.1.1.1.1.1.1.1.1.0
-every-mark P h mark.Minus = h.1.1.1.1.1.1.1.1.1.1.1.1.1.1.1.1.1.1.1.1.1.1.1.1.1.1.1.1.1.1.1.1.0
-every-mark P h mark.Tilde = h.1.1.1.1.1.1.1.1.1.1.1.1.1.1.1.1.1.1.1.1.1.1.1.1.1.1.1.1.1.1.1.1.1.0
-every-mark P h mark.Bang = h.1.1.1.1.1.1.1.1.1.1.1.1.1.1.1.1.1.1.1.1.1.1.1.1.1.1.1.1.1.1.1.1.1.1.0
-every-mark P h mark.Slash = h.1.1.1.1.1.1.1.1.1.1.1.1.1.1.1.1.1.1.1.1.1.1.1.1.1.1.1.1.1.1.1.1.1.1.1.0
-every-mark P h mark.Percent = h.1.1.1.1.1.1.1.1.1.1.1.1.1.1.1.1.1.1.1.1.1.1.1.1.1.1.1.1.1.1.1.1.1.1.1.1.0
-every-mark P h mark.Lt = h.1.1.1.1.1.1.1.1.1.1.1.1.1.1.1.1.1.1.1.1.1.1.1.1.1.1.1.1.1.1.1.1.1.1.1.1.1.0
-every-mark P h mark.Gt = h.1.1.1.1.1.1.1.1.1.1.1.1.1.1.1.1.1.1.1.1.1.1.1.1.1.1.1.1.1.1.1.1.1.1.1.1.1.1.0
-every-mark P h mark.Caret = h.1.1.1.1.1.1.1.1.1.1.1.1.1.1.1.1.1.1.1.1.1.1.1.1.1.1.1.1.1.1.1.1.1.1.1.1.1.1.1.0
-every-mark P h mark.Bar = h.1.1.1.1.1.1.1.1.1.1.1.1.1.1.1.1.1.1.1.1.1.1.1.1.1.1.1.1.1.1.1.1.1.1.1.1.1.1.1.1.0
-every-mark P h mark.Question = h.1.1.1.1.1.1.1.1.1.1.1.1.1.1.1.1.1.1.1.1.1.1.1.1.1.1.1.1.1.1.1.1.1.1.1.1.1.1.1.1.1.0
-every-mark P h mark.Colon = h.1.1.1.1.1.1.1.1.1.1.1.1.1.1.1.1.1.1.1.1.1.1.1.1.1.1.1.1.1.1.1.1.1.1.1.1.1.1.1.1.1.1.0
-every-mark P h mark.Semi = h.1.1.1.1.1.1.1.1.1.1.1.1.1.1.1.1.1.1.1.1.1.1.1.1.1.1.1.1.1.1.1.1.1.1.1.1.1.1.1.1.1.1.1.0
-every-mark P h mark.Assign = h.1.1.1.1.1.1.1.1.1.1.1.1.1.1.1.1.1.1.1.1.1.1.1.1.1.1.1.1.1.1.1.1.1.1.1.1.1.1.1.1.1.1.1.1.0
-every-mark P h mark.Comma = h.1.1.1.1.1.1.1.1.1.1.1.1.1.1.1.1.1.1.1.1.1.1.1.1.1.1.1.1.1.1.1.1.1.1.1.1.1.1.1.1.1.1.1.1.1.0
 
 none-of : (p : Mark → Bool) (ms : List Mark) → list_any p ms ≡ false → Every (λ o. p o ≡ false) ms
 none-of p [] h = tt

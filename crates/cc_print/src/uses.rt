@@ -51,7 +51,7 @@ fn stmt_acts(i: Intr, s: &Stmt) -> bool
     ensures { result ≡ stmt_acts_of i s.now }
 {
     match s {
-        Stmt::Do(e) => acts_in(i, e),
+        Stmt::Do(e) => acts_in(i, e.get()),
         Stmt::If(_, a, b) => list_acts(i, a.all()) || list_acts(i, b.all()),
         Stmt::While(_, a) => list_acts(i, a.all()),
         Stmt::DoWhile(a, _) => list_acts(i, a.all()),

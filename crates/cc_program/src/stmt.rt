@@ -1,5 +1,5 @@
 use crate::Expr;
-use cc_num::List;
+use cc_num::{Boxed, List};
 
 /// A statement (C99 6.8). A body that is a block is the list of the block's statements. An initialiser of a local
 /// (6.7.8) is an assignment where it stands, one for each scalar.
@@ -7,17 +7,17 @@ use cc_num::List;
 #[derive(Drop)]
 pub enum Stmt {
     /// An expression statement (C99 6.8.3).
-    Do(Expr),
+    Do(Boxed<Expr>),
     /// `if`, with the statements of both its arms (C99 6.8.4.1).
-    If(Expr, List<Stmt>, List<Stmt>),
-    While(Expr, List<Stmt>),
-    DoWhile(List<Stmt>, Expr),
+    If(Boxed<Expr>, List<Stmt>, List<Stmt>),
+    While(Boxed<Expr>, List<Stmt>),
+    DoWhile(List<Stmt>, Boxed<Expr>),
     /// `for`: what is done first, the test, what is done behind each turn, and the body (C99 6.8.5.3).
-    For(Option<Expr>, Option<Expr>, Option<Expr>, List<Stmt>),
-    Switch(Expr, List<Case>),
+    For(Option<Boxed<Expr>>, Option<Boxed<Expr>>, Option<Boxed<Expr>>, List<Stmt>),
+    Switch(Boxed<Expr>, List<Case>),
     Break,
     Continue,
-    Return(Option<Expr>),
+    Return(Option<Boxed<Expr>>),
     /// `;` (C99 6.8.3, 3).
     Empty,
     Block(List<Stmt>),

@@ -10,7 +10,7 @@ ghost use Rattle.cc_sound.specs.Cases.{apart_from, switches as switches_of, is_s
 ghost use Rattle.cc_syntax.specs.Sizes.{AreSized};
 ghost use Rattle.cc_typed.specs.View.{value_view};
 
-use cc_num::{IntType, List, Target};
+use cc_num::{Boxed, IntType, List, Target};
 use cc_syntax::{Case, Expr, Func, Program, Stmt};
 use cc_typed::{Scope, ValueType, is_assignable_some, is_promoted, is_void, scalar_value};
 
@@ -142,35 +142,35 @@ impl<'p> Function<'p> {
         .type_of(e)
     }
 
-    fn is_typed(self, e: &'p Option<Expr>) -> bool
+    fn is_typed(self, e: &'p Option<Boxed<Expr>>) -> bool
         requires { AreSized self.program.now.structures self.program.now.target }
         ensures { result ≡ is_typed_of self.entry.program.now self.entry.func.now e.now }
     {
         match e {
             None => true,
-            Some(e) => self.typed(e).is_some(),
+            Some(e) => self.typed(e.get()).is_some(),
         }
     }
 
-    fn is_optional_condition(self, e: &'p Option<Expr>) -> bool
+    fn is_optional_condition(self, e: &'p Option<Boxed<Expr>>) -> bool
         requires { AreSized self.program.now.structures self.program.now.target }
         ensures { result ≡ is_optional_condition_of self.entry.program.now self.entry.func.now e.now }
     {
         match e {
             None => true,
-            Some(e) => is_condition(self.typed(e)),
+            Some(e) => is_condition(self.typed(e.get())),
         }
     }
 
     /// A value exactly where the function has a result, and of its type (C99 6.8.6.4, 1 and 3).
-    fn returns(self, e: &'p Option<Expr>) -> bool
+    fn returns(self, e: &'p Option<Boxed<Expr>>) -> bool
         requires { AreSized self.program.now.structures self.program.now.target }
         ensures { result ≡ returns_of self.entry.program.now self.entry.func.now e.now }
     {
         let to = &self.func.sig.result;
         match e {
             None => is_void(to),
-            Some(e) => is_assignable_some(scalar_value(to), self.typed(e)),
+            Some(e) => is_assignable_some(scalar_value(to), self.typed(e.get())),
         }
     }
 
@@ -191,14 +191,15 @@ impl<'p> Function<'p> {
         ensures { result ≡ is_sound_stmt_of self.entry.program.now self.entry.func.now s.now breaks continues }
     {
         match s {
-            Stmt::Do(e) => self.typed(e).is_some(),
+            Stmt::Do(e) => self.typed(e.get()).is_some(),
             Stmt::If(e, a, b) => {
-                is_condition(self.typed(e))
+                is_condition(self.typed(e.get()))
                     && self.are_sound(a, breaks, continues)
                     && self.are_sound(b, breaks, continues)
             }
-            Stmt::While(e, a) => is_condition(self.typed(e)) && self.are_sound(a, true, true),
-            Stmt::DoWhile(a, e) => is_condition(self.typed(e)) && self.are_sound(a, true, true),
+            Stmt::While(e, a) => is_condition(self.typed(e.get())) && self.are_sound(a, true, true),
+            Stmt::DoWhile(a, e) => is_condition(self.typed(e.get()))
+                && self.are_sound(a, true, true),
             Stmt::For(first, test, step, a) => {
                 self.is_typed(first)
                     && self.is_optional_condition(test)
@@ -206,7 +207,7 @@ impl<'p> Function<'p> {
                     && self.are_sound(a, true, true)
             }
             Stmt::Switch(e, cases) => {
-                self.switches(e, cases.all()) && self.are_sound_cases(cases, continues)
+                self.switches(e.get(), cases.all()) && self.are_sound_cases(cases, continues)
             }
             Stmt::Break => breaks,
             Stmt::Continue => continues,

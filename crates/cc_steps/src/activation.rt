@@ -58,7 +58,14 @@ impl<'p> Activation<'p> {
     {
         match s {
             Stmt::Do(e) => {
-                if is_known(progress_at(alloc, p, self.number, self.func, &self.marks, Some(e))?) {
+                if is_known(progress_at(
+                    alloc,
+                    p,
+                    self.number,
+                    self.func,
+                    &self.marks,
+                    Some(e.get()),
+                )?) {
                     let next = behind(alloc, self.here, &self.around)?;
                     Ok(Some(begun_at(alloc, p, self.number, self.func, next)?))
                 } else {

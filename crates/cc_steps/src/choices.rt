@@ -14,27 +14,37 @@ use cc_control::{
     Control, Left, Level, Phase, arm, around_list, behind, broken, by_default, by_label, close,
     continued,
 };
-use cc_num::{List, NoMemory};
+use cc_num::{Boxed, List, NoMemory};
 use cc_program::{Case, Expr, Stmt, Value};
 use cc_values::is_true;
 use std::alloc::Global;
+
+/// The expression in a box, where there is one.
+pub fn expression_in(e: &Option<Boxed<Expr>>) -> Option<&Expr>
+    ensures { option_copied result ≡ e.now }
+{
+    match e {
+        None => None,
+        Some(e) => Some(e.get()),
+    }
+}
 
 /// The full expression that is worked in a statement.
 pub fn worked(s: &Stmt, phase: Phase) -> Option<&Expr>
     ensures { option_copied result ≡ worked_of (out-Stmt s.now) phase }
 {
     match s {
-        Stmt::Do(e) => Some(e),
-        Stmt::If(e, _, _) => Some(e),
-        Stmt::While(e, _) => Some(e),
-        Stmt::DoWhile(_, e) => Some(e),
+        Stmt::Do(e) => Some(e.get()),
+        Stmt::If(e, _, _) => Some(e.get()),
+        Stmt::While(e, _) => Some(e.get()),
+        Stmt::DoWhile(_, e) => Some(e.get()),
         Stmt::For(first, test, again, _) => match phase {
-            Phase::First => first.as_ref(),
-            Phase::Test => test.as_ref(),
-            Phase::Again => again.as_ref(),
+            Phase::First => expression_in(first),
+            Phase::Test => expression_in(test),
+            Phase::Again => expression_in(again),
         },
-        Stmt::Switch(e, _) => Some(e),
-        Stmt::Return(e) => e.as_ref(),
+        Stmt::Switch(e, _) => Some(e.get()),
+        Stmt::Return(e) => expression_in(e),
         _ => None,
     }
 }
@@ -139,7 +149,9 @@ impl<'p> Activation<'p> {
             }
             Stmt::While(_, body) => self.looped(alloc, is_true(v), body),
             Stmt::DoWhile(body, _) => self.looped(alloc, is_true(v), body),
-            Stmt::For(_, test, _, body) => { self.looped(alloc, is_passed(test.as_ref(), v), body) }
+            Stmt::For(_, test, _, body) => {
+                self.looped(alloc, is_passed(expression_in(test), v), body)
+            }
             Stmt::Switch(_, cases) => self.switched(alloc, v, cases),
             Stmt::Break => broken(alloc, &self.around),
             Stmt::Continue => continued(alloc, &self.around),

@@ -8,6 +8,7 @@ ghost use Rattle.cc_control.specs.View.{level_of, control_of};
 ghost use Rattle.cc_eval.specs.View.{progress_of as stage_of};
 ghost use Rattle.cc_steps.specs.Step.{progress_at as progress_at_of, passed as passed_of, passes as passes_of, is_known as is_known_of, at_test as at_test_of, begun_at as begun_at_of};
 
+use crate::choices::expression_in;
 use cc_control::{Control, Level, Phase, first};
 use cc_eval::{Context, Mark, Stage, next_of};
 use cc_num::{NoMemory, at};
@@ -63,9 +64,9 @@ fn passed(s: &Stmt, phase: Phase) -> Option<Option<&Expr>>
 {
     match s {
         Stmt::For(first, _, again, _) => match phase {
-            Phase::First => Some(first.as_ref()),
+            Phase::First => Some(expression_in(first)),
             Phase::Test => None,
-            Phase::Again => Some(again.as_ref()),
+            Phase::Again => Some(expression_in(again)),
         },
         _ => None,
     }

@@ -7,7 +7,7 @@ ghost use Rattle.cc_program.specs.declared.stmt.Case.{out-Case};
 ghost use Rattle.cc_syntax.specs.Registers.{is_address_taken as is_address_taken_of, place_use, is_taken_in_optional as is_taken_in_optional_of, is_taken_in as is_taken_in_of, is_addressed as is_addressed_of, may_be_register as may_be_register_of, is_register as is_register_of};
 
 use crate::values::scalar_value;
-use cc_num::{List, Name, at};
+use cc_num::{Boxed, List, Name, at};
 use cc_syntax::{CType, Case, Expr, Func, Place, Stmt};
 
 #[tactic(auto, unfolding(cc_syntax::specs::Registers::place_use))]
@@ -83,12 +83,12 @@ fn is_address_taken_in(local: u32, a: &Place) -> bool
     }
 }
 
-fn is_taken_in_optional(local: u32, e: &Option<Expr>) -> bool
+fn is_taken_in_optional(local: u32, e: &Option<Boxed<Expr>>) -> bool
     ensures { result ≡ is_taken_in_optional_of local e.now }
 {
     match e {
         None => false,
-        Some(e) => is_address_taken(local, e),
+        Some(e) => is_address_taken(local, e.get()),
     }
 }
 
@@ -98,19 +98,19 @@ fn is_taken_in(local: u32, s: &Stmt) -> bool
     ensures { result ≡ is_taken_in_of local s.now }
 {
     match s {
-        Stmt::Do(e) => is_address_taken(local, e),
+        Stmt::Do(e) => is_address_taken(local, e.get()),
         Stmt::If(e, a, b) => {
-            is_address_taken(local, e) || any_taken(local, a) || any_taken(local, b)
+            is_address_taken(local, e.get()) || any_taken(local, a) || any_taken(local, b)
         }
-        Stmt::While(e, a) => is_address_taken(local, e) || any_taken(local, a),
-        Stmt::DoWhile(a, e) => any_taken(local, a) || is_address_taken(local, e),
+        Stmt::While(e, a) => is_address_taken(local, e.get()) || any_taken(local, a),
+        Stmt::DoWhile(a, e) => any_taken(local, a) || is_address_taken(local, e.get()),
         Stmt::For(first, test, step, a) => {
             is_taken_in_optional(local, first)
                 || is_taken_in_optional(local, test)
                 || is_taken_in_optional(local, step)
                 || any_taken(local, a)
         }
-        Stmt::Switch(e, cases) => is_address_taken(local, e) || any_case_taken(local, cases),
+        Stmt::Switch(e, cases) => is_address_taken(local, e.get()) || any_case_taken(local, cases),
         Stmt::Return(e) => is_taken_in_optional(local, e),
         Stmt::Block(a) => any_taken(local, a),
         Stmt::Break | Stmt::Continue | Stmt::Empty => false,

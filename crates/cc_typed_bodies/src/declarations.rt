@@ -37,6 +37,7 @@ fn done(alloc: Global, assignments: List<Expr>) -> Result<List<Stmt>, NoMemory>
 {
     let mut statements = Vec::new(alloc);
     for e in assignments.into_vec() {
+        let e = Boxed::new(alloc, e)?;
         statements.push(Stmt::Do(e))?;
     }
     Ok(List::of(statements))
@@ -56,16 +57,6 @@ pub fn declared(
     Ok(done(alloc, assignments)?)
 }
 
-/// What is in a box, where there is one.
-fn unboxed(e: Option<Boxed<Expr>>) -> Option<Expr>
-    ensures { result ≡ e }
-{
-    match e {
-        None => None,
-        Some(e) => Some(e.into_inner()),
-    }
-}
-
 /// What stands first in a `for` (C99 6.8.5.3).
 #[tactic(auto, unfolding(crate::specs::Parts::first_found))]
 pub fn first_here(
@@ -73,7 +64,7 @@ pub fn first_here(
     alloc: Global,
     f: Function<'_>,
     state: &mut State,
-) -> Result<Option<Expr>, Stop>
+) -> Result<Option<Boxed<Expr>>, Stop>
     ensures { Gives (λ e. e) result (state_of state.new) (first_found f.entry.target.now f.entry.roles.now f.entry.defined.now first.now (state_of state.old)) }
 {
     match first {
@@ -81,9 +72,6 @@ pub fn first_here(
             let assignments = assignments(Where::InFor, d, alloc, f, state)?;
             Ok(joined(alloc, assignments)?)
         }
-        First::Expr(e) => {
-            let e = maybe_effect(e, alloc, f, state)?;
-            Ok(unboxed(e))
-        }
+        First::Expr(e) => maybe_effect(e, alloc, f, state),
     }
 }

@@ -27,7 +27,7 @@ pub fn expression_statement(
         None => Ok(one(alloc, Stmt::Empty)?),
         Some(e) => {
             let e = effect_here(e, alloc, f, state)?;
-            Ok(one(alloc, Stmt::Do(e.into_inner()))?)
+            Ok(one(alloc, Stmt::Do(e))?)
         }
     }
 }

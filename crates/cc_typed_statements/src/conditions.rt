@@ -63,25 +63,27 @@ pub fn body_of(statements: List<Stmt>) -> Result<List<Stmt>, NoMemory>
     }
 }
 
-fn then_one(alloc: Global, before: Option<Expr>, e: Expr) -> Result<Expr, NoMemory>
+fn then_one(
+    alloc: Global,
+    before: Option<Boxed<Expr>>,
+    e: Boxed<Expr>,
+) -> Result<Boxed<Expr>, NoMemory>
     ensures { IfOk result (λ r. Some r ≡ then_one_of before e) }
 {
     match before {
         None => Ok(e),
-        Some(before) => {
-            let before = Boxed::new(alloc, before)?;
-            Ok(Expr::Seq(before, Boxed::new(alloc, e)?))
-        }
+        Some(before) => Boxed::new(alloc, Expr::Seq(before, e)),
     }
 }
 
 /// Several assignments in front of a `for`, one after the other.
 #[tactic(auto, using(crate::proofs::Bodies::of_bodies))]
-pub fn joined(alloc: Global, assignments: List<Expr>) -> Result<Option<Expr>, NoMemory>
+pub fn joined(alloc: Global, assignments: List<Expr>) -> Result<Option<Boxed<Expr>>, NoMemory>
     ensures { IfOk result (λ r. r ≡ joined_of assignments) }
 {
     let mut before = None;
     for e in assignments.into_vec() {
+        let e = Boxed::new(alloc, e)?;
         before = Some(then_one(alloc, before, e)?);
     }
     Ok(before)

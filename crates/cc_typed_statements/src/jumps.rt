@@ -86,7 +86,7 @@ fn returned_by(
         return Err(Breach::Breaks(Rule::ReturnValue));
     };
     let y = assigned(alloc, target, &to, x)?;
-    Ok(one(alloc, Stmt::Return(Some(y.value.into_inner())))?)
+    Ok(one(alloc, Stmt::Return(Some(y.value)))?)
 }
 
 /// The type of a value that a function of such a result gives; None where it gives none.

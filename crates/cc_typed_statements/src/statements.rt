@@ -31,7 +31,7 @@ pub fn if_statement(
 {
     match condition(x) {
         Err(rule) => Err(Breach::Breaks(rule)),
-        Ok(e) => Ok(one(alloc, Stmt::If(e.into_inner(), these, those))?),
+        Ok(e) => Ok(one(alloc, Stmt::If(e, these, those))?),
     }
 }
 
@@ -41,7 +41,7 @@ pub fn while_statement(alloc: Global, x: Operand, body: List<Stmt>) -> Result<Li
 {
     match condition(x) {
         Err(rule) => Err(Breach::Breaks(rule)),
-        Ok(e) => Ok(one(alloc, Stmt::While(e.into_inner(), body))?),
+        Ok(e) => Ok(one(alloc, Stmt::While(e, body))?),
     }
 }
 
@@ -51,24 +51,14 @@ pub fn do_statement(alloc: Global, body: List<Stmt>, x: Operand) -> Result<List<
 {
     match condition(x) {
         Err(rule) => Err(Breach::Breaks(rule)),
-        Ok(e) => Ok(one(alloc, Stmt::DoWhile(body, e.into_inner()))?),
-    }
-}
-
-/// What is in a box, where there is one.
-fn unboxed(e: Option<Boxed<Expr>>) -> Option<Expr>
-    ensures { result ≡ e }
-{
-    match e {
-        None => None,
-        Some(e) => Some(e.into_inner()),
+        Ok(e) => Ok(one(alloc, Stmt::DoWhile(body, e))?),
     }
 }
 
 /// `for` (C99 6.8.5.3): what is done first, the test, and what is done behind each turn.
 pub fn for_statement(
     alloc: Global,
-    first: Option<Expr>,
+    first: Option<Boxed<Expr>>,
     test: Option<Operand>,
     step: Option<Boxed<Expr>>,
     body: List<Stmt>,
@@ -77,9 +67,6 @@ pub fn for_statement(
 {
     match maybe_condition(test) {
         Err(rule) => Err(Breach::Breaks(rule)),
-        Ok(test) => {
-            let statement = Stmt::For(first, unboxed(test), unboxed(step), body);
-            Ok(one(alloc, statement)?)
-        }
+        Ok(test) => { Ok(one(alloc, Stmt::For(first, test, step, body))?) }
     }
 }

@@ -74,7 +74,7 @@ pub fn switch_statement(
         Ok(cases) => {
             let t = switch_type(target, &x.ctype);
             let x = converted_to(alloc, target, t, x)?;
-            Ok(one(alloc, Stmt::Switch(x.value.into_inner(), cases))?)
+            Ok(one(alloc, Stmt::Switch(x.value, cases))?)
         }
     }
 }

@@ -112,7 +112,7 @@ pub fn renumber_expr(alloc: Global, ids: &Ids, e: &Expr) -> Result<Expr, NoMemor
 
 #[cycle(renumber)]
 #[tactic(auto, unfolding(crate::specs::Renumbered::expr_renumbered, crate::specs::Renumbered::place_renumbered))]
-fn renumber_boxed(alloc: Global, ids: &Ids, e: &Expr) -> Result<Boxed<Expr>, NoMemory>
+pub fn renumber_boxed(alloc: Global, ids: &Ids, e: &Expr) -> Result<Boxed<Expr>, NoMemory>
     ensures { IfOk result (λ r. r ≡ expr_renumbered ids.now e.now) }
 {
     Boxed::new(alloc, renumber_expr(alloc, ids, e)?)

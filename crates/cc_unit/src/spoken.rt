@@ -95,20 +95,20 @@ fn put_place(p: &Place, numbers: &mut Vec<u32>) -> Result<(), NoMemory>
     }
 }
 
-fn put_maybe(e: &Option<Expr>, numbers: &mut Vec<u32>) -> Result<(), NoMemory>
+fn put_maybe(e: &Option<Boxed<Expr>>, numbers: &mut Vec<u32>) -> Result<(), NoMemory>
     ensures { OnOk result (numbers.new.items ≡ numbers.old.items ++ in_maybe e.now) }
 {
     match e {
         None => Ok(()),
-        Some(e) => put_expr(e, numbers),
+        Some(e) => put_expr(e.get(), numbers),
     }
 }
 
 /// Adds what the clauses of a `for` speak of.
 fn put_clauses(
-    first: &Option<Expr>,
-    test: &Option<Expr>,
-    again: &Option<Expr>,
+    first: &Option<Boxed<Expr>>,
+    test: &Option<Boxed<Expr>>,
+    again: &Option<Boxed<Expr>>,
     numbers: &mut Vec<u32>,
 ) -> Result<(), NoMemory>
     ensures { OnOk result (numbers.new.items ≡ numbers.old.items ++ (in_maybe first.now ++ (in_maybe test.now ++ in_maybe again.now))) }
@@ -124,26 +124,26 @@ fn put_stmt(s: &Stmt, numbers: &mut Vec<u32>) -> Result<(), NoMemory>
     ensures { OnOk result (numbers.new.items ≡ numbers.old.items ++ in_stmt s.now) }
 {
     match s {
-        Stmt::Do(e) => put_expr(e, numbers),
+        Stmt::Do(e) => put_expr(e.get(), numbers),
         Stmt::If(e, a, b) => {
-            put_expr(e, numbers)?;
+            put_expr(e.get(), numbers)?;
             put_stmts(a.all(), numbers)?;
             put_stmts(b.all(), numbers)
         }
         Stmt::While(e, a) => {
-            put_expr(e, numbers)?;
+            put_expr(e.get(), numbers)?;
             put_stmts(a.all(), numbers)
         }
         Stmt::DoWhile(a, e) => {
             put_stmts(a.all(), numbers)?;
-            put_expr(e, numbers)
+            put_expr(e.get(), numbers)
         }
         Stmt::For(first, test, again, a) => {
             put_clauses(first, test, again, numbers)?;
             put_stmts(a.all(), numbers)
         }
         Stmt::Switch(e, cases) => {
-            put_expr(e, numbers)?;
+            put_expr(e.get(), numbers)?;
             put_cases(cases.all(), numbers)
         }
         Stmt::Break | Stmt::Continue | Stmt::Empty => Ok(()),

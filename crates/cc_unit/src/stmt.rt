@@ -3,7 +3,7 @@
 ghost use Rattle.std.specs.Prelude.{◌≡◌, IfOk, map, option_map};
 ghost use Rattle.cc_unit.specs.Renumbered.{expr_renumbered, stmt_renumbered, case_renumbered};
 
-use crate::expr::renumber_expr;
+use crate::expr::renumber_boxed;
 use crate::ids::Ids;
 use cc_num::{Boxed, List, NoMemory};
 use cc_program::{Case, Expr, Stmt, copy_list};
@@ -15,30 +15,30 @@ fn renumber_stmt(alloc: Global, ids: &Ids, s: &Stmt) -> Result<Stmt, NoMemory>
     ensures { IfOk result (λ r. r ≡ stmt_renumbered ids.now s.now) }
 {
     match s {
-        Stmt::Do(e) => Ok(Stmt::Do(renumber_expr(alloc, ids, e)?)),
+        Stmt::Do(e) => Ok(Stmt::Do(renumber_boxed(alloc, ids, e.get())?)),
         Stmt::If(e, these, those) => {
             let these = renumber_stmts(alloc, ids, these)?;
             let those = renumber_stmts(alloc, ids, those)?;
-            Ok(Stmt::If(renumber_expr(alloc, ids, e)?, these, those))
+            Ok(Stmt::If(renumber_boxed(alloc, ids, e.get())?, these, those))
         }
         Stmt::While(e, body) => {
             let body = renumber_stmts(alloc, ids, body)?;
-            Ok(Stmt::While(renumber_expr(alloc, ids, e)?, body))
+            Ok(Stmt::While(renumber_boxed(alloc, ids, e.get())?, body))
         }
         Stmt::DoWhile(body, e) => {
             let body = renumber_stmts(alloc, ids, body)?;
-            Ok(Stmt::DoWhile(body, renumber_expr(alloc, ids, e)?))
+            Ok(Stmt::DoWhile(body, renumber_boxed(alloc, ids, e.get())?))
         }
         Stmt::For(first, test, again, body) => {
             let body = renumber_stmts(alloc, ids, body)?;
-            let first = renumber_boxed(alloc, ids, first)?;
-            let test = renumber_boxed(alloc, ids, test)?;
-            let again = renumber_boxed(alloc, ids, again)?;
-            Ok(Stmt::For(unboxed(first), unboxed(test), unboxed(again), body))
+            let first = renumber_optional(alloc, ids, first)?;
+            let test = renumber_optional(alloc, ids, test)?;
+            let again = renumber_optional(alloc, ids, again)?;
+            Ok(Stmt::For(first, test, again, body))
         }
         Stmt::Switch(e, cases) => {
             let cases = renumber_cases(alloc, ids, cases)?;
-            Ok(Stmt::Switch(renumber_expr(alloc, ids, e)?, cases))
+            Ok(Stmt::Switch(renumber_boxed(alloc, ids, e.get())?, cases))
         }
         Stmt::Break => Ok(Stmt::Break),
         Stmt::Continue => Ok(Stmt::Continue),
@@ -85,34 +85,15 @@ fn renumber_case(alloc: Global, ids: &Ids, case: &Case) -> Result<Case, NoMemory
     })
 }
 
-fn renumber_optional(alloc: Global, ids: &Ids, e: &Option<Expr>) -> Result<Option<Expr>, NoMemory>
-    ensures { IfOk result (λ r. r ≡ option_map (λ e. expr_renumbered ids.now e) e.now) }
-{
-    match e {
-        None => Ok(None),
-        Some(e) => Ok(Some(renumber_expr(alloc, ids, e)?)),
-    }
-}
-
-fn renumber_boxed(
+fn renumber_optional(
     alloc: Global,
     ids: &Ids,
-    e: &Option<Expr>,
+    e: &Option<Boxed<Expr>>,
 ) -> Result<Option<Boxed<Expr>>, NoMemory>
     ensures { IfOk result (λ r. r ≡ option_map (λ e. expr_renumbered ids.now e) e.now) }
 {
     match e {
         None => Ok(None),
-        Some(e) => Ok(Some(Boxed::new(alloc, renumber_expr(alloc, ids, e)?)?)),
-    }
-}
-
-/// What the box holds, where there is one.
-fn unboxed(e: Option<Boxed<Expr>>) -> Option<Expr>
-    ensures { result ≡ e }
-{
-    match e {
-        None => None,
-        Some(e) => Some(e.into_inner()),
+        Some(e) => Ok(Some(renumber_boxed(alloc, ids, e.get())?)),
     }
 }
