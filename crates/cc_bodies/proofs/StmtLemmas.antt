@@ -32,26 +32,26 @@ module _ (p : Program) (f : Func) where
       ap (stmt p f) (sym (rolls-Switch e cases)) ∙ fold-roll-Stmt StmtText CaseText (stmt_step p f) (case_step p f) (is.Switch e cases)
       ∙ ap (switch_lines p f e) (cases-opened cases)
 
-  pub if_at : (s : Stmt) (e : Expr) (a b xs ys : List Stmt) (level deep : ℕ) (ps one two three four : Pieces) → s ≡ If e a b → xs ≡ a → ys ≡ b → deep ≡ level + 1 →
-      one ≡ closed level ps → two ≡ else_lines (map (stmt p f) ys) level one → three ≡ all_lines (map (stmt p f) xs) deep two → four ≡ head p f w.If e level three → four ≡ stmt p f s level ps
-  if_at s e a b xs ys level deep ps one two three four is same_a same_b d h i j k =
+  pub if_at : (s : Stmt) (e worked : Expr) (a b xs ys : List Stmt) (level deep : ℕ) (ps one two three four : Pieces) → s ≡ If e a b → worked ≡ e → xs ≡ a → ys ≡ b → deep ≡ level + 1 →
+      one ≡ closed level ps → two ≡ else_lines (map (stmt p f) ys) level one → three ≡ all_lines (map (stmt p f) xs) deep two → four ≡ head p f w.If worked level three → four ≡ stmt p f s level ps
+  if_at s e worked a b xs ys level deep ps one two three four is same_e same_a same_b d h i j k =
       let two_is : two ≡ else_lines (map (stmt p f) b) level (closed level ps) =
       i ∙ ap (λ zs. else_lines (map (stmt p f) zs) level one) same_b ∙ ap (else_lines (map (stmt p f) b) level) h in
       let three_is : three ≡ all_lines (map (stmt p f) a) (level + 1) (else_lines (map (stmt p f) b) level (closed level ps)) =
       j ∙ ap (λ zs. all_lines (map (stmt p f) zs) deep two) same_a ∙ ap (λ n. all_lines (map (stmt p f) a) n two) d ∙ ap (all_lines (map (stmt p f) a) (level + 1)) two_is in
-      k ∙ ap (head p f w.If e level) three_is ∙ ap (λ (t : StmtText). t level ps) (sym (ap (stmt p f) is ∙ stmt-If e a b))
+      k ∙ ap (λ x. head p f w.If x level three) same_e ∙ ap (head p f w.If e level) three_is ∙ ap (λ (t : StmtText). t level ps) (sym (ap (stmt p f) is ∙ stmt-If e a b))
 
-  pub while_at : (s : Stmt) (e : Expr) (a xs : List Stmt) (level deep : ℕ) (ps one three four : Pieces) → s ≡ While e a → xs ≡ a → deep ≡ level + 1 →
-      one ≡ closed level ps → three ≡ all_lines (map (stmt p f) xs) deep one → four ≡ head p f w.While e level three → four ≡ stmt p f s level ps
-  while_at s e a xs level deep ps one three four is same_a d h j k =
+  pub while_at : (s : Stmt) (e worked : Expr) (a xs : List Stmt) (level deep : ℕ) (ps one three four : Pieces) → s ≡ While e a → worked ≡ e → xs ≡ a → deep ≡ level + 1 →
+      one ≡ closed level ps → three ≡ all_lines (map (stmt p f) xs) deep one → four ≡ head p f w.While worked level three → four ≡ stmt p f s level ps
+  while_at s e worked a xs level deep ps one three four is same_e same_a d h j k =
       let three_is : three ≡ all_lines (map (stmt p f) a) (level + 1) (closed level ps) =
       j ∙ ap (λ zs. all_lines (map (stmt p f) zs) deep one) same_a ∙ ap (λ n. all_lines (map (stmt p f) a) n one) d ∙ ap (all_lines (map (stmt p f) a) (level + 1)) h in
-      k ∙ ap (head p f w.While e level) three_is ∙ ap (λ (t : StmtText). t level ps) (sym (ap (stmt p f) is ∙ stmt-While e a))
+      k ∙ ap (λ x. head p f w.While x level three) same_e ∙ ap (head p f w.While e level) three_is ∙ ap (λ (t : StmtText). t level ps) (sym (ap (stmt p f) is ∙ stmt-While e a))
 
-  pub switch_at : (s : Stmt) (e : Expr) (cases xs : List Case) (t : IntType) (level : ℕ) (ps one three four : Pieces) → s ≡ Switch e cases → xs ≡ cases → t ≡ label_type (type_of p f.locals e) →
-      one ≡ closed level ps → three ≡ case_lines t (map (case_text p f) xs) level one → four ≡ head p f w.Switch e level three → four ≡ stmt p f s level ps
-  switch_at s e cases xs t level ps one three four is same d h j k =
+  pub switch_at : (s : Stmt) (e worked typed : Expr) (cases xs : List Case) (t : IntType) (level : ℕ) (ps one three four : Pieces) → s ≡ Switch e cases → worked ≡ e → typed ≡ e → xs ≡ cases → t ≡ label_type (type_of p f.locals typed) →
+      one ≡ closed level ps → three ≡ case_lines t (map (case_text p f) xs) level one → four ≡ head p f w.Switch worked level three → four ≡ stmt p f s level ps
+  switch_at s e worked typed cases xs t level ps one three four is same_worked same_typed same d h j k =
       let three_is : three ≡ case_lines (label_type (type_of p f.locals e)) (map (case_text p f) cases) level (closed level ps) =
-      j ∙ ap (λ zs. case_lines t (map (case_text p f) zs) level one) same ∙ ap (λ v. case_lines v (map (case_text p f) cases) level one) d
+      j ∙ ap (λ zs. case_lines t (map (case_text p f) zs) level one) same ∙ ap (λ v. case_lines v (map (case_text p f) cases) level one) (d ∙ ap (λ x. label_type (type_of p f.locals x)) same_typed)
       ∙ ap (case_lines (label_type (type_of p f.locals e)) (map (case_text p f) cases) level) h in
-      k ∙ ap (head p f w.Switch e level) three_is ∙ ap (λ (t : StmtText). t level ps) (sym (ap (stmt p f) is ∙ stmt-Switch e cases))
+      k ∙ ap (λ x. head p f w.Switch x level three) same_worked ∙ ap (head p f w.Switch e level) three_is ∙ ap (λ (t : StmtText). t level ps) (sym (ap (stmt p f) is ∙ stmt-Switch e cases))
