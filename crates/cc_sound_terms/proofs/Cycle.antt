@@ -1,6 +1,5 @@
 -- What expressions, type names, specifiers and declarators mean is typed and stands, by induction over them.
 use Rattle.std.proofs.Common.{◌≡◌, ℕ, ◌^◌, Bool, true, ◌&&◌, List, [], ◌∷◌, map, Option, Some, None, sym, ◌∙◌, subst, ltb-true}
-use Rattle.cc_operand_types.specs.Typed.{MembersStand}
 use Rattle.cc_operand_types.specs.Views.{View}
 use Rattle.cc_program.proofs.Each.{Each}
 use Rattle.cc_program.specs.declared.program.Roles.{Roles}
@@ -33,7 +32,7 @@ use Rattle.cc_sound_terms.proofs.Types.{word_holds, type_named_holds, marked_hol
 one_is : {A : Type 0} (a b : A) → Some a ≡ Some b → a ≡ b
 one_is a b h = cc
 
-module _ (v : View) (locals : List Named) (members : MembersStand v) (roles : Roles) where
+module _ (v : View) (locals : List Named) (roles : Roles) where
   abbrev PD : Declr → Type 0
   PD x = declr_in_range x ≡ true → DeclrHolds v (declr_of v.target roles x)
 
@@ -314,24 +313,24 @@ module _ (v : View) (locals : List Named) (members : MembersStand v) (roles : Ro
   tree_level (one.Text bytes) h = λ at s r f. string_holds v locals at bytes s r f
   tree_level (one.Tree::Paren e) h = λ at s r f. e.node.1 h e.at s r f
   tree_level (one.Extension e) h = λ at s r f. e.node.1 h e.at s r f
-  tree_level (one.Comma a b) h = let c = both_true (fits a.node.0) (fits b.node.0) h in comma_holds v locals members (tree_here a) (tree_here b) (a.node.1 c.0) (b.node.1 c.1)
-  tree_level (one.Assign o a b) h = let c = both_true (fits a.node.0) (fits b.node.0) h in assign_holds v locals members o (tree_here a) (tree_here b) (a.node.1 c.0) (b.node.1 c.1)
+  tree_level (one.Comma a b) h = let c = both_true (fits a.node.0) (fits b.node.0) h in comma_holds v locals (tree_here a) (tree_here b) (a.node.1 c.0) (b.node.1 c.1)
+  tree_level (one.Assign o a b) h = let c = both_true (fits a.node.0) (fits b.node.0) h in assign_holds v locals o (tree_here a) (tree_here b) (a.node.1 c.0) (b.node.1 c.1)
   tree_level (one.Choose q a b) h =
       let c = both_true (fits q.node.0) (fits a.node.0 && fits b.node.0) h in
       let d = both_true (fits a.node.0) (fits b.node.0) c.1 in
-      choose_holds v locals members (tree_here q) (tree_here a) (tree_here b) (q.node.1 c.0) (a.node.1 d.0) (b.node.1 d.1)
-  tree_level (one.Binary o a b) h = let c = both_true (fits a.node.0) (fits b.node.0) h in binary_holds v locals members o (tree_here a) (tree_here b) (a.node.1 c.0) (b.node.1 c.1)
-  tree_level (one.Prefix o e) h = prefixed_holds v locals members o (tree_here e) (e.node.1 h)
-  tree_level (one.Postfix e o) h = postfix_holds v locals members o (tree_here e) (e.node.1 h)
-  tree_level (one.SizeOf e) h = sizeof_holds v locals members (tree_here e) (e.node.1 h)
-  tree_level (one.SizeOfType t) h = sizeof_type_holds v locals members (type_name_of v.target roles t.0) (t.1 h)
-  tree_level (one.Cast t e) h = let c = both_true (type_name_in_range t.0) (fits e.node.0) h in cast_holds v locals members (type_name_of v.target roles t.0) (tree_here e) (t.1 c.0) (e.node.1 c.1)
-  tree_level (one.Subscript a i) h = let c = both_true (fits a.node.0) (fits i.node.0) h in subscript_holds v locals members (tree_here a) (tree_here i) (a.node.1 c.0) (i.node.1 c.1)
+      choose_holds v locals (tree_here q) (tree_here a) (tree_here b) (q.node.1 c.0) (a.node.1 d.0) (b.node.1 d.1)
+  tree_level (one.Binary o a b) h = let c = both_true (fits a.node.0) (fits b.node.0) h in binary_holds v locals o (tree_here a) (tree_here b) (a.node.1 c.0) (b.node.1 c.1)
+  tree_level (one.Prefix o e) h = prefixed_holds v locals o (tree_here e) (e.node.1 h)
+  tree_level (one.Postfix e o) h = postfix_holds v locals o (tree_here e) (e.node.1 h)
+  tree_level (one.SizeOf e) h = sizeof_holds v locals (tree_here e) (e.node.1 h)
+  tree_level (one.SizeOfType t) h = sizeof_type_holds v locals (type_name_of v.target roles t.0) (t.1 h)
+  tree_level (one.Cast t e) h = let c = both_true (type_name_in_range t.0) (fits e.node.0) h in cast_holds v locals (type_name_of v.target roles t.0) (tree_here e) (t.1 c.0) (e.node.1 c.1)
+  tree_level (one.Subscript a i) h = let c = both_true (fits a.node.0) (fits i.node.0) h in subscript_holds v locals (tree_here a) (tree_here i) (a.node.1 c.0) (i.node.1 c.1)
   tree_level (one.Call f args) h =
       let c = both_true (fits f.node.0) (all_fit (map tree_fits_at (map tree_bare_at args))) h in
-      call_holds v locals members (tree_here f) (map tree_at (map tree_bare_at args)) (f.node.1 c.0) (each_tree args c.1)
-  tree_level (one.Member e x) h = member_holds v locals members (tree_here e) x (e.node.1 h)
-  tree_level (one.Arrow e x) h = arrow_holds v locals members (tree_here e) x (e.node.1 h)
+      call_holds v locals (tree_here f) (map tree_at (map tree_bare_at args)) (f.node.1 c.0) (each_tree args c.1)
+  tree_level (one.Member e x) h = member_holds v locals (tree_here e) x (e.node.1 h)
+  tree_level (one.Arrow e x) h = arrow_holds v locals (tree_here e) x (e.node.1 h)
 
   declr_level : (y : one.Declr-F SomeDeclr SomeParams SomeSpec SomeTree SomeEnumr SomeMembers SomeParam SomeTypeName) → ranged_declr (bare_declr y) ≡ true → DeclrHolds v (meant_declr (bare_declr y))
   declr_level one.Nothing h = nothing_holds v

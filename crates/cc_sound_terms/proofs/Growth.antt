@@ -12,7 +12,7 @@ use Rattle.cc_program.specs.declared.types.CType.{CType}
 use Rattle.cc_syntax.specs.declared.sizes.Layout.{Layout}
 use Rattle.cc_syntax.specs.Types.{Named}
 use Rattle.cc_operand_types.specs.Views.{View}
-use Rattle.cc_sound_terms.specs.Growing.{Kept, IsTag, StructureKept, StructuresKept, Grows, IsConstant, IsParameter, Extends}
+use Rattle.cc_sound_terms.specs.Growing.{Kept, IsTag, StructureKept, StructuresKept, Grows, IsConstant, IsParameter}
 use Rattle.cc_sound_terms.specs.Knowing.{Stands, KnowsStructure, KnowsStructures, KnowsNames, TypesStand, IsObject, ObjectsStand, TagsStand}
 
 -- ---- lists
@@ -30,9 +30,12 @@ append_nothing : {A : Type 0} (xs : List A) → xs ++ [] ≡ xs
 append_nothing [] = refl
 append_nothing (x ∷ xs) = ap (λ ys. x ∷ ys) (append_nothing xs)
 
-take_front : {A : Type 0} (xs ys : List A) → take (length xs) (xs ++ ys) ≡ xs
+pub take_front : {A : Type 0} (xs ys : List A) → take (length xs) (xs ++ ys) ≡ xs
 take_front [] ys = refl
 take_front (x ∷ xs) ys = ap (λ zs. x ∷ zs) (take_front xs ys)
+
+one_is : {A : Type 0} (a b : A) → Some a ≡ Some b → a ≡ b
+one_is a b h = cc
 
 -- ---- structures
 
@@ -63,9 +66,17 @@ change_kept (x ∷ xs) (suc j) change f = elim [ zero ↦ λ k h. (k, h, kept_it
 pub structures_changed : (xs : List KnownStructure) (j : ℕ) (change : KnownStructure → KnownStructure) → ((k : KnownStructure) → slice_get xs j ≡ Some k → StructureKept k (change k)) → StructuresKept xs (change_at j change xs)
 structures_changed xs j change f = change_kept xs j change f
 
+-- what stands in a list that is changed at a place
+pub changed_or_not : {A : Type 0} (xs : List A) (j : ℕ) (change : A → A) (i : ℕ) (y : A) → slice_get (change_at j change xs) i ≡ Some y → (slice_get xs i ≡ Some y) ⊎ ((x : A) × (slice_get xs i ≡ Some x) × (y ≡ change x))
+changed_or_not [] j change i y h = inl h
+changed_or_not (x ∷ xs) zero change zero y h = inr (x, refl, sym (one_is (change x) y h))
+changed_or_not (x ∷ xs) zero change (suc i) y h = inl h
+changed_or_not (x ∷ xs) (suc j) change zero y h = inl h
+changed_or_not (x ∷ xs) (suc j) change (suc i) y h = changed_or_not xs j change i y h
+
 -- ---- tags and names
 
-tag_through : (ys zs : List KnownStructure) (t : Tagged) → StructuresKept ys zs → IsTag ys t → IsTag zs t
+pub tag_through : (ys zs : List KnownStructure) (t : Tagged) → StructuresKept ys zs → IsTag ys t → IsTag zs t
 tag_through ys zs t b h = λ i e. let k = h i e in let l = b i k.0 k.1 in (l.0, l.1)
 
 kept_twice : {A : Type 0} (Old New : A → Type 0) (a b c : Option A) → ((d : A) → Old d → New d) → Kept Old a b → Kept New b c → Kept New a c
@@ -105,7 +116,7 @@ constant_is_parameter target (means.Linked i) h = elim h [ ]
 constant_is_parameter target (means.Automatic n t) h = elim h [ ]
 constant_is_parameter target (means.TypeNamed t) h = elim h [ ]
 
-pub as_parameters : (target : Target) (s t : State) → Extends target s t → Grows (IsParameter target) s t
+pub as_parameters : (target : Target) (s t : State) → Grows (IsConstant target) s t → Grows (IsParameter target) s t
 as_parameters target s t g = grows_wider (IsConstant target) (IsParameter target) (constant_is_parameter target) s t g
 
 -- ---- what is declared
@@ -191,7 +202,7 @@ forgotten_grows New s t g = record {
 }
 
 -- a scope that was entered is left: of what was declared in it nothing is in scope
-pub scope_left : (New : Designated → Type 0) (target : Target) (s t : State) → Grows New (entered empty s) t → Extends target s (left t)
+pub scope_left : (New : Designated → Type 0) (target : Target) (s t : State) → Grows New (entered empty s) t → Grows (IsConstant target) s (left t)
 scope_left New target s t g = record {
   outer = ap outer_scopes g.outer;
   here = λ x. inl (ap (λ (scopes : List Scope). find_name x (innermost scopes).names) g.outer);
@@ -258,7 +269,7 @@ module _ (v : View) where
   objects_by locals s t x d h (inl e) f = h x d (sym e ∙ f)
   objects_by locals s t x d h (inr n) f = constant_is_object locals d (subst (IsConstant v.target) (some_is n.0 d (sym n.1 ∙ f)) n.2)
 
-  pub objects_stand : (locals : List Named) (s t : State) → Extends v.target s t → ObjectsStand v locals s → ObjectsStand v locals t
+  pub objects_stand : (locals : List Named) (s t : State) → Grows (IsConstant v.target) s t → ObjectsStand v locals s → ObjectsStand v locals t
   objects_stand locals s t g h = λ x d f. objects_by locals s t x d h (designated_kept (IsConstant v.target) s t x g) f
 
   -- ---- what a view knows behind it, it knows in front of it

@@ -3,43 +3,31 @@ use Rattle.std.proofs.Common.{◌≡◌, ℕ, true, List, [], length, Option, So
 use Rattle.std.specs.Prelude.{nat_lt, slice_get, option_map}
 use Rattle.std.proofs.lemmas.Option.{slice_get-map}
 use Rattle.cc_operand_types.specs.Views.{View}
-use Rattle.cc_program.specs.declared.types.CType.{CType}
 use Rattle.cc_program.specs.declared.types.Structure.{Structure}
 use Rattle.cc_scopes.specs.State.{State, KnownStructure, members_or_none, as_structure, structures_of}
 use Rattle.cc_scopes.specs.declared.designated.Designated.{Designated}
-use Rattle.cc_scopes.specs.declared.designated.Designated.TheVariants as means
 use Rattle.cc_syntax.specs.Types.{Named}
-use Rattle.cc_sound_terms.specs.Growing.{Grows, Extends, IsConstant, IsParameter}
+use Rattle.cc_sound_terms.specs.Behind.{Adds, Extends}
+use Rattle.cc_sound_terms.specs.Growing.{IsConstant}
 use Rattle.cc_sound_terms.specs.Knowing.{KnowsStructures}
 use Rattle.cc_sound_terms.specs.Typing.{KnowsTypes, Knows}
-use Rattle.cc_sound_terms.proofs.Growth.{knows_structures, knows_names, types_stand, tags_stand, objects_stand}
+use Rattle.cc_sound_terms.proofs.Behind.{known_first, known_second}
+use Rattle.cc_sound_terms.proofs.Growth.{knows_names, objects_stand}
 use Rattle.cc_sound_terms.proofs.Within.{AreWithin}
 
 module _ (v : View) where
-  pub types_first : (New : Designated → Type 0) (s t u : State) → Grows New s t → Grows New t u → KnowsTypes v s u → KnowsTypes v s t
-  types_first New s t u a b k = record { structures = knows_structures v t.structures u.structures b.structures k.structures; types = k.types; tags = k.tags }
+  pub types_first : (New : Designated → Type 0) (s t u : State) → Adds v New s t → Adds v New t u → KnowsTypes v s u → KnowsTypes v s t
+  types_first New s t u a b k = known_first v s t u b.grows.structures k
 
-  pub types_second : (New : Designated → Type 0) → ((t : CType) → New (means.TypeNamed t) → ⊥) → (s t u : State) → Grows New s t → Grows New t u → KnowsTypes v s u → KnowsTypes v t u
-  types_second New none s t u a b k = record { structures = k.structures; types = types_stand v New none s t a k.types; tags = tags_stand New s t a k.tags }
-
-  no_type : (t : CType) → IsConstant v.target (means.TypeNamed t) → ⊥
-  no_type t h = h
-
-  no_type_here : (t : CType) → IsParameter v.target (means.TypeNamed t) → ⊥
-  no_type_here t h = h
-
-  pub constants_second : (s t u : State) → Extends v.target s t → Extends v.target t u → KnowsTypes v s u → KnowsTypes v t u
-  constants_second s t u a b k = types_second (IsConstant v.target) no_type s t u a b k
-
-  pub parameters_second : (s t u : State) → Grows (IsParameter v.target) s t → Grows (IsParameter v.target) t u → KnowsTypes v s u → KnowsTypes v t u
-  parameters_second s t u a b k = types_second (IsParameter v.target) no_type_here s t u a b k
+  pub types_second : (New : Designated → Type 0) (s t u : State) → Adds v New s t → Adds v New t u → KnowsTypes v s u → KnowsTypes v t u
+  types_second New s t u a b k = known_second v s t u b.grows.structures a.behind k
 
   module _ (locals : List Named) where
-    pub knows_first : (s t u : State) → Extends v.target s t → Extends v.target t u → Knows v locals s u → Knows v locals s t
-    knows_first s t u a b k = record { types = types_first (IsConstant v.target) s t u a b k.types; names = knows_names v t.names u.names b.names.0 b.names.1 k.names; objects = k.objects }
+    pub knows_first : (s t u : State) → Extends v s t → Extends v t u → Knows v locals s u → Knows v locals s t
+    knows_first s t u a b k = record { types = types_first (IsConstant v.target) s t u a b k.types; names = knows_names v t.names u.names b.grows.names.0 b.grows.names.1 k.names; objects = k.objects; members = k.members }
 
-    pub knows_second : (s t u : State) → Extends v.target s t → Extends v.target t u → Knows v locals s u → Knows v locals t u
-    knows_second s t u a b k = record { types = constants_second s t u a b k.types; names = k.names; objects = objects_stand v locals s t a k.objects }
+    pub knows_second : (s t u : State) → Extends v s t → Extends v t u → Knows v locals s u → Knows v locals t u
+    knows_second s t u a b k = record { types = types_second (IsConstant v.target) s t u a b k.types; names = k.names; objects = objects_stand v locals s t a.grows k.objects; members = k.members }
 
   -- ---- what structures contain
 

@@ -1,6 +1,6 @@
 -- Names, constants, strings and devices are typed.
-use Rattle.std.proofs.Common.{◌≡◌, ℕ, ◌+◌, ◌<◌, ◌^◌, ℤ, pos, Bool, true, false, ◌&&◌, List, length, Option, Some, None, Ok, Err, refl, ap, sym, ◌∙◌, subst}
-use Rattle.std.specs.Prelude.{nat_eq, get_or, slice_get, position, if◌then◌else◌}
+use Rattle.std.proofs.Common.{◌≡◌, ℕ, ◌+◌, ◌*◌, ◌<◌, ◌≤◌, ◌^◌, arith, leb-true, le-leb, ℤ, pos, Bool, true, false, ◌&&◌, List, length, Option, Some, None, Ok, Err, refl, ap, sym, ◌∙◌, subst}
+use Rattle.std.specs.Prelude.{nat_eq, nat_le, get_or, slice_get, position, if◌then◌else◌}
 use Rattle.std.proofs.lemmas.List.Quantifiers.{position-Some}
 use Rattle.std.proofs.lemmas.Option.{slice_get-get_or}
 use Rattle.std.specs.Ordering.{int_eq}
@@ -19,8 +19,9 @@ use Rattle.cc_operand_types.proofs.Literals.{number_fits, character_fits}
 use Rattle.cc_operand_types.proofs.Nulls.{null_operand}
 use Rattle.cc_operand_types.proofs.Operands.{ok_is, must_ok, as_constant}
 use Rattle.cc_operand_types.proofs.Places.{indirection_typed}
+use Rattle.cc_operand_types.proofs.Requalified.{kind_at}
 use Rattle.cc_primary.specs.Devices.{device_of, declared_device, names_device, number_of, device_place, with_device, device_found, register_found, address_found}
-use Rattle.cc_primary.specs.Primary.{intrinsic_named, function_by, linked_by, linked, designates, named_by, named, number, character, string_type, string_object, string_place, string_found}
+use Rattle.cc_primary.specs.Primary.{intrinsic_named, function_by, linked_by, linked, designates, named_by, named, number, character, char_type, chars_type, string_type, string_object, string_place, string_found}
 use Rattle.cc_program.specs.declared.expr.Intr.{Intr}
 use Rattle.cc_program.specs.declared.expr.Place.{Local}
 use Rattle.cc_program.specs.declared.object.Device.{Device}
@@ -28,6 +29,7 @@ use Rattle.cc_program.specs.declared.program.Roles.{Roles}
 use Rattle.cc_program.specs.declared.types.CType.{CType}
 use Rattle.cc_program.specs.declared.types.Shape.{Shape, out-Shape}
 use Rattle.cc_program.specs.declared.types.Shape.TheOpen as shape
+use Rattle.cc_program.specs.declared.types.Shape.TheVariants.{outs-Int}
 use Rattle.cc_program.specs.declared.types.Sig.{Sig}
 use Rattle.cc_scopes.specs.State.{State, Name, designated, with_declared}
 use Rattle.cc_scopes.specs.Verdicts.{whole}
@@ -35,6 +37,7 @@ use Rattle.cc_scopes.specs.declared.designated.Designated.{Designated}
 use Rattle.cc_scopes.specs.declared.designated.Designated.TheVariants as means
 use Rattle.cc_scopes.specs.declared.unit.Declared.{Declared}
 use Rattle.cc_specifiers.specs.Bounds.{is_bound}
+use Rattle.cc_syntax.specs.Kinds.{IsScalar, is_small, is_object_type}
 use Rattle.cc_syntax.specs.SameTypes.{same_int, same_flag}
 use Rattle.cc_syntax.specs.Sound.{is_numbered, is_same_device}
 use Rattle.cc_syntax.specs.Types.{Named}
@@ -43,11 +46,14 @@ use Rattle.cc_syntax.proofs.Prefixes.{both_true}
 use Rattle.cc_syntax.proofs.SameLemmas.{int_same}
 use Rattle.cc_unit.specs.declared.unit.UnitKind.{UnitKind}
 use Rattle.cc_unit.specs.declared.unit.UnitKind.TheVariants as kind
-use Rattle.cc_sound_terms.specs.Growing.{Extends, IsConstant}
+use Rattle.cc_sound_terms.specs.Behind.{Extends, NameStands, IsUnnamed, OfString, OfDevice}
+use Rattle.cc_sound_terms.specs.Growing.{IsConstant}
 use Rattle.cc_sound_terms.specs.Knowing.{KnowsAs, KnowsNames, IsObject}
 use Rattle.cc_sound_terms.specs.Typing.{Knows}
 use Rattle.cc_sound_terms.proofs.Founds.{answer, answer_is}
-use Rattle.cc_sound_terms.proofs.Growth.{declared_grows, get_last}
+use Rattle.cc_sound_terms.proofs.Behind.{declared_adds}
+use Rattle.cc_sound_terms.proofs.Growth.{get_last}
+use Rattle.cc_sound_terms.proofs.TypeKinds.{array_kind_is}
 use Rattle.cc_sound_terms.proofs.Known.{knows_first, knows_second}
 use Rattle.cc_sound_terms.proofs.Outcomes.{Outcome, staying, whole_holds}
 
@@ -75,7 +81,7 @@ module _ (v : View) (locals : List Named) where
   Typed x = IsTypedOperand v locals x
 
   abbrev Gives : State → TypedExpr × State → Type 0
-  Gives s r = Outcome (IsConstant v.target) (Knows v locals) TypedExpr Designates s r
+  Gives s r = Outcome v (IsConstant v.target) (Knows v locals) TypedExpr Designates s r
 
   -- ---- names
 
@@ -115,7 +121,7 @@ module _ (v : View) (locals : List Named) where
   module _ (roles : Roles) where
     pub named_holds : (at : ℕ) (x : Name) (s : State) (r : TypedExpr × State) → whole at s (named roles at x s) ≡ Ok r → Gives s r
     named_holds at x s r h =
-        whole_holds (IsConstant v.target) (Knows v locals) (knows_first v locals) (knows_second v locals) TypedExpr Designates at s (named roles at x s) r
+        whole_holds v (IsConstant v.target) (Knows v locals) (knows_first v locals) (knows_second v locals) TypedExpr Designates at s (named roles at x s) r
         (λ y e w. name_is at x s (intrinsic_named roles x) y w e) h
 
   -- ---- constants
@@ -123,7 +129,7 @@ module _ (v : View) (locals : List Named) where
   found_here : (x : TypedExpr) (s : State) (r : TypedExpr × State) → Designates x → answer x s ≡ Ok r → Gives s r
   found_here x s r d h =
       let e = answer_is x s r h in
-      staying (IsConstant v.target) (Knows v locals) (knows_first v locals) (knows_second v locals) TypedExpr Designates s r e.1 (λ w. subst Designates (sym e.0) d)
+      staying v (IsConstant v.target) (Knows v locals) (knows_first v locals) (knows_second v locals) TypedExpr Designates s r e.1 (λ w. subst Designates (sym e.0) d)
 
   pub number_holds : (n : ℕ) (suffix : Suffix) → n < 2 ^ 64 → (s : State) (r : TypedExpr × State) → answer (number v.target n suffix) s ≡ Ok r → Gives s r
   number_holds n suffix l s r h = found_here (number v.target n suffix) s r (as_constant v locals (pos n) (number_type v.target n suffix) (number_fits v.target n suffix l)) h
@@ -133,21 +139,32 @@ module _ (v : View) (locals : List Named) where
 
   -- ---- what is declared by its use
 
-  declares : (x : TypedExpr) (d : Declared) (s : State) (r : TypedExpr × State) → (KnowsAs v (length s.names) d.ctype d.kind → Designates x) → answer x (with_declared d s) ≡ Ok r → Gives s r
-  declares x d s r f h =
+  declares : (x : TypedExpr) (d : Declared) (s : State) (r : TypedExpr × State) → IsUnnamed v.target d → NameStands v d → (KnowsAs v (length s.names) d.ctype d.kind → Designates x) → answer x (with_declared d s) ≡ Ok r → Gives s r
+  declares x d s r u n f h =
       let e = answer_is x (with_declared d s) r h in
       record {
-        grows = subst (λ (t : State). Extends v.target s t) (sym e.1) (declared_grows (IsConstant v.target) d s);
+        grows = subst (λ (t : State). Extends v s t) (sym e.1) (declared_adds v (IsConstant v.target) d s u n);
         holds = λ w. subst Designates (sym e.0) (f (w.names (length s.names) d (ap (λ (t : State). slice_get t.names (length s.names)) e.1 ∙ get_last s.names d)));
       }
 
-  string_by : (b : Bool) (at : ℕ) (bytes : List ℕ) (s : State) (r : TypedExpr × State) →
+  -- a string is an array of characters, of one byte each
+  small_chars : (n : ℕ) → is_bound n ≡ true → is_small (n * 1) ≡ true
+  small_chars n h =
+      let b = both_true (nat_le 1 n) (nat_le n 65535) h in
+      let l : n ≤ 65535 = leb-true n 65535 b.1 in
+      le-leb (n * 1) 4294967295 (omega arith)
+
+  string_stands : (n : ℕ) → is_bound n ≡ true → is_object_type (kind_in v (chars_type n)) ≡ true
+  string_stands n h =
+      ap is_object_type (array_kind_is v (char_type true) n 1 (IsScalar true 1) (kind_at v (char_type true) (shape.Int int.Char) (outs-Int int.Char)) refl refl h) ∙ small_chars n h
+
+  string_by : (b : Bool) (at : ℕ) (bytes : List ℕ) (s : State) (r : TypedExpr × State) → is_bound (length bytes + 1) ≡ b →
       (if b then answer (string_place s bytes) (with_declared (string_object v.target at bytes) s) else whole at s (Err rule.ArrayBound)) ≡ Ok r → Gives s r
-  string_by true at bytes s r h = declares (string_place s bytes) (string_object v.target at bytes) s r (λ w. static_typed v locals (length s.names) (object_place (string_type bytes)) w.0 w.1) h
-  string_by false at bytes s r h = absurd (cc)
+  string_by true at bytes s r e h = declares (string_place s bytes) (string_object v.target at bytes) s r (OfString at bytes e) (string_stands (length bytes + 1) e) (λ w. static_typed v locals (length s.names) (object_place (string_type bytes)) w.0 w.1) h
+  string_by false at bytes s r e h = absurd (cc)
 
   pub string_holds : (at : ℕ) (bytes : List ℕ) (s : State) (r : TypedExpr × State) → string_found v.target at bytes s ≡ Ok r → Gives s r
-  string_holds at bytes s r h = string_by (is_bound (length bytes + 1)) at bytes s r h
+  string_holds at bytes s r h = string_by (is_bound (length bytes + 1)) at bytes s r refl h
 
   -- ---- devices
 
@@ -164,18 +181,18 @@ module _ (v : View) (locals : List Named) where
   device_as i d t (kind.Object leaves) h w = absurd (cc)
   device_as i d t (kind.Func entry body) h w = absurd (cc)
 
-  with_device_holds : (d : Device) (s : State) (o : Option ℕ) (r : TypedExpr × State) → number_of d s.names ≡ o → answer (with_device d s o).0 (with_device d s o).1 ≡ Ok r → Gives s r
-  with_device_holds d s (Some i) r e h =
+  with_device_holds : (d : Device) → IsUnnamed v.target (declared_device d) → (s : State) (o : Option ℕ) (r : TypedExpr × State) → number_of d s.names ≡ o → answer (with_device d s o).0 (with_device d s o).1 ≡ Ok r → Gives s r
+  with_device_holds d u s (Some i) r e h =
       let p = stands_at (λ (x : Declared). names_device d x.kind) s.names i (declared_device d) e in
       let a = answer_is (device_place i d) s r h in
-      staying (IsConstant v.target) (Knows v locals) (knows_first v locals) (knows_second v locals) TypedExpr Designates s r a.1
+      staying v (IsConstant v.target) (Knows v locals) (knows_first v locals) (knows_second v locals) TypedExpr Designates s r a.1
       (λ w. subst Designates (sym a.0) (device_as i d p.one.ctype p.one.kind p.passes (w.names i p.one p.at)))
-  with_device_holds d s None r e h = declares (device_place (length s.names) d) (declared_device d) s r (λ w. device_typed v locals (length s.names) (DevicePlace d.constant d.int) w refl) h
+  with_device_holds d u s None r e h = declares (device_place (length s.names) d) (declared_device d) s r u tt (λ w. device_typed v locals (length s.names) (DevicePlace d.constant d.int) w refl) h
 
-  device_by : (b : Bool) (at : ℕ) (d : Device) (s : State) (r : TypedExpr × State) →
+  device_by : (b : Bool) (at : ℕ) (d : Device) → (b ≡ true → IsUnnamed v.target (declared_device d)) → (s : State) (r : TypedExpr × State) →
       (if b then Ok (with_device d s (number_of d s.names)) else whole at s (Err rule.Device)) ≡ Ok r → Gives s r
-  device_by true at d s r h = with_device_holds d s (number_of d s.names) r refl h
-  device_by false at d s r h = absurd (cc)
+  device_by true at d u s r h = with_device_holds d (u refl) s (number_of d s.names) r refl h
+  device_by false at d u s r h = absurd (cc)
 
   -- behind another type than a volatile integer there is a null
   null_pointed : (n : ℤ) (t : CType) (r : TypedExpr) → IsNullType v t → no_device n t ≡ Ok r → Designates r
@@ -183,20 +200,20 @@ module _ (v : View) (locals : List Named) where
       let m = must_ok (int_eq n (pos 0)) rule.Device (indirection (null t)) r h in
       indirection_typed v locals (null t) r (null_operand v locals t w) m.1
 
-  null_holds : (at : ℕ) (n : ℤ) (t : CType) (s : State) (r : TypedExpr × State) → whole at s (no_device n t) ≡ Ok r → Outcome (IsConstant v.target) (Knows v locals) TypedExpr (λ y. IsNullType v t → Designates y) s r
+  null_holds : (at : ℕ) (n : ℤ) (t : CType) (s : State) (r : TypedExpr × State) → whole at s (no_device n t) ≡ Ok r → Outcome v (IsConstant v.target) (Knows v locals) TypedExpr (λ y. IsNullType v t → Designates y) s r
   null_holds at n t s r h =
-      whole_holds (IsConstant v.target) (Knows v locals) (knows_first v locals) (knows_second v locals) TypedExpr (λ y. IsNullType v t → Designates y) at s (no_device n t) r (λ y e w z. null_pointed n t y z e) h
+      whole_holds v (IsConstant v.target) (Knows v locals) (knows_first v locals) (knows_second v locals) TypedExpr (λ y. IsNullType v t → Designates y) at s (no_device n t) r (λ y e w z. null_pointed n t y z e) h
 
-  behind_null : (t : CType) (s : State) (r : TypedExpr × State) → Gives s r → Outcome (IsConstant v.target) (Knows v locals) TypedExpr (λ y. IsNullType v t → Designates y) s r
+  behind_null : (t : CType) (s : State) (r : TypedExpr × State) → Gives s r → Outcome v (IsConstant v.target) (Knows v locals) TypedExpr (λ y. IsNullType v t → Designates y) s r
   behind_null t s r o = record { grows = o.grows; holds = λ w z. o.holds w }
 
   volatile_by : (b : Bool) (at : ℕ) (n : ℤ) (t to : CType) (i : IntType) (s : State) (r : TypedExpr × State) →
-      (if b then device_found v.target at n (device_of n to.constant i) s else whole at s (no_device n t)) ≡ Ok r → Outcome (IsConstant v.target) (Knows v locals) TypedExpr (λ y. IsNullType v t → Designates y) s r
-  volatile_by true at n t to i s r h = behind_null t s r (device_by (fits_pointer v.target n) at (device_of n to.constant i) s r h)
+      (if b then device_found v.target at n (device_of n to.constant i) s else whole at s (no_device n t)) ≡ Ok r → Outcome v (IsConstant v.target) (Knows v locals) TypedExpr (λ y. IsNullType v t → Designates y) s r
+  volatile_by true at n t to i s r h = behind_null t s r (device_by (fits_pointer v.target n) at (device_of n to.constant i) (λ e. OfDevice n to.constant i e) s r h)
   volatile_by false at n t to i s r h = null_holds at n t s r h
 
   register_holds : (at : ℕ) (n : ℤ) (t to : CType) (s : State) (y : shape.Shape-F Shape CType Sig) (r : TypedExpr × State) → register_found v.target at n t s to y ≡ Ok r →
-      Outcome (IsConstant v.target) (Knows v locals) TypedExpr (λ y. IsNullType v t → Designates y) s r
+      Outcome v (IsConstant v.target) (Knows v locals) TypedExpr (λ y. IsNullType v t → Designates y) s r
   register_holds at n t to s (shape.Int i) r h = volatile_by to.volatile at n t to i s r h
   register_holds at n t to s shape.Void r h = null_holds at n t s r h
   register_holds at n t to s (shape.Pointer u) r h = null_holds at n t s r h
@@ -205,7 +222,7 @@ module _ (v : View) (locals : List Named) where
   register_holds at n t to s (shape.Func sig) r h = null_holds at n t s r h
 
   pub address_holds : (at : ℕ) (n : ℤ) (t : CType) (s : State) (y : shape.Shape-F Shape CType Sig) (r : TypedExpr × State) → address_found v.target at n t s y ≡ Ok r →
-      Outcome (IsConstant v.target) (Knows v locals) TypedExpr (λ y. IsNullType v t → Designates y) s r
+      Outcome v (IsConstant v.target) (Knows v locals) TypedExpr (λ y. IsNullType v t → Designates y) s r
   address_holds at n t s (shape.Pointer to) r h = register_holds at n t to s (out-Shape to.shape) r h
   address_holds at n t s shape.Void r h = absurd (cc)
   address_holds at n t s (shape.Int i) r h = absurd (cc)

@@ -1,6 +1,7 @@
 pub mod Within
 pub mod Founds
 pub mod Growth
+pub mod Behind
 pub mod Outcomes
 pub mod Known
 pub mod TypeKinds

@@ -17,7 +17,8 @@ use Rattle.cc_syntax.specs.Types.{Named}
 use Rattle.cc_syntax.specs.Values.{ToFunction}
 use Rattle.cc_tree.specs.declared.at.At.{At}
 use Rattle.cc_terms.specs.Meanings.{TreeMeaning, DeclrMeaning, ParamsMeaning, ParamMeaning, SpecMeaning, MembersMeaning, EnumrMeaning, TypeNameMeaning}
-use Rattle.cc_sound_terms.specs.Growing.{Extends, IsConstant, IsParameter}
+use Rattle.cc_sound_terms.specs.Behind.{Extends}
+use Rattle.cc_sound_terms.specs.Growing.{IsConstant, IsParameter}
 use Rattle.cc_sound_terms.specs.Standing.{IsNamedType, ParameterStands, DerivationsStand, SpecifierStands, MembersKnown}
 use Rattle.cc_sound_terms.specs.Typing.{KnowsTypes, Knows}
 use Rattle.cc_sound_terms.proofs.Founds.{answer_is, then_found, whole_found}
@@ -25,14 +26,14 @@ use Rattle.cc_sound_terms.proofs.Outcomes.{Outcome}
 
 module _ (v : View) where
   abbrev pub TypesHold : (A : Type 0) → (A → Type 0) → State → A × State → Type 0
-  TypesHold A T s r = Outcome (IsConstant v.target) (KnowsTypes v) A T s r
+  TypesHold A T s r = Outcome v (IsConstant v.target) (KnowsTypes v) A T s r
 
   -- beside types, an expression only adds to the state
   abbrev pub TreeGrows : TreeMeaning → Type 0
-  TreeGrows m = (at : ℕ) (s : State) (r : TypedExpr × State) → m at s ≡ Ok r → Extends v.target s r.1
+  TreeGrows m = (at : ℕ) (s : State) (r : TypedExpr × State) → m at s ≡ Ok r → Extends v s r.1
 
   abbrev pub TreeHolds : List Named → TreeMeaning → Type 0
-  TreeHolds locals m = (at : ℕ) (s : State) (r : TypedExpr × State) → m at s ≡ Ok r → Outcome (IsConstant v.target) (Knows v locals) TypedExpr (IsTypedExpr v locals) s r
+  TreeHolds locals m = (at : ℕ) (s : State) (r : TypedExpr × State) → m at s ≡ Ok r → Outcome v (IsConstant v.target) (Knows v locals) TypedExpr (IsTypedExpr v locals) s r
 
   abbrev pub DeclrHolds : DeclrMeaning → Type 0
   DeclrHolds m = (allowed : Allowed) (at : ℕ) (s : State) (r : Declarator Scope × State) → m allowed at s ≡ Ok r → TypesHold (Declarator Scope) (λ d. DerivationsStand v allowed.unbounded d.derivations) s r
@@ -42,7 +43,7 @@ module _ (v : View) where
 
   abbrev pub ParamHolds : ParamMeaning → Type 0
   ParamHolds m = (unnamed : Bool) (before : List Parameter) (s : State) (r : List Parameter × State) → m unnamed before s ≡ Ok r →
-      Outcome (IsParameter v.target) (KnowsTypes v) (List Parameter) (λ ps. Each (ParameterStands v) before → Each (ParameterStands v) ps) s r
+      Outcome v (IsParameter v.target) (KnowsTypes v) (List Parameter) (λ ps. Each (ParameterStands v) before → Each (ParameterStands v) ps) s r
 
   abbrev pub SpecHolds : SpecMeaning → Type 0
   SpecHolds m = (at : ℕ) (s : State) (r : Specifier × State) → m at s ≡ Ok r → TypesHold Specifier (SpecifierStands v) s r
@@ -64,7 +65,7 @@ valued_stays at (IsFunction f sig) s r h = (answer_is (operand (FuncAddr f) (ToF
 valued_stays at (IsIntrinsic i place) s r h = absurd (cc)
 valued_stays at (IsAddress n t place) s r h = (whole_found place s (null_judged n t) r h).1
 
-pub value_grows : (v : View) (e : At TreeMeaning) → TreeGrows v e.node → (s : State) (r : Operand × State) → value_found e s ≡ Ok r → Extends v.target s r.1
+pub value_grows : (v : View) (e : At TreeMeaning) → TreeGrows v e.node → (s : State) (r : Operand × State) → value_found e s ≡ Ok r → Extends v s r.1
 value_grows v e m s r h =
     let a = then_found (e.node e.at s) (valued e.at) r h in
-    subst (λ (t : State). Extends v.target s t) (sym (valued_stays e.at a.0.0 a.0.1 r a.2)) (m e.at s a.0 a.1)
+    subst (λ (t : State). Extends v s t) (sym (valued_stays e.at a.0.0 a.0.1 r a.2)) (m e.at s a.0 a.1)

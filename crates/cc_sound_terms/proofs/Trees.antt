@@ -16,7 +16,7 @@ use Rattle.cc_operands.specs.Verdicts.{Judged}
 use Rattle.cc_operands.specs.declared.operator.Operator.{Operator}
 use Rattle.cc_operands.specs.declared.operator.UnaryOperator.{UnaryOperator}
 use Rattle.cc_operands.specs.declared.rule.Rule.TheVariants as rule
-use Rattle.cc_operand_types.specs.Typed.{IsNullType, IsTypedOperand, IsTypedExpr, MembersStand}
+use Rattle.cc_operand_types.specs.Typed.{IsNullType, IsTypedOperand, IsTypedExpr}
 use Rattle.cc_operand_types.specs.Views.{View}
 use Rattle.cc_operand_types.proofs.Calls.{called_typed}
 use Rattle.cc_operand_types.proofs.Casts.{cast_of_typed, size_typed}
@@ -47,12 +47,13 @@ use Rattle.cc_tree.specs.declared.at.At.{At}
 use Rattle.cc_terms.specs.Expressions.{argument_found, arguments_found}
 use Rattle.cc_terms.specs.Meanings.{TreeMeaning, TypeNameMeaning}
 use Rattle.cc_terms.specs.Operations.{as_value, subscript_base, subscript_judged, callee_by, callee, call_judged, prefixed_by, prefixed, forgotten, sizeof_found, sizeof_type_found}
-use Rattle.cc_sound_terms.specs.Growing.{Extends, IsConstant}
+use Rattle.cc_sound_terms.specs.Behind.{Extends}
+use Rattle.cc_sound_terms.specs.Growing.{IsConstant}
 use Rattle.cc_sound_terms.specs.Knowing.{KnowsStructures}
 use Rattle.cc_sound_terms.specs.Standing.{IsNamedType}
 use Rattle.cc_sound_terms.specs.Typing.{KnowsTypes, Knows}
 use Rattle.cc_sound_terms.proofs.Founds.{answer, answer_is, then_found, whole_found}
-use Rattle.cc_sound_terms.proofs.Growth.{forgotten_grows}
+use Rattle.cc_sound_terms.proofs.Behind.{forgotten_adds}
 use Rattle.cc_sound_terms.proofs.Known.{knows_first, knows_second, within_known}
 use Rattle.cc_sound_terms.proofs.Leaves.{address_holds}
 use Rattle.cc_sound_terms.proofs.Meant.{TypeNameHolds, TreeHolds as MeansTyped}
@@ -60,7 +61,7 @@ use Rattle.cc_sound_terms.proofs.NamedTypes.{null_type_of}
 use Rattle.cc_sound_terms.proofs.Outcomes.{Outcome, chained, in_turn_holds, staying, whole_holds, one_more_holds}
 use Rattle.cc_sound_terms.proofs.Within.{binary_by_within, assign_within, before_within, after_within, subscripted_within, dot_within, arrow_within}
 
-module _ (v : View) (locals : List Named) (members : MembersStand v) where
+module _ (v : View) (locals : List Named) where
   abbrev Typed : Operand → Type 0
   Typed x = IsTypedOperand v locals x
 
@@ -68,7 +69,7 @@ module _ (v : View) (locals : List Named) (members : MembersStand v) where
   Designates x = IsTypedExpr v locals x
 
   abbrev Holds : (A : Type 0) → (A → Type 0) → State → A × State → Type 0
-  Holds A T s r = Outcome (IsConstant v.target) (Knows v locals) A T s r
+  Holds A T s r = Outcome v (IsConstant v.target) (Knows v locals) A T s r
 
   abbrev TreeHolds : TreeMeaning → Type 0
   TreeHolds m = MeansTyped v locals m
@@ -77,13 +78,13 @@ module _ (v : View) (locals : List Named) (members : MembersStand v) where
 
   then_holds : {A B : Type 0} (T : A → Type 0) (U : B → Type 0) (found : Found A) (next : A → State → Found B) (s : State) (r : B × State) →
       ((x : A × State) → found ≡ Ok x → Holds A T s x) → ((x : A × State) → next x.0 x.1 ≡ Ok r → Holds B (λ y. T x.0 → U y) x.1 r) → and_then found next ≡ Ok r → Holds B U s r
-  then_holds T U found next s r f g h = chained (IsConstant v.target) (Knows v locals) (knows_first v locals) (knows_second v locals) T U found next s r f g h
+  then_holds T U found next s r f g h = chained v (IsConstant v.target) (Knows v locals) (knows_first v locals) (knows_second v locals) T U found next s r f g h
 
   stays : (A : Type 0) (T : A → Type 0) (s : State) (r : A × State) → r.1 ≡ s → (Knows v locals s s → T r.0) → Holds A T s r
-  stays A T s r e f = staying (IsConstant v.target) (Knows v locals) (knows_first v locals) (knows_second v locals) A T s r e f
+  stays A T s r e f = staying v (IsConstant v.target) (Knows v locals) (knows_first v locals) (knows_second v locals) A T s r e f
 
   judged_holds : (A : Type 0) (T : A → Type 0) (at : ℕ) (s : State) (judged : Judged A) (r : A × State) → ((x : A) → judged ≡ Ok x → Knows v locals s s → T x) → whole at s judged ≡ Ok r → Holds A T s r
-  judged_holds A T at s judged r f h = whole_holds (IsConstant v.target) (Knows v locals) (knows_first v locals) (knows_second v locals) A T at s judged r f h
+  judged_holds A T at s judged r f h = whole_holds v (IsConstant v.target) (Knows v locals) (knows_first v locals) (knows_second v locals) A T at s judged r f h
 
   value_is : (judged : Judged Operand) (x : TypedExpr) → found_value judged ≡ Ok x → (y : Operand) × (judged ≡ Ok y) × (IsValue y ≡ x)
   value_is (Ok y) x h = (y, refl, ok_is h)
@@ -239,7 +240,7 @@ module _ (v : View) (locals : List Named) (members : MembersStand v) where
   size_is s (IsAddress n t place) r h = size_if s t r h
 
   -- what is declared in the operand is forgotten
-  forgotten_holds : (at : ℕ) (s t : State) (judged : Judged Operand) (r : TypedExpr × State) → Extends v.target s t → ((x : Operand) → judged ≡ Ok x → Typed x) → and_then (gives at t judged) (forgotten (length s.names)) ≡ Ok r →
+  forgotten_holds : (at : ℕ) (s t : State) (judged : Judged Operand) (r : TypedExpr × State) → Extends v s t → ((x : Operand) → judged ≡ Ok x → Typed x) → and_then (gives at t judged) (forgotten (length s.names)) ≡ Ok r →
       Holds TypedExpr Designates s r
   forgotten_holds at s t judged r g f h =
       let a = then_found (gives at t judged) (forgotten (length s.names)) r h in
@@ -247,7 +248,7 @@ module _ (v : View) (locals : List Named) (members : MembersStand v) where
       let y = value_is judged a.0.0 b.0 in
       let e = answer_is a.0.0 (with_names (take (length s.names) a.0.1.names) a.0.1) r a.2 in
       record {
-        grows = subst (λ (u : State). Extends v.target s u) (sym e.1) (forgotten_grows (IsConstant v.target) s a.0.1 (subst (λ (u : State). Extends v.target s u) (sym b.1) g));
+        grows = subst (λ (u : State). Extends v s u) (sym e.1) (forgotten_adds v (IsConstant v.target) s a.0.1 (subst (λ (u : State). Extends v s u) (sym b.1) g));
         holds = λ w. subst Designates (sym e.0) (subst Designates y.2 (f y.0 y.1));
       }
 
@@ -265,7 +266,7 @@ module _ (v : View) (locals : List Named) (members : MembersStand v) where
       let b = ht false s a.0 a.1 in
       forgotten_holds at s a.0.1 (size_of_type v.target a.0.1 a.0.0) r b.grows (size_if a.0.1 a.0.0) a.2
 
-  named_type : (cast : Bool) (s : State) (r : CType × State) → Outcome (IsConstant v.target) (KnowsTypes v) CType (IsNamedType v cast) s r → Holds CType (IsNamedType v cast) s r
+  named_type : (cast : Bool) (s : State) (r : CType × State) → Outcome v (IsConstant v.target) (KnowsTypes v) CType (IsNamedType v cast) s r → Holds CType (IsNamedType v cast) s r
   named_type cast s r o = record { grows = o.grows; holds = λ w. o.holds w.types }
 
   pub cast_holds : (t : TypeNameMeaning) (e : At TreeMeaning) → TypeNameHolds v t → TreeHolds e.node → TreeHolds (λ at s. and_then (t true s) (λ t s. value e s (λ x s. whole at s (cast_of v.target at t x))))
@@ -309,11 +310,11 @@ module _ (v : View) (locals : List Named) (members : MembersStand v) where
 
   argument_holds : (e : At TreeMeaning) → TreeHolds e.node → (before : List Operand) (s : State) (r : List Operand × State) → argument_found e before s ≡ Ok r → Holds (List Operand) (λ xs. Each Typed before → Each Typed xs) s r
   argument_holds e he before s r h =
-      one_more_holds (IsConstant v.target) (Knows v locals) (knows_first v locals) (knows_second v locals) Typed before (value_found e s) s r (λ x f. value_holds e he s x f) h
+      one_more_holds v (IsConstant v.target) (Knows v locals) (knows_first v locals) (knows_second v locals) Typed before (value_found e s) s r (λ x f. value_holds e he s x f) h
 
   arguments_hold : (args : List (At TreeMeaning)) → Each (λ a. TreeHolds a.node) args → (s : State) (r : List Operand × State) → arguments_found args s ≡ Ok r → Holds (List Operand) (Each Typed) s r
   arguments_hold args h s r f =
-      let o = in_turn_holds (IsConstant v.target) (Knows v locals) (knows_first v locals) (knows_second v locals) argument_found (λ a. TreeHolds a.node) (Each Typed) argument_holds args h [] s r f in
+      let o = in_turn_holds v (IsConstant v.target) (Knows v locals) (knows_first v locals) (knows_second v locals) argument_found (λ a. TreeHolds a.node) (Each Typed) argument_holds args h [] s r f in
       record { grows = o.grows; holds = λ w. o.holds w tt }
 
   call_is : (x : TypedExpr) (xs : List Operand) (r : Operand) → Designates x → Each Typed xs → call_judged v.target x xs ≡ Ok r → Typed r
@@ -338,10 +339,10 @@ module _ (v : View) (locals : List Named) (members : MembersStand v) where
   member_holds e x he at s r h =
       designator_then Designates e he (λ y s. whole at s (dot (structures_of s) x y)) s r
       (λ y g. judged_holds TypedExpr (λ z. Designates y.0 → Designates z) at y.1 (dot (structures_of y.1) x y.0) r
-      (λ z i w hy. dot_typed v locals members x y.0 z hy (dot_within (structures_of y.1) v.structures (within_known v y.1 w.types.structures) x y.0 z i)) g) h
+      (λ z i w hy. dot_typed v locals w.members x y.0 z hy (dot_within (structures_of y.1) v.structures (within_known v y.1 w.types.structures) x y.0 z i)) g) h
 
   pub arrow_holds : (e : At TreeMeaning) (x : List ℕ) → TreeHolds e.node → TreeHolds (λ at s. value e s (λ y s. whole at s (arrow (structures_of s) x y)))
   arrow_holds e x he at s r h =
       value_then Designates e he (λ y s. whole at s (arrow (structures_of s) x y)) s r
       (λ y g. judged_holds TypedExpr (λ z. Typed y.0 → Designates z) at y.1 (arrow (structures_of y.1) x y.0) r
-      (λ z i w hy. arrow_typed v locals members x y.0 z hy (arrow_within (structures_of y.1) v.structures (within_known v y.1 w.types.structures) x y.0 z i)) g) h
+      (λ z i w hy. arrow_typed v locals w.members x y.0 z hy (arrow_within (structures_of y.1) v.structures (within_known v y.1 w.types.structures) x y.0 z i)) g) h

@@ -1,6 +1,6 @@
 -- What specifiers, declarators, parameters, members and type names give stands, where their parts do (C99 6.7.2 to 6.7.6): construct
 -- by construct, over the meanings of the parts.
-use Rattle.std.proofs.Common.{◌≡◌, inl, inr, ℕ, ℤ, pos, negsuc, ◌+ℤ◌, Bool, true, false, not, ◌&&◌, ◌||◌, List, [], ◌∷◌, ◌++◌, length, Option, Some, None, Ok, Err, refl, ap, sym, ◌∙◌, subst}
+use Rattle.std.proofs.Common.{◌≡◌, ◌⊎◌, inl, inr, ℕ, ℤ, pos, negsuc, ◌+ℤ◌, Bool, true, false, not, ◌&&◌, ◌||◌, List, [], ◌∷◌, ◌++◌, length, Option, Some, None, Ok, Err, refl, ap, sym, ◌∙◌, subst}
 use Rattle.std.specs.Prelude.{is_some, slice_get, if◌then◌else◌}
 use Rattle.cc_declarators.specs.Declarators.{derived_type}
 use Rattle.cc_declarators.specs.Located.{located}
@@ -71,14 +71,16 @@ use Rattle.cc_terms.specs.Meanings.{TreeMeaning, DeclrMeaning, ParamsMeaning, Pa
 use Rattle.cc_terms.specs.Members.{member_found, declared_members}
 use Rattle.cc_terms.specs.Specifiers.{specifier_found, specifiers_found, specified_found}
 use Rattle.cc_terms.specs.Structures.{structure_opened, members_found, structure_closed, structure_found, member_behind}
-use Rattle.cc_sound_terms.specs.Growing.{Grows, StructureKept, Extends, IsConstant, IsParameter, IsTag}
+use Rattle.cc_sound_terms.specs.Behind.{HasMembers, Behind, Adds, Extends}
+use Rattle.cc_sound_terms.specs.Growing.{Grows, StructureKept, IsConstant, IsParameter, IsTag}
 use Rattle.cc_sound_terms.specs.Knowing.{Stands, KnowsStructures}
 use Rattle.cc_sound_terms.specs.Standing.{IsDerived, IsNamedType, ParameterStands, IsBounded, DerivationsStand, SpecifierStands, BaseStands, MembersKnown}
 use Rattle.cc_sound_terms.specs.Typing.{KnowsTypes}
 use Rattle.cc_sound_terms.proofs.Founds.{answer, answer_is, then_found, whole_found, located_found, then_judged}
-use Rattle.cc_sound_terms.proofs.Growth.{get_last, tagged-opens, grows_itself, grows_through, as_parameters, bind_grows, bind_tag_grows, structure_grows, structures_changed, scope_left}
+use Rattle.cc_sound_terms.proofs.Behind.{names_itself, behind_through, known_first, known_second, adds_itself, adds_through, adds_parameters, bind_adds, bind_tag_adds, structure_adds, scope_left_adds}
+use Rattle.cc_sound_terms.proofs.Growth.{get_last, tagged-opens, grows_itself, grows_through, tags_stand, structures_changed, changed_or_not}
 use Rattle.cc_sound_terms.proofs.TypeKinds.{sizes_known, object_stands, structure_stands, void_stands, int_stands, qualified_stands}
-use Rattle.cc_sound_terms.proofs.Known.{types_first, constants_second, parameters_second}
+use Rattle.cc_sound_terms.proofs.Known.{types_first, types_second}
 use Rattle.cc_sound_terms.proofs.Meant.{TypesHold, TreeGrows, DeclrHolds, ParamsHold, ParamHolds, SpecHolds, MembersHold, EnumrHolds, TypeNameHolds, value_grows}
 use Rattle.cc_sound_terms.proofs.NamedTypes.{derived_stands, parameter_stands, only_standing}
 use Rattle.cc_sound_terms.proofs.Outcomes.{Outcome, each_append, chained, in_turn_holds, staying, whole_holds, one_more_given, behind}
@@ -89,17 +91,17 @@ module _ (v : View) where
 
   then_holds : {A B : Type 0} (T : A → Type 0) (U : B → Type 0) (found : Found A) (next : A → State → Found B) (s : State) (r : B × State) →
       ((x : A × State) → found ≡ Ok x → Holds A T s x) → ((x : A × State) → next x.0 x.1 ≡ Ok r → Holds B (λ y. T x.0 → U y) x.1 r) → and_then found next ≡ Ok r → Holds B U s r
-  then_holds T U found next s r f g h = chained (IsConstant v.target) (KnowsTypes v) (types_first v (IsConstant v.target)) (constants_second v) T U found next s r f g h
+  then_holds T U found next s r f g h = chained v (IsConstant v.target) (KnowsTypes v) (types_first v (IsConstant v.target)) (types_second v (IsConstant v.target)) T U found next s r f g h
 
   stays : (A : Type 0) (T : A → Type 0) (s : State) (r : A × State) → r.1 ≡ s → (KnowsTypes v s s → T r.0) → Holds A T s r
-  stays A T s r e f = staying (IsConstant v.target) (KnowsTypes v) (types_first v (IsConstant v.target)) (constants_second v) A T s r e f
+  stays A T s r e f = staying v (IsConstant v.target) (KnowsTypes v) (types_first v (IsConstant v.target)) (types_second v (IsConstant v.target)) A T s r e f
 
   judged_holds : (A : Type 0) (T : A → Type 0) (at : ℕ) (s : State) (judged : Judged A) (r : A × State) → ((x : A) → judged ≡ Ok x → KnowsTypes v s s → T x) → whole at s judged ≡ Ok r → Holds A T s r
-  judged_holds A T at s judged r f h = whole_holds (IsConstant v.target) (KnowsTypes v) (types_first v (IsConstant v.target)) (constants_second v) A T at s judged r f h
+  judged_holds A T at s judged r f h = whole_holds v (IsConstant v.target) (KnowsTypes v) (types_first v (IsConstant v.target)) (types_second v (IsConstant v.target)) A T at s judged r f h
 
   list_holds : {A B : Type 0} (find : A → B → State → Found B) (Good : A → Type 0) (P : B → Type 0) → ((x : A) → Good x → (b : B) (s : State) (r : B × State) → find x b s ≡ Ok r → Holds B (λ c. P b → P c) s r) →
       (xs : List A) → Each Good xs → (b : B) (s : State) (r : B × State) → in_turn find xs b s ≡ Ok r → Holds B (λ c. P b → P c) s r
-  list_holds find Good P f xs g b s r h = in_turn_holds (IsConstant v.target) (KnowsTypes v) (types_first v (IsConstant v.target)) (constants_second v) find Good P f xs g b s r h
+  list_holds find Good P f xs g b s r h = in_turn_holds v (IsConstant v.target) (KnowsTypes v) (types_first v (IsConstant v.target)) (types_second v (IsConstant v.target)) find Good P f xs g b s r h
 
   answer_holds : (A : Type 0) (T : A → Type 0) (x : A) (s : State) (r : A × State) → (KnowsTypes v s s → T x) → answer x s ≡ Ok r → Holds A T s r
   answer_holds A T x s r f h = let e = answer_is x s r h in stays A T s r e.1 (λ k. subst T (sym e.0) (f k))
@@ -270,19 +272,19 @@ module _ (v : View) where
   new_tag : (s : State) (k : KnownStructure) (t : State) → t.structures ≡ s.structures ++ k ∷ [] → IsTag t.structures (tag.StructureTag (length s.structures))
   new_tag s k t e = λ i f. (k, ap (λ (xs : List KnownStructure). slice_get xs i) e ∙ ap (slice_get (s.structures ++ k ∷ [])) (sym (tag_is (length s.structures) i f)) ∙ get_last s.structures k)
 
-  record IsNew (s : State) (r : ℕ × State) : Type 0 where
-    grows : Extends v.target s r.1
-    kind : KnownStructure
-    at : slice_get r.1.structures r.0 ≡ Some kind
+  pub record IsNew (s : State) (r : ℕ × State) : Type 0 where
+    pub grows : Extends v s r.1
+    pub kind : KnownStructure
+    pub at : slice_get r.1.structures r.0 ≡ Some kind
 
-  new_is : (tag : Option Name) (s : State) → IsNew s (new_structure tag s)
-  new_is None s = record { grows = structure_grows (IsConstant v.target) (only_named None) s; kind = only_named None; at = get_last s.structures (only_named None) }
+  pub new_is : (tag : Option Name) (s : State) → IsNew s (new_structure tag s)
+  new_is None s = record { grows = structure_adds v (IsConstant v.target) (only_named None) s refl; kind = only_named None; at = get_last s.structures (only_named None) }
   new_is (Some x) s =
       let k = only_named (Some x) in
       let t = with_structures (s.structures ++ k ∷ []) s in
       record {
-        grows = grows_through (IsConstant v.target) s t (bind_tag x (tag.StructureTag (length s.structures)) t) (structure_grows (IsConstant v.target) k s)
-            (bind_tag_grows (IsConstant v.target) x (tag.StructureTag (length s.structures)) t (new_tag s k t refl));
+        grows = adds_through v (IsConstant v.target) s t (bind_tag x (tag.StructureTag (length s.structures)) t) (structure_adds v (IsConstant v.target) k s refl)
+            (bind_tag_adds v (IsConstant v.target) x (tag.StructureTag (length s.structures)) t (new_tag s k t refl));
         kind = k;
         at = get_last s.structures k;
       }
@@ -292,7 +294,7 @@ module _ (v : View) where
       let n = new_is (Some x) s in
       let a = answer_is (structure_type (new_structure (Some x) s).0) (new_structure (Some x) s).1 r h in
       record {
-        grows = subst (λ (t : State). Extends v.target s t) (sym a.1) n.grows;
+        grows = subst (λ (t : State). Extends v s t) (sym a.1) n.grows;
         holds = λ k. let d = there_in r.1 (new_structure (Some x) s).0 n.kind k.structures (ap (λ (t : State). slice_get t.structures (new_structure (Some x) s).0) a.1 ∙ n.at) in
             subst (Stands v) (sym a.0) (structure_stands v (new_structure (Some x) s).0 d.0 d.1);
       }
@@ -315,9 +317,9 @@ module _ (v : View) where
           let g = k.tags x (tag.StructureTag i) (tagged-opens x s.scopes ∙ ap (λ (o : Option Tagged). or_else o (tagged x (outer_scopes s.scopes))) e) i refl in
           there_in s i g.0 k.structures g.1
   opened_holds x s (Some tag.EnumerationTag) e =
-      record { grows = structure_grows (IsConstant v.target) (only_named x) s; holds = λ k. there_in (with_structure x s).1 (length s.structures) (only_named x) k.structures (get_last s.structures (only_named x)) }
+      record { grows = structure_adds v (IsConstant v.target) (only_named x) s refl; holds = λ k. there_in (with_structure x s).1 (length s.structures) (only_named x) k.structures (get_last s.structures (only_named x)) }
   opened_holds x s (Some tag.UnfinishedEnumeration) e =
-      record { grows = structure_grows (IsConstant v.target) (only_named x) s; holds = λ k. there_in (with_structure x s).1 (length s.structures) (only_named x) k.structures (get_last s.structures (only_named x)) }
+      record { grows = structure_adds v (IsConstant v.target) (only_named x) s refl; holds = λ k. there_in (with_structure x s).1 (length s.structures) (only_named x) k.structures (get_last s.structures (only_named x)) }
 
   structure_opened_holds : (x : Option Name) (front : List (At Attr)) (s : State) (r : (Bool × ℕ) × State) → structure_opened x front s ≡ Ok r → Holds (Bool × ℕ) (λ n. IsThere n.1) s r
   structure_opened_holds x front s r h =
@@ -325,7 +327,7 @@ module _ (v : View) where
       (λ marks f.
       let a = answer_is (is_enumeration (tagged_option x s), (opened x s).0) (opened x s).1 r f in
       let o = opened_holds x s (tagged_option x s) refl in
-      record { grows = subst (λ (t : State). Extends v.target s t) (sym a.1) o.grows; holds = λ k. subst (λ (n : Bool × ℕ). IsThere n.1) (sym a.0) (o.holds (subst (λ (t : State). KnowsTypes v s t) a.1 k)) }) h
+      record { grows = subst (λ (t : State). Extends v s t) (sym a.1) o.grows; holds = λ k. subst (λ (n : Bool × ℕ). IsThere n.1) (sym a.0) (o.holds (subst (λ (t : State). KnowsTypes v s t) a.1 k)) }) h
 
   members_hold : (ds : List (At MembersMeaning)) → Each (λ d. MembersHold v d.node) ds → (s : State) (r : List Named × State) → members_found ds s ≡ Ok r → Holds (List Named) (MembersKnown v) s r
   members_hold ds hs s r h =
@@ -338,7 +340,7 @@ module _ (v : View) where
   completed_kept : (ms : List Named) (i : ℕ) (s : State) (k : KnownStructure) → has_content (slice_get s.structures i) ≡ false → slice_get s.structures i ≡ Some k → StructureKept k (with_members v.target ms s k)
   completed_kept ms i s k h e = record { members = λ ns f. absurd (no_content k ns (sym (ap has_content e) ∙ h) f); layout = λ ns f. absurd (no_content k ns (sym (ap has_content e) ∙ h) f) }
 
-  completed_grows : (i : ℕ) (ms : List Named) (s : State) → has_content (slice_get s.structures i) ≡ false → Extends v.target s (completed v.target i ms s)
+  completed_grows : (i : ℕ) (ms : List Named) (s : State) → has_content (slice_get s.structures i) ≡ false → Grows (IsConstant v.target) s (completed v.target i ms s)
   completed_grows i ms s h = record {
     outer = refl;
     here = λ x. inl refl;
@@ -348,32 +350,74 @@ module _ (v : View) where
     locals = refl;
   }
 
-  content_by : (b : Bool) (at i : ℕ) (ms : List Named) (s : State) (r : CType × State) → has_content (slice_get s.structures i) ≡ b → (if b then whole at s (Err rule.NoObjectType) else answer (structure_type i) (completed v.target i ms s)) ≡ Ok r →
-      Holds CType (λ t. IsThere i → Stands v t) s r
-  content_by true at i ms s r e h = absurd (cc)
-  content_by false at i ms s r e h =
-      let a = answer_is (structure_type i) (completed v.target i ms s) r h in
-      record { grows = subst (λ (t : State). Extends v.target s t) (sym a.1) (completed_grows i ms s e); holds = λ k d. subst (Stands v) (sym a.0) (structure_stands v i d.0 d.1) }
+  some_members : (ms ns : List Named) → Some ms ≡ Some ns → ms ≡ ns
+  some_members ms ns h = cc
 
-  closed_by : (clash : Bool) (at i : ℕ) (ms : List Named) (s : State) (r : CType × State) → closed v.target at clash i ms s ≡ Ok r → Holds CType (λ t. IsThere i → Stands v t) s r
+  members_of_one : (s : State) (ms ns : List Named) (j : ℕ) (l : KnownStructure) → MembersKnown v ms → l.members ≡ Some ns → (slice_get s.structures j ≡ Some l) ⊎ ((k : KnownStructure) × (slice_get s.structures j ≡ Some k) × (l ≡ with_members v.target ms s k)) → HasMembers s.structures j ns ⊎ MembersKnown v ns
+  members_of_one s ms ns j l k f (inl g) = inl (l, g, f)
+  members_of_one s ms ns j l k f (inr c) = inr (subst (MembersKnown v) (some_members ms ns (sym (ap (λ (x : KnownStructure). x.members) c.2) ∙ f)) k)
+
+  -- a structure that is completed has members that are known
+  completed_behind : (i : ℕ) (ms : List Named) (s : State) → has_content (slice_get s.structures i) ≡ false → KnowsTypes v s (completed v.target i ms s) → MembersKnown v ms → Behind v s (completed v.target i ms s)
+  completed_behind i ms s h k m = record {
+    types = k.types;
+    tags = tags_stand (IsConstant v.target) s (completed v.target i ms s) (completed_grows i ms s h) k.tags;
+    names = λ j d e. inl (d, e);
+    structures = λ j ns e. members_of_one s ms ns j e.0 m e.2 (changed_or_not s.structures i (with_members v.target ms s) j e.0 e.1);
+  }
+
+  record IsClosed (i : ℕ) (ms : List Named) (s : State) (p : Specifier) (t : State) : Type 0 where
+    type : p ≡ specifier.Type (structure_type i)
+    state : t ≡ completed v.target i ms s
+    new : has_content (slice_get s.structures i) ≡ false
+
+  content_by : (b : Bool) (at i : ℕ) (ms : List Named) (s : State) (r : CType × State) → (if b then whole at s (Err rule.NoObjectType) else answer (structure_type i) (completed v.target i ms s)) ≡ Ok r → (b ≡ false) × (r.0 ≡ structure_type i) × (r.1 ≡ completed v.target i ms s)
+  content_by true at i ms s r h = absurd (cc)
+  content_by false at i ms s r h = let a = answer_is (structure_type i) (completed v.target i ms s) r h in (refl, a.0, a.1)
+
+  closed_by : (clash : Bool) (at i : ℕ) (ms : List Named) (s : State) (r : CType × State) → closed v.target at clash i ms s ≡ Ok r → (has_content (slice_get s.structures i) ≡ false) × (r.0 ≡ structure_type i) × (r.1 ≡ completed v.target i ms s)
   closed_by true at i ms s r h = absurd (cc)
-  closed_by false at i ms s r h = content_by (has_content (slice_get s.structures i)) at i ms s r refl h
+  closed_by false at i ms s r h = content_by (has_content (slice_get s.structures i)) at i ms s r h
 
-  structure_closed_holds : (at : ℕ) (last : List (At Attr)) (clash : Bool) (i : ℕ) (ms : List Named) (s : State) (r : Specifier × State) → structure_closed v.target at last clash i ms s ≡ Ok r →
-      Holds Specifier (λ p. MembersKnown v ms → IsThere i → SpecifierStands v p) s r
-  structure_closed_holds at last clash i ms s r h =
-      located_then (λ p. MembersKnown v ms → IsThere i → SpecifierStands v p) s (attributes (entity.Structure ∷ []) last) (λ marks s. as_type (closed v.target at clash i ms s)) r
-      (λ marks f. then_holds (λ t. IsThere i → Stands v t) (λ p. MembersKnown v ms → IsThere i → SpecifierStands v p) (closed v.target at clash i ms s) (λ t s. Ok (specifier.Type t, s)) s r
-      (λ x g. closed_by clash at i ms s x g)
-      (λ x g. answer_holds Specifier (λ p. (IsThere i → Stands v x.0) → MembersKnown v ms → IsThere i → SpecifierStands v p) (specifier.Type x.0) x.1 r (λ k t m d. t d) g) f) h
+  structure_closed_is : (at : ℕ) (last : List (At Attr)) (clash : Bool) (i : ℕ) (ms : List Named) (s : State) (r : Specifier × State) → structure_closed v.target at last clash i ms s ≡ Ok r → IsClosed i ms s r.0 r.1
+  structure_closed_is at last clash i ms s r h =
+      let a = then_found (located s (attributes (entity.Structure ∷ []) last)) (λ marks s. as_type (closed v.target at clash i ms s)) r h in
+      let e = located_found s (attributes (entity.Structure ∷ []) last) a.0 a.1 in
+      let b = then_found (closed v.target at clash i ms a.0.1) (λ t s. Ok (specifier.Type t, s)) r a.2 in
+      let c = closed_by clash at i ms a.0.1 b.0 b.1 in
+      let d = answer_is (specifier.Type b.0.0) b.0.1 r b.2 in
+      record {
+        type = d.0 ∙ ap specifier.Type c.1;
+        state = d.1 ∙ c.2 ∙ ap (completed v.target i ms) e.1;
+        new = ap (λ (t : State). has_content (slice_get t.structures i)) (sym e.1) ∙ c.0;
+      }
+
+  closed_holds : (i : ℕ) (s : State) (ms : List Named × State) (r : Specifier × State) → Holds (List Named) (MembersKnown v) s ms → IsClosed i ms.0 ms.1 r.0 r.1 → Holds Specifier (λ p. IsThere i → SpecifierStands v p) s r
+  closed_holds i s ms r o c =
+      let t = completed v.target i ms.0 ms.1 in
+      let g = completed_grows i ms.0 ms.1 c.new in
+      record {
+        grows = subst (λ (u : State). Extends v s u) (sym c.state) (record {
+          grows = grows_through (IsConstant v.target) s ms.1 t o.grows.grows g;
+          added = o.grows.added;
+          behind = λ k.
+              let first = known_first v s ms.1 t g.structures k in
+              behind_through v s ms.1 t (names_itself t.names) (o.grows.behind first) (completed_behind i ms.0 ms.1 c.new (known_second v s ms.1 t g.structures o.grows.behind k) (o.holds first));
+        });
+        holds = λ k d. subst (SpecifierStands v) (sym c.type) (structure_stands v i d.0 d.1);
+      }
+
+  members_closed : (ds : List (At MembersMeaning)) (last : List (At Attr)) → Each (λ d. MembersHold v d.node) ds → (at : ℕ) (clash : Bool) (i : ℕ) (s : State) (r : Specifier × State) →
+      and_then (members_found ds s) (λ ms s. structure_closed v.target at last clash i ms s) ≡ Ok r → Holds Specifier (λ p. IsThere i → SpecifierStands v p) s r
+  members_closed ds last hs at clash i s r h =
+      let a = then_found (members_found ds s) (λ ms s. structure_closed v.target at last clash i ms s) r h in
+      closed_holds i s a.0 r (members_hold ds hs s a.0 a.1) (structure_closed_is at last clash i a.0.0 a.0.1 r a.2)
 
   pub structure_holds : (x : Option Name) (ds : List (At MembersMeaning)) (front last : List (At Attr)) → Each (λ d. MembersHold v d.node) ds → SpecHolds v (λ at s. structure_found v.target at x ds front last s)
   structure_holds x ds front last hs at s r h =
       then_holds (λ n. IsThere n.1) (SpecifierStands v) (structure_opened x front s) (λ new s. and_then (members_found ds s) (λ ms s. structure_closed v.target at last new.0 new.1 ms s)) s r
       (λ n f. structure_opened_holds x front s n f)
-      (λ n f. then_holds (MembersKnown v) (λ p. IsThere n.0.1 → SpecifierStands v p) (members_found ds n.1) (λ ms s. structure_closed v.target at last n.0.0 n.0.1 ms s) n.1 r
-      (λ ms g. members_hold ds hs n.1 ms g)
-      (λ ms g. structure_closed_holds at last n.0.0 n.0.1 ms.0 ms.1 r g) f) h
+      (λ n f. members_closed ds last hs at n.0.0 n.0.1 n.1 r f) h
 
   -- ---- enumerations
 
@@ -383,12 +427,12 @@ module _ (v : View) where
   no_structure_yet : (structures : List KnownStructure) → IsTag structures tag.UnfinishedEnumeration
   no_structure_yet structures = λ i e. absurd (cc)
 
-  tagged_grows : (t : Tagged) (x : Option Name) (s : State) → IsTag s.structures t → Extends v.target s (enumeration_tagged t x s)
-  tagged_grows t None s h = grows_itself (IsConstant v.target) s
-  tagged_grows t (Some x) s h = bind_tag_grows (IsConstant v.target) x t s h
+  tagged_grows : (t : Tagged) (x : Option Name) (s : State) → IsTag s.structures t → Extends v s (enumeration_tagged t x s)
+  tagged_grows t None s h = adds_itself v (IsConstant v.target) s
+  tagged_grows t (Some x) s h = bind_tag_adds v (IsConstant v.target) x t s h
 
-  list_by : (b : Bool) (x : Option Name) (s : State) → Extends v.target s (if b then s else enumeration_tagged tag.UnfinishedEnumeration x s)
-  list_by true x s = grows_itself (IsConstant v.target) s
+  list_by : (b : Bool) (x : Option Name) (s : State) → Extends v s (if b then s else enumeration_tagged tag.UnfinishedEnumeration x s)
+  list_by true x s = adds_itself v (IsConstant v.target) s
   list_by false x s = tagged_grows tag.UnfinishedEnumeration x s (no_structure_yet s.structures)
 
   constants_hold : (cs : List (At EnumrMeaning)) → Each (λ c. EnumrHolds v c.node) cs → (s : State) (r : ℤ × State) → constants_found cs s ≡ Ok r → Holds ℤ (λ n. Unit {0}) s r
@@ -400,11 +444,11 @@ module _ (v : View) where
   enumeration_by true at x s r h = absurd (cc)
   enumeration_by false at x s r h =
       let a = answer_is enumeration_type (enumeration_tagged tag.EnumerationTag x s) r h in
-      record { grows = subst (λ (t : State). Extends v.target s t) (sym a.1) (tagged_grows tag.EnumerationTag x s (no_structure s.structures)); holds = λ k. subst (Stands v) (sym a.0) (int_stands v int.Int) }
+      record { grows = subst (λ (t : State). Extends v s t) (sym a.1) (tagged_grows tag.EnumerationTag x s (no_structure s.structures)); holds = λ k. subst (Stands v) (sym a.0) (int_stands v int.Int) }
 
   pub enumeration_holds : (x : Option Name) (cs : List (At EnumrMeaning)) → Each (λ c. EnumrHolds v c.node) cs → SpecHolds v (λ at s. enumeration_found at x cs s)
   enumeration_holds x cs hs at s r h =
-      behind (IsConstant v.target) (KnowsTypes v) (types_first v (IsConstant v.target)) (constants_second v) (SpecifierStands v) s (in_list x s) r (list_by (is_some (tagged_option x s)) x s)
+      behind v (IsConstant v.target) (KnowsTypes v) (types_first v (IsConstant v.target)) (types_second v (IsConstant v.target)) (SpecifierStands v) s (in_list x s) r (list_by (is_some (tagged_option x s)) x s)
       (then_holds (λ n. Unit {0}) (SpecifierStands v) (constants_found cs (in_list x s)) (λ next t. as_type (enumeration_closed at (is_some (tagged_option x s)) x t)) (in_list x s) r
       (λ n f. constants_hold cs hs (in_list x s) n f)
       (λ n f. let o = as_type_holds (Stands v) (enumeration_closed at (is_some (tagged_option x s)) x n.1) n.1 r (λ y g. enumeration_by (is_some (tagged_option x s)) at x n.1 y g) f in record { grows = o.grows; holds = λ k u. o.holds k }) h)
@@ -436,8 +480,8 @@ module _ (v : View) where
         let c = then_found (whole at a.0.1 (new_name roles x a.0.1)) (λ x s. Ok (a.0.0 +ℤ pos 1, bind x (means.Enumerator a.0.0) s)) r a.2 in
         let d = whole_found at a.0.1 (new_name roles x a.0.1) c.0 c.1 in
         let e = answer_is (a.0.0 +ℤ pos 1) (bind c.0.0 (means.Enumerator a.0.0) c.0.1) r c.2 in
-        let g = bind_grows (IsConstant v.target) c.0.0 (means.Enumerator a.0.0) s (constant_fits given a.0.0 b.0) in
-        record { grows = subst (λ (t : State). Extends v.target s t) (ap (bind c.0.0 (means.Enumerator a.0.0)) (sym (d.1 ∙ b.1)) ∙ sym e.1) g; holds = λ k. tt }
+        let g = bind_adds v (IsConstant v.target) c.0.0 (means.Enumerator a.0.0) s (constant_fits given a.0.0 b.0) (λ k w e. absurd (cc)) in
+        record { grows = subst (λ (t : State). Extends v s t) (ap (bind c.0.0 (means.Enumerator a.0.0)) (sym (d.1 ∙ b.1)) ∙ sym e.1) g; holds = λ k. tt }
 
     pub enumr_holds : (x : Name) (o : Option (At TreeMeaning)) → ((e : At TreeMeaning) → o ≡ Some e → TreeGrows v e.node) → EnumrHolds v (λ next at s. constant_by v.target roles at x next s o)
     enumr_holds x None f next at s r h = declared_holds at x (Value next) s r h
@@ -541,7 +585,7 @@ module _ (v : View) where
       let e = located_found s (type_found v.target (structures_of s) (layouts_of s) allowed base d.derivations) r h in
       (e.1, λ k hb hd. derived_stands v (structures_of s) (layouts_of s) (sizes_known v s k.structures) allowed.void allowed.unbounded base d.derivations r.0 hb hd e.0)
 
-  derived_holds : (allowed : Allowed) (base : CType) (d : Declarator Scope) (s : State) (r : CType × State) → derived_type v.target allowed base d s ≡ Ok r →
+  pub derived_holds : (allowed : Allowed) (base : CType) (d : Declarator Scope) (s : State) (r : CType × State) → derived_type v.target allowed base d s ≡ Ok r →
       Holds CType (λ t. Declares allowed.unbounded d → Stands v base → IsDerived v allowed.void allowed.unbounded t) s r
   derived_holds allowed base d s r h = let e = derived_by allowed base d s r h in stays CType (λ t. Declares allowed.unbounded d → Stands v base → IsDerived v allowed.void allowed.unbounded t) s r e.0 (λ k hd hb. e.1 k hb hd)
 
@@ -593,14 +637,14 @@ module _ (v : View) where
   -- ---- parameters
 
   abbrev Binds : (A : Type 0) → (A → Type 0) → State → A × State → Type 0
-  Binds A T s r = Outcome (IsParameter v.target) (KnowsTypes v) A T s r
+  Binds A T s r = Outcome v (IsParameter v.target) (KnowsTypes v) A T s r
 
   as_binds : (A : Type 0) (T : A → Type 0) (s : State) (r : A × State) → Holds A T s r → Binds A T s r
-  as_binds A T s r o = record { grows = as_parameters v.target s r.1 o.grows; holds = o.holds }
+  as_binds A T s r o = record { grows = adds_parameters v s r.1 o.grows; holds = o.holds }
 
   then_binds : {A B : Type 0} (T : A → Type 0) (U : B → Type 0) (found : Found A) (next : A → State → Found B) (s : State) (r : B × State) →
       ((x : A × State) → found ≡ Ok x → Binds A T s x) → ((x : A × State) → next x.0 x.1 ≡ Ok r → Binds B (λ y. T x.0 → U y) x.1 r) → and_then found next ≡ Ok r → Binds B U s r
-  then_binds T U found next s r f g h = chained (IsParameter v.target) (KnowsTypes v) (types_first v (IsParameter v.target)) (parameters_second v) T U found next s r f g h
+  then_binds T U found next s r f g h = chained v (IsParameter v.target) (KnowsTypes v) (types_first v (IsParameter v.target)) (types_second v (IsParameter v.target)) T U found next s r f g h
 
   same_parameter : (a b : Parameter) → given a ≡ Ok b → a ≡ b
   same_parameter a b h = ok_is h
@@ -615,7 +659,7 @@ module _ (v : View) where
       let b = whole_found p.at s (new_name roles x s) a.0 a.1 in
       let e = answer_is p (bind a.0.0 (means.Automatic i p.ctype) a.0.1) r a.2 in
       record {
-        grows = subst (λ (t : State). Grows (IsParameter v.target) s t) (ap (bind a.0.0 (means.Automatic i p.ctype)) (sym b.1) ∙ sym e.1) (bind_grows (IsParameter v.target) a.0.0 (means.Automatic i p.ctype) s tt);
+        grows = subst (λ (t : State). Adds v (IsParameter v.target) s t) (ap (bind a.0.0 (means.Automatic i p.ctype)) (sym b.1) ∙ sym e.1) (bind_adds v (IsParameter v.target) a.0.0 (means.Automatic i p.ctype) s tt (λ k w e. absurd (cc)));
         holds = λ k w. subst (ParameterStands v) (sym e.0) w;
       }
 
@@ -632,7 +676,7 @@ module _ (v : View) where
         (judged_holds CType (λ u. IsDerived v false true t.0 → ParameterStands v (parameter at x.name u)) at t.1 (parameter_type t.0) u (λ u e k w. let p = parameter_stands v t.0 u w e in record { plain = p.0; pointed = p.1 }) g))
         (λ u g.
         let p = parameter at x.name u.0 in
-        let o = one_more_given (IsParameter v.target) (KnowsTypes v) (types_first v (IsParameter v.target)) (parameters_second v) (ParameterStands v p) (ParameterStands v) before (parameter_bound roles unnamed (length before) p u.1 x.name) u.1 r
+        let o = one_more_given v (IsParameter v.target) (KnowsTypes v) (types_first v (IsParameter v.target)) (types_second v (IsParameter v.target)) (ParameterStands v p) (ParameterStands v) before (parameter_bound roles unnamed (length before) p u.1 x.name) u.1 r
         (λ q k. bound_parameter roles unnamed (length before) p u.1 x.name q k) g in
         record { grows = o.grows; holds = λ k f derived hd hb hs. o.holds k (f (derived hd hb)) hs }) f) h
 
@@ -659,9 +703,9 @@ module _ (v : View) where
   many_hold ps hs unnamed s r h =
       let a = then_found (parameters_found unnamed ps (entered empty s)) (λ ps s. Ok ((ps, innermost s.scopes), left s)) r h in
       let e = answer_is (a.0.0, innermost a.0.1.scopes) (left a.0.1) r a.2 in
-      let o = in_turn_holds (IsParameter v.target) (KnowsTypes v) (types_first v (IsParameter v.target)) (parameters_second v) (λ (p : At ParamMeaning) before s. p.node unnamed before s) (λ p. ParamHolds v p.node) (Each (ParameterStands v))
+      let o = in_turn_holds v (IsParameter v.target) (KnowsTypes v) (types_first v (IsParameter v.target)) (types_second v (IsParameter v.target)) (λ (p : At ParamMeaning) before s. p.node unnamed before s) (λ p. ParamHolds v p.node) (Each (ParameterStands v))
       (λ p hp. hp unnamed) ps hs [] (entered empty s) a.0 a.1 in
       record {
-        grows = subst (λ (t : State). Extends v.target s t) (sym e.1) (scope_left (IsParameter v.target) v.target s a.0.1 o.grows);
+        grows = subst (λ (t : State). Extends v s t) (sym e.1) (scope_left_adds v (IsParameter v.target) s a.0.1 o.grows);
         holds = λ k. subst (λ (p : List Parameter × Scope). Each (ParameterStands v) p.0) (sym e.0) (o.holds (entered_known s a.0.1 (subst (λ (t : State). KnowsTypes v s t) e.1 k)) tt);
       }

@@ -49,6 +49,3 @@ IsParameter target (means.Enumerator n) = is_value_of int.Int target n ≡ true
 IsParameter target (means.Automatic n t) = Unit {0}
 IsParameter target (means.Linked i) = ⊥
 IsParameter target (means.TypeNamed t) = ⊥
-
-abbrev pub Extends : Target → State → State → Type 0
-Extends target s t = Grows (IsConstant target) s t

@@ -3,3 +3,4 @@ pub mod Knowing
 pub mod Standing
 pub mod Typing
 pub mod Ranges
+pub mod Behind

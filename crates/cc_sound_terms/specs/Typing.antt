@@ -1,5 +1,6 @@
 -- What is known of a construct between two states: over a view that knows what there is behind it, what stands in front of it.
 use Rattle.std.specs.Prelude.{List}
+use Rattle.cc_operand_types.specs.Typed.{MembersStand}
 use Rattle.cc_operand_types.specs.Views.{View}
 use Rattle.cc_scopes.specs.State.{State}
 use Rattle.cc_syntax.specs.Types.{Named}
@@ -16,3 +17,4 @@ pub record Knows (v : View) (locals : List Named) (s t : State) : Type 0 where
   pub types : KnowsTypes v s t
   pub names : KnowsNames v t.names
   pub objects : ObjectsStand v locals s
+  pub members : MembersStand v

@@ -1,7 +1,7 @@
 ghost use Rattle.std.specs.Prelude.{◌≡◌, ℕ, Bool, true, List, map, Ok};
 ghost use Rattle.cc_designators.specs.Designators.{TypedExpr};
 ghost use Rattle.cc_operands.specs.Operands.{Operand};
-ghost use Rattle.cc_operand_types.specs.Typed.{IsTypedExpr, IsTypedOperand, MembersStand};
+ghost use Rattle.cc_operand_types.specs.Typed.{IsTypedExpr, IsTypedOperand};
 ghost use Rattle.cc_operand_types.specs.Views.{View};
 ghost use Rattle.cc_primary.specs.Values.{value_found};
 ghost use Rattle.cc_program.specs.declared.program.Roles.{Roles};
@@ -19,34 +19,34 @@ ghost use Rattle.cc_tree.specs.declared.tree.Declr.{Declr};
 ghost use Rattle.cc_tree.specs.declared.tree.Spec.{Spec};
 ghost use Rattle.cc_tree.specs.declared.tree.Tree.{Tree};
 ghost use Rattle.cc_tree.specs.declared.tree.TypeName.{TypeName};
-ghost use Rattle.cc_sound_terms.specs.Growing.{Extends};
+ghost use Rattle.cc_sound_terms.specs.Behind.{Extends};
 ghost use Rattle.cc_sound_terms.specs.Knowing.{Stands};
 ghost use Rattle.cc_sound_terms.specs.Ranges.{all_fit, declr_in_range, fits, spec_in_range, type_name_in_range};
 ghost use Rattle.cc_sound_terms.specs.Standing.{DerivationsStand, IsNamedType};
 ghost use Rattle.cc_sound_terms.specs.Typing.{Knows, KnowsTypes};
 
-/// What holds of expressions that are found, over any view of a program in which members of structures may be designated, and any locals (C99 6.5): what is known grows, and what an
+/// What holds of expressions that are found, over any view, and any locals (C99 6.5): what is known grows, and what an
 /// expression designates is typed over a view that knows what there is behind it, where names stand for what they say in front of it. The call does nothing.
 pub fn expression_laws()
-    ensures designated { (v : View) (locals : List Named) (roles : Roles) → MembersStand v → (e : Tree) → fits e ≡ true → (at : ℕ) (s : State) (r : TypedExpr × State) → tree_of v.target roles e at s ≡ Ok r →
-        Extends v.target s r.1 × (Knows v locals s r.1 → IsTypedExpr v locals r.0) }
+    ensures designated { (v : View) (locals : List Named) (roles : Roles) → (e : Tree) → fits e ≡ true → (at : ℕ) (s : State) (r : TypedExpr × State) → tree_of v.target roles e at s ≡ Ok r →
+        Extends v s r.1 × (Knows v locals s r.1 → IsTypedExpr v locals r.0) }
 
     // The value of an expression.
-    ensures values { (v : View) (locals : List Named) (roles : Roles) → MembersStand v → (e : At Tree) → fits e.node ≡ true → (s : State) (r : Operand × State) → value_found (here v.target roles e) s ≡ Ok r →
-        Extends v.target s r.1 × (Knows v locals s r.1 → IsTypedOperand v locals r.0) }
+    ensures values { (v : View) (locals : List Named) (roles : Roles) → (e : At Tree) → fits e.node ≡ true → (s : State) (r : Operand × State) → value_found (here v.target roles e) s ≡ Ok r →
+        Extends v s r.1 × (Knows v locals s r.1 → IsTypedOperand v locals r.0) }
 {}
 
-/// What holds of types that are found, over any view in which members of structures may be designated (C99 6.7.2 to 6.7.6). The call does nothing.
+/// What holds of types that are found, over any view (C99 6.7.2 to 6.7.6). The call does nothing.
 pub fn type_laws()
     // A type name; in a cast it may name a pointer to void.
-    ensures type_names { (v : View) (roles : Roles) → MembersStand v → (t : TypeName) → type_name_in_range t ≡ true → (cast : Bool) (s : State) (r : CType × State) → type_name_of v.target roles t cast s ≡ Ok r →
-        Extends v.target s r.1 × (KnowsTypes v s r.1 → IsNamedType v cast r.0) }
+    ensures type_names { (v : View) (roles : Roles) → (t : TypeName) → type_name_in_range t ≡ true → (cast : Bool) (s : State) (r : CType × State) → type_name_of v.target roles t cast s ≡ Ok r →
+        Extends v s r.1 × (KnowsTypes v s r.1 → IsNamedType v cast r.0) }
 
     // Specifiers, with the type that they name.
-    ensures specifiers { (v : View) (roles : Roles) → MembersStand v → (setting : Setting) (specs : List (At Spec)) → all_fit (map (λ (x : At Spec). record { at = x.at; node = spec_in_range x.node }) specs) ≡ true →
-        (s : State) (r : Specified × State) → specified_found setting (map (spec_here v.target roles) specs) s ≡ Ok r → Extends v.target s r.1 × (KnowsTypes v s r.1 → Stands v r.0.ctype) }
+    ensures specifiers { (v : View) (roles : Roles) → (setting : Setting) (specs : List (At Spec)) → all_fit (map (λ (x : At Spec). record { at = x.at; node = spec_in_range x.node }) specs) ≡ true →
+        (s : State) (r : Specified × State) → specified_found setting (map (spec_here v.target roles) specs) s ≡ Ok r → Extends v s r.1 × (KnowsTypes v s r.1 → Stands v r.0.ctype) }
 
     // Declarators: bounds and parameters.
-    ensures declarators { (v : View) (roles : Roles) → MembersStand v → (d : Declr) → declr_in_range d ≡ true → (allowed : Allowed) (at : ℕ) (s : State) (r : Declarator Scope × State) → declr_of v.target roles d allowed at s ≡ Ok r →
-        Extends v.target s r.1 × (KnowsTypes v s r.1 → DerivationsStand v allowed.unbounded r.0.derivations) }
+    ensures declarators { (v : View) (roles : Roles) → (d : Declr) → declr_in_range d ≡ true → (allowed : Allowed) (at : ℕ) (s : State) (r : Declarator Scope × State) → declr_of v.target roles d allowed at s ≡ Ok r →
+        Extends v s r.1 × (KnowsTypes v s r.1 → DerivationsStand v allowed.unbounded r.0.derivations) }
 {}

@@ -5,6 +5,6 @@ use Rattle.cc_sound_terms.proofs.law.expression_laws.Goals as goal
 
 pub returns : goal.returns
 returns c = record {
-  designated = λ v locals roles members e f at s r h. let o = tree_holds v locals members roles e f at s r h in (o.grows, o.holds);
-  values = λ v locals roles members e f s r h. let o = value_holds v locals members (here v.target roles e) (tree_holds v locals members roles e.node f) s r h in (o.grows, o.holds);
+  designated = λ v locals roles e f at s r h. let o = tree_holds v locals roles e f at s r h in (o.grows, o.holds);
+  values = λ v locals roles e f s r h. let o = value_holds v locals (here v.target roles e) (tree_holds v locals roles e.node f) s r h in (o.grows, o.holds);
 }

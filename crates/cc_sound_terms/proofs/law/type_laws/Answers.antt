@@ -5,7 +5,7 @@ use Rattle.cc_sound_terms.proofs.law.type_laws.Goals as goal
 
 pub returns : goal.returns
 returns c = record {
-  type_names = λ v roles members t f cast s r h. let o = type_name_is v [] members roles t f cast s r h in (o.grows, o.holds);
-  specifiers = λ v roles members setting specs f s r h. let o = specifiers_stand v members roles setting specs f s r h in (o.grows, o.holds);
-  declarators = λ v roles members d f allowed at s r h. let o = declr_holds v [] members roles d f allowed at s r h in (o.grows, o.holds);
+  type_names = λ v roles t f cast s r h. let o = type_name_is v [] roles t f cast s r h in (o.grows, o.holds);
+  specifiers = λ v roles setting specs f s r h. let o = specifiers_stand v roles setting specs f s r h in (o.grows, o.holds);
+  declarators = λ v roles d f allowed at s r h. let o = declr_holds v [] roles d f allowed at s r h in (o.grows, o.holds);
 }
