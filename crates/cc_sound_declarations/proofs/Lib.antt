@@ -1,0 +1,9 @@
+pub mod Given
+pub mod Types
+pub mod Initialised
+pub mod Names
+pub mod Left
+pub mod Lists
+pub mod Forms
+pub mod Storage
+pub mod Blocks
