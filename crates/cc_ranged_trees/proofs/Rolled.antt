@@ -38,7 +38,8 @@ use Rattle.cc_tree.specs.declared.unit.Line as line
 use Rattle.cc_tree.specs.declared.unit.Line.{Line, fold-roll-Line}
 use Rattle.cc_tree.specs.declared.unit.Line.TheOpen as one_line
 use Rattle.cc_tree.specs.declared.unit.Line.TheVariants as line_rolls
-use Rattle.cc_ranged_trees.specs.Ranges.{each_fits, part_fits, given_fits, given_in_range, decl_fits, first_fits, line_fits, line_in_range}
+use Rattle.cc_sound_declarations.specs.Ranges.{given_fits, given_in_range, decl_fits}
+use Rattle.cc_ranged_trees.specs.Ranges.{each_fits, part_fits, first_fits, line_fits, line_in_range}
 
 -- ---- lists
 

@@ -18,7 +18,8 @@ use Rattle.cc_tree.specs.declared.unit.Item.{Item}
 use Rattle.cc_tree.specs.declared.unit.Line as line
 use Rattle.cc_tree.specs.declared.unit.Line.{Line}
 use Rattle.cc_tree.specs.declared.unit.Unit.{Unit as UnitTree}
-use Rattle.cc_ranged_trees.specs.Ranges.{tokens_fit, each_fits, part_fits, specs_in_range, given_in_range, init_fits, decl_fits, first_fits, line_in_range, item_fits, unit_fits}
+use Rattle.cc_sound_declarations.specs.Ranges.{given_in_range, init_fits, decl_fits, value_fits}
+use Rattle.cc_ranged_trees.specs.Ranges.{tokens_fit, each_fits, part_fits, specs_in_range, first_fits, line_in_range, item_fits, unit_fits}
 use Rattle.cc_ranged_trees.proofs.Rolled as rolled
 use Rattle.cc_ranged_trees.proofs.Rolled.{all_more, all_one, each_more, each_one, each-mapped}
 use Rattle.cc_ranged_trees.proofs.Terms.{attrs_fit, comma_fits, tree_fit, specs_fit, declr_fit}
@@ -34,13 +35,13 @@ mutual
   givens_fit (FirstValue scope g ts us d) h = let x = given_fit d h in (each_one given_in_range g x.0, x.1)
   givens_fit (MoreValues scope gs g c ts us vs d k) h = let x = givens_fit d h in let y = given_fit k x.1 in (each_more given_in_range gs g x.0 y.0, y.1)
 
-value_fit : {scope : Scope} {v : Option (At Given)} {ts us : Tokens} → IsValue scope v ts us → tokens_fit ts ≡ true → (part_fits given_in_range v ≡ true) × (tokens_fit us ≡ true)
+value_fit : {scope : Scope} {v : Option (At Given)} {ts us : Tokens} → IsValue scope v ts us → tokens_fit ts ≡ true → (value_fits v ≡ true) × (tokens_fit us ≡ true)
 value_fit (NoValue scope ts) h = (refl, h)
 value_fit (AValue scope g p ts us d) h = given_fit d h
 
 init_fit : {types : Bool} {scope after : Scope} {i : At Init} {ts us : Tokens} → IsInit types scope after i ts us → tokens_fit ts ≡ true → (init_fits i ≡ true) × (tokens_fit us ≡ true)
 init_fit (AnInit types scope d x attrs v ts us vs ws a i b c) h =
-    let y = declr_fit a h in let z = value_fit c (attrs_fit b y.1) in (and_true (declr_in_range d.node) (part_fits given_in_range v) y.0 z.0, z.1)
+    let y = declr_fit a h in let z = value_fit c (attrs_fit b y.1) in (and_true (declr_in_range d.node) (value_fits v) y.0 z.0, z.1)
 
 inits_fit : {types : Bool} {scope after : Scope} {is : List (At Init)} {ts us : Tokens} → IsInits types scope after is ts us → tokens_fit ts ≡ true → (list_all init_fits is ≡ true) × (tokens_fit us ≡ true)
 inits_fit (FirstInit types scope after i ts us d) h = let x = init_fit d h in (all_one init_fits i x.0, x.1)

@@ -1,18 +1,15 @@
--- Declarations, statements and units whose numbers fit 64 bits, as those of each text do (C99 6.4.4.1, 5); and tokens.
+-- Statements and units whose numbers fit 64 bits, as those of each text do (C99 6.4.4.1, 5); and tokens.
 use Rattle.std.specs.Prelude.{◌^◌, Bool, true, ◌&&◌, nat_lt, List, map, Option, Some, None}
 use Rattle.std.specs.List.{list_all}
 use Rattle.cc_lex.specs.declared.token.Kind.{Kind}
 use Rattle.cc_lex.specs.declared.token.Kind.TheVariants as kind
 use Rattle.cc_lex.specs.declared.token.Token.{Token}
+use Rattle.cc_sound_declarations.specs.Ranges.{decl_fits}
 use Rattle.cc_sound_terms.specs.Ranges.{all_fit, fits, declr_in_range, spec_in_range}
 use Rattle.cc_tree.specs.declared.at.At.{At}
 use Rattle.cc_tree.specs.declared.tree.Spec.{Spec}
-use Rattle.cc_tree.specs.declared.unit.Decl.{Decl}
 use Rattle.cc_tree.specs.declared.unit.First.{First}
 use Rattle.cc_tree.specs.declared.unit.First.TheVariants as first
-use Rattle.cc_tree.specs.declared.unit.Given.{Given, fold-Given}
-use Rattle.cc_tree.specs.declared.unit.Given.TheOpen as one_given
-use Rattle.cc_tree.specs.declared.unit.Init.{Init}
 use Rattle.cc_tree.specs.declared.unit.Item.{Item}
 use Rattle.cc_tree.specs.declared.unit.Item.TheVariants as item
 use Rattle.cc_tree.specs.declared.unit.Line.{Line, fold-Line}
@@ -37,24 +34,10 @@ abbrev pub part_fits : {A : Type 0} → (A → Bool) → Option (At A) → Bool
 part_fits test None = true
 part_fits test (Some x) = test x.node
 
--- ---- declarations (6.7)
+-- ---- specifiers of a definition (6.9.1)
 
 abbrev pub specs_in_range : List (At Spec) → Bool
 specs_in_range specs = all_fit (map (λ (x : At Spec). record { at = x.at; node = spec_in_range x.node }) specs)
-
-abbrev pub given_fits : one_given.Given-F Bool → Bool
-given_fits (one_given.One e) = fits e.node
-given_fits (one_given.Many gs) = all_fit gs
-
--- an initialiser
-unfoldable pub given_in_range : Given → Bool
-given_in_range g = fold-Given Bool given_fits g
-
-abbrev pub init_fits : At Init → Bool
-init_fits i = declr_in_range i.node.declr.node && part_fits given_in_range i.node.value
-
-abbrev pub decl_fits : Decl → Bool
-decl_fits d = specs_in_range d.specs && list_all init_fits d.inits
 
 -- ---- statements (6.8)
 
