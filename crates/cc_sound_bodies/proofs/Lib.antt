@@ -1,0 +1,4 @@
+pub mod Scopes
+pub mod Constructs
+pub mod Induction
+pub mod Bodies
