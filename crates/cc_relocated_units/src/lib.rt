@@ -1,0 +1,6 @@
+//! Bodies and first values stay sound by other numbers of structures, objects, devices and functions.
+#![tactic(auto)]
+
+mod law;
+
+pub use law::relocated_laws;
