@@ -152,7 +152,7 @@ module _ (v : View) where
       structures = a.structures;
       names = a.names;
       behind = λ p k.
-          behind_left v empty s t a.outer a.structures (record { structures = k.structures; types = k.types; tags = k.tags }) (a.behind p (record { structures = k.structures; types = k.types; tags = k.tags }));
+          behind_left v empty s t a.outer (record { structures = k.structures; types = k.types; tags = k.tags }) (a.behind p (record { structures = k.structures; types = k.types; tags = k.tags }));
       front = a.front;
       locals = λ k h. let d = a.locals k (record { enough = h.enough; locals = h.locals }) in record { enough = d.enough; locals = d.locals };
       objects = λ p k h x d e. object_wider D a.front.0 E d a.front.1 (h x d (ap (designated x) (sym a.outer) ∙ e));

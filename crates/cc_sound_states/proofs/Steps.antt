@@ -15,7 +15,7 @@ use Rattle.cc_sound_terms.specs.Growing.{Kept, StructureKept}
 use Rattle.cc_sound_terms.specs.Knowing.{Stands, IsObject, ObjectsStand}
 use Rattle.cc_sound_terms.specs.Typing.{KnowsTypes}
 use Rattle.cc_sound_terms.proofs.Behind.{entry_itself, names_itself, names_more, entry_of_one, last_or_front, bind_adds}
-use Rattle.cc_sound_terms.proofs.Growth.{get_last, all_kept, bind_grows, designated_kept, structures_changed, changed_or_not, tag_through}
+use Rattle.cc_sound_terms.proofs.Growth.{get_last, all_kept, bind_grows, designated_kept, structures_changed, changed_or_not}
 use Rattle.cc_syntax.specs.Types.{Named}
 use Rattle.cc_sound_states.specs.Declaring.{AreDeclared, DeclaresGiven}
 use Rattle.cc_sound_states.proofs.Declaring.{append_nothing, lowered_more, lowered_length, object_wider}
@@ -152,7 +152,7 @@ module _ (v : View) (Given : Type 0) where
         names = names_itself s.names;
         behind = λ p k. record {
           types = k.types;
-          tags = λ x u e. tag_through s.structures (change_at i change s.structures) u kept (k.tags x u e);
+          tags = k.tags;
           names = λ j e h. inl (e, h);
           structures = λ j ms h. inl (restructured_members s.structures i change j ms h.0 f h.2 (changed_or_not s.structures i change j h.0 h.1));
         };

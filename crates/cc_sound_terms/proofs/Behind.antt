@@ -16,7 +16,7 @@ use Rattle.cc_sound_terms.specs.Growing.{Kept, StructuresKept, Grows, IsParamete
 use Rattle.cc_sound_terms.specs.Knowing.{Stands, KnowsAs, KnowsNames, TypesStand}
 use Rattle.cc_sound_terms.specs.Standing.{MembersKnown}
 use Rattle.cc_sound_terms.specs.Typing.{KnowsTypes}
-use Rattle.cc_sound_terms.proofs.Growth.{get_front, grows_itself, grows_through, as_parameters, bind_grows, bind_tag_grows, structure_grows, declared_grows, forgotten_grows, scope_left, designated_kept, tags_stand, knows_structures, tag_through, take_front}
+use Rattle.cc_sound_terms.proofs.Growth.{get_front, grows_itself, grows_through, as_parameters, bind_grows, bind_tag_grows, structure_grows, declared_grows, forgotten_grows, scope_left, designated_kept, tags_stand, knows_structures, take_front}
 
 -- ---- entries
 
@@ -99,10 +99,10 @@ module _ (v : View) where
   }
 
   -- a scope that was entered is left
-  pub behind_left : (scope : Scope) (s t : State) → outer_scopes t.scopes ≡ s.scopes → StructuresKept s.structures t.structures → KnowsTypes v s t → Behind v (entered scope s) t → Behind v s (left t)
-  behind_left scope s t e h k b = record {
+  pub behind_left : (scope : Scope) (s t : State) → outer_scopes t.scopes ≡ s.scopes → KnowsTypes v s t → Behind v (entered scope s) t → Behind v s (left t)
+  behind_left scope s t e k b = record {
     types = λ x u f. k.types x u (ap (designated x) (sym e) ∙ f);
-    tags = λ x u f. tag_through s.structures t.structures u h (k.tags x u (ap (tagged x) (sym e) ∙ f));
+    tags = λ x u f. k.tags x u (ap (tagged x) (sym e) ∙ f);
     names = b.names;
     structures = b.structures;
   }
@@ -166,7 +166,7 @@ module _ (v : View) where
     added = λ i d g. inl (d, g);
     behind = λ k. record {
       types = λ y u e. types_by s (bind x d s) d y u (f k) k.types (designated_kept (λ e. e ≡ d) s (bind x d s) y (bind_grows (λ e. e ≡ d) x d s refl)) e;
-      tags = tags_stand New s (bind x d s) (bind_grows New x d s h) k.tags;
+      tags = tags_stand v New s (bind x d s) (bind_grows New x d s h) k.structures k.tags;
       names = λ i e g. inl (e, g);
       structures = λ i ms g. inl g;
     };
@@ -178,7 +178,7 @@ module _ (v : View) where
     added = λ i d g. inl (d, g);
     behind = λ k. record {
       types = λ y u e. k.types y u (tag_names s x t y ∙ e);
-      tags = tags_stand New s (bind_tag x t s) (bind_tag_grows New x t s h) k.tags;
+      tags = tags_stand v New s (bind_tag x t s) (bind_tag_grows New x t s h) k.structures k.tags;
       names = λ i e g. inl (e, g);
       structures = λ i ms g. inl g;
     };
@@ -204,7 +204,7 @@ module _ (v : View) where
     added = λ i d g. inl (d, g);
     behind = λ w. record {
       types = w.types;
-      tags = tags_stand New s (with_structures (s.structures ++ k ∷ []) s) (structure_grows New k s) w.tags;
+      tags = tags_stand v New s (with_structures (s.structures ++ k ∷ []) s) (structure_grows New k s) w.structures w.tags;
       names = λ i e g. inl (e, g);
       structures = λ i ms g. member_of_one s k i ms h g.0 g.2 (last_or_front s.structures k i g.0 g.1);
     };
@@ -240,5 +240,5 @@ module _ (v : View) where
   scope_left_adds New s t g = record {
     grows = scope_left New v.target s t g.grows;
     added = g.added;
-    behind = λ k. behind_left empty s t g.grows.outer g.grows.structures (record { structures = k.structures; types = k.types; tags = k.tags }) (g.behind (record { structures = k.structures; types = k.types; tags = k.tags }));
+    behind = λ k. behind_left empty s t g.grows.outer (record { structures = k.structures; types = k.types; tags = k.tags }) (g.behind (record { structures = k.structures; types = k.types; tags = k.tags }));
   }

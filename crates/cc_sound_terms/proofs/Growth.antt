@@ -7,13 +7,14 @@ use Rattle.cc_scopes.specs.State.{State, Name, Scope, KnownStructure, empty, fin
 use Rattle.cc_scopes.specs.declared.designated.Designated.{Designated}
 use Rattle.cc_scopes.specs.declared.designated.Designated.TheVariants as means
 use Rattle.cc_scopes.specs.declared.designated.Tagged.{Tagged}
+use Rattle.cc_scopes.specs.declared.designated.Tagged.TheVariants as tag
 use Rattle.cc_scopes.specs.declared.unit.Declared.{Declared}
 use Rattle.cc_program.specs.declared.types.CType.{CType}
 use Rattle.cc_syntax.specs.declared.sizes.Layout.{Layout}
 use Rattle.cc_syntax.specs.Types.{Named}
 use Rattle.cc_operand_types.specs.Views.{View}
 use Rattle.cc_sound_terms.specs.Growing.{Kept, IsTag, StructureKept, StructuresKept, Grows, IsConstant, IsParameter}
-use Rattle.cc_sound_terms.specs.Knowing.{Stands, KnowsStructure, KnowsStructures, KnowsNames, TypesStand, IsObject, ObjectsStand, TagsStand}
+use Rattle.cc_sound_terms.specs.Knowing.{Stands, KnowsStructure, KnowsStructures, KnowsNames, TypesStand, IsObject, ObjectsStand, IsThere, TagsStand}
 
 -- ---- lists
 
@@ -243,14 +244,17 @@ some_is a b h = cc
 
 -- ---- what stood stands behind it
 
-tags_by : (s t : State) (x : Name) (u : Tagged) → StructuresKept s.structures t.structures → TagsStand s → Kept (IsTag t.structures) (tagged x s.scopes) (tagged x t.scopes) → tagged x t.scopes ≡ Some u → IsTag t.structures u
-tags_by s t x u k h (inl e) f = tag_through s.structures t.structures u k (h x u (sym e ∙ f))
-tags_by s t x u k h (inr n) f = subst (IsTag t.structures) (some_is n.0 u (sym n.1 ∙ f)) n.2
-
-pub tags_stand : (New : Designated → Type 0) (s t : State) → Grows New s t → TagsStand s → TagsStand t
-tags_stand New s t g h = λ x u f. tags_by s t x u g.structures h (tagged_kept New s t x g) f
-
 module _ (v : View) where
+  tag_there : (structures : List KnownStructure) (t : Tagged) → KnowsStructures v structures → IsTag structures t → (i : ℕ) → t ≡ tag.StructureTag i → IsThere v i
+  tag_there structures t w h i e = let k = h i e in let x = w i k.0 k.1 in (x.extent, x.there)
+
+  tags_by : (s t : State) (x : Name) (u : Tagged) → KnowsStructures v t.structures → TagsStand v s → Kept (IsTag t.structures) (tagged x s.scopes) (tagged x t.scopes) → tagged x t.scopes ≡ Some u → (i : ℕ) → u ≡ tag.StructureTag i → IsThere v i
+  tags_by s t x u w h (inl e) f i g = h x u (sym e ∙ f) i g
+  tags_by s t x u w h (inr n) f i g = tag_there t.structures u w (subst (IsTag t.structures) (some_is n.0 u (sym n.1 ∙ f)) n.2) i g
+
+  pub tags_stand : (New : Designated → Type 0) (s t : State) → Grows New s t → KnowsStructures v t.structures → TagsStand v s → TagsStand v t
+  tags_stand New s t g w h = λ x u f. tags_by s t x u w h (tagged_kept New s t x g) f
+
   types_by : (New : Designated → Type 0) → ((t : CType) → New (means.TypeNamed t) → ⊥) → (s t : State) (x : Name) (u : CType) → TypesStand v s → Kept New (designated x s.scopes) (designated x t.scopes) →
       designated x t.scopes ≡ Some (means.TypeNamed u) → Stands v u
   types_by New none s t x u h (inl e) f = h x u (sym e ∙ f)

@@ -22,7 +22,7 @@ use Rattle.cc_program.proofs.Each.{Each}
 use Rattle.cc_program.specs.declared.program.Roles.{Roles}
 use Rattle.cc_program.specs.declared.types.CType.{CType}
 use Rattle.cc_program.specs.declared.types.Shape.{Shape, Void, Int}
-use Rattle.cc_scopes.specs.State.{State, Name, Scope, KnownStructure, empty, or_else, designated, tagged, innermost, outer_scopes, entered, left, bind, bind_tag, only_named, with_structures, structures_of, layouts_of}
+use Rattle.cc_scopes.specs.State.{State, Name, Scope, KnownStructure, empty, find_name, or_else, designated, tagged, innermost, outer_scopes, entered, left, bind, bind_tag, only_named, with_structures, structures_of, layouts_of}
 use Rattle.cc_scopes.specs.Structures.{structure_type, enumeration_type, with_structure, new_structure, structure_named, opened_by, tagged_option, opened, is_enumeration, has_content, with_members, completed, closed, is_member_name, enumeration_constant, enumeration_tagged, enumeration_closed, in_list, enumeration_named}
 use Rattle.cc_scopes.specs.Verdicts.{Found, whole, and_then}
 use Rattle.cc_scopes.specs.declared.designated.Designated.{Designated}
@@ -72,16 +72,16 @@ use Rattle.cc_terms.specs.Members.{member_found, declared_members}
 use Rattle.cc_terms.specs.Specifiers.{specifier_found, specifiers_found, specified_found}
 use Rattle.cc_terms.specs.Structures.{structure_opened, members_found, structure_closed, structure_found, member_behind}
 use Rattle.cc_sound_terms.specs.Behind.{HasMembers, Behind, Adds, Extends}
-use Rattle.cc_sound_terms.specs.Growing.{Grows, StructureKept, IsConstant, IsParameter, IsTag}
-use Rattle.cc_sound_terms.specs.Knowing.{Stands, KnowsStructures}
-use Rattle.cc_sound_terms.specs.Standing.{IsDerived, IsNamedType, ParameterStands, IsBounded, DerivationsStand, SpecifierStands, BaseStands, MembersKnown}
+use Rattle.cc_sound_terms.specs.Growing.{Kept, Grows, StructureKept, IsConstant, IsParameter, IsTag}
+use Rattle.cc_sound_terms.specs.Knowing.{Stands, KnowsStructures, IsThere, TagsStand}
+use Rattle.cc_sound_terms.specs.Standing.{IsDerived, IsNamedType, ParameterStands, IsParameterOf, ScopeStands, AreParameters, IsBounded, DerivationsStand, SpecifierStands, BaseStands, MembersKnown}
 use Rattle.cc_sound_terms.specs.Typing.{KnowsTypes}
 use Rattle.cc_sound_terms.proofs.Founds.{answer, answer_is, then_found, whole_found, located_found, then_judged}
 use Rattle.cc_sound_terms.proofs.Behind.{names_itself, behind_through, known_first, known_second, adds_itself, adds_through, adds_parameters, bind_adds, bind_tag_adds, structure_adds, scope_left_adds}
-use Rattle.cc_sound_terms.proofs.Growth.{get_last, tagged-opens, grows_itself, grows_through, tags_stand, structures_changed, changed_or_not}
+use Rattle.cc_sound_terms.proofs.Growth.{get_front, get_last, bind_grows, tagged-opens, grows_itself, grows_through, tags_stand, structures_changed, changed_or_not}
 use Rattle.cc_sound_terms.proofs.TypeKinds.{sizes_known, object_stands, structure_stands, void_stands, int_stands, qualified_stands}
 use Rattle.cc_sound_terms.proofs.Known.{types_first, types_second}
-use Rattle.cc_sound_terms.proofs.Meant.{TypesHold, TreeGrows, DeclrHolds, ParamsHold, ParamHolds, SpecHolds, MembersHold, EnumrHolds, TypeNameHolds, value_grows}
+use Rattle.cc_sound_terms.proofs.Meant.{AreInScope, TypesHold, TreeGrows, DeclrHolds, ParamsHold, ParamHolds, SpecHolds, MembersHold, EnumrHolds, TypeNameHolds, value_grows}
 use Rattle.cc_sound_terms.proofs.NamedTypes.{derived_stands, parameter_stands, only_standing}
 use Rattle.cc_sound_terms.proofs.Outcomes.{Outcome, each_append, chained, in_turn_holds, staying, whole_holds, one_more_given, behind}
 
@@ -259,11 +259,7 @@ module _ (v : View) where
 
   -- ---- structures
 
-  -- a structure that there is
-  abbrev IsThere : ℕ → Type 0
-  IsThere i = (e : Option ℕ) × (v.extents i ≡ Some e)
-
-  there_in : (t : State) (i : ℕ) (k : KnownStructure) → KnowsStructures v t.structures → slice_get t.structures i ≡ Some k → IsThere i
+  there_in : (t : State) (i : ℕ) (k : KnownStructure) → KnowsStructures v t.structures → slice_get t.structures i ≡ Some k → IsThere v i
   there_in t i k w e = let x = w i k e in (x.extent, x.there)
 
   tag_is : (i j : ℕ) → tag.StructureTag i ≡ tag.StructureTag j → i ≡ j
@@ -299,7 +295,7 @@ module _ (v : View) where
             subst (Stands v) (sym a.0) (structure_stands v (new_structure (Some x) s).0 d.0 d.1);
       }
   named_by_tag at x s (Some (tag.StructureTag i)) r e h =
-      answer_holds CType (Stands v) (structure_type i) s r (λ k. let g = k.tags x (tag.StructureTag i) e i refl in let d = there_in s i g.0 k.structures g.1 in structure_stands v i d.0 d.1) h
+      answer_holds CType (Stands v) (structure_type i) s r (λ k. let d = k.tags x (tag.StructureTag i) e i refl in structure_stands v i d.0 d.1) h
   named_by_tag at x s (Some tag.EnumerationTag) r e h = absurd (cc)
   named_by_tag at x s (Some tag.UnfinishedEnumeration) r e h = absurd (cc)
 
@@ -307,27 +303,26 @@ module _ (v : View) where
   structure_tag_holds None at s r h = absurd (cc)
   structure_tag_holds (Some x) at s r h = as_type_holds (Stands v) (structure_named at x s (tagged x s.scopes)) s r (λ y f. named_by_tag at x s (tagged x s.scopes) y refl f) h
 
-  opened_holds : (x : Option Name) (s : State) (o : Option Tagged) → tagged_option x s ≡ o → Holds ℕ IsThere s (opened_by x s o)
+  opened_holds : (x : Option Name) (s : State) (o : Option Tagged) → tagged_option x s ≡ o → Holds ℕ (IsThere v) s (opened_by x s o)
   opened_holds x s None e = let n = new_is x s in record { grows = n.grows; holds = λ k. there_in (new_structure x s).1 (new_structure x s).0 n.kind k.structures n.at }
-  opened_holds x s (Some (tag.StructureTag i)) e = stays ℕ IsThere s (i, s) refl (λ k. tag_there x s i e k)
+  opened_holds x s (Some (tag.StructureTag i)) e = stays ℕ (IsThere v) s (i, s) refl (λ k. tag_there x s i e k)
     where
-      tag_there : (x : Option Name) (s : State) (i : ℕ) → tagged_option x s ≡ Some (tag.StructureTag i) → KnowsTypes v s s → IsThere i
+      tag_there : (x : Option Name) (s : State) (i : ℕ) → tagged_option x s ≡ Some (tag.StructureTag i) → KnowsTypes v s s → IsThere v i
       tag_there None s i e k = absurd (cc)
       tag_there (Some x) s i e k =
-          let g = k.tags x (tag.StructureTag i) (tagged-opens x s.scopes ∙ ap (λ (o : Option Tagged). or_else o (tagged x (outer_scopes s.scopes))) e) i refl in
-          there_in s i g.0 k.structures g.1
+          k.tags x (tag.StructureTag i) (tagged-opens x s.scopes ∙ ap (λ (o : Option Tagged). or_else o (tagged x (outer_scopes s.scopes))) e) i refl
   opened_holds x s (Some tag.EnumerationTag) e =
       record { grows = structure_adds v (IsConstant v.target) (only_named x) s refl; holds = λ k. there_in (with_structure x s).1 (length s.structures) (only_named x) k.structures (get_last s.structures (only_named x)) }
   opened_holds x s (Some tag.UnfinishedEnumeration) e =
       record { grows = structure_adds v (IsConstant v.target) (only_named x) s refl; holds = λ k. there_in (with_structure x s).1 (length s.structures) (only_named x) k.structures (get_last s.structures (only_named x)) }
 
-  structure_opened_holds : (x : Option Name) (front : List (At Attr)) (s : State) (r : (Bool × ℕ) × State) → structure_opened x front s ≡ Ok r → Holds (Bool × ℕ) (λ n. IsThere n.1) s r
+  structure_opened_holds : (x : Option Name) (front : List (At Attr)) (s : State) (r : (Bool × ℕ) × State) → structure_opened x front s ≡ Ok r → Holds (Bool × ℕ) (λ n. IsThere v n.1) s r
   structure_opened_holds x front s r h =
-      located_then (λ n. IsThere n.1) s (attributes (entity.Structure ∷ []) front) (λ marks s. Ok ((is_enumeration (tagged_option x s), (opened x s).0), (opened x s).1)) r
+      located_then (λ n. IsThere v n.1) s (attributes (entity.Structure ∷ []) front) (λ marks s. Ok ((is_enumeration (tagged_option x s), (opened x s).0), (opened x s).1)) r
       (λ marks f.
       let a = answer_is (is_enumeration (tagged_option x s), (opened x s).0) (opened x s).1 r f in
       let o = opened_holds x s (tagged_option x s) refl in
-      record { grows = subst (λ (t : State). Extends v s t) (sym a.1) o.grows; holds = λ k. subst (λ (n : Bool × ℕ). IsThere n.1) (sym a.0) (o.holds (subst (λ (t : State). KnowsTypes v s t) a.1 k)) }) h
+      record { grows = subst (λ (t : State). Extends v s t) (sym a.1) o.grows; holds = λ k. subst (λ (n : Bool × ℕ). IsThere v n.1) (sym a.0) (o.holds (subst (λ (t : State). KnowsTypes v s t) a.1 k)) }) h
 
   members_hold : (ds : List (At MembersMeaning)) → Each (λ d. MembersHold v d.node) ds → (s : State) (r : List Named × State) → members_found ds s ≡ Ok r → Holds (List Named) (MembersKnown v) s r
   members_hold ds hs s r h =
@@ -361,7 +356,7 @@ module _ (v : View) where
   completed_behind : (i : ℕ) (ms : List Named) (s : State) → has_content (slice_get s.structures i) ≡ false → KnowsTypes v s (completed v.target i ms s) → MembersKnown v ms → Behind v s (completed v.target i ms s)
   completed_behind i ms s h k m = record {
     types = k.types;
-    tags = tags_stand (IsConstant v.target) s (completed v.target i ms s) (completed_grows i ms s h) k.tags;
+    tags = tags_stand v (IsConstant v.target) s (completed v.target i ms s) (completed_grows i ms s h) k.structures k.tags;
     names = λ j d e. inl (d, e);
     structures = λ j ns e. members_of_one s ms ns j e.0 m e.2 (changed_or_not s.structures i (with_members v.target ms s) j e.0 e.1);
   }
@@ -392,7 +387,7 @@ module _ (v : View) where
         new = ap (λ (t : State). has_content (slice_get t.structures i)) (sym e.1) ∙ c.0;
       }
 
-  closed_holds : (i : ℕ) (s : State) (ms : List Named × State) (r : Specifier × State) → Holds (List Named) (MembersKnown v) s ms → IsClosed i ms.0 ms.1 r.0 r.1 → Holds Specifier (λ p. IsThere i → SpecifierStands v p) s r
+  closed_holds : (i : ℕ) (s : State) (ms : List Named × State) (r : Specifier × State) → Holds (List Named) (MembersKnown v) s ms → IsClosed i ms.0 ms.1 r.0 r.1 → Holds Specifier (λ p. IsThere v i → SpecifierStands v p) s r
   closed_holds i s ms r o c =
       let t = completed v.target i ms.0 ms.1 in
       let g = completed_grows i ms.0 ms.1 c.new in
@@ -408,14 +403,14 @@ module _ (v : View) where
       }
 
   members_closed : (ds : List (At MembersMeaning)) (last : List (At Attr)) → Each (λ d. MembersHold v d.node) ds → (at : ℕ) (clash : Bool) (i : ℕ) (s : State) (r : Specifier × State) →
-      and_then (members_found ds s) (λ ms s. structure_closed v.target at last clash i ms s) ≡ Ok r → Holds Specifier (λ p. IsThere i → SpecifierStands v p) s r
+      and_then (members_found ds s) (λ ms s. structure_closed v.target at last clash i ms s) ≡ Ok r → Holds Specifier (λ p. IsThere v i → SpecifierStands v p) s r
   members_closed ds last hs at clash i s r h =
       let a = then_found (members_found ds s) (λ ms s. structure_closed v.target at last clash i ms s) r h in
       closed_holds i s a.0 r (members_hold ds hs s a.0 a.1) (structure_closed_is at last clash i a.0.0 a.0.1 r a.2)
 
   pub structure_holds : (x : Option Name) (ds : List (At MembersMeaning)) (front last : List (At Attr)) → Each (λ d. MembersHold v d.node) ds → SpecHolds v (λ at s. structure_found v.target at x ds front last s)
   structure_holds x ds front last hs at s r h =
-      then_holds (λ n. IsThere n.1) (SpecifierStands v) (structure_opened x front s) (λ new s. and_then (members_found ds s) (λ ms s. structure_closed v.target at last new.0 new.1 ms s)) s r
+      then_holds (λ n. IsThere v n.1) (SpecifierStands v) (structure_opened x front s) (λ new s. and_then (members_found ds s) (λ ms s. structure_closed v.target at last new.0 new.1 ms s)) s r
       (λ n f. structure_opened_holds x front s n f)
       (λ n f. members_closed ds last hs at n.0.0 n.0.1 n.1 r f) h
 
@@ -572,9 +567,9 @@ module _ (v : View) where
       (λ d s. and_then (located s (suffix_found true d.derivations)) (λ done s. and_then (ps (allowed.unnamed || not (is_next_to_name d.derivations)) s) (λ ps s. Ok (with_derivation at (to.Function ps.0 ps.1) d, s)))) s r
       (λ x g. located_then (λ c. Declares allowed.unbounded x.0 → Declares allowed.unbounded c) x.1 (suffix_found true x.0.derivations)
       (λ done s. and_then (ps (allowed.unnamed || not (is_next_to_name x.0.derivations)) s) (λ ps s. Ok (with_derivation at (to.Function ps.0 ps.1) x.0, s))) r
-      (λ done k. then_holds (λ p. Each (ParameterStands v) p.0) (λ c. Declares allowed.unbounded x.0 → Declares allowed.unbounded c) (ps (allowed.unnamed || not (is_next_to_name x.0.derivations)) x.1)
+      (λ done k. then_holds (AreParameters v) (λ c. Declares allowed.unbounded x.0 → Declares allowed.unbounded c) (ps (allowed.unnamed || not (is_next_to_name x.0.derivations)) x.1)
       (λ ps s. Ok (with_derivation at (to.Function ps.0 ps.1) x.0, s)) x.1 r (λ p f. hp (allowed.unnamed || not (is_next_to_name x.0.derivations)) x.1 p f)
-      (λ p f. answer_holds (Declarator Scope) (λ c. Each (ParameterStands v) p.0.0 → Declares allowed.unbounded x.0 → Declares allowed.unbounded c) (with_derivation at (to.Function p.0.0 p.0.1) x.0) p.1 r
+      (λ p f. answer_holds (Declarator Scope) (λ c. AreParameters v p.0 → Declares allowed.unbounded x.0 → Declares allowed.unbounded c) (with_derivation at (to.Function p.0.0 p.0.1) x.0) p.1 r
       (λ w hs hx. more_stand allowed.unbounded x.0.derivations (record { at = at; node = to.Function p.0.0 p.0.1 }) hx hs) f) k) g) h
 
   -- ---- the type that a declarator derives
@@ -636,6 +631,9 @@ module _ (v : View) where
 
   -- ---- parameters
 
+  one_is : {A : Type 0} (a b : A) → Some a ≡ Some b → a ≡ b
+  one_is a b h = cc
+
   abbrev Binds : (A : Type 0) → (A → Type 0) → State → A × State → Type 0
   Binds A T s r = Outcome v (IsParameter v.target) (KnowsTypes v) A T s r
 
@@ -680,9 +678,14 @@ module _ (v : View) where
         (λ q k. bound_parameter roles unnamed (length before) p u.1 x.name q k) g in
         record { grows = o.grows; holds = λ k f derived hd hb hs. o.holds k (f (derived hd hb)) hs }) f) h
 
-    pub param_holds : (specs : List (At SpecMeaning)) (d : At DeclrMeaning) → Each (λ x. SpecHolds v x.node) specs → DeclrHolds v d.node →
-        ParamHolds v (λ unnamed before s. and_then (specified_found (setting stands.AsParameter entity.Parameter) specs s) (λ base s. declarator in_parameter d s (λ x s. parameter_declared v.target roles unnamed before base.ctype d.at x s)))
-    param_holds specs d hs hd unnamed before s r h =
+    -- a parameter, behind those before it
+    abbrev param_of : List (At SpecMeaning) → At DeclrMeaning → ParamMeaning
+    param_of specs d unnamed before s =
+        and_then (specified_found (setting stands.AsParameter entity.Parameter) specs s) (λ base s. declarator in_parameter d s (λ x s. parameter_declared v.target roles unnamed before base.ctype d.at x s))
+
+    param_binds : (specs : List (At SpecMeaning)) (d : At DeclrMeaning) → Each (λ x. SpecHolds v x.node) specs → DeclrHolds v d.node →
+        (unnamed : Bool) (before : List Parameter) (s : State) (r : List Parameter × State) → param_of specs d unnamed before s ≡ Ok r → Binds (List Parameter) (λ ps. Each (ParameterStands v) before → Each (ParameterStands v) ps) s r
+    param_binds specs d hs hd unnamed before s r h =
         then_binds (λ x. Stands v x.ctype) (λ ps. Each (ParameterStands v) before → Each (ParameterStands v) ps) (specified_found (setting stands.AsParameter entity.Parameter) specs s)
         (λ base s. declarator in_parameter d s (λ x s. parameter_declared v.target roles unnamed before base.ctype d.at x s)) s r
         (λ x f. as_binds Specified (λ x. Stands v x.ctype) s x (specified_holds (setting stands.AsParameter entity.Parameter) specs hs s x f))
@@ -690,8 +693,73 @@ module _ (v : View) where
         (λ y g. as_binds (Declarator Scope) (Declares true) x.1 y (hd in_parameter d.at x.1 y g))
         (λ y g. parameter_declared_binds unnamed before x.0.ctype d.at y.0 y.1 r g) f) h
 
-  no_parameters_hold : (s : State) (r : (List Parameter × Scope) × State) → answer ([], empty) s ≡ Ok r → Holds (List Parameter × Scope) (λ p. Each (ParameterStands v) p.0) s r
-  no_parameters_hold s r h = answer_holds (List Parameter × Scope) (λ p. Each (ParameterStands v) p.0) ([], empty) s r (λ k. tt) h
+    constant_parameter : (ps : List Parameter) (d : Designated) → IsConstant v.target d → IsParameterOf v ps d
+    constant_parameter ps (means.Enumerator n) h = h
+    constant_parameter ps (means.Linked i) h = elim h [ ]
+    constant_parameter ps (means.Automatic n t) h = elim h [ ]
+    constant_parameter ps (means.TypeNamed t) h = elim h [ ]
+
+    kept_in_scope : (ps : List Parameter) (a b : Option Designated) (d : Designated) → ((e : Designated) → a ≡ Some e → IsParameterOf v ps e) → Kept (IsConstant v.target) a b → b ≡ Some d → IsParameterOf v ps d
+    kept_in_scope ps a b d f (inl e) h = f d (sym e ∙ h)
+    kept_in_scope ps a b d f (inr n) h = constant_parameter ps d (subst (IsConstant v.target) (one_is n.0 d (sym n.1 ∙ h)) n.2)
+
+    grown_scope : (ps : List Parameter) (s t : State) → Grows (IsConstant v.target) s t → AreInScope v ps s → AreInScope v ps t
+    grown_scope ps s t g h = λ x d e. kept_in_scope ps (find_name x (innermost s.scopes).names) (find_name x (innermost t.scopes).names) d (h x) (g.here x) e
+
+    one_more_parameter : (ps : List Parameter) (p : Parameter) (d : Designated) → IsParameterOf v ps d → IsParameterOf v (ps ++ p ∷ []) d
+    one_more_parameter ps p (means.Automatic i t) h = (h.0, get_front ps (p ∷ []) i h.0 h.1, h.2)
+    one_more_parameter ps p (means.Enumerator n) h = h
+    one_more_parameter ps p (means.Linked i) h = elim h [ ]
+    one_more_parameter ps p (means.TypeNamed t) h = elim h [ ]
+
+    bound_in_scope : (ps : List Parameter) (p : Parameter) (s : State) (x y : Name) (d : Designated) → AreInScope v ps s → Kept (λ e. e ≡ means.Automatic (length ps) p.ctype) (find_name y (innermost s.scopes).names) (find_name y (innermost (bind x (means.Automatic (length ps) p.ctype) s).scopes).names) →
+        find_name y (innermost (bind x (means.Automatic (length ps) p.ctype) s).scopes).names ≡ Some d → IsParameterOf v (ps ++ p ∷ []) d
+    bound_in_scope ps p s x y d h (inl e) f = one_more_parameter ps p d (h y d (sym e ∙ f))
+    bound_in_scope ps p s x y d h (inr n) f = subst (IsParameterOf v (ps ++ p ∷ [])) (sym n.2 ∙ one_is n.0 d (sym n.1 ∙ f)) (p, get_last ps p, refl)
+
+    -- a parameter that has a name is in scope by its position
+    bound_scope : (unnamed : Bool) (ps : List Parameter) (p : Parameter) (s : State) (x : Option Name) (r : Parameter × State) → parameter_bound roles unnamed (length ps) p s x ≡ Ok r → AreInScope v ps s → AreInScope v (ps ++ r.0 ∷ []) r.1
+    bound_scope unnamed ps p s None r h k =
+        let a = whole_found p.at s (must unnamed rule.DeclaredTwice (Ok p)) r h in
+        let same = same_parameter p r.0 (must_ok unnamed rule.DeclaredTwice (Ok p) r.0 a.0).1 in
+        subst (λ (q : Parameter). AreInScope v (ps ++ q ∷ []) r.1) same
+        (subst (AreInScope v (ps ++ p ∷ [])) (sym a.1) (λ y d e. one_more_parameter ps p d (k y d e)))
+    bound_scope unnamed ps p s (Some x) r h k =
+        let a = then_found (whole p.at s (new_name roles x s)) (λ x s. Ok (p, bind x (means.Automatic (length ps) p.ctype) s)) r h in
+        let b = whole_found p.at s (new_name roles x s) a.0 a.1 in
+        let e = answer_is p (bind a.0.0 (means.Automatic (length ps) p.ctype) a.0.1) r a.2 in
+        let object : Designated = means.Automatic (length ps) p.ctype in
+        subst (λ (q : Parameter). AreInScope v (ps ++ q ∷ []) r.1) (sym e.0)
+        (subst (AreInScope v (ps ++ p ∷ [])) (sym (e.1 ∙ ap (bind a.0.0 object) b.1))
+        (λ y d f. bound_in_scope ps p s a.0.0 y d k ((bind_grows (λ c. c ≡ object) a.0.0 object s refl).here y) f))
+
+    param_scope : (specs : List (At SpecMeaning)) (d : At DeclrMeaning) → Each (λ x. SpecHolds v x.node) specs → DeclrHolds v d.node → (unnamed : Bool) (before : List Parameter) (s : State) (r : List Parameter × State) → param_of specs d unnamed before s ≡ Ok r →
+        AreInScope v before s → AreInScope v r.0 r.1
+    param_scope specs d hs hd unnamed before s r h k =
+        let set = setting stands.AsParameter entity.Parameter in
+        let a = then_found (specified_found set specs s) (λ base s. declarator in_parameter d s (λ x s. parameter_declared v.target roles unnamed before base.ctype d.at x s)) r h in
+        let b = then_found (d.node in_parameter d.at a.0.1) (λ x s. parameter_declared v.target roles unnamed before a.0.0.ctype d.at x s) r a.2 in
+        let c = then_found (derived_type v.target in_parameter a.0.0.ctype b.0.0 b.0.1) (λ t s. and_then (whole d.at s (parameter_type t)) (λ t s. one_more before (parameter_bound roles unnamed (length before) (parameter d.at b.0.0.name t) s b.0.0.name))) r b.2 in
+        let e = located_found b.0.1 (type_found v.target (structures_of b.0.1) (layouts_of b.0.1) in_parameter a.0.0.ctype b.0.0.derivations) c.0 c.1 in
+        let f = then_found (whole d.at c.0.1 (parameter_type c.0.0)) (λ t s. one_more before (parameter_bound roles unnamed (length before) (parameter d.at b.0.0.name t) s b.0.0.name)) r c.2 in
+        let g = whole_found d.at c.0.1 (parameter_type c.0.0) f.0 f.1 in
+        let q = then_found (parameter_bound roles unnamed (length before) (parameter d.at b.0.0.name f.0.0) f.0.1 b.0.0.name) (λ x s. Ok (before ++ x ∷ [], s)) r f.2 in
+        let l = answer_is (before ++ q.0.0 ∷ []) q.0.1 r q.2 in
+        let here = grown_scope before a.0.1 b.0.1 (hd in_parameter d.at a.0.1 b.0 b.1).grows.grows (grown_scope before s a.0.1 (specified_holds set specs hs s a.0 a.1).grows.grows k) in
+        let there = bound_scope unnamed before (parameter d.at b.0.0.name f.0.0) f.0.1 b.0.0.name q.0 q.1 (subst (AreInScope v before) (sym (g.1 ∙ e.1)) here) in
+        subst (λ (ps : List Parameter). AreInScope v ps r.1) (sym l.0) (subst (AreInScope v (before ++ q.0.0 ∷ [])) (sym l.1) there)
+
+    pub param_holds : (specs : List (At SpecMeaning)) (d : At DeclrMeaning) → Each (λ x. SpecHolds v x.node) specs → DeclrHolds v d.node → ParamHolds v (param_of specs d)
+    param_holds specs d hs hd unnamed before s r h = record { outcome = param_binds specs d hs hd unnamed before s r h; scope = param_scope specs d hs hd unnamed before s r h }
+
+  nothing_found : (x : Name) (d : Designated) → find_name x empty.names ≡ Some d → ⊥
+  nothing_found x d f = absurd (cc)
+
+  no_scope : ScopeStands v [] empty
+  no_scope = record { names = λ x d h. absurd (cc); tags = λ x t h i e. absurd (cc) }
+
+  no_parameters_hold : (s : State) (r : (List Parameter × Scope) × State) → answer ([], empty) s ≡ Ok r → Holds (List Parameter × Scope) (AreParameters v) s r
+  no_parameters_hold s r h = answer_holds (List Parameter × Scope) (AreParameters v) ([], empty) s r (λ k. (tt, no_scope)) h
 
   pub empty_holds : ParamsHold v (λ unnamed s. Ok (([], empty), s))
   empty_holds unnamed s r h = no_parameters_hold s r h
@@ -699,13 +767,29 @@ module _ (v : View) where
   entered_known : (s t : State) → KnowsTypes v s (left t) → KnowsTypes v (entered empty s) t
   entered_known s t k = record { structures = k.structures; types = k.types; tags = k.tags }
 
+  params_scope : (unnamed : Bool) (ps : List (At ParamMeaning)) → Each (λ p. ParamHolds v p.node) ps → (before : List Parameter) (s : State) (r : List Parameter × State) → in_turn (λ (p : At ParamMeaning) before s. p.node unnamed before s) ps before s ≡ Ok r →
+      AreInScope v before s → AreInScope v r.0 r.1
+  params_scope unnamed [] hs before s r h k =
+      let e = answer_is before s r h in
+      subst (λ (ps : List Parameter). AreInScope v ps r.1) (sym e.0) (subst (AreInScope v before) (sym e.1) k)
+  params_scope unnamed (p ∷ ps) hs before s r h k =
+      let a = then_found (p.node unnamed before s) (in_turn (λ (p : At ParamMeaning) before s. p.node unnamed before s) ps) r h in
+      params_scope unnamed ps hs.1 a.0.0 a.0.1 r a.2 ((hs.0 unnamed before s a.0 a.1).scope k)
+
+  -- tags of the innermost scope are in scope
+  inner_tags : (t : State) → TagsStand v t → (x : Name) (u : Tagged) → find_name x (innermost t.scopes).tags ≡ Some u → (i : ℕ) → u ≡ tag.StructureTag i → IsThere v i
+  inner_tags t h x u e = h x u (tagged-opens x t.scopes ∙ ap (λ (o : Option Tagged). or_else o (tagged x (outer_scopes t.scopes))) e)
+
   pub many_hold : (ps : List (At ParamMeaning)) → Each (λ p. ParamHolds v p.node) ps → ParamsHold v (λ unnamed s. with_scope (parameters_found unnamed ps (entered empty s)))
   many_hold ps hs unnamed s r h =
       let a = then_found (parameters_found unnamed ps (entered empty s)) (λ ps s. Ok ((ps, innermost s.scopes), left s)) r h in
       let e = answer_is (a.0.0, innermost a.0.1.scopes) (left a.0.1) r a.2 in
       let o = in_turn_holds v (IsParameter v.target) (KnowsTypes v) (types_first v (IsParameter v.target)) (types_second v (IsParameter v.target)) (λ (p : At ParamMeaning) before s. p.node unnamed before s) (λ p. ParamHolds v p.node) (Each (ParameterStands v))
-      (λ p hp. hp unnamed) ps hs [] (entered empty s) a.0 a.1 in
+      (λ p hp before s r h. (hp unnamed before s r h).outcome) ps hs [] (entered empty s) a.0 a.1 in
+      let scope = params_scope unnamed ps hs [] (entered empty s) a.0 a.1 (λ x d f. absurd (nothing_found x d f)) in
       record {
         grows = subst (λ (t : State). Extends v s t) (sym e.1) (scope_left_adds v (IsParameter v.target) s a.0.1 o.grows);
-        holds = λ k. subst (λ (p : List Parameter × Scope). Each (ParameterStands v) p.0) (sym e.0) (o.holds (entered_known s a.0.1 (subst (λ (t : State). KnowsTypes v s t) e.1 k)) tt);
+        holds = λ k.
+            let inside = entered_known s a.0.1 (subst (λ (t : State). KnowsTypes v s t) e.1 k) in
+            subst (AreParameters v) (sym e.0) (o.holds inside tt, record { names = scope; tags = inner_tags a.0.1 (o.grows.behind inside).tags });
       }

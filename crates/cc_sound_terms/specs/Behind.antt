@@ -60,7 +60,7 @@ module _ (v : View) where
 
   pub record Behind (s t : State) : Type 0 where
     pub types : TypesStand v t
-    pub tags : TagsStand t
+    pub tags : TagsStand v t
     pub names : (i : ℕ) (d : Declared) → slice_get t.names i ≡ Some d → HasEntry s.names i ⊎ NameStands d
     pub structures : (i : ℕ) (ms : List Named) → HasMembers t.structures i ms → HasMembers s.structures i ms ⊎ MembersKnown v ms
 

@@ -13,13 +13,13 @@ use Rattle.cc_scopes.specs.State.{State, Name, KnownStructure, designated, tagge
 use Rattle.cc_scopes.specs.declared.designated.Designated.{Designated}
 use Rattle.cc_scopes.specs.declared.designated.Designated.TheVariants as means
 use Rattle.cc_scopes.specs.declared.designated.Tagged.{Tagged}
+use Rattle.cc_scopes.specs.declared.designated.Tagged.TheVariants as tag
 use Rattle.cc_scopes.specs.declared.unit.Declared.{Declared}
 use Rattle.cc_syntax.specs.Kinds.{Kind}
 use Rattle.cc_syntax.specs.Types.{Named}
 use Rattle.cc_syntax.specs.Values.{ToFunction, DevicePlace, object_place}
 use Rattle.cc_unit.specs.declared.unit.UnitKind.{UnitKind}
 use Rattle.cc_unit.specs.declared.unit.UnitKind.TheVariants as kind
-use Rattle.cc_sound_terms.specs.Growing.{IsTag}
 
 -- a type that may stand
 abbrev pub Stands : View → CType → Type 0
@@ -64,6 +64,9 @@ module _ (v : View) where
   abbrev pub ObjectsStand : List Named → State → Type 0
   ObjectsStand locals s = (x : Name) (d : Designated) → designated x s.scopes ≡ Some d → IsObject locals d
 
--- each tag of a structure in scope names one that there is
-abbrev pub TagsStand : State → Type 0
-TagsStand s = (x : Name) (t : Tagged) → tagged x s.scopes ≡ Some t → IsTag s.structures t
+  -- each tag of a structure in scope names one that there is
+  abbrev pub IsThere : ℕ → Type 0
+  IsThere i = (extent : Option ℕ) × (v.extents i ≡ Some extent)
+
+  abbrev pub TagsStand : State → Type 0
+  TagsStand s = (x : Name) (t : Tagged) → tagged x s.scopes ≡ Some t → (i : ℕ) → t ≡ tag.StructureTag i → IsThere i

@@ -10,7 +10,7 @@ use Rattle.cc_sound_terms.specs.Knowing.{KnowsStructures, KnowsNames, TypesStand
 pub record KnowsTypes (v : View) (s t : State) : Type 0 where
   pub structures : KnowsStructures v t.structures
   pub types : TypesStand v s
-  pub tags : TagsStand s
+  pub tags : TagsStand v s
 
 -- what expressions stand on, in a function with these locals
 pub record Knows (v : View) (locals : List Named) (s t : State) : Type 0 where
