@@ -91,23 +91,23 @@ module _ (v : View) (roles : Roles) (defined : List Name) (k : ℕ) where
   some_none x h = cc
 
   category_leaves : (at : ℕ) (c : Category) (x : Name) (t : CType) (marks : List (At (List Attribute))) (value : Option (At Given)) (D : List Named) (s : State) (r : List Expr × State) → AreDeclared k D s → IsAllowed c t value → value_fits value ≡ true →
-      (IsOfObject c → is_complete_or_unbounded v.target s t ≡ true) → declared_left v.target roles defined at c x t marks value s ≡ Ok r → Leaves v (Derived value t) D s r.1
-  category_leaves at declares.Typedef x t marks None D s r d a f o h = typedef_leaves v roles x t marks D s r h
+      (IsOfObject c → is_complete_or_unbounded v.target s t ≡ true) → declared_left v.target roles defined at c x t marks value s ≡ Ok r → Leaves v defined (Derived value t) D s r.1
+  category_leaves at declares.Typedef x t marks None D s r d a f o h = typedef_leaves v roles defined x t marks D s r h
   category_leaves at declares.Typedef x t marks (Some g) D s r d a f o h = absurd (some_none g (a.typedefs refl))
   category_leaves at (declares.Function asked) x t marks value D s r d a f o h =
-      function_leaves v roles (Derived value t) D asked x t marks value s r (λ p. sig_derived (is_some value) t (a.functions asked refl) p) h
+      function_leaves v roles defined (Derived value t) D asked x t marks value s r (a.functions asked refl) (λ p. sig_derived (is_some value) t (a.functions asked refl) p) h
   category_leaves at (declares.Linked asked) x t marks None D s r d a f o h =
-      linked_by_none v roles (Derived None t) D defined at asked x t (composite x t s) s (linked_name x s) r (λ p w. complete_stands v t s w (plainly_derived v t p) (o tt)) h
+      linked_by_none v roles defined (Derived None t) D at asked x t (composite x t s) s (linked_name x s) r (λ p w. complete_stands v t s w (plainly_derived v t p) (o tt)) h
   category_leaves at (declares.Linked asked) x t marks (Some g) D s r d a f o h = absurd (some_none g (a.linked asked refl))
-  category_leaves at declares.StaticLocal x t marks None D s r d a f o h = static_none v roles D at x t s r (o tt) h
-  category_leaves at declares.StaticLocal x t marks (Some g) D s r d a f o h = static_some v roles D at x t g s r (initialised_fits g f) h
-  category_leaves at declares.Automatic x t marks None D s r d a f o h = automatic_none v roles D k at x t s r d (o tt) h
-  category_leaves at declares.Automatic x t marks (Some g) D s r d a f o h = automatic_some v roles D k at x t g s r d (initialised_fits g f) h
+  category_leaves at declares.StaticLocal x t marks None D s r d a f o h = static_none v roles defined D at x t s r (o tt) h
+  category_leaves at declares.StaticLocal x t marks (Some g) D s r d a f o h = static_some v roles defined D at x t g s r (initialised_fits g f) h
+  category_leaves at declares.Automatic x t marks None D s r d a f o h = automatic_none v roles defined D k at x t s r d (o tt) h
+  category_leaves at declares.Automatic x t marks (Some g) D s r d a f o h = automatic_some v roles defined D k at x t g s r d (initialised_fits g f) h
 
   -- ---- a declarator
 
   declared_leaves : (at : ℕ) (c : Category) (x : Name) (t : CType) (marks : List (At (List Attribute))) (value : Option (At Given)) (D : List Named) (s : State) (r : List Expr × State) → AreDeclared k D s → IsAllowed c t value → value_fits value ≡ true →
-      declared_with v.target roles defined at c x t marks value s ≡ Ok r → Leaves v (Derived value t) D s r.1
+      declared_with v.target roles defined at c x t marks value s ≡ Ok r → Leaves v defined (Derived value t) D s r.1
   declared_leaves at c x t marks value D s r d a f h =
       let b = then_found (whole at s (name_judged v.target roles c x t (entry_by marks) s)) (λ t s. declared_left v.target roles defined at c x t marks value s) r h in
       let e = whole_found at s (name_judged v.target roles c x t (entry_by marks) s) b.0 b.1 in
@@ -116,8 +116,8 @@ module _ (v : View) (roles : Roles) (defined : List Name) (k : ℕ) where
       (ap (λ (u : CType). declared_left v.target roles defined at c x u marks value s) j.same ∙ ap (λ (z : State). declared_left v.target roles defined at c x b.0.0 marks value z) (sym e.1) ∙ b.2)
 
   named_leaves : (at : ℕ) (c : Category) (t : CType) (before : List (At (List Attribute))) (i : Init) (x : Option Name) (D : List Named) (s : State) (r : List Expr × State) → AreDeclared k D s → IsAllowed c t i.value → value_fits i.value ≡ true →
-      named_found v.target roles defined at c t before i x s ≡ Ok r → Leaves v (Derived i.value t) D s r.1
-  named_leaves at c t before i None D s r d a f h = left_as v (Derived i.value t) D s s r.1 (answer_is [] s r h).1 (nothing_left v (Derived i.value t) D s)
+      named_found v.target roles defined at c t before i x s ≡ Ok r → Leaves v defined (Derived i.value t) D s r.1
+  named_leaves at c t before i None D s r d a f h = left_as v defined (Derived i.value t) D s s r.1 (answer_is [] s r h).1 (nothing_left v defined (Derived i.value t) D s)
   named_leaves at c t before i (Some x) D s r d a f h =
       let b = then_found (marked (entity_of c) before i s) (λ marks s. declared_with v.target roles defined at c x t marks i.value s) r h in
       let m = then_found (located s (attributes (entity_of c ∷ []) i.attrs)) (λ marks s. Ok (before ++ marks, s)) b.0 b.1 in
@@ -149,7 +149,7 @@ module _ (v : View) (roles : Roles) (defined : List Name) (k : ℕ) where
       no_for (Some x) asked h = absurd (cc)
 
   init_leaves : (place : Where) (base : Specified) (i : At Init) (D : List Named) (s : State) (r : List Expr × State) → AreDeclared k D s → IsInside place → IsPlain place base.specs.storage i → init_fits i ≡ true →
-      init_found v.target roles defined place base i s ≡ Ok r → Leaves v (Stands v base.ctype) D s r.1
+      init_found v.target roles defined place base i s ≡ Ok r → Leaves v defined (Stands v base.ctype) D s r.1
   init_leaves place base i D s r d inside plain f h =
       let allowed = init_allowed i.node in
       let fit = both_true (declr_in_range i.node.declr.node) (value_fits i.node.value) f in
@@ -163,10 +163,10 @@ module _ (v : View) (roles : Roles) (defined : List Name) (k : ℕ) where
       let l = located_found a.0.1 (type_found v.target (structures_of a.0.1) (layouts_of a.0.1) allowed base.ctype a.0.0.derivations) b.0 b.1 in
       let Q = P × DerivationsStand v allowed.unbounded a.0.0.derivations in
       let R = Q × IsDerived v false (is_some i.node.value) b.0.0 in
-      let here = same_declared v k D a.0.1 b.0.1 q.grows (same_declared v k D s a.0.1 o.grows d) in
-      behind_types v P (Declarator Scope) (λ y. DerivationsStand v allowed.unbounded y.derivations) D s a.0 r.1 (record { grows = o.grows; holds = λ w p. o.holds w })
-      (behind_types v Q CType (λ t. IsDerived v false (is_some i.node.value) t) D a.0.1 b.0 r.1 (record { grows = q.grows; holds = λ w p. q.holds w p.1 p.0 })
-      (less v R (Derived i.node.value b.0.0) D b.0.1 r.1 (λ p w. p.1)
+      let here = same_declared v defined k D a.0.1 b.0.1 q.grows (same_declared v defined k D s a.0.1 o.grows d) in
+      behind_types v defined P (Declarator Scope) (λ y. DerivationsStand v allowed.unbounded y.derivations) D s a.0 r.1 (record { grows = o.grows; holds = λ w p. o.holds w })
+      (behind_types v defined Q CType (λ t. IsDerived v false (is_some i.node.value) t) D a.0.1 b.0 r.1 (record { grows = q.grows; holds = λ w p. q.holds w p.1 p.0 })
+      (less v defined R (Derived i.node.value b.0.0) D b.0.1 r.1 (λ p w. p.1)
       (named_leaves i.at c b.0.0 base.specs.marks i.node a.0.0.name D b.0.1 r here
       (record {
         typedefs = λ e. plain.typedefs (declares_function (is_function_type base.ctype) i.node.declr.node) e;
@@ -176,52 +176,52 @@ module _ (v : View) (roles : Roles) (defined : List Name) (k : ℕ) where
       }) fit.1 b.2)))
 
   inits_leave : (place : Where) (base : Specified) (is : List (At Init)) (before : List Expr) (D : List Named) (s : State) (r : List Expr × State) → AreDeclared k D s → IsInside place → Each (IsPlain place base.specs.storage) is → list_all init_fits is ≡ true →
-      in_turn (init_next v.target roles defined place base) is before s ≡ Ok r → Leaves v (Stands v base.ctype) D s r.1
-  inits_leave place base [] before D s r d inside plain f h = left_as v (Stands v base.ctype) D s s r.1 (answer_is before s r h).1 (nothing_left v (Stands v base.ctype) D s)
+      in_turn (init_next v.target roles defined place base) is before s ≡ Ok r → Leaves v defined (Stands v base.ctype) D s r.1
+  inits_leave place base [] before D s r d inside plain f h = left_as v defined (Stands v base.ctype) D s s r.1 (answer_is before s r h).1 (nothing_left v defined (Stands v base.ctype) D s)
   inits_leave place base (i ∷ is) before D s r d inside plain f h =
       let fit = both_true (init_fits i) (list_all init_fits is) f in
       let a = then_found (init_next v.target roles defined place base i before s) (in_turn (init_next v.target roles defined place base) is) r h in
       let b = then_found (init_found v.target roles defined place base i s) (λ es s. Ok (before ++ es, s)) a.0 a.1 in
       let c = answer_is (before ++ b.0.0) b.0.1 a.0 b.2 in
-      let first = left_as v (Stands v base.ctype) D s b.0.1 a.0.1 c.1 (init_leaves place base i D s b.0 d inside plain.0 fit.0 b.1) in
-      then_left v (Stands v base.ctype) D first.0 s a.0.1 r.1 first.1
+      let first = left_as v defined (Stands v base.ctype) D s b.0.1 a.0.1 c.1 (init_leaves place base i D s b.0 d inside plain.0 fit.0 b.1) in
+      then_left v defined (Stands v base.ctype) D first.0 s a.0.1 r.1 first.1
       (inits_leave place base is a.0.0 first.0 a.0.1 r (first.1.locals k d) inside plain.1 fit.1 a.2)
 
   -- ---- a declaration
 
-  tag_goes : (x : Name) (D : List Named) (s : State) (o : Option Tagged) → Declares v s D (tag_by x s o) D
-  tag_goes x D s None = of_extends v (Unit {0}) s (new_structure (Some x) s).1 D (new_is v (Some x) s).grows
-  tag_goes x D s (Some t) = declares_itself v (Unit {0}) s D
+  tag_goes : (x : Name) (D : List Named) (s : State) (o : Option Tagged) → Declares v defined s D (tag_by x s o) D
+  tag_goes x D s None = of_extends v defined (Unit {0}) s (new_structure (Some x) s).1 D (new_is v (Some x) s).grows
+  tag_goes x D s (Some t) = declares_itself v defined (Unit {0}) s D
 
-  declared_goes : (x : Option Name) (D : List Named) (s : State) → Declares v s D (tag_declared x s) D
-  declared_goes None D s = declares_itself v (Unit {0}) s D
+  declared_goes : (x : Option Name) (D : List Named) (s : State) → Declares v defined s D (tag_declared x s) D
+  declared_goes None D s = declares_itself v defined (Unit {0}) s D
   declared_goes (Some x) D s = tag_goes x D s (states.tagged_here x s)
 
-  sole_goes : (x : Option Spec) (D : List Named) (s : State) → Declares v s D (sole_declared x s) D
-  sole_goes None D s = declares_itself v (Unit {0}) s D
+  sole_goes : (x : Option Spec) (D : List Named) (s : State) → Declares v defined s D (sole_declared x s) D
+  sole_goes None D s = declares_itself v defined (Unit {0}) s D
   sole_goes (Some x) D s = declared_goes (sole_tag (out-Spec x)) D s
 
-  front_if : (b : Bool) (d : Decl) (D : List Named) (s : State) → Declares v s D (if b then sole_declared (sole_spec d.specs) s else s) D
+  front_if : (b : Bool) (d : Decl) (D : List Named) (s : State) → Declares v defined s D (if b then sole_declared (sole_spec d.specs) s else s) D
   front_if true d D s = sole_goes (sole_spec d.specs) D s
-  front_if false d D s = declares_itself v (Unit {0}) s D
+  front_if false d D s = declares_itself v defined (Unit {0}) s D
 
-  alias_at : (P : Type 0) (x : Option Name) (D : List Named) (s : State) (y : shape.Shape-F Shape CType Sig) → DeclaresGiven v P s D (aliased_at x s y) D
-  alias_at P x D s (shape.Struct i) = restructured v P i (with_alias x) s D (λ k. refl) (λ k. refl)
-  alias_at P x D s shape.Void = declares_itself v P s D
-  alias_at P x D s (shape.Int t) = declares_itself v P s D
-  alias_at P x D s (shape.Pointer to) = declares_itself v P s D
-  alias_at P x D s (shape.Array of n) = declares_itself v P s D
-  alias_at P x D s (shape.Func sig) = declares_itself v P s D
+  alias_at : (P : Type 0) (x : Option Name) (D : List Named) (s : State) (y : shape.Shape-F Shape CType Sig) → DeclaresGiven v defined P s D (aliased_at x s y) D
+  alias_at P x D s (shape.Struct i) = restructured v defined P i (with_alias x) s D (λ k. refl) (λ k. refl)
+  alias_at P x D s shape.Void = declares_itself v defined P s D
+  alias_at P x D s (shape.Int t) = declares_itself v defined P s D
+  alias_at P x D s (shape.Pointer to) = declares_itself v defined P s D
+  alias_at P x D s (shape.Array of n) = declares_itself v defined P s D
+  alias_at P x D s (shape.Func sig) = declares_itself v defined P s D
 
-  alias_if : (P : Type 0) (b : Bool) (d : Decl) (base : Specified) (D : List Named) (s : State) → DeclaresGiven v P s D (if b then aliased_at (first_name d.inits) s (out-Shape base.ctype.shape) else s) D
+  alias_if : (P : Type 0) (b : Bool) (d : Decl) (base : Specified) (D : List Named) (s : State) → DeclaresGiven v defined P s D (if b then aliased_at (first_name d.inits) s (out-Shape base.ctype.shape) else s) D
   alias_if P true d base D s = alias_at P (first_name d.inits) D s (out-Shape base.ctype.shape)
-  alias_if P false d base D s = declares_itself v P s D
+  alias_if P false d base D s = declares_itself v defined P s D
 
   inside_setting : (place : Where) (d : Decl) (s : State) → IsInside place → IsInside (setting_of place d s).place
   inside_setting place d s i = i
 
   pub declaration_leaves : (place : Where) (decl : Decl) (D : List Named) (s : State) (r : List Expr × State) → IsInside place → decl_fits decl ≡ true → AreDeclared k D s → declaration v.target roles defined place decl s ≡ Ok r →
-      (E : List Named) × Declares v s D r.1 E
+      (E : List Named) × Declares v defined s D r.1 E
   unfolding declaration
   declaration_leaves place decl D s r inside f d h =
       let fit = both_true (all_fit (map (λ (x : At Spec). record { at = x.at; node = spec_in_range x.node }) decl.specs)) (list_all init_fits decl.inits) f in
@@ -233,10 +233,10 @@ module _ (v : View) (roles : Roles) (defined : List Name) (k : ℕ) where
       let P = Stands v a.0.0.ctype in
       let next = aliased decl a.0.0 a.0.1 in
       let alias = alias_if P (is_typedef_word a.0.0.specs.storage && defines_untagged decl.specs) decl a.0.0 D a.0.1 in
-      let start = alias.locals k (same_declared v k D front a.0.1 o.grows (first.locals k d)) in
+      let start = alias.locals k (same_declared v defined k D front a.0.1 o.grows (first.locals k d)) in
       let plain = plain_inside set a.0.0.specs decl.inits (list_any is_given decl.inits) (specified_fit set (map (spec_here v.target roles) decl.specs) front a.0 a.1) inside refl refl in
-      then_left v (Unit {0}) D D s front r.1 first
-      (behind_types v (Unit {0}) Specified (λ x. Stands v x.ctype) D front a.0 r.1 (record { grows = o.grows; holds = λ w p. o.holds w })
-      (less v (Unit {0} × P) P D a.0.1 r.1 (λ p w. p.1)
-      (then_left v P D D a.0.1 next r.1 alias
+      then_left v defined (Unit {0}) D D s front r.1 first
+      (behind_types v defined (Unit {0}) Specified (λ x. Stands v x.ctype) D front a.0 r.1 (record { grows = o.grows; holds = λ w p. o.holds w })
+      (less v defined (Unit {0} × P) P D a.0.1 r.1 (λ p w. p.1)
+      (then_left v defined P D D a.0.1 next r.1 alias
       (inits_leave place a.0.0 decl.inits [] D next r start inside plain fit.1 a.2))))

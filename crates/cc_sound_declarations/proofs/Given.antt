@@ -1,8 +1,9 @@
 -- What is declared is put behind types that are found: what is known of them is what the rest stands on.
 use Rattle.std.proofs.Common.{◌≡◌, ℕ, List, ◌∙◌, subst, sym}
 use Rattle.cc_operand_types.specs.Views.{View}
-use Rattle.cc_scopes.specs.State.{State}
+use Rattle.cc_scopes.specs.State.{State, Name}
 use Rattle.cc_sound_states.specs.Declaring.{AreDeclared, DeclaresGiven}
+use Rattle.cc_sound_states.proofs.Entries.{entries_through}
 use Rattle.cc_sound_states.proofs.Declaring.{declares_itself, declares_through, of_extends, given_less}
 use Rattle.cc_sound_terms.specs.Behind.{Extends}
 use Rattle.cc_sound_terms.specs.Growing.{IsConstant}
@@ -12,10 +13,10 @@ use Rattle.cc_sound_terms.proofs.Growth.{structures_through}
 use Rattle.cc_sound_terms.proofs.Outcomes.{Outcome}
 use Rattle.cc_syntax.specs.Types.{Named}
 
-module _ (v : View) where
+module _ (v : View) (defined : List Name) where
   -- where P is known of the parts, this is what is left of the whole
   abbrev pub Leaves : Type 0 → List Named → State → State → Type 0
-  Leaves P D s t = (E : List Named) × DeclaresGiven v P s D t E
+  Leaves P D s t = (E : List Named) × DeclaresGiven v defined P s D t E
 
   abbrev pub Finds : (A : Type 0) → (A → Type 0) → State → A × State → Type 0
   Finds A T s r = Outcome v (IsConstant v.target) (KnowsTypes v) A T s r
@@ -24,16 +25,16 @@ module _ (v : View) where
   left_as P D s t u e h = subst (Leaves P D s) (sym e) h
 
   pub nothing_left : (P : Type 0) (D : List Named) (s : State) → Leaves P D s s
-  nothing_left P D s = (D, declares_itself v P s D)
+  nothing_left P D s = (D, declares_itself v defined P s D)
 
-  pub one_left : (P : Type 0) (D : List Named) (s t : State) → DeclaresGiven v P s D t D → Leaves P D s t
+  pub one_left : (P : Type 0) (D : List Named) (s t : State) → DeclaresGiven v defined P s D t D → Leaves P D s t
   one_left P D s t g = (D, g)
 
-  pub then_left : (P : Type 0) (D E : List Named) (s t u : State) → DeclaresGiven v P s D t E → Leaves P E t u → Leaves P D s u
-  then_left P D E s t u a b = (b.0, declares_through v P s t u D E b.0 a b.1)
+  pub then_left : (P : Type 0) (D E : List Named) (s t u : State) → DeclaresGiven v defined P s D t E → Leaves P E t u → Leaves P D s u
+  then_left P D E s t u a b = (b.0, declares_through v defined P s t u D E b.0 a b.1)
 
   pub less : (P Q : Type 0) (D : List Named) (s t : State) → (P → KnowsTypes v s t → Q) → Leaves Q D s t → Leaves P D s t
-  less P Q D s t f h = (h.0, given_less v P Q s t D h.0 f h.1)
+  less P Q D s t f h = (h.0, given_less v defined P Q s t D h.0 f h.1)
 
   pub same_declared : (k : ℕ) (D : List Named) (s t : State) → Extends v s t → AreDeclared k D s → AreDeclared k D t
   same_declared k D s t g d = record { enough = d.enough; locals = g.grows.locals ∙ d.locals }
@@ -43,12 +44,14 @@ module _ (v : View) where
   behind_types P A T D s x t a b =
       let first : KnowsTypes v s t → KnowsTypes v s x.1 = λ k. known_first v s x.1 t b.1.structures k in
       let second : KnowsTypes v s t → KnowsTypes v x.1 t = λ k. known_second v s x.1 t b.1.structures a.grows.behind k in
-      let start = of_extends v P s x.1 D a.grows in (
+      let start = of_extends v defined P s x.1 D a.grows in (
         b.0,
         record {
           outer = b.1.outer ∙ start.outer;
           structures = structures_through s.structures x.1.structures t.structures start.structures b.1.structures;
           names = names_through s.names x.1.names t.names start.names b.1.names;
+          entries = λ i e h. entries_through v.target defined s x.1 t i e b.1.names (start.entries i) h (b.1.entries i e h);
+          ordered = λ h. b.1.ordered (a.grows.ordered h);
           behind = λ p k. behind_through v s x.1 t b.1.names (a.grows.behind (first k)) (b.1.behind (p, a.holds (first k) p) (second k));
           front = b.1.front;
           locals = λ k d. b.1.locals k (start.locals k d);

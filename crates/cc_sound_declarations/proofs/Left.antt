@@ -14,7 +14,7 @@ use Rattle.cc_objects.specs.Linked.{device_by, is_extern, object_kind, static_ob
 use Rattle.cc_objects.specs.Types.{contents_in, type_given, given_incomplete, completed_type, composite_by, is_complete_or_unbounded}
 use Rattle.cc_objects.specs.Values.{leaf_given, expr_given, no_leaf, no_expr, assignments}
 use Rattle.cc_operands.specs.Operands.{Operand}
-use Rattle.cc_operands.specs.Qualified.{without_const}
+use Rattle.cc_operands.specs.Qualified.{is_function_type, without_const}
 use Rattle.cc_operands.specs.Verdicts.{Judged}
 use Rattle.cc_operands.specs.declared.rule.Rule.TheVariants as rule
 use Rattle.cc_operand_types.specs.Views.{View, kind_in}
@@ -35,6 +35,7 @@ use Rattle.cc_scopes.specs.State.{State, Name, bind, with_declared, with_unfinis
 use Rattle.cc_scopes.specs.Verdicts.{whole, and_then}
 use Rattle.cc_scopes.specs.declared.designated.Designated.TheVariants as means
 use Rattle.cc_scopes.specs.declared.unit.Declared.{Declared}
+use Rattle.cc_sound_states.specs.Entries.{IsEntryOf}
 use Rattle.cc_sound_states.specs.Declaring.{AreDeclared, DeclaresGiven}
 use Rattle.cc_sound_states.proofs.Declaring.{declares_itself, declares_through, of_extends}
 use Rattle.cc_sound_states.proofs.Steps.{named, changed, unfinished, bound, automatic}
@@ -50,6 +51,7 @@ use Rattle.cc_specifiers.specs.Modes.{modes_found}
 use Rattle.cc_specifiers.specs.declared.attribute.Attribute.{Attribute}
 use Rattle.cc_syntax.specs.Kinds.{is_object_type}
 use Rattle.cc_syntax.specs.Types.{Named}
+use Rattle.cc_syntax.proofs.Prefixes.{both_true}
 use Rattle.cc_syntax.specs.Values.{ValueType}
 use Rattle.cc_tree.specs.declared.at.At.{At}
 use Rattle.cc_tree.specs.declared.unit.Given.{Given}
@@ -71,7 +73,7 @@ added_same entry (kind.Object leaves) = Objects leaves leaves
 added_same entry (kind.Device d) = Devices d
 
 pub entry_with : (entry : Option Entry) (d : Declared) → EntryKept d (with_entry entry d)
-entry_with entry d = record { ctype = refl; kind = added_same entry d.kind }
+entry_with entry d = record { name = refl; ctype = refl; kind = added_same entry d.kind }
 
 kind_itself : (k : UnitKind) → SameKind k k
 kind_itself (kind.Object leaves) = Objects leaves leaves
@@ -79,7 +81,7 @@ kind_itself (kind.Device d) = Devices d
 kind_itself (kind.Func entry body) = Functions entry entry body body
 
 pub tentative_kept : (at : ℕ) (d : Declared) → EntryKept d (tentative_at at d)
-tentative_kept at d = record { ctype = refl; kind = kind_itself d.kind }
+tentative_kept at d = record { name = refl; ctype = refl; kind = kind_itself d.kind }
 
 -- an object stays one
 object_stays : (before : List Leaf) (k : UnitKind) → SameKind (kind.Object before) k → (after : List Leaf) × (k ≡ kind.Object after)
@@ -97,22 +99,22 @@ values_kept xs ys n first before leaves k e f d g =
     let l = k n first e in
     let same : l.0 ≡ d = some_is l.0 d (sym l.1 ∙ g) in
     let o = object_stays before d.kind (subst (λ (z : UnitKind). SameKind z d.kind) f (subst (λ (y : Declared). SameKind first.kind y.kind) same l.2.kind)) in
-    record { ctype = refl; kind = values_same leaves o.0 d.kind o.1 }
+    record { name = refl; ctype = refl; kind = values_same leaves o.0 d.kind o.1 }
 
 type_named_is : (t u : CType) → means.TypeNamed t ≡ means.TypeNamed u → t ≡ u
 type_named_is t u h = cc
 
-module _ (v : View) (roles : Roles) where
+module _ (v : View) (roles : Roles) (defined : List Name) where
   -- ---- typedefs
 
-  pub typedef_leaves : (x : Name) (t : CType) (marks : List (At (List Attribute))) (D : List Named) (s : State) (r : List Expr × State) → typedef_left v.target x t marks s ≡ Ok r → Leaves v (IsDerived v false false t) D s r.1
+  pub typedef_leaves : (x : Name) (t : CType) (marks : List (At (List Attribute))) (D : List Named) (s : State) (r : List Expr × State) → typedef_left v.target x t marks s ≡ Ok r → Leaves v defined (IsDerived v false false t) D s r.1
   typedef_leaves x t marks D s r h =
       let a = then_found (located s (modes_found v.target marks t)) (λ t s. Ok ([], bind x (means.TypeNamed t) s)) r h in
       let e = located_found s (modes_found v.target marks t) a.0 a.1 in
       let b = answer_is [] (bind x (means.TypeNamed a.0.0) a.0.1) r a.2 in
-      left_as v (IsDerived v false false t) D s (bind x (means.TypeNamed a.0.0) s) r.1 (b.1 ∙ ap (bind x (means.TypeNamed a.0.0)) e.1)
-      (one_left v (IsDerived v false false t) D s (bind x (means.TypeNamed a.0.0) s)
-      (bound v (IsDerived v false false t) x (means.TypeNamed a.0.0) s D
+      left_as v defined (IsDerived v false false t) D s (bind x (means.TypeNamed a.0.0) s) r.1 (b.1 ∙ ap (bind x (means.TypeNamed a.0.0)) e.1)
+      (one_left v defined (IsDerived v false false t) D s (bind x (means.TypeNamed a.0.0) s)
+      (bound v defined (IsDerived v false false t) x (means.TypeNamed a.0.0) s D
       (λ p k w q. subst (Stands v) (type_named_is a.0.0 w q) (modes_stand v marks t a.0.0 e.0 (plainly_derived v t p))) tt))
 
   -- ---- names with linkage
@@ -122,42 +124,42 @@ module _ (v : View) (roles : Roles) where
 
   module _ (P : Type 0) (D : List Named) where
     abbrev Goes : State → State → Type 0
-    Goes s t = DeclaresGiven v P s D t D
+    Goes s t = DeclaresGiven v defined P s D t D
 
     bound_linked : (x : Name) (i : ℕ) (s : State) → Goes s (bind x (means.Linked i) s)
-    bound_linked x i s = bound v P x (means.Linked i) s D (λ p k w q. absurd (linked_absurd i w q)) tt
+    bound_linked x i s = bound v defined P x (means.Linked i) s D (λ p k w q. absurd (linked_absurd i w q)) tt
 
     -- a new one has a type that stands
-    declared_goes : (x : Name) (asked : DeclaredAs) (t : CType) (k : UnitKind) (s : State) (o : Option ℕ) → (o ≡ None → P → KnowsTypes v s (declared_by x asked t k s o).1 → KindStands v t k) → Goes s (declared_by x asked t k s o).1
-    declared_goes x asked t k s (Some i) f = bound_linked x i s
-    declared_goes x asked t k s None f =
+    declared_goes : (x : Name) (asked : DeclaredAs) (t : CType) (k : UnitKind) (s : State) (o : Option ℕ) → IsEntryOf v.target defined (Some x) t k → (o ≡ None → P → KnowsTypes v s (declared_by x asked t k s o).1 → KindStands v t k) → Goes s (declared_by x asked t k s o).1
+    declared_goes x asked t k s (Some i) n f = bound_linked x i s
+    declared_goes x asked t k s None n f =
         let d = new_declared x asked t k in
         let t1 = with_declared d s in
-        declares_through v P s t1 (bind x (means.Linked (length s.names)) t1) D D D
-        (named v P d s D (λ p w. f refl p (record { structures = w.structures; types = w.types; tags = w.tags })))
+        declares_through v defined P s t1 (bind x (means.Linked (length s.names)) t1) D D D
+        (named v defined P d s D n (λ p w. f refl p (record { structures = w.structures; types = w.types; tags = w.tags })))
         (bound_linked x (length s.names) t1)
 
     -- ---- functions
 
-    function_goes : (entry : Option Entry) (x : Name) (asked : DeclaredAs) (t : CType) (s : State) → (P → SigStands v (out-Shape t.shape)) → Goes s (with_function entry (declared x asked t (kind.Func None None) s))
-    function_goes entry x asked t s f =
+    function_goes : (entry : Option Entry) (x : Name) (asked : DeclaredAs) (t : CType) (s : State) → is_function_type t ≡ true → (P → SigStands v (out-Shape t.shape)) → Goes s (with_function entry (declared x asked t (kind.Func None None) s))
+    function_goes entry x asked t s n f =
         let known = declared x asked t (kind.Func None None) s in
-        declares_through v P s known.1 (change_name known.0 (with_entry entry) known.1) D D D
-        (declared_goes x asked t (kind.Func None None) s (linked_name x s) (λ e p w. f p))
-        (changed v P known.0 (with_entry entry) known.1 D (λ d e. entry_with entry d))
+        declares_through v defined P s known.1 (change_name known.0 (with_entry entry) known.1) D D D
+        (declared_goes x asked t (kind.Func None None) s (linked_name x s) n (λ e p w. f p))
+        (changed v defined P known.0 (with_entry entry) known.1 D (λ d e. entry_with entry d))
 
     refused_leaves : (value : Option (At Given)) (s : State) (r : List Expr × State) → function_refused v.target roles value s ≡ Ok r → r.1 ≡ s
     refused_leaves None s r h = (answer_is [] s r h).1
     refused_leaves (Some g) s r h = absurd (broken_last v roles Expr (expr_given v.target) no_expr (given_here g).node.visited (given_here g).at rule.InitialiserShape [] s r h)
 
-    function_if : (b : Bool) (value : Option (At Given)) (s t : State) (r : List Expr × State) → Goes s t → (if b then function_refused v.target roles value s else function_refused v.target roles value t) ≡ Ok r → Leaves v P D s r.1
-    function_if true value s t r g h = left_as v P D s s r.1 (refused_leaves value s r h) (nothing_left v P D s)
-    function_if false value s t r g h = left_as v P D s t r.1 (refused_leaves value t r h) (one_left v P D s t g)
+    function_if : (b : Bool) (value : Option (At Given)) (s t : State) (r : List Expr × State) → Goes s t → (if b then function_refused v.target roles value s else function_refused v.target roles value t) ≡ Ok r → Leaves v defined P D s r.1
+    function_if true value s t r g h = left_as v defined P D s s r.1 (refused_leaves value s r h) (nothing_left v defined P D s)
+    function_if false value s t r g h = left_as v defined P D s t r.1 (refused_leaves value t r h) (one_left v defined P D s t g)
 
-    pub function_leaves : (asked : DeclaredAs) (x : Name) (t : CType) (marks : List (At (List Attribute))) (value : Option (At Given)) (s : State) (r : List Expr × State) → (P → SigStands v (out-Shape t.shape)) →
-        function_left v.target roles asked x t marks value s ≡ Ok r → Leaves v P D s r.1
-    function_leaves asked x t marks value s r f h =
-        function_if (is_intrinsic roles x) value s (with_function (entry_by marks) (declared x asked t (kind.Func None None) s)) r (function_goes (entry_by marks) x asked t s f) h
+    pub function_leaves : (asked : DeclaredAs) (x : Name) (t : CType) (marks : List (At (List Attribute))) (value : Option (At Given)) (s : State) (r : List Expr × State) → is_function_type t ≡ true → (P → SigStands v (out-Shape t.shape)) →
+        function_left v.target roles asked x t marks value s ≡ Ok r → Leaves v defined P D s r.1
+    function_leaves asked x t marks value s r n f h =
+        function_if (is_intrinsic roles x) value s (with_function (entry_by marks) (declared x asked t (kind.Func None None) s)) r (function_goes (entry_by marks) x asked t s n f) h
 
     -- ---- objects with linkage that are given no initialiser
 
@@ -173,25 +175,52 @@ module _ (v : View) (roles : Roles) where
     device_stands x t good (shape.Struct i) h = h
     device_stands x t good (shape.Func sig) h = h
 
-    linked_none : (asked : DeclaredAs) (at : ℕ) (t u : CType) (n : ℕ) (s : State) (r : List Expr × State) → linked_given v.target roles at asked t u n None s ≡ Ok r → Leaves v P D s r.1
-    linked_none AsExtern at t u n s r h = left_as v P D s s r.1 (answer_is [] s r h).1 (nothing_left v P D s)
-    linked_none AsStatic at t u n s r h = left_as v P D s (change_name n (tentative_at at) s) r.1 (answer_is [] (change_name n (tentative_at at) s) r h).1
-        (one_left v P D s (change_name n (tentative_at at) s) (changed v P n (tentative_at at) s D (λ d e. tentative_kept at d)))
-    linked_none AsObject at t u n s r h = left_as v P D s (change_name n (tentative_at at) s) r.1 (answer_is [] (change_name n (tentative_at at) s) r h).1
-        (one_left v P D s (change_name n (tentative_at at) s) (changed v P n (tentative_at at) s D (λ d e. tentative_kept at d)))
+    -- a device is what the unit does not define
+    not_true : (b : Bool) → not b ≡ true → b ≡ false
+    not_true false h = refl
+    not_true true h = absurd (cc)
+
+    name_is : (x y : Name) → Some x ≡ Some y → x ≡ y
+    name_is x y h = cc
+
+    device_entry : (x : Name) (t : CType) (good : Bool) (y : shape.Shape-F Shape CType Sig) → out-Shape t.shape ≡ y → (good ≡ true → list_any (bytes_eq x) defined ≡ false) → IsEntryOf v.target defined (Some x) t (device_by x t good y)
+    device_entry x t good (shape.Int i) e f = of_test (good && t.volatile) refl
+      where
+        of_test : (b : Bool) → good && t.volatile ≡ b → IsEntryOf v.target defined (Some x) t (if b then kind.Device (record { name = Some x; number = 0; int = i; constant = t.constant }) else kind.Object [])
+        of_test true g =
+            let c = both_true good t.volatile g in
+            record { fits = refl; named = refl; int = e; constant = refl; volatile = c.1; undefined = λ z k. ap (λ (n : Name). list_any (bytes_eq n) defined) (sym (name_is x z k)) ∙ f c.0 }
+        of_test false g = tt
+    device_entry x t good shape.Void e f = tt
+    device_entry x t good (shape.Pointer to) e f = tt
+    device_entry x t good (shape.Array of n) e f = tt
+    device_entry x t good (shape.Struct i) e f = tt
+    device_entry x t good (shape.Func sig) e f = tt
+
+    object_entry : (asked : DeclaredAs) (x : Name) (t : CType) → IsEntryOf v.target defined (Some x) t (object_kind defined asked x t)
+    object_entry asked x t =
+        device_entry x t (is_extern asked && not (list_any (bytes_eq x) defined)) (out-Shape t.shape) refl
+        (λ g. not_true (list_any (bytes_eq x) defined) (both_true (is_extern asked) (not (list_any (bytes_eq x) defined)) g).1)
+
+    linked_none : (asked : DeclaredAs) (at : ℕ) (t u : CType) (n : ℕ) (s : State) (r : List Expr × State) → linked_given v.target roles at asked t u n None s ≡ Ok r → Leaves v defined P D s r.1
+    linked_none AsExtern at t u n s r h = left_as v defined P D s s r.1 (answer_is [] s r h).1 (nothing_left v defined P D s)
+    linked_none AsStatic at t u n s r h = left_as v defined P D s (change_name n (tentative_at at) s) r.1 (answer_is [] (change_name n (tentative_at at) s) r h).1
+        (one_left v defined P D s (change_name n (tentative_at at) s) (changed v defined P n (tentative_at at) s D (λ d e. tentative_kept at d)))
+    linked_none AsObject at t u n s r h = left_as v defined P D s (change_name n (tentative_at at) s) r.1 (answer_is [] (change_name n (tentative_at at) s) r h).1
+        (one_left v defined P D s (change_name n (tentative_at at) s) (changed v defined P n (tentative_at at) s D (λ d e. tentative_kept at d)))
 
     -- the composite type is told of a name that is known alone
     composite_new : (x : Name) (t : CType) (s : State) (o : Option ℕ) → o ≡ None → composite_by x t s o ≡ t
     composite_new x t s None e = refl
     composite_new x t s (Some i) e = absurd (cc)
 
-    pub linked_by_none : (defined : List Name) (at : ℕ) (asked : DeclaredAs) (x : Name) (t w : CType) (s : State) (o : Option ℕ) (r : List Expr × State) → (P → KnowsStructures v s.structures → is_object_type (kind_in v t) ≡ true) →
-        linked_known v.target roles at asked w (composite_by x t s o) None (declared_by x asked (composite_by x t s o) (object_kind defined asked x (composite_by x t s o)) s o) ≡ Ok r → Leaves v P D s r.1
-    linked_by_none defined at asked x t w s o r f h =
+    pub linked_by_none : (at : ℕ) (asked : DeclaredAs) (x : Name) (t w : CType) (s : State) (o : Option ℕ) (r : List Expr × State) → (P → KnowsStructures v s.structures → is_object_type (kind_in v t) ≡ true) →
+        linked_known v.target roles at asked w (composite_by x t s o) None (declared_by x asked (composite_by x t s o) (object_kind defined asked x (composite_by x t s o)) s o) ≡ Ok r → Leaves v defined P D s r.1
+    linked_by_none at asked x t w s o r f h =
         let u = composite_by x t s o in
         let known = declared_by x asked u (object_kind defined asked x u) s o in
-        then_left v P D D s known.1 r.1
-        (declared_goes x asked u (object_kind defined asked x u) s o
+        then_left v defined P D D s known.1 r.1
+        (declared_goes x asked u (object_kind defined asked x u) s o (object_entry asked x u)
         (λ i p k. device_stands x u (is_extern asked && not (list_any (bytes_eq x) defined)) (out-Shape u.shape)
         (ap (λ (z : CType). is_object_type (kind_in v z)) (composite_new x t s o i)
         ∙ f p (subst (λ (c : Option ℕ). KnowsStructures v (declared_by x asked (composite_by x t s c) (object_kind defined asked x (composite_by x t s c)) s c).1.structures) i k.structures))))
@@ -223,16 +252,16 @@ module _ (v : View) (roles : Roles) where
           last = e.1 ∙ ap (with_unfinished None) d.1;
         }
 
-  begun : (P : Type 0) (b : Bool) (a : Place) (s : State) (D : List Named) → DeclaresGiven v P s D (if b then with_unfinished (Some a) s else s) D
-  begun P true a s D = unfinished v P (Some a) s D
-  begun P false a s D = declares_itself v P s D
+  begun : (P : Type 0) (b : Bool) (a : Place) (s : State) (D : List Named) → DeclaresGiven v defined P s D (if b then with_unfinished (Some a) s else s) D
+  begun P true a s D = unfinished v defined P (Some a) s D
+  begun P false a s D = declares_itself v defined P s D
 
-  initialised_goes : (P X : Type 0) (t u : CType) (a : Place) (s : State) (r : X × State) (D : List Named) → IsInitialised X t u a s r → DeclaresGiven v P s D r.1 D
+  initialised_goes : (P X : Type 0) (t u : CType) (a : Place) (s : State) (r : X × State) (D : List Named) → IsInitialised X t u a s r → DeclaresGiven v defined P s D r.1 D
   initialised_goes P X t u a s r D i =
-      subst (λ (z : State). DeclaresGiven v P s D z D) (sym i.last)
-      (declares_through v P s i.middle (with_unfinished None i.middle) D D D
-      (declares_through v P s (given_incomplete t a s) i.middle D D D (begun P (is_unbounded t) a s D) (of_extends v P (given_incomplete t a s) i.middle D i.grown))
-      (unfinished v P None i.middle D))
+      subst (λ (z : State). DeclaresGiven v defined P s D z D) (sym i.last)
+      (declares_through v defined P s i.middle (with_unfinished None i.middle) D D D
+      (declares_through v defined P s (given_incomplete t a s) i.middle D D D (begun P (is_unbounded t) a s D) (of_extends v defined P (given_incomplete t a s) i.middle D i.grown))
+      (unfinished v defined P None i.middle D))
 
   -- its type stands, by what is judged at the end
   initialised_stands : (X : Type 0) (t : CType) (g : At Given) (a : Place) (s before : State) (r : X × State) → IsInitialised X t (type_given t (Some g) before) a s r → IsDerived v false true t → KnowsStructures v r.1.structures →
@@ -243,21 +272,21 @@ module _ (v : View) (roles : Roles) where
   -- ---- static objects of a block
 
   module _ (D : List Named) where
-    static_goes : (P : Type 0) (at : ℕ) (x : Name) (u : CType) (s : State) → (P → is_object_type (kind_in v u) ≡ true) → DeclaresGiven v P s D (with_static at x u s) D
+    static_goes : (P : Type 0) (at : ℕ) (x : Name) (u : CType) (s : State) → (P → is_object_type (kind_in v u) ≡ true) → DeclaresGiven v defined P s D (with_static at x u s) D
     static_goes P at x u s f =
         let d = static_object at x u in
         let t = with_declared d s in
-        declares_through v P s t (bind x (means.Linked (length s.names)) t) D D D (named v P d s D (λ p k. f p)) (bound_linked P D x (length s.names) t)
+        declares_through v defined P s t (bind x (means.Linked (length s.names)) t) D D D (named v defined P d s D tt (λ p k. f p)) (bound_linked P D x (length s.names) t)
 
-    pub static_none : (at : ℕ) (x : Name) (t : CType) (s : State) (r : List Expr × State) → is_complete_or_unbounded v.target s t ≡ true → static_left v.target roles at x t None s ≡ Ok r → Leaves v (IsDerived v false false t) D s r.1
+    pub static_none : (at : ℕ) (x : Name) (t : CType) (s : State) (r : List Expr × State) → is_complete_or_unbounded v.target s t ≡ true → static_left v.target roles at x t None s ≡ Ok r → Leaves v defined (IsDerived v false false t) D s r.1
     static_none at x t s r c h =
         let e = answer_is [] (with_static at x t s) r h in
-        less v (IsDerived v false false t) (is_object_type (kind_in v t) ≡ true) D s r.1
+        less v defined (IsDerived v false false t) (is_object_type (kind_in v t) ≡ true) D s r.1
         (λ p k. complete_stands v t s (subst (λ (z : State). KnowsStructures v z.structures) e.1 k.structures) (plainly_derived v t p) c)
-        (left_as v (is_object_type (kind_in v t) ≡ true) D s (with_static at x t s) r.1 e.1 (one_left v (is_object_type (kind_in v t) ≡ true) D s (with_static at x t s) (static_goes (is_object_type (kind_in v t) ≡ true) at x t s (λ p. p))))
+        (left_as v defined (is_object_type (kind_in v t) ≡ true) D s (with_static at x t s) r.1 e.1 (one_left v defined (is_object_type (kind_in v t) ≡ true) D s (with_static at x t s) (static_goes (is_object_type (kind_in v t) ≡ true) at x t s (λ p. p))))
 
     pub static_some : (at : ℕ) (x : Name) (t : CType) (g : At Given) (s : State) (r : List Expr × State) → ((c : Contents) → Each StepFits (initialised c (given_here g))) → static_left v.target roles at x t (Some g) s ≡ Ok r →
-        Leaves v (IsDerived v false true t) D s r.1
+        Leaves v defined (IsDerived v false true t) D s r.1
     static_some at x t g s r f h =
         let u = type_given t (Some g) s in
         let n = length s.names in
@@ -268,26 +297,26 @@ module _ (v : View) (roles : Roles) where
         let filled = initialised_goes Q (List Leaf) t u (Static n) start a.0 D i in
         let end = change_name n (with_values (leaves_or_none a.0.0)) a.0.1 in
         let e = answer_is [] end r a.2 in
-        less v (IsDerived v false true t) Q D s r.1
+        less v defined (IsDerived v false true t) Q D s r.1
         (λ p k. initialised_stands (List Leaf) t g (Static n) start s a.0 i p (subst (λ (z : State). KnowsStructures v z.structures) e.1 k.structures))
-        (left_as v Q D s end r.1 e.1 (one_left v Q D s end
-        (declares_through v Q s a.0.1 end D D D
-        (declares_through v Q s start a.0.1 D D D (static_goes Q at x u s (λ p. p)) filled)
-        (changed v Q n (with_values (leaves_or_none a.0.0)) a.0.1 D
+        (left_as v defined Q D s end r.1 e.1 (one_left v defined Q D s end
+        (declares_through v defined Q s a.0.1 end D D D
+        (declares_through v defined Q s start a.0.1 D D D (static_goes Q at x u s (λ p. p)) filled)
+        (changed v defined Q n (with_values (leaves_or_none a.0.0)) a.0.1 D
         (λ d j. values_kept start.names a.0.1.names n (static_object at x u) [] (leaves_or_none a.0.0) filled.names (get_last s.names (static_object at x u)) refl d j)))))
 
     -- ---- automatic objects
 
-    pub automatic_none : (k : ℕ) → (at : ℕ) (x : Name) (t : CType) (s : State) (r : List Expr × State) → AreDeclared k D s → is_complete_or_unbounded v.target s t ≡ true → automatic_left v.target roles at x t None s ≡ Ok r → Leaves v (IsDerived v false false t) D s r.1
+    pub automatic_none : (k : ℕ) → (at : ℕ) (x : Name) (t : CType) (s : State) (r : List Expr × State) → AreDeclared k D s → is_complete_or_unbounded v.target s t ≡ true → automatic_left v.target roles at x t None s ≡ Ok r → Leaves v defined (IsDerived v false false t) D s r.1
     automatic_none k at x t s r d c h =
         let e = answer_is [] (with_automatic x t s) r h in
-        less v (IsDerived v false false t) (is_object_type (kind_in v t) ≡ true) D s r.1
+        less v defined (IsDerived v false false t) (is_object_type (kind_in v t) ≡ true) D s r.1
         (λ p w. complete_stands v t s (subst (λ (z : State). KnowsStructures v z.structures) e.1 w.structures) (plainly_derived v t p) c)
-        (left_as v (is_object_type (kind_in v t) ≡ true) D s (with_automatic x t s) r.1 e.1
-        (D ++ (x, t) ∷ [], automatic v (is_object_type (kind_in v t) ≡ true) x t s D k d (λ p w. object_pointed (kind_in v t) p)))
+        (left_as v defined (is_object_type (kind_in v t) ≡ true) D s (with_automatic x t s) r.1 e.1
+        (D ++ (x, t) ∷ [], automatic v defined (is_object_type (kind_in v t) ≡ true) x t s D k d (λ p w. object_pointed (kind_in v t) p)))
 
     pub automatic_some : (k : ℕ) → (at : ℕ) (x : Name) (t : CType) (g : At Given) (s : State) (r : List Expr × State) → AreDeclared k D s → ((c : Contents) → Each StepFits (initialised c (given_here g))) → automatic_left v.target roles at x t (Some g) s ≡ Ok r →
-        Leaves v (IsDerived v false true t) D s r.1
+        Leaves v defined (IsDerived v false true t) D s r.1
     automatic_some k at x t g s r d f h =
         let u = type_given t (Some g) s in
         let n = length s.locals in
@@ -297,7 +326,7 @@ module _ (v : View) (roles : Roles) where
         let i = initial_is Expr (expr_given v.target) no_expr at (Local n) t u (without_const u) g start a.0 (f (contents_in (without_const u) start)) a.1 in
         let Q = is_object_type (kind_in v u) ≡ true in
         let e = answer_is (assignments (scalars_from v.target (contents_in (without_const u) a.0.1) 0 (Local n)) a.0.0) a.0.1 r a.2 in
-        less v (IsDerived v false true t) Q D s r.1
+        less v defined (IsDerived v false true t) Q D s r.1
         (λ p w. initialised_stands (List Expr) t g (Local n) start s a.0 i p (subst (λ (z : State). KnowsStructures v z.structures) e.1 w.structures))
-        (left_as v Q D s a.0.1 r.1 e.1
-        (E, declares_through v Q s start a.0.1 D E E (automatic v Q x u s D k d (λ p w. object_pointed (kind_in v u) p)) (initialised_goes Q (List Expr) t u (Local n) start a.0 E i)))
+        (left_as v defined Q D s a.0.1 r.1 e.1
+        (E, declares_through v defined Q s start a.0.1 D E E (automatic v defined Q x u s D k d (λ p w. object_pointed (kind_in v u) p)) (initialised_goes Q (List Expr) t u (Local n) start a.0 E i)))

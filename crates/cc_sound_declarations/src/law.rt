@@ -15,9 +15,9 @@ ghost use Rattle.cc_sound_declarations.specs.Ranges.{decl_fits};
 pub fn declaration_laws()
     // In a block.
     ensures blocks { (v : View) (roles : Roles) (defined : List Name) (parameters : ℕ) (d : Decl) (objects : List Named) (s : State) (r : List Expr × State) → decl_fits d ≡ true → AreDeclared parameters objects s →
-        declaration v.target roles defined place.InBlock d s ≡ Ok r → (after : List Named) × Declares v s objects r.1 after }
+        declaration v.target roles defined place.InBlock d s ≡ Ok r → (after : List Named) × Declares v defined s objects r.1 after }
 
     // In front of a loop, in `for`.
     ensures loops { (v : View) (roles : Roles) (defined : List Name) (parameters : ℕ) (d : Decl) (objects : List Named) (s : State) (r : List Expr × State) → decl_fits d ≡ true → AreDeclared parameters objects s →
-        declaration v.target roles defined place.InFor d s ≡ Ok r → (after : List Named) × Declares v s objects r.1 after }
+        declaration v.target roles defined place.InFor d s ≡ Ok r → (after : List Named) × Declares v defined s objects r.1 after }
 {}

@@ -1,8 +1,8 @@
 -- Declarations and statements are put one behind another, and into scopes of their own.
-use Rattle.std.proofs.Common.{◌≡◌, ◌≤◌, ℕ, zero, suc, List, [], ◌∷◌, ◌++◌, length, map, Some, refl, ap, sym, ◌∙◌, append_assoc, arith}
+use Rattle.std.proofs.Common.{◌≡◌, inl, ◌≤◌, ℕ, zero, suc, List, [], ◌∷◌, ◌++◌, length, map, Some, refl, ap, sym, ◌∙◌, append_assoc, arith}
 use Rattle.std.specs.Prelude.{slice_get, option_map}
 use Rattle.cc_operand_types.specs.Views.{View}
-use Rattle.cc_scopes.specs.State.{State, empty, designated, entered, left, outer_scopes}
+use Rattle.cc_scopes.specs.State.{State, Name, tagged, empty, designated, entered, left, outer_scopes}
 use Rattle.cc_scopes.specs.declared.designated.Designated.{Designated}
 use Rattle.cc_scopes.specs.declared.designated.Designated.TheVariants as means
 use Rattle.cc_sound_terms.specs.Behind.{Adds, Extends}
@@ -10,10 +10,11 @@ use Rattle.cc_sound_terms.specs.Growing.{IsConstant}
 use Rattle.cc_sound_terms.specs.Knowing.{IsObject, ObjectsStand}
 use Rattle.cc_sound_terms.specs.Typing.{KnowsTypes, Knows}
 use Rattle.cc_sound_terms.proofs.Behind.{names_itself, names_through, names_more, knows_back, behind_itself, behind_through, behind_left, known_first, known_second}
-use Rattle.cc_sound_terms.proofs.Growth.{get_front, all_kept, structures_through, objects_stand}
+use Rattle.cc_sound_terms.proofs.Growth.{get_front, all_kept, structures_through, objects_stand, tag_through}
 use Rattle.cc_syntax.specs.Types.{Named}
 use Rattle.cc_sound_states.specs.Declaring.{unconst, lowered, AreDeclared, DeclaresGiven, Declares}
 use Rattle.cc_sound_states.specs.Reached.{GoesOn}
+use Rattle.cc_sound_states.proofs.Entries.{entries_through, entry_added}
 
 -- ---- objects
 
@@ -64,9 +65,9 @@ module _ (v : View) where
   pub wider : (D more L : List Named) (s t : State) → L ≡ D ++ more → Knows v D s t → Knows v L s t
   wider D more L s t e k = record { types = k.types; names = k.names; objects = objects_wider D more L s e k.objects; members = k.members }
 
-  module _ (Given : Type 0) where
+  module _ (defined : List Name) (Given : Type 0) where
     abbrev Goes : State → List Named → State → List Named → Type 0
-    Goes s D t E = DeclaresGiven v Given s D t E
+    Goes s D t E = DeclaresGiven v defined Given s D t E
 
     abbrev Known : List Named → State → State → Type 0
     Known D s t = Given × Knows v D s t
@@ -78,6 +79,8 @@ module _ (v : View) where
       outer = refl;
       structures = all_kept s.structures;
       names = names_itself s.names;
+      entries = λ i d h. inl (d, h);
+      ordered = λ h. h;
       behind = λ p k. behind_itself v s k;
       front = ([], sym (append_nothing D));
       locals = λ k h. h;
@@ -89,6 +92,8 @@ module _ (v : View) where
       outer = b.outer ∙ a.outer;
       structures = structures_through s.structures t.structures u.structures a.structures b.structures;
       names = names_through s.names t.names u.names a.names b.names;
+      entries = λ i e h. entries_through v.target defined s t u i e b.names (a.entries i) h (b.entries i e h);
+      ordered = λ h. b.ordered (a.ordered h);
       behind = λ p k. behind_through v s t u b.names (a.behind p (known_first v s t u b.structures k)) (b.behind p (known_second v s t u b.structures (a.behind p) k));
       front = (a.front.0 ++ b.front.0, b.front.1 ∙ ap (λ (xs : List Named). xs ++ b.front.0) a.front.1 ∙ append_assoc D a.front.0 b.front.0);
       locals = λ k h. b.locals k (a.locals k h);
@@ -104,6 +109,8 @@ module _ (v : View) where
       outer = g.grows.outer;
       structures = g.grows.structures;
       names = names_more s.names g.grows.names.0 t.names g.grows.names.1;
+      entries = λ i d h. entry_added v.target defined s i d (g.added i d h);
+      ordered = g.ordered;
       behind = λ p k. g.behind k;
       front = ([], sym (append_nothing D));
       locals = λ k h. declared_same k D s t g.grows.locals h;
@@ -151,6 +158,10 @@ module _ (v : View) where
       outer = ap outer_scopes a.outer;
       structures = a.structures;
       names = a.names;
+      entries = a.entries;
+      ordered = λ h.
+          let o = a.ordered (record { listed = h.listed; order = h.order; tags = h.tags }) in
+          record { listed = o.listed; order = o.order; tags = λ x u f. tag_through s.structures t.structures u a.structures (h.tags x u (ap (tagged x) (sym a.outer) ∙ f)) };
       behind = λ p k.
           behind_left v empty s t a.outer (record { structures = k.structures; types = k.types; tags = k.tags }) (a.behind p (record { structures = k.structures; types = k.types; tags = k.tags }));
       front = a.front;
@@ -171,25 +182,27 @@ module _ (v : View) where
       leaves = leaves;
     }
 
-  pub goes_on : (k : ℕ) → GoesOn (Declares v) (λ D s t. Knows v D s t) (AreDeclared k)
-  goes_on k = record {
-    itself = declares_itself (Unit {0});
-    through = declares_through (Unit {0});
+  pub goes_on : (defined : List Name) (k : ℕ) → GoesOn (Declares v defined) (λ D s t. Knows v D s t) (AreDeclared k)
+  goes_on defined k = record {
+    itself = declares_itself defined (Unit {0});
+    through = declares_through defined (Unit {0});
     front = λ s t D E a. a.front;
     has = λ s t D E a h. a.locals k h;
-    first = λ s t u D E F a b w. (known_before (Unit {0}) s t u D E F a b (tt, w)).1;
-    second = λ s t u D E F a b w. (known_behind (Unit {0}) s t u D E F a b (tt, w)).1;
-    enters = λ s D h. declared_inside (Unit {0}) k s D h;
-    inside = λ s t D w. (known_inside (Unit {0}) s t D (tt, w)).1;
-    leaves = leaves (Unit {0});
+    first = λ s t u D E F a b w. (known_before defined (Unit {0}) s t u D E F a b (tt, w)).1;
+    second = λ s t u D E F a b w. (known_behind defined (Unit {0}) s t u D E F a b (tt, w)).1;
+    enters = λ s D h. declared_inside defined (Unit {0}) k s D h;
+    inside = λ s t D w. (known_inside defined (Unit {0}) s t D (tt, w)).1;
+    leaves = leaves defined (Unit {0});
   }
 
   -- what follows of what is known there need not be given
-  pub given_less : (P Q : Type 0) (s t : State) (D E : List Named) → (P → KnowsTypes v s t → Q) → DeclaresGiven v Q s D t E → DeclaresGiven v P s D t E
-  given_less P Q s t D E f a = record {
+  pub given_less : (defined : List Name) (P Q : Type 0) (s t : State) (D E : List Named) → (P → KnowsTypes v s t → Q) → DeclaresGiven v defined Q s D t E → DeclaresGiven v defined P s D t E
+  given_less defined P Q s t D E f a = record {
     outer = a.outer;
     structures = a.structures;
     names = a.names;
+    entries = a.entries;
+    ordered = a.ordered;
     behind = λ p k. a.behind (f p k) k;
     front = a.front;
     locals = a.locals;

@@ -1,3 +1,4 @@
+pub mod Entries
 pub mod Declaring
 pub mod Reaching
 pub mod Steps

@@ -10,14 +10,18 @@ use Rattle.cc_scopes.specs.State.{State, Name, KnownStructure, designated, bind,
 use Rattle.cc_scopes.specs.declared.designated.Designated.{Designated}
 use Rattle.cc_scopes.specs.declared.designated.Designated.TheVariants as means
 use Rattle.cc_scopes.specs.declared.unit.Declared.{Declared}
-use Rattle.cc_sound_terms.specs.Behind.{HasEntry, HasMembers, NameStands, EntryKept, NamesKept}
+use Rattle.cc_sound_terms.specs.Behind.{HasEntry, NameStands, EntryKept, NamesKept}
 use Rattle.cc_sound_terms.specs.Growing.{Kept, StructureKept}
+use Rattle.cc_sound_terms.specs.Ordered.{HasMembers}
 use Rattle.cc_sound_terms.specs.Knowing.{Stands, IsObject, ObjectsStand}
 use Rattle.cc_sound_terms.specs.Typing.{KnowsTypes}
 use Rattle.cc_sound_terms.proofs.Behind.{entry_itself, names_itself, names_more, entry_of_one, last_or_front, bind_adds}
-use Rattle.cc_sound_terms.proofs.Growth.{get_last, all_kept, bind_grows, designated_kept, structures_changed, changed_or_not}
+use Rattle.cc_sound_terms.proofs.Completeness.{order_kept, ordered_same}
+use Rattle.cc_sound_terms.proofs.Growth.{get_last, all_kept, bind_grows, designated_kept, structures_changed, changed_or_not, tag_through}
 use Rattle.cc_syntax.specs.Types.{Named}
+use Rattle.cc_sound_states.specs.Entries.{IsEntry}
 use Rattle.cc_sound_states.specs.Declaring.{AreDeclared, DeclaresGiven}
+use Rattle.cc_sound_states.proofs.Entries.{entry_of_two}
 use Rattle.cc_sound_states.proofs.Declaring.{append_nothing, lowered_more, lowered_length, object_wider}
 
 names_changed : (xs : List Declared) (i : ℕ) (change : Declared → Declared) → ((d : Declared) → slice_get xs i ≡ Some d → EntryKept d (change d)) → NamesKept xs (change_at i change xs)
@@ -33,17 +37,19 @@ more_enough (suc k) (x ∷ ls) l h = let i : k ≤ length (ls ++ l ∷ []) = mor
 some_is : {A : Type 0} (a b : A) → Some a ≡ Some b → a ≡ b
 some_is a b h = cc
 
-module _ (v : View) (Given : Type 0) where
+module _ (v : View) (defined : List Name) (Given : Type 0) where
   abbrev Goes : State → List Named → State → List Named → Type 0
-  Goes s D t E = DeclaresGiven v Given s D t E
+  Goes s D t E = DeclaresGiven v defined Given s D t E
 
   -- ---- what has a place in memory of its own
 
-  pub named : (d : Declared) (s : State) (D : List Named) → (Given → KnowsTypes v s (with_declared d s) → NameStands v d) → Goes s D (with_declared d s) D
-  named d s D f = record {
+  pub named : (d : Declared) (s : State) (D : List Named) → IsEntry v.target defined d → (Given → KnowsTypes v s (with_declared d s) → NameStands v d) → Goes s D (with_declared d s) D
+  named d s D n f = record {
     outer = refl;
     structures = all_kept s.structures;
     names = names_more s.names (d ∷ []) (s.names ++ d ∷ []) refl;
+    entries = λ i e g. entry_of_two v.target defined s d i e n (last_or_front v s.names d i e g);
+    ordered = λ h. record { listed = h.listed; order = h.order; tags = h.tags };
     behind = λ p k. record { types = k.types; tags = k.tags; names = λ i e g. entry_of_one v s d i e (f p k) (last_or_front v s.names d i e g); structures = λ i ms g. inl g };
     front = ([], sym (append_nothing D));
     locals = λ k h. record { enough = h.enough; locals = h.locals };
@@ -60,6 +66,8 @@ module _ (v : View) (Given : Type 0) where
     outer = refl;
     structures = all_kept s.structures;
     names = names_changed s.names i change f;
+    entries = λ j e g. inl (changed_entry s i change j e (changed_or_not s.names i change j e g));
+    ordered = λ h. record { listed = h.listed; order = h.order; tags = h.tags };
     behind = λ p k. record { types = k.types; tags = k.tags; names = λ j e g. inl (changed_entry s i change j e (changed_or_not s.names i change j e g)); structures = λ j ms g. inl g };
     front = ([], sym (append_nothing D));
     locals = λ k h. record { enough = h.enough; locals = h.locals };
@@ -72,6 +80,8 @@ module _ (v : View) (Given : Type 0) where
     outer = refl;
     structures = all_kept s.structures;
     names = names_itself s.names;
+    entries = λ i d g. inl (d, g);
+    ordered = λ h. record { listed = h.listed; order = h.order; tags = h.tags };
     behind = λ p k. record { types = k.types; tags = k.tags; names = λ i e g. inl (e, g); structures = λ i ms g. inl g };
     front = ([], sym (append_nothing D));
     locals = λ k h. record { enough = h.enough; locals = h.locals };
@@ -96,6 +106,8 @@ module _ (v : View) (Given : Type 0) where
     outer = (bind_grows Anything x d s tt).outer;
     structures = all_kept s.structures;
     names = names_itself s.names;
+    entries = λ i e g. inl (e, g);
+    ordered = λ h. ordered_same Anything s (bind x d s) (bind_grows Anything x d s tt) refl (λ i ms g. g) h;
     behind = λ p k. (bind_adds v Anything x d s tt (f p)).behind k;
     front = ([], sym (append_nothing D));
     locals = λ k h. record { enough = h.enough; locals = h.locals };
@@ -124,6 +136,8 @@ module _ (v : View) (Given : Type 0) where
         outer = (bind_grows Anything x object inner tt).outer;
         structures = all_kept s.structures;
         names = names_itself s.names;
+        entries = λ i e g. inl (e, g);
+        ordered = λ h. ordered_same Anything inner (bind x object inner) (bind_grows Anything x object inner tt) refl (λ i ms g. g) (record { listed = h.listed; order = h.order; tags = h.tags });
         behind = λ p k.
             let b = (bind_adds v Anything x object inner tt (λ w u e. absurd (cc))).behind (record { structures = k.structures; types = k.types; tags = k.tags }) in
             record { types = b.types; tags = b.tags; names = b.names; structures = b.structures };
@@ -150,6 +164,12 @@ module _ (v : View) (Given : Type 0) where
         outer = refl;
         structures = kept;
         names = names_itself s.names;
+        entries = λ j e h. inl (e, h);
+        ordered = λ h. record {
+          listed = λ j ms m. h.listed j ms (restructured_members s.structures i change j ms m.0 f m.2 (changed_or_not s.structures i change j m.0 m.1));
+          order = order_kept s.structures (change_at i change s.structures) [] s.completed kept h.order;
+          tags = λ x u e. tag_through s.structures (change_at i change s.structures) u kept (h.tags x u e);
+        };
         behind = λ p k. record {
           types = k.types;
           tags = k.tags;

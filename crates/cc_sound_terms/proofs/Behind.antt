@@ -11,12 +11,14 @@ use Rattle.cc_scopes.specs.declared.unit.Declared.{Declared}
 use Rattle.cc_syntax.specs.Types.{Named}
 use Rattle.cc_unit.specs.declared.unit.UnitKind.{UnitKind}
 use Rattle.cc_unit.specs.declared.unit.UnitKind.TheVariants as kind
-use Rattle.cc_sound_terms.specs.Behind.{HasEntry, HasMembers, IsUnnamed, KindStands, NameStands, Behind, Adds, Extends, SameKind, Objects, Devices, Functions, EntryKept, NamesKept}
+use Rattle.cc_sound_terms.specs.Behind.{HasEntry, IsUnnamed, KindStands, NameStands, Behind, Adds, Extends, SameKind, Objects, Devices, Functions, EntryKept, NamesKept}
 use Rattle.cc_sound_terms.specs.Growing.{Kept, StructuresKept, Grows, IsParameter, IsTag}
 use Rattle.cc_sound_terms.specs.Knowing.{Stands, KnowsAs, KnowsNames, TypesStand}
+use Rattle.cc_sound_terms.specs.Ordered.{HasMembers}
 use Rattle.cc_sound_terms.specs.Standing.{MembersKnown}
 use Rattle.cc_sound_terms.specs.Typing.{KnowsTypes}
-use Rattle.cc_sound_terms.proofs.Growth.{get_front, grows_itself, grows_through, as_parameters, bind_grows, bind_tag_grows, structure_grows, declared_grows, forgotten_grows, scope_left, designated_kept, tags_stand, knows_structures, take_front}
+use Rattle.cc_sound_terms.proofs.Completeness.{ordered_same}
+use Rattle.cc_sound_terms.proofs.Growth.{get_front, grows_itself, grows_through, as_parameters, bind_grows, bind_tag_grows, structure_grows, declared_grows, forgotten_grows, scope_left, designated_kept, tags_stand, knows_structures, tag_through, take_front}
 
 -- ---- entries
 
@@ -31,10 +33,10 @@ same_kinds _ _ _ (Devices d) (Devices _) = Devices d
 same_kinds _ _ _ (Functions a b x y) (Functions _ c _ z) = Functions a c x z
 
 pub entry_itself : (d : Declared) → EntryKept d d
-entry_itself d = record { ctype = refl; kind = same_kind d.kind }
+entry_itself d = record { name = refl; ctype = refl; kind = same_kind d.kind }
 
 pub entry_through : (a b c : Declared) → EntryKept a b → EntryKept b c → EntryKept a c
-entry_through a b c x y = record { ctype = y.ctype ∙ x.ctype; kind = same_kinds a.kind b.kind c.kind x.kind y.kind }
+entry_through a b c x y = record { name = y.name ∙ x.name; ctype = y.ctype ∙ x.ctype; kind = same_kinds a.kind b.kind c.kind x.kind y.kind }
 
 pub names_itself : (xs : List Declared) → NamesKept xs xs
 names_itself xs = λ i d h. (d, h, entry_itself d)
@@ -131,7 +133,7 @@ module _ (v : View) where
 
   -- ---- what is added
 
-  added_behind : (s t u : State) (i : ℕ) (e : Declared) (more : List Declared) → u.names ≡ t.names ++ more → ((d : Declared) → slice_get t.names i ≡ Some d → HasEntry s.names i ⊎ IsUnnamed v.target d) → slice_get u.names i ≡ Some e →
+  pub added_behind : (s t u : State) (i : ℕ) (e : Declared) (more : List Declared) → u.names ≡ t.names ++ more → ((d : Declared) → slice_get t.names i ≡ Some d → HasEntry s.names i ⊎ IsUnnamed v.target d) → slice_get u.names i ≡ Some e →
       HasEntry t.names i ⊎ IsUnnamed v.target e → HasEntry s.names i ⊎ IsUnnamed v.target e
   added_behind s t u i e more k a h (inr n) = inr n
   added_behind s t u i e more k a h (inl d) =
@@ -139,17 +141,18 @@ module _ (v : View) where
       a e (subst (λ (x : Declared). slice_get t.names i ≡ Some x) same d.1)
 
   pub adds_itself : (New : Designated → Type 0) (s : State) → Adds v New s s
-  adds_itself New s = record { grows = grows_itself New s; added = λ i d g. inl (d, g); behind = behind_itself s }
+  adds_itself New s = record { grows = grows_itself New s; added = λ i d g. inl (d, g); behind = behind_itself s; ordered = λ h. h }
 
   pub adds_through : (New : Designated → Type 0) (s t u : State) → Adds v New s t → Adds v New t u → Adds v New s u
   adds_through New s t u a b = record {
     grows = grows_through New s t u a.grows b.grows;
     added = λ i e h. added_behind s t u i e b.grows.names.0 b.grows.names.1 (a.added i) h (b.added i e h);
+    ordered = λ h. b.ordered (a.ordered h);
     behind = λ k. behind_through s t u (names_more t.names b.grows.names.0 u.names b.grows.names.1) (a.behind (known_first s t u b.grows.structures k)) (b.behind (known_second s t u b.grows.structures a.behind k));
   }
 
   pub adds_parameters : (s t : State) → Extends v s t → Adds v (IsParameter v.target) s t
-  adds_parameters s t g = record { grows = as_parameters v.target s t g.grows; added = g.added; behind = g.behind }
+  adds_parameters s t g = record { grows = as_parameters v.target s t g.grows; added = g.added; behind = g.behind; ordered = g.ordered }
 
   some_is : {A : Type 0} (a b : A) → Some a ≡ Some b → a ≡ b
   some_is a b h = cc
@@ -163,6 +166,7 @@ module _ (v : View) where
   pub bind_adds : (New : Designated → Type 0) (x : Name) (d : Designated) (s : State) → New d → (KnowsTypes v s (bind x d s) → (w : CType) → d ≡ means.TypeNamed w → Stands v w) → Adds v New s (bind x d s)
   bind_adds New x d s h f = record {
     grows = bind_grows New x d s h;
+    ordered = λ o. ordered_same New s (bind x d s) (bind_grows New x d s h) refl (λ i ms g. g) o;
     added = λ i d g. inl (d, g);
     behind = λ k. record {
       types = λ y u e. types_by s (bind x d s) d y u (f k) k.types (designated_kept (λ e. e ≡ d) s (bind x d s) y (bind_grows (λ e. e ≡ d) x d s refl)) e;
@@ -175,6 +179,7 @@ module _ (v : View) where
   pub bind_tag_adds : (New : Designated → Type 0) (x : Name) (t : Tagged) (s : State) → IsTag s.structures t → Adds v New s (bind_tag x t s)
   bind_tag_adds New x t s h = record {
     grows = bind_tag_grows New x t s h;
+    ordered = λ o. ordered_same New s (bind_tag x t s) (bind_tag_grows New x t s h) refl (λ i ms g. g) o;
     added = λ i d g. inl (d, g);
     behind = λ k. record {
       types = λ y u e. k.types y u (tag_names s x t y ∙ e);
@@ -198,9 +203,14 @@ module _ (v : View) where
   member_of_one s k i ms h l f (inl g) = inl (l, g, f)
   member_of_one s k i ms h l f (inr e) = absurd (unnamed_members k h l ms e f)
 
+  members_before : (s : State) (k : KnownStructure) (i : ℕ) (ms : List Named) → k.members ≡ None → (l : KnownStructure) → l.members ≡ Some ms → (slice_get s.structures i ≡ Some l) ⊎ (k ≡ l) → HasMembers s.structures i ms
+  members_before s k i ms h l f (inl g) = (l, g, f)
+  members_before s k i ms h l f (inr e) = absurd (unnamed_members k h l ms e f)
+
   pub structure_adds : (New : Designated → Type 0) (k : KnownStructure) (s : State) → k.members ≡ None → Adds v New s (with_structures (s.structures ++ k ∷ []) s)
   structure_adds New k s h = record {
     grows = structure_grows New k s;
+    ordered = λ o. ordered_same New s (with_structures (s.structures ++ k ∷ []) s) (structure_grows New k s) refl (λ i ms g. members_before s k i ms h g.0 g.2 (last_or_front s.structures k i g.0 g.1)) o;
     added = λ i d g. inl (d, g);
     behind = λ w. record {
       types = w.types;
@@ -221,6 +231,7 @@ module _ (v : View) where
   pub declared_adds : (New : Designated → Type 0) (d : Declared) (s : State) → IsUnnamed v.target d → NameStands v d → Adds v New s (with_declared d s)
   declared_adds New d s n h = record {
     grows = declared_grows New d s;
+    ordered = λ o. ordered_same New s (with_declared d s) (declared_grows New d s) refl (λ i ms g. g) o;
     added = λ i e g. unnamed_of_one s d i e n (last_or_front s.names d i e g);
     behind = λ k. record { types = k.types; tags = k.tags; names = λ i e g. entry_of_one s d i e h (last_or_front s.names d i e g); structures = λ i ms g. inl g };
   }
@@ -230,6 +241,7 @@ module _ (v : View) where
       let f = forgotten_grows New s t g.grows in
       record {
         grows = f;
+        ordered = λ h. let o = g.ordered h in record { listed = o.listed; order = o.order; tags = o.tags };
         added = λ i e h. inl (e, forgotten_entry s t (forgotten_names New s t g.grows) i e h);
         behind = λ k.
             let b = g.behind (record { structures = k.structures; types = k.types; tags = k.tags }) in
@@ -239,6 +251,9 @@ module _ (v : View) where
   pub scope_left_adds : (New : Designated → Type 0) (s t : State) → Adds v New (entered empty s) t → Extends v s (left t)
   scope_left_adds New s t g = record {
     grows = scope_left New v.target s t g.grows;
+    ordered = λ h.
+        let o = g.ordered (record { listed = h.listed; order = h.order; tags = h.tags }) in
+        record { listed = o.listed; order = o.order; tags = λ x u f. tag_through s.structures t.structures u g.grows.structures (h.tags x u (ap (tagged x) (sym g.grows.outer) ∙ f)) };
     added = g.added;
     behind = λ k. behind_left empty s t g.grows.outer (record { structures = k.structures; types = k.types; tags = k.tags }) (g.behind (record { structures = k.structures; types = k.types; tags = k.tags }));
   }

@@ -27,7 +27,8 @@ use Rattle.cc_sound_terms.proofs.Leaves.{named_holds, number_holds, character_ho
 use Rattle.cc_sound_terms.proofs.Meant.{TreeGrows, TreeHolds, DeclrHolds, ParamsHold, ParamHolds, SpecHolds, MembersHold, EnumrHolds, TypeNameHolds}
 use Rattle.cc_sound_terms.proofs.TreeInduction.{by_declr, by_params, by_spec, by_tree, by_enumr, by_members, by_param, by_type_name}
 use Rattle.cc_sound_terms.proofs.Trees.{comma_holds, choose_holds, binary_holds, assign_holds, postfix_holds, prefixed_holds, sizeof_holds, sizeof_type_holds, cast_holds, subscript_holds, call_holds, member_holds, arrow_holds}
-use Rattle.cc_sound_terms.proofs.Types.{word_holds, type_named_holds, marked_holds, structure_tag_holds, structure_holds, enumeration_holds, enumeration_tag_holds, enumr_holds, nothing_holds, name_holds, pointer_holds, array_holds, function_holds, type_name_holds, member_list_holds, param_holds, empty_holds, many_hold}
+use Rattle.cc_sound_terms.proofs.Types.{word_holds, type_named_holds, marked_holds, structure_tag_holds, structure_holds, enumeration_holds, enumeration_tag_holds, enumr_holds, nothing_holds, name_holds, pointer_holds, array_holds, function_holds, type_name_holds, member_list_holds}
+use Rattle.cc_sound_terms.proofs.Parameters.{param_holds, empty_holds, many_hold}
 
 one_is : {A : Type 0} (a b : A) → Some a ≡ Some b → a ≡ b
 one_is a b h = cc

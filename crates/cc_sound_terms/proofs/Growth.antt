@@ -75,6 +75,23 @@ changed_or_not (x ∷ xs) zero change (suc i) y h = inl h
 changed_or_not (x ∷ xs) (suc j) change zero y h = inl h
 changed_or_not (x ∷ xs) (suc j) change (suc i) y h = changed_or_not xs j change i y h
 
+-- it was there, or that is the place
+pub changed_place : {A : Type 0} (xs : List A) (j : ℕ) (change : A → A) (i : ℕ) (y : A) → slice_get (change_at j change xs) i ≡ Some y → (slice_get xs i ≡ Some y) ⊎ (i ≡ j)
+changed_place [] j change i y h = inl h
+changed_place (x ∷ xs) zero change zero y h = inr refl
+changed_place (x ∷ xs) zero change (suc i) y h = inl h
+changed_place (x ∷ xs) (suc j) change zero y h = inl h
+changed_place (x ∷ xs) (suc j) change (suc i) y h = next_place (changed_place xs j change i y h)
+  where
+    next_place : (slice_get xs i ≡ Some y) ⊎ (i ≡ j) → (slice_get xs i ≡ Some y) ⊎ (suc i ≡ suc j)
+    next_place (inl g) = inl g
+    next_place (inr e) = inr (ap suc e)
+
+pub changed_there : {A : Type 0} (xs : List A) (j : ℕ) (change : A → A) (x : A) → slice_get xs j ≡ Some x → slice_get (change_at j change xs) j ≡ Some (change x)
+changed_there [] j change x h = absurd (cc)
+changed_there (y ∷ xs) zero change x h = ap Some (ap change (one_is y x h))
+changed_there (y ∷ xs) (suc j) change x h = changed_there xs j change x h
+
 -- ---- tags and names
 
 pub tag_through : (ys zs : List KnownStructure) (t : Tagged) → StructuresKept ys zs → IsTag ys t → IsTag zs t

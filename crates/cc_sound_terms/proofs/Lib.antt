@@ -1,6 +1,7 @@
 pub mod Within
 pub mod Founds
 pub mod Growth
+pub mod Completeness
 pub mod Behind
 pub mod Outcomes
 pub mod Known
@@ -10,6 +11,7 @@ pub mod Leaves
 pub mod Meant
 pub mod Trees
 pub mod Types
+pub mod Parameters
 pub mod TreeInduction
 pub mod Cycle
 pub mod Laws

@@ -20,6 +20,7 @@ use Rattle.cc_tree.specs.declared.at.At.{At}
 use Rattle.cc_terms.specs.Meanings.{TreeMeaning, DeclrMeaning, ParamsMeaning, ParamMeaning, SpecMeaning, MembersMeaning, EnumrMeaning, TypeNameMeaning}
 use Rattle.cc_sound_terms.specs.Behind.{Extends}
 use Rattle.cc_sound_terms.specs.Growing.{IsConstant, IsParameter}
+use Rattle.cc_sound_terms.specs.Ordered.{AreComplete}
 use Rattle.cc_sound_terms.specs.Standing.{IsNamedType, ParameterStands, IsParameterOf, AreParameters, DerivationsStand, SpecifierStands, MembersKnown}
 use Rattle.cc_sound_terms.specs.Typing.{KnowsTypes, Knows}
 use Rattle.cc_sound_terms.proofs.Founds.{answer_is, then_found, whole_found}
@@ -56,8 +57,12 @@ module _ (v : View) where
   abbrev pub SpecHolds : SpecMeaning → Type 0
   SpecHolds m = (at : ℕ) (s : State) (r : Specifier × State) → m at s ≡ Ok r → TypesHold Specifier (SpecifierStands v) s r
 
+  pub record MembersOutcome (before : List Named) (s : State) (r : List Named × State) : Type 0 where
+    pub outcome : TypesHold (List Named) (λ ms. MembersKnown v before → MembersKnown v ms) s r
+    pub complete : AreComplete before s → AreComplete r.0 r.1
+
   abbrev pub MembersHold : MembersMeaning → Type 0
-  MembersHold m = (before : List Named) (s : State) (r : List Named × State) → m before s ≡ Ok r → TypesHold (List Named) (λ ms. MembersKnown v before → MembersKnown v ms) s r
+  MembersHold m = (before : List Named) (s : State) (r : List Named × State) → m before s ≡ Ok r → MembersOutcome before s r
 
   abbrev pub EnumrHolds : EnumrMeaning → Type 0
   EnumrHolds m = (next : ℤ) (at : ℕ) (s : State) (r : ℤ × State) → m next at s ≡ Ok r → TypesHold ℤ (λ n. Unit {0}) s r

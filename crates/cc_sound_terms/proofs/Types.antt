@@ -6,7 +6,6 @@ use Rattle.cc_declarators.specs.Declarators.{derived_type}
 use Rattle.cc_declarators.specs.Located.{located}
 use Rattle.cc_declarators.specs.Members.{member_judged}
 use Rattle.cc_declarators.specs.Names.{new_name}
-use Rattle.cc_declarators.specs.Parameters.{parameter, parameter_bound}
 use Rattle.cc_declarators.specs.Specifiers.{begin, type_named, marked, as_type, structure_tag, enumeration_tag}
 use Rattle.cc_num.specs.Integers.{is_value_of}
 use Rattle.cc_num.specs.declared.int_type.IntType.{IntType}
@@ -22,7 +21,7 @@ use Rattle.cc_program.proofs.Each.{Each}
 use Rattle.cc_program.specs.declared.program.Roles.{Roles}
 use Rattle.cc_program.specs.declared.types.CType.{CType}
 use Rattle.cc_program.specs.declared.types.Shape.{Shape, Void, Int}
-use Rattle.cc_scopes.specs.State.{State, Name, Scope, KnownStructure, empty, find_name, or_else, designated, tagged, innermost, outer_scopes, entered, left, bind, bind_tag, only_named, with_structures, structures_of, layouts_of}
+use Rattle.cc_scopes.specs.State.{State, Name, Scope, KnownStructure, or_else, designated, tagged, outer_scopes, bind, bind_tag, only_named, with_structures, structures_of, layouts_of}
 use Rattle.cc_scopes.specs.Structures.{structure_type, enumeration_type, with_structure, new_structure, structure_named, opened_by, tagged_option, opened, is_enumeration, has_content, with_members, completed, closed, is_member_name, enumeration_constant, enumeration_tagged, enumeration_closed, in_list, enumeration_named}
 use Rattle.cc_scopes.specs.Verdicts.{Found, whole, and_then}
 use Rattle.cc_scopes.specs.declared.designated.Designated.{Designated}
@@ -33,9 +32,8 @@ use Rattle.cc_specifiers.specs.Attributes.{are_meant, attributes_in, attributes}
 use Rattle.cc_specifiers.specs.BasicTypes.{with_word, is_no_word, int_by, char_by, basic_by}
 use Rattle.cc_specifiers.specs.Bounds.{is_bound, bound_by, bound_in, bound_judged}
 use Rattle.cc_specifiers.specs.Declarators.{type_found}
-use Rattle.cc_specifiers.specs.Derivations.{nothing_more, in_parameter, in_type_name, with_derivation, is_next_to_name, suffix_found, pointer_derivation}
-use Rattle.cc_specifiers.specs.Objects.{is_object}
-use Rattle.cc_specifiers.specs.Parameters.{parameter_type}
+use Rattle.cc_specifiers.specs.Derivations.{nothing_more, in_type_name, with_derivation, is_next_to_name, suffix_found, pointer_derivation}
+use Rattle.cc_specifiers.specs.Objects.{size_of, is_object}
 use Rattle.cc_specifiers.specs.Places.{JudgedAt}
 use Rattle.cc_specifiers.specs.Specifiers.{no_specifier, with_base, with_storage, base_or_clash, word_beside, type_beside, said, with_mark, with_specifier, shape_or, based, named_type, specified}
 use Rattle.cc_specifiers.specs.Storage.{setting, fits_storage}
@@ -47,7 +45,6 @@ use Rattle.cc_specifiers.specs.declared.derivation.Allowed.{Allowed}
 use Rattle.cc_specifiers.specs.declared.derivation.Declarator.{Declarator}
 use Rattle.cc_specifiers.specs.declared.derivation.Derivation.{Derivation}
 use Rattle.cc_specifiers.specs.declared.derivation.Derivation.TheVariants as to
-use Rattle.cc_specifiers.specs.declared.derivation.Parameter.{Parameter}
 use Rattle.cc_specifiers.specs.declared.specifier.Base.{Base}
 use Rattle.cc_specifiers.specs.declared.specifier.Base.TheVariants as base
 use Rattle.cc_specifiers.specs.declared.specifier.Specified.{Specified}
@@ -57,53 +54,56 @@ use Rattle.cc_specifiers.specs.declared.specifier.Specs.{Specs}
 use Rattle.cc_specifiers.specs.declared.storage.Setting.{Setting}
 use Rattle.cc_specifiers.specs.declared.storage.Where.TheVariants as stands
 use Rattle.cc_syntax.specs.Folding.{Constant, NoConstant, Value, Traps}
-use Rattle.cc_syntax.specs.Kinds.{is_object_type}
-use Rattle.cc_syntax.specs.Types.{Named}
+use Rattle.cc_syntax.specs.Kinds.{is_small, is_object_type}
+use Rattle.cc_syntax.specs.Types.{Named, is_complete}
 use Rattle.cc_syntax.proofs.Prefixes.{both_true}
 use Rattle.cc_tree.specs.declared.at.At.{At}
 use Rattle.cc_tree.specs.declared.tree.Attr.{Attr}
 use Rattle.cc_words.specs.declared.word.Word.{Word}
 use Rattle.cc_words.specs.declared.word.Word.TheVariants as w
 use Rattle.cc_terms.specs.Constants.{constants_found, enumeration_found, constant_declared, constant_by}
-use Rattle.cc_terms.specs.Declarators.{declarator, without_bound, with_bound, bounded, parameters_found, with_scope, parameter_declared}
-use Rattle.cc_terms.specs.InTurn.{in_turn, one_more}
-use Rattle.cc_terms.specs.Meanings.{TreeMeaning, DeclrMeaning, ParamsMeaning, ParamMeaning, SpecMeaning, MembersMeaning, EnumrMeaning}
+use Rattle.cc_terms.specs.Declarators.{declarator, without_bound, with_bound, bounded}
+use Rattle.cc_terms.specs.InTurn.{in_turn}
+use Rattle.cc_terms.specs.Meanings.{TreeMeaning, DeclrMeaning, ParamsMeaning, SpecMeaning, MembersMeaning, EnumrMeaning}
 use Rattle.cc_terms.specs.Members.{member_found, declared_members}
 use Rattle.cc_terms.specs.Specifiers.{specifier_found, specifiers_found, specified_found}
 use Rattle.cc_terms.specs.Structures.{structure_opened, members_found, structure_closed, structure_found, member_behind}
-use Rattle.cc_sound_terms.specs.Behind.{HasMembers, Behind, Adds, Extends}
-use Rattle.cc_sound_terms.specs.Growing.{Kept, Grows, StructureKept, IsConstant, IsParameter, IsTag}
-use Rattle.cc_sound_terms.specs.Knowing.{Stands, KnowsStructures, IsThere, TagsStand}
-use Rattle.cc_sound_terms.specs.Standing.{IsDerived, IsNamedType, ParameterStands, IsParameterOf, ScopeStands, AreParameters, IsBounded, DerivationsStand, SpecifierStands, BaseStands, MembersKnown}
+use Rattle.cc_scopes.specs.declared.unit.Declared.{Declared}
+use Rattle.cc_sound_terms.specs.Behind.{HasEntry, IsUnnamed, Behind, Extends}
+use Rattle.cc_sound_terms.specs.Ordered.{HasMembers, IsOrdered, AreComplete}
+use Rattle.cc_sound_terms.specs.Growing.{Grows, StructureKept, StructuresKept, IsConstant, IsTag}
+use Rattle.cc_sound_terms.specs.Knowing.{Stands, KnowsStructures, IsThere}
+use Rattle.cc_sound_terms.specs.Standing.{IsDerived, IsNamedType, AreParameters, IsBounded, DerivationsStand, SpecifierStands, BaseStands, MembersKnown}
 use Rattle.cc_sound_terms.specs.Typing.{KnowsTypes}
+use Rattle.cc_sound_terms.proofs.Completeness.{complete_grown, ordered_closed}
 use Rattle.cc_sound_terms.proofs.Founds.{answer, answer_is, then_found, whole_found, located_found, then_judged}
-use Rattle.cc_sound_terms.proofs.Behind.{names_itself, behind_through, known_first, known_second, adds_itself, adds_through, adds_parameters, bind_adds, bind_tag_adds, structure_adds, scope_left_adds}
-use Rattle.cc_sound_terms.proofs.Growth.{get_front, get_last, bind_grows, tagged-opens, grows_itself, grows_through, tags_stand, structures_changed, changed_or_not}
+use Rattle.cc_sound_terms.proofs.Behind.{names_itself, names_more, added_behind, behind_through, known_first, known_second, adds_itself, adds_through, bind_adds, bind_tag_adds, structure_adds}
+use Rattle.cc_sound_terms.proofs.Growth.{get_last, tagged-opens, grows_itself, grows_through, tags_stand, structures_changed, changed_or_not, changed_place, changed_there}
 use Rattle.cc_sound_terms.proofs.TypeKinds.{sizes_known, object_stands, structure_stands, void_stands, int_stands, qualified_stands}
 use Rattle.cc_sound_terms.proofs.Known.{types_first, types_second}
-use Rattle.cc_sound_terms.proofs.Meant.{AreInScope, TypesHold, TreeGrows, DeclrHolds, ParamsHold, ParamHolds, SpecHolds, MembersHold, EnumrHolds, TypeNameHolds, value_grows}
-use Rattle.cc_sound_terms.proofs.NamedTypes.{derived_stands, parameter_stands, only_standing}
-use Rattle.cc_sound_terms.proofs.Outcomes.{Outcome, each_append, chained, in_turn_holds, staying, whole_holds, one_more_given, behind}
+use Rattle.cc_sound_terms.proofs.Meant.{TypesHold, TreeGrows, DeclrHolds, ParamsHold, SpecHolds, MembersHold, EnumrHolds, TypeNameHolds, value_grows}
+use Rattle.cc_sound_terms.proofs.NamedTypes.{derived_stands, only_standing}
+use Rattle.cc_sound_terms.proofs.Outcomes.{each_append, chained, in_turn_holds, staying, whole_holds, behind}
 
 module _ (v : View) where
-  abbrev Holds : (A : Type 0) → (A → Type 0) → State → A × State → Type 0
+  abbrev pub Holds : (A : Type 0) → (A → Type 0) → State → A × State → Type 0
   Holds A T s r = TypesHold v A T s r
 
-  then_holds : {A B : Type 0} (T : A → Type 0) (U : B → Type 0) (found : Found A) (next : A → State → Found B) (s : State) (r : B × State) →
+  pub then_holds : {A B : Type 0} (T : A → Type 0) (U : B → Type 0) (found : Found A) (next : A → State → Found B) (s : State) (r : B × State) →
       ((x : A × State) → found ≡ Ok x → Holds A T s x) → ((x : A × State) → next x.0 x.1 ≡ Ok r → Holds B (λ y. T x.0 → U y) x.1 r) → and_then found next ≡ Ok r → Holds B U s r
   then_holds T U found next s r f g h = chained v (IsConstant v.target) (KnowsTypes v) (types_first v (IsConstant v.target)) (types_second v (IsConstant v.target)) T U found next s r f g h
 
-  stays : (A : Type 0) (T : A → Type 0) (s : State) (r : A × State) → r.1 ≡ s → (KnowsTypes v s s → T r.0) → Holds A T s r
+  pub stays : (A : Type 0) (T : A → Type 0) (s : State) (r : A × State) → r.1 ≡ s → (KnowsTypes v s s → T r.0) → Holds A T s r
   stays A T s r e f = staying v (IsConstant v.target) (KnowsTypes v) (types_first v (IsConstant v.target)) (types_second v (IsConstant v.target)) A T s r e f
 
-  judged_holds : (A : Type 0) (T : A → Type 0) (at : ℕ) (s : State) (judged : Judged A) (r : A × State) → ((x : A) → judged ≡ Ok x → KnowsTypes v s s → T x) → whole at s judged ≡ Ok r → Holds A T s r
+  pub judged_holds : (A : Type 0) (T : A → Type 0) (at : ℕ) (s : State) (judged : Judged A) (r : A × State) → ((x : A) → judged ≡ Ok x → KnowsTypes v s s → T x) → whole at s judged ≡ Ok r → Holds A T s r
   judged_holds A T at s judged r f h = whole_holds v (IsConstant v.target) (KnowsTypes v) (types_first v (IsConstant v.target)) (types_second v (IsConstant v.target)) A T at s judged r f h
 
-  list_holds : {A B : Type 0} (find : A → B → State → Found B) (Good : A → Type 0) (P : B → Type 0) → ((x : A) → Good x → (b : B) (s : State) (r : B × State) → find x b s ≡ Ok r → Holds B (λ c. P b → P c) s r) →
+  pub list_holds : {A B : Type 0} (find : A → B → State → Found B) (Good : A → Type 0) (P : B → Type 0) → ((x : A) → Good x → (b : B) (s : State) (r : B × State) → find x b s ≡ Ok r → Holds B (λ c. P b → P c) s r) →
       (xs : List A) → Each Good xs → (b : B) (s : State) (r : B × State) → in_turn find xs b s ≡ Ok r → Holds B (λ c. P b → P c) s r
   list_holds find Good P f xs g b s r h = in_turn_holds v (IsConstant v.target) (KnowsTypes v) (types_first v (IsConstant v.target)) (types_second v (IsConstant v.target)) find Good P f xs g b s r h
 
-  answer_holds : (A : Type 0) (T : A → Type 0) (x : A) (s : State) (r : A × State) → (KnowsTypes v s s → T x) → answer x s ≡ Ok r → Holds A T s r
+  pub answer_holds : (A : Type 0) (T : A → Type 0) (x : A) (s : State) (r : A × State) → (KnowsTypes v s s → T x) → answer x s ≡ Ok r → Holds A T s r
   answer_holds A T x s r f h = let e = answer_is x s r h in stays A T s r e.1 (λ k. subst T (sym e.0) (f k))
 
   -- attributes declare nothing
@@ -326,8 +326,17 @@ module _ (v : View) where
 
   members_hold : (ds : List (At MembersMeaning)) → Each (λ d. MembersHold v d.node) ds → (s : State) (r : List Named × State) → members_found ds s ≡ Ok r → Holds (List Named) (MembersKnown v) s r
   members_hold ds hs s r h =
-      let o = list_holds (λ (d : At MembersMeaning) ms s. d.node ms s) (λ d. MembersHold v d.node) (MembersKnown v) (λ d hd. hd) ds hs [] s r h in
+      let o = list_holds (λ (d : At MembersMeaning) ms s. d.node ms s) (λ d. MembersHold v d.node) (MembersKnown v) (λ d hd before s r h. (hd before s r h).outcome) ds hs [] s r h in
       record { grows = o.grows; holds = λ k. o.holds k tt }
+
+  members_complete : (ds : List (At MembersMeaning)) → Each (λ d. MembersHold v d.node) ds → (before : List Named) (s : State) (r : List Named × State) → in_turn (λ (d : At MembersMeaning) ms s. d.node ms s) ds before s ≡ Ok r →
+      AreComplete before s → AreComplete r.0 r.1
+  members_complete [] hs before s r h k =
+      let e = answer_is before s r h in
+      subst (λ (ms : List Named). AreComplete ms r.1) (sym e.0) (subst (AreComplete before) (sym e.1) k)
+  members_complete (d ∷ ds) hs before s r h k =
+      let a = then_found (d.node before s) (in_turn (λ (d : At MembersMeaning) ms s. d.node ms s) ds) r h in
+      members_complete ds hs.1 a.0.0 a.0.1 r a.2 ((hs.0 before s a.0 a.1).complete k)
 
   no_content : (k : KnownStructure) (ms : List Named) → has_content (Some k) ≡ false → k.members ≡ Some ms → ⊥
   no_content k ms h e = let c : true ≡ false = sym (ap (λ (o : Option (List Named)). is_some o) e) ∙ h in absurd (cc)
@@ -387,32 +396,89 @@ module _ (v : View) where
         new = ap (λ (t : State). has_content (slice_get t.structures i)) (sym e.1) ∙ c.0;
       }
 
-  closed_holds : (i : ℕ) (s : State) (ms : List Named × State) (r : Specifier × State) → Holds (List Named) (MembersKnown v) s ms → IsClosed i ms.0 ms.1 r.0 r.1 → Holds Specifier (λ p. IsThere v i → SpecifierStands v p) s r
-  closed_holds i s ms r o c =
+  -- the structure is there, where those of tags are
+  abbrev Exists : State → ℕ → Type 0
+  Exists s i = (k : KnownStructure) × (slice_get s.structures i ≡ Some k)
+
+  opened_exists : (x : Option Name) (s : State) (o : Option Tagged) → tagged_option x s ≡ o → IsOrdered s → Exists (opened_by x s o).1 (opened_by x s o).0
+  opened_exists x s None e h = let n = new_is x s in (n.kind, n.at)
+  opened_exists x s (Some (tag.StructureTag i)) e h = in_scope x e
+    where
+      in_scope : (x : Option Name) → tagged_option x s ≡ Some (tag.StructureTag i) → Exists s i
+      in_scope None e = absurd (cc)
+      in_scope (Some x) e = h.tags x (tag.StructureTag i) (tagged-opens x s.scopes ∙ ap (λ (o : Option Tagged). or_else o (tagged x (outer_scopes s.scopes))) e) i refl
+  opened_exists x s (Some tag.EnumerationTag) e h = (only_named x, get_last s.structures (only_named x))
+  opened_exists x s (Some tag.UnfinishedEnumeration) e h = (only_named x, get_last s.structures (only_named x))
+
+  structure_exists : (x : Option Name) (front : List (At Attr)) (s : State) (r : (Bool × ℕ) × State) → structure_opened x front s ≡ Ok r → IsOrdered s → Exists r.1 r.0.1
+  structure_exists x front s r h o =
+      let a = then_found (located s (attributes (entity.Structure ∷ []) front)) (λ marks s. Ok ((is_enumeration (tagged_option x s), (opened x s).0), (opened x s).1)) r h in
+      let e = located_found s (attributes (entity.Structure ∷ []) front) a.0 a.1 in
+      let b = answer_is (is_enumeration (tagged_option x a.0.1), (opened x a.0.1).0) (opened x a.0.1).1 r a.2 in
+      let there = subst (λ (t : State). Exists (opened x t).1 (opened x t).0) (sym e.1) (opened_exists x s (tagged_option x s) refl o) in
+      subst (λ (n : Bool × ℕ). Exists r.1 n.1) (sym b.0) (subst (λ (t : State). Exists t (opened x a.0.1).0) (sym b.1) there)
+
+  completed_only : (i : ℕ) (ms : List Named) (s : State) (j : ℕ) (ns : List Named) → HasMembers (completed v.target i ms s).structures j ns → HasMembers s.structures j ns ⊎ (j ≡ i)
+  completed_only i ms s j ns h = of_place (changed_place s.structures i (with_members v.target ms s) j h.0 h.1)
+    where
+      of_place : (slice_get s.structures j ≡ Some h.0) ⊎ (j ≡ i) → HasMembers s.structures j ns ⊎ (j ≡ i)
+      of_place (inl g) = inl (h.0, g, h.2)
+      of_place (inr e) = inr e
+
+  completed_ordered : (i : ℕ) (ms : List Named) (s : State) → has_content (slice_get s.structures i) ≡ false → Exists s i → AreComplete ms s → IsOrdered s → IsOrdered (completed v.target i ms s)
+  completed_ordered i ms s new there complete h =
+      ordered_closed s (completed v.target i ms s) i ms (completed_grows i ms s new).structures refl refl
+      (with_members v.target ms s there.0, changed_there s.structures i (with_members v.target ms s) there.0 there.1, refl)
+      (completed_only i ms s) (λ ns g. no_content g.0 ns (ap has_content (sym g.1) ∙ new) g.2) complete h
+
+  -- between the opening brace and the one that closes it
+  record ClosedHolds (i : ℕ) (s : State) (r : Specifier × State) : Type 0 where
+    grows : Grows (IsConstant v.target) s r.1
+    added : (j : ℕ) (d : Declared) → slice_get r.1.names j ≡ Some d → HasEntry s.names j ⊎ IsUnnamed v.target d
+    behind : KnowsTypes v s r.1 → Behind v s r.1
+    ordered : Exists s i → IsOrdered s → IsOrdered r.1
+    holds : KnowsTypes v s r.1 → IsThere v i → SpecifierStands v r.0
+
+  exists_later : (s t : State) (i : ℕ) → StructuresKept s.structures t.structures → Exists s i → Exists t i
+  exists_later s t i kept h = let l = kept i h.0 h.1 in (l.0, l.1)
+
+  closed_holds : (i : ℕ) (s : State) (ms : List Named × State) (r : Specifier × State) → Holds (List Named) (MembersKnown v) s ms → AreComplete ms.0 ms.1 → IsClosed i ms.0 ms.1 r.0 r.1 → ClosedHolds i s r
+  closed_holds i s ms r o all c =
       let t = completed v.target i ms.0 ms.1 in
       let g = completed_grows i ms.0 ms.1 c.new in
-      record {
-        grows = subst (λ (u : State). Extends v s u) (sym c.state) (record {
-          grows = grows_through (IsConstant v.target) s ms.1 t o.grows.grows g;
-          added = o.grows.added;
-          behind = λ k.
-              let first = known_first v s ms.1 t g.structures k in
-              behind_through v s ms.1 t (names_itself t.names) (o.grows.behind first) (completed_behind i ms.0 ms.1 c.new (known_second v s ms.1 t g.structures o.grows.behind k) (o.holds first));
-        });
+      let whole : ClosedHolds i s (r.0, t) = record {
+        grows = grows_through (IsConstant v.target) s ms.1 t o.grows.grows g;
+        added = o.grows.added;
+        behind = λ k.
+            let first = known_first v s ms.1 t g.structures k in
+            behind_through v s ms.1 t (names_itself t.names) (o.grows.behind first) (completed_behind i ms.0 ms.1 c.new (known_second v s ms.1 t g.structures o.grows.behind k) (o.holds first));
+        ordered = λ there h. completed_ordered i ms.0 ms.1 c.new (exists_later s ms.1 i o.grows.grows.structures there) all (o.grows.ordered h);
         holds = λ k d. subst (SpecifierStands v) (sym c.type) (structure_stands v i d.0 d.1);
-      }
+      } in
+      subst (λ (u : State). ClosedHolds i s (r.0, u)) (sym c.state) whole
 
   members_closed : (ds : List (At MembersMeaning)) (last : List (At Attr)) → Each (λ d. MembersHold v d.node) ds → (at : ℕ) (clash : Bool) (i : ℕ) (s : State) (r : Specifier × State) →
-      and_then (members_found ds s) (λ ms s. structure_closed v.target at last clash i ms s) ≡ Ok r → Holds Specifier (λ p. IsThere v i → SpecifierStands v p) s r
+      and_then (members_found ds s) (λ ms s. structure_closed v.target at last clash i ms s) ≡ Ok r → ClosedHolds i s r
   members_closed ds last hs at clash i s r h =
       let a = then_found (members_found ds s) (λ ms s. structure_closed v.target at last clash i ms s) r h in
-      closed_holds i s a.0 r (members_hold ds hs s a.0 a.1) (structure_closed_is at last clash i a.0.0 a.0.1 r a.2)
+      closed_holds i s a.0 r (members_hold ds hs s a.0 a.1) (members_complete ds hs [] s a.0 a.1 tt) (structure_closed_is at last clash i a.0.0 a.0.1 r a.2)
 
   pub structure_holds : (x : Option Name) (ds : List (At MembersMeaning)) (front last : List (At Attr)) → Each (λ d. MembersHold v d.node) ds → SpecHolds v (λ at s. structure_found v.target at x ds front last s)
   structure_holds x ds front last hs at s r h =
-      then_holds (λ n. IsThere v n.1) (SpecifierStands v) (structure_opened x front s) (λ new s. and_then (members_found ds s) (λ ms s. structure_closed v.target at last new.0 new.1 ms s)) s r
-      (λ n f. structure_opened_holds x front s n f)
-      (λ n f. members_closed ds last hs at n.0.0 n.0.1 n.1 r f) h
+      let a = then_found (structure_opened x front s) (λ new s. and_then (members_found ds s) (λ ms s. structure_closed v.target at last new.0 new.1 ms s)) r h in
+      let n = structure_opened_holds x front s a.0 a.1 in
+      let c = members_closed ds last hs at a.0.0.0 a.0.0.1 a.0.1 r a.2 in
+      let first : KnowsTypes v s r.1 → KnowsTypes v s a.0.1 = λ k. known_first v s a.0.1 r.1 c.grows.structures k in
+      let second : KnowsTypes v s r.1 → KnowsTypes v a.0.1 r.1 = λ k. known_second v s a.0.1 r.1 c.grows.structures n.grows.behind k in
+      record {
+        grows = record {
+          grows = grows_through (IsConstant v.target) s a.0.1 r.1 n.grows.grows c.grows;
+          added = λ j d e. added_behind v s a.0.1 r.1 j d c.grows.names.0 c.grows.names.1 (n.grows.added j) e (c.added j d e);
+          behind = λ k. behind_through v s a.0.1 r.1 (names_more a.0.1.names c.grows.names.0 r.1.names c.grows.names.1) (n.grows.behind (first k)) (c.behind (second k));
+          ordered = λ o. c.ordered (structure_exists x front s a.0 a.1 o) (n.grows.ordered o);
+        };
+        holds = λ k. c.holds (second k) (n.holds (first k));
+      }
 
   -- ---- enumerations
 
@@ -495,7 +561,7 @@ module _ (v : View) where
   first_stands unbounded [] d h e u = (inr (e, u), tt)
   first_stands unbounded (c ∷ ds) d h e u = absurd (cc)
 
-  abbrev Declares : Bool → Declarator Scope → Type 0
+  abbrev pub Declares : Bool → Declarator Scope → Type 0
   Declares unbounded d = DerivationsStand v unbounded d.derivations
 
   same_declarator : (a b : Declarator Scope) → given a ≡ Ok b → a ≡ b
@@ -622,174 +688,54 @@ module _ (v : View) where
       (λ d hd ms s r f. let o = member_holds base d hd ms s r f in record { grows = o.grows; holds = λ k known hb. o.holds k hb (known hb) }) ds hs ms s r h in
       record { grows = o.grows; holds = λ k hb hm. o.holds k (λ b. hm) hb }
 
-  pub member_list_holds : (specs : List (At SpecMeaning)) (ds : List (At DeclrMeaning)) → Each (λ x. SpecHolds v x.node) specs → Each (λ d. DeclrHolds v d.node) ds →
-      MembersHold v (λ ms s. and_then (specified_found (setting stands.AsMember entity.Member) specs s) (λ base s. declared_members v.target base.ctype ds ms s))
-  member_list_holds specs ds hs hd ms s r h =
+  -- a declaration of members
+  abbrev member_list : List (At SpecMeaning) → List (At DeclrMeaning) → MembersMeaning
+  member_list specs ds ms s = and_then (specified_found (setting stands.AsMember entity.Member) specs s) (λ base s. declared_members v.target base.ctype ds ms s)
+
+  member_list_known : (specs : List (At SpecMeaning)) (ds : List (At DeclrMeaning)) → Each (λ x. SpecHolds v x.node) specs → Each (λ d. DeclrHolds v d.node) ds → (ms : List Named) (s : State) (r : List Named × State) → member_list specs ds ms s ≡ Ok r →
+      Holds (List Named) (λ ns. MembersKnown v ms → MembersKnown v ns) s r
+  member_list_known specs ds hs hd ms s r h =
       then_holds (λ x. Stands v x.ctype) (λ ns. MembersKnown v ms → MembersKnown v ns) (specified_found (setting stands.AsMember entity.Member) specs s) (λ base s. declared_members v.target base.ctype ds ms s) s r
       (λ x f. specified_holds (setting stands.AsMember entity.Member) specs hs s x f)
       (λ x f. declared_hold x.0.ctype ds hd ms x.1 r f) h
 
-  -- ---- parameters
+  same_list : (a b : List Named) → given a ≡ Ok b → a ≡ b
+  same_list a b h = ok_is h
 
-  one_is : {A : Type 0} (a b : A) → Some a ≡ Some b → a ≡ b
-  one_is a b h = cc
+  added_complete : (b : Bool) (x : Name) (t : CType) (ms ns : List Named) (s : State) → (if b then Err rule.MemberTwice else Ok (ms ++ (x, t) ∷ [])) ≡ Ok ns → is_complete (structures_of s) t ≡ true → AreComplete ms s → AreComplete ns s
+  added_complete true x t ms ns s h c k = absurd (cc)
+  added_complete false x t ms ns s h c k =
+      subst (λ (l : List Named). AreComplete l s) (same_list (ms ++ (x, t) ∷ []) ns h) (each_append (λ (m : Named). is_complete (structures_of s) m.1 ≡ true) ms (x, t) k c)
 
-  abbrev Binds : (A : Type 0) → (A → Type 0) → State → A × State → Type 0
-  Binds A T s r = Outcome v (IsParameter v.target) (KnowsTypes v) A T s r
+  judged_complete : (t : CType) (ms : List Named) (s : State) (x : Option Name) (ns : List Named) → member_judged v.target t ms s x ≡ Ok ns → AreComplete ms s → AreComplete ns s
+  judged_complete t ms s None ns h k = subst (λ (l : List Named). AreComplete l s) (same_list ms ns h) k
+  judged_complete t ms s (Some x) ns h k =
+      let o = must_ok (is_object v.target (structures_of s) (layouts_of s) t) rule.NoObjectType (if is_member_name x ms then Err rule.MemberTwice else Ok (ms ++ (x, t) ∷ [])) ns h in
+      added_complete (is_member_name x ms) x t ms ns s o.1 (both_true (is_complete (structures_of s) t) (is_small (size_of v.target (structures_of s) (layouts_of s) t)) o.0).0 k
 
-  as_binds : (A : Type 0) (T : A → Type 0) (s : State) (r : A × State) → Holds A T s r → Binds A T s r
-  as_binds A T s r o = record { grows = adds_parameters v s r.1 o.grows; holds = o.holds }
+  member_complete : (base : CType) (d : At DeclrMeaning) → DeclrHolds v d.node → (ms : List Named) (s : State) (r : List Named × State) → member_found v.target base d ms s ≡ Ok r → AreComplete ms s → AreComplete r.0 r.1
+  member_complete base d hd ms s r h k =
+      let a = then_found (d.node nothing_more d.at s) (λ x s. member_behind v.target base d.at ms x s) r h in
+      let b = then_found (derived_type v.target nothing_more base a.0.0 a.0.1) (λ t s. whole d.at s (member_judged v.target t ms s a.0.0.name)) r a.2 in
+      let c = located_found a.0.1 (type_found v.target (structures_of a.0.1) (layouts_of a.0.1) nothing_more base a.0.0.derivations) b.0 b.1 in
+      let e = whole_found d.at b.0.1 (member_judged v.target b.0.0 ms b.0.1 a.0.0.name) r b.2 in
+      let here = complete_grown s a.0.1 (hd nothing_more d.at s a.0 a.1).grows.grows.structures ms k in
+      subst (AreComplete r.0) (sym e.1) (judged_complete b.0.0 ms b.0.1 a.0.0.name r.0 e.0 (subst (AreComplete ms) (sym c.1) here))
 
-  then_binds : {A B : Type 0} (T : A → Type 0) (U : B → Type 0) (found : Found A) (next : A → State → Found B) (s : State) (r : B × State) →
-      ((x : A × State) → found ≡ Ok x → Binds A T s x) → ((x : A × State) → next x.0 x.1 ≡ Ok r → Binds B (λ y. T x.0 → U y) x.1 r) → and_then found next ≡ Ok r → Binds B U s r
-  then_binds T U found next s r f g h = chained v (IsParameter v.target) (KnowsTypes v) (types_first v (IsParameter v.target)) (types_second v (IsParameter v.target)) T U found next s r f g h
+  declared_complete : (base : CType) (ds : List (At DeclrMeaning)) → Each (λ d. DeclrHolds v d.node) ds → (ms : List Named) (s : State) (r : List Named × State) → declared_members v.target base ds ms s ≡ Ok r → AreComplete ms s → AreComplete r.0 r.1
+  declared_complete base [] hd ms s r h k =
+      let e = answer_is ms s r h in
+      subst (λ (l : List Named). AreComplete l r.1) (sym e.0) (subst (AreComplete ms) (sym e.1) k)
+  declared_complete base (d ∷ ds) hd ms s r h k =
+      let a = then_found (member_found v.target base d ms s) (in_turn (member_found v.target base) ds) r h in
+      declared_complete base ds hd.1 a.0.0 a.0.1 r a.2 (member_complete base d hd.0 ms s a.0 a.1 k)
 
-  same_parameter : (a b : Parameter) → given a ≡ Ok b → a ≡ b
-  same_parameter a b h = ok_is h
+  list_complete : (specs : List (At SpecMeaning)) (ds : List (At DeclrMeaning)) → Each (λ x. SpecHolds v x.node) specs → Each (λ d. DeclrHolds v d.node) ds → (ms : List Named) (s : State) (r : List Named × State) → member_list specs ds ms s ≡ Ok r →
+      AreComplete ms s → AreComplete r.0 r.1
+  list_complete specs ds hs hd ms s r h k =
+      let set = setting stands.AsMember entity.Member in
+      let a = then_found (specified_found set specs s) (λ base s. declared_members v.target base.ctype ds ms s) r h in
+      declared_complete a.0.0.ctype ds hd ms a.0.1 r a.2 (complete_grown s a.0.1 (specified_holds set specs hs s a.0 a.1).grows.grows.structures ms k)
 
-  bound_parameter : (roles : Roles) (unnamed : Bool) (i : ℕ) (p : Parameter) (s : State) (x : Option Name) (r : Parameter × State) → parameter_bound roles unnamed i p s x ≡ Ok r → Binds Parameter (λ q. ParameterStands v p → ParameterStands v q) s r
-  bound_parameter roles unnamed i p s None r h =
-      as_binds Parameter (λ q. ParameterStands v p → ParameterStands v q) s r
-      (judged_holds Parameter (λ q. ParameterStands v p → ParameterStands v q) p.at s (must unnamed rule.DeclaredTwice (Ok p)) r
-      (λ q e k w. subst (ParameterStands v) (same_parameter p q (must_ok unnamed rule.DeclaredTwice (Ok p) q e).1) w) h)
-  bound_parameter roles unnamed i p s (Some x) r h =
-      let a = then_found (whole p.at s (new_name roles x s)) (λ x s. Ok (p, bind x (means.Automatic i p.ctype) s)) r h in
-      let b = whole_found p.at s (new_name roles x s) a.0 a.1 in
-      let e = answer_is p (bind a.0.0 (means.Automatic i p.ctype) a.0.1) r a.2 in
-      record {
-        grows = subst (λ (t : State). Adds v (IsParameter v.target) s t) (ap (bind a.0.0 (means.Automatic i p.ctype)) (sym b.1) ∙ sym e.1) (bind_adds v (IsParameter v.target) a.0.0 (means.Automatic i p.ctype) s tt (λ k w e. absurd (cc)));
-        holds = λ k w. subst (ParameterStands v) (sym e.0) w;
-      }
-
-  module _ (roles : Roles) where
-    parameter_declared_binds : (unnamed : Bool) (before : List Parameter) (base : CType) (at : ℕ) (x : Declarator Scope) (s : State) (r : List Parameter × State) → parameter_declared v.target roles unnamed before base at x s ≡ Ok r →
-        Binds (List Parameter) (λ ps. Declares true x → Stands v base → Each (ParameterStands v) before → Each (ParameterStands v) ps) s r
-    parameter_declared_binds unnamed before base at x s r h =
-        then_binds (λ t. Declares true x → Stands v base → IsDerived v false true t) (λ ps. Declares true x → Stands v base → Each (ParameterStands v) before → Each (ParameterStands v) ps) (derived_type v.target in_parameter base x s)
-        (λ t s. and_then (whole at s (parameter_type t)) (λ t s. one_more before (parameter_bound roles unnamed (length before) (parameter at x.name t) s x.name))) s r
-        (λ t f. as_binds CType (λ t. Declares true x → Stands v base → IsDerived v false true t) s t (derived_holds in_parameter base x s t f))
-        (λ t f. then_binds (λ u. IsDerived v false true t.0 → ParameterStands v (parameter at x.name u)) (λ ps. (Declares true x → Stands v base → IsDerived v false true t.0) → Declares true x → Stands v base → Each (ParameterStands v) before → Each (ParameterStands v) ps)
-        (whole at t.1 (parameter_type t.0)) (λ t s. one_more before (parameter_bound roles unnamed (length before) (parameter at x.name t) s x.name)) t.1 r
-        (λ u g. as_binds CType (λ u. IsDerived v false true t.0 → ParameterStands v (parameter at x.name u)) t.1 u
-        (judged_holds CType (λ u. IsDerived v false true t.0 → ParameterStands v (parameter at x.name u)) at t.1 (parameter_type t.0) u (λ u e k w. let p = parameter_stands v t.0 u w e in record { plain = p.0; pointed = p.1 }) g))
-        (λ u g.
-        let p = parameter at x.name u.0 in
-        let o = one_more_given v (IsParameter v.target) (KnowsTypes v) (types_first v (IsParameter v.target)) (types_second v (IsParameter v.target)) (ParameterStands v p) (ParameterStands v) before (parameter_bound roles unnamed (length before) p u.1 x.name) u.1 r
-        (λ q k. bound_parameter roles unnamed (length before) p u.1 x.name q k) g in
-        record { grows = o.grows; holds = λ k f derived hd hb hs. o.holds k (f (derived hd hb)) hs }) f) h
-
-    -- a parameter, behind those before it
-    abbrev param_of : List (At SpecMeaning) → At DeclrMeaning → ParamMeaning
-    param_of specs d unnamed before s =
-        and_then (specified_found (setting stands.AsParameter entity.Parameter) specs s) (λ base s. declarator in_parameter d s (λ x s. parameter_declared v.target roles unnamed before base.ctype d.at x s))
-
-    param_binds : (specs : List (At SpecMeaning)) (d : At DeclrMeaning) → Each (λ x. SpecHolds v x.node) specs → DeclrHolds v d.node →
-        (unnamed : Bool) (before : List Parameter) (s : State) (r : List Parameter × State) → param_of specs d unnamed before s ≡ Ok r → Binds (List Parameter) (λ ps. Each (ParameterStands v) before → Each (ParameterStands v) ps) s r
-    param_binds specs d hs hd unnamed before s r h =
-        then_binds (λ x. Stands v x.ctype) (λ ps. Each (ParameterStands v) before → Each (ParameterStands v) ps) (specified_found (setting stands.AsParameter entity.Parameter) specs s)
-        (λ base s. declarator in_parameter d s (λ x s. parameter_declared v.target roles unnamed before base.ctype d.at x s)) s r
-        (λ x f. as_binds Specified (λ x. Stands v x.ctype) s x (specified_holds (setting stands.AsParameter entity.Parameter) specs hs s x f))
-        (λ x f. then_binds (Declares true) (λ ps. Stands v x.0.ctype → Each (ParameterStands v) before → Each (ParameterStands v) ps) (d.node in_parameter d.at x.1) (λ y s. parameter_declared v.target roles unnamed before x.0.ctype d.at y s) x.1 r
-        (λ y g. as_binds (Declarator Scope) (Declares true) x.1 y (hd in_parameter d.at x.1 y g))
-        (λ y g. parameter_declared_binds unnamed before x.0.ctype d.at y.0 y.1 r g) f) h
-
-    constant_parameter : (ps : List Parameter) (d : Designated) → IsConstant v.target d → IsParameterOf v ps d
-    constant_parameter ps (means.Enumerator n) h = h
-    constant_parameter ps (means.Linked i) h = elim h [ ]
-    constant_parameter ps (means.Automatic n t) h = elim h [ ]
-    constant_parameter ps (means.TypeNamed t) h = elim h [ ]
-
-    kept_in_scope : (ps : List Parameter) (a b : Option Designated) (d : Designated) → ((e : Designated) → a ≡ Some e → IsParameterOf v ps e) → Kept (IsConstant v.target) a b → b ≡ Some d → IsParameterOf v ps d
-    kept_in_scope ps a b d f (inl e) h = f d (sym e ∙ h)
-    kept_in_scope ps a b d f (inr n) h = constant_parameter ps d (subst (IsConstant v.target) (one_is n.0 d (sym n.1 ∙ h)) n.2)
-
-    grown_scope : (ps : List Parameter) (s t : State) → Grows (IsConstant v.target) s t → AreInScope v ps s → AreInScope v ps t
-    grown_scope ps s t g h = λ x d e. kept_in_scope ps (find_name x (innermost s.scopes).names) (find_name x (innermost t.scopes).names) d (h x) (g.here x) e
-
-    one_more_parameter : (ps : List Parameter) (p : Parameter) (d : Designated) → IsParameterOf v ps d → IsParameterOf v (ps ++ p ∷ []) d
-    one_more_parameter ps p (means.Automatic i t) h = (h.0, get_front ps (p ∷ []) i h.0 h.1, h.2)
-    one_more_parameter ps p (means.Enumerator n) h = h
-    one_more_parameter ps p (means.Linked i) h = elim h [ ]
-    one_more_parameter ps p (means.TypeNamed t) h = elim h [ ]
-
-    bound_in_scope : (ps : List Parameter) (p : Parameter) (s : State) (x y : Name) (d : Designated) → AreInScope v ps s → Kept (λ e. e ≡ means.Automatic (length ps) p.ctype) (find_name y (innermost s.scopes).names) (find_name y (innermost (bind x (means.Automatic (length ps) p.ctype) s).scopes).names) →
-        find_name y (innermost (bind x (means.Automatic (length ps) p.ctype) s).scopes).names ≡ Some d → IsParameterOf v (ps ++ p ∷ []) d
-    bound_in_scope ps p s x y d h (inl e) f = one_more_parameter ps p d (h y d (sym e ∙ f))
-    bound_in_scope ps p s x y d h (inr n) f = subst (IsParameterOf v (ps ++ p ∷ [])) (sym n.2 ∙ one_is n.0 d (sym n.1 ∙ f)) (p, get_last ps p, refl)
-
-    -- a parameter that has a name is in scope by its position
-    bound_scope : (unnamed : Bool) (ps : List Parameter) (p : Parameter) (s : State) (x : Option Name) (r : Parameter × State) → parameter_bound roles unnamed (length ps) p s x ≡ Ok r → AreInScope v ps s → AreInScope v (ps ++ r.0 ∷ []) r.1
-    bound_scope unnamed ps p s None r h k =
-        let a = whole_found p.at s (must unnamed rule.DeclaredTwice (Ok p)) r h in
-        let same = same_parameter p r.0 (must_ok unnamed rule.DeclaredTwice (Ok p) r.0 a.0).1 in
-        subst (λ (q : Parameter). AreInScope v (ps ++ q ∷ []) r.1) same
-        (subst (AreInScope v (ps ++ p ∷ [])) (sym a.1) (λ y d e. one_more_parameter ps p d (k y d e)))
-    bound_scope unnamed ps p s (Some x) r h k =
-        let a = then_found (whole p.at s (new_name roles x s)) (λ x s. Ok (p, bind x (means.Automatic (length ps) p.ctype) s)) r h in
-        let b = whole_found p.at s (new_name roles x s) a.0 a.1 in
-        let e = answer_is p (bind a.0.0 (means.Automatic (length ps) p.ctype) a.0.1) r a.2 in
-        let object : Designated = means.Automatic (length ps) p.ctype in
-        subst (λ (q : Parameter). AreInScope v (ps ++ q ∷ []) r.1) (sym e.0)
-        (subst (AreInScope v (ps ++ p ∷ [])) (sym (e.1 ∙ ap (bind a.0.0 object) b.1))
-        (λ y d f. bound_in_scope ps p s a.0.0 y d k ((bind_grows (λ c. c ≡ object) a.0.0 object s refl).here y) f))
-
-    param_scope : (specs : List (At SpecMeaning)) (d : At DeclrMeaning) → Each (λ x. SpecHolds v x.node) specs → DeclrHolds v d.node → (unnamed : Bool) (before : List Parameter) (s : State) (r : List Parameter × State) → param_of specs d unnamed before s ≡ Ok r →
-        AreInScope v before s → AreInScope v r.0 r.1
-    param_scope specs d hs hd unnamed before s r h k =
-        let set = setting stands.AsParameter entity.Parameter in
-        let a = then_found (specified_found set specs s) (λ base s. declarator in_parameter d s (λ x s. parameter_declared v.target roles unnamed before base.ctype d.at x s)) r h in
-        let b = then_found (d.node in_parameter d.at a.0.1) (λ x s. parameter_declared v.target roles unnamed before a.0.0.ctype d.at x s) r a.2 in
-        let c = then_found (derived_type v.target in_parameter a.0.0.ctype b.0.0 b.0.1) (λ t s. and_then (whole d.at s (parameter_type t)) (λ t s. one_more before (parameter_bound roles unnamed (length before) (parameter d.at b.0.0.name t) s b.0.0.name))) r b.2 in
-        let e = located_found b.0.1 (type_found v.target (structures_of b.0.1) (layouts_of b.0.1) in_parameter a.0.0.ctype b.0.0.derivations) c.0 c.1 in
-        let f = then_found (whole d.at c.0.1 (parameter_type c.0.0)) (λ t s. one_more before (parameter_bound roles unnamed (length before) (parameter d.at b.0.0.name t) s b.0.0.name)) r c.2 in
-        let g = whole_found d.at c.0.1 (parameter_type c.0.0) f.0 f.1 in
-        let q = then_found (parameter_bound roles unnamed (length before) (parameter d.at b.0.0.name f.0.0) f.0.1 b.0.0.name) (λ x s. Ok (before ++ x ∷ [], s)) r f.2 in
-        let l = answer_is (before ++ q.0.0 ∷ []) q.0.1 r q.2 in
-        let here = grown_scope before a.0.1 b.0.1 (hd in_parameter d.at a.0.1 b.0 b.1).grows.grows (grown_scope before s a.0.1 (specified_holds set specs hs s a.0 a.1).grows.grows k) in
-        let there = bound_scope unnamed before (parameter d.at b.0.0.name f.0.0) f.0.1 b.0.0.name q.0 q.1 (subst (AreInScope v before) (sym (g.1 ∙ e.1)) here) in
-        subst (λ (ps : List Parameter). AreInScope v ps r.1) (sym l.0) (subst (AreInScope v (before ++ q.0.0 ∷ [])) (sym l.1) there)
-
-    pub param_holds : (specs : List (At SpecMeaning)) (d : At DeclrMeaning) → Each (λ x. SpecHolds v x.node) specs → DeclrHolds v d.node → ParamHolds v (param_of specs d)
-    param_holds specs d hs hd unnamed before s r h = record { outcome = param_binds specs d hs hd unnamed before s r h; scope = param_scope specs d hs hd unnamed before s r h }
-
-  nothing_found : (x : Name) (d : Designated) → find_name x empty.names ≡ Some d → ⊥
-  nothing_found x d f = absurd (cc)
-
-  no_scope : ScopeStands v [] empty
-  no_scope = record { names = λ x d h. absurd (cc); tags = λ x t h i e. absurd (cc) }
-
-  no_parameters_hold : (s : State) (r : (List Parameter × Scope) × State) → answer ([], empty) s ≡ Ok r → Holds (List Parameter × Scope) (AreParameters v) s r
-  no_parameters_hold s r h = answer_holds (List Parameter × Scope) (AreParameters v) ([], empty) s r (λ k. (tt, no_scope)) h
-
-  pub empty_holds : ParamsHold v (λ unnamed s. Ok (([], empty), s))
-  empty_holds unnamed s r h = no_parameters_hold s r h
-
-  entered_known : (s t : State) → KnowsTypes v s (left t) → KnowsTypes v (entered empty s) t
-  entered_known s t k = record { structures = k.structures; types = k.types; tags = k.tags }
-
-  params_scope : (unnamed : Bool) (ps : List (At ParamMeaning)) → Each (λ p. ParamHolds v p.node) ps → (before : List Parameter) (s : State) (r : List Parameter × State) → in_turn (λ (p : At ParamMeaning) before s. p.node unnamed before s) ps before s ≡ Ok r →
-      AreInScope v before s → AreInScope v r.0 r.1
-  params_scope unnamed [] hs before s r h k =
-      let e = answer_is before s r h in
-      subst (λ (ps : List Parameter). AreInScope v ps r.1) (sym e.0) (subst (AreInScope v before) (sym e.1) k)
-  params_scope unnamed (p ∷ ps) hs before s r h k =
-      let a = then_found (p.node unnamed before s) (in_turn (λ (p : At ParamMeaning) before s. p.node unnamed before s) ps) r h in
-      params_scope unnamed ps hs.1 a.0.0 a.0.1 r a.2 ((hs.0 unnamed before s a.0 a.1).scope k)
-
-  -- tags of the innermost scope are in scope
-  inner_tags : (t : State) → TagsStand v t → (x : Name) (u : Tagged) → find_name x (innermost t.scopes).tags ≡ Some u → (i : ℕ) → u ≡ tag.StructureTag i → IsThere v i
-  inner_tags t h x u e = h x u (tagged-opens x t.scopes ∙ ap (λ (o : Option Tagged). or_else o (tagged x (outer_scopes t.scopes))) e)
-
-  pub many_hold : (ps : List (At ParamMeaning)) → Each (λ p. ParamHolds v p.node) ps → ParamsHold v (λ unnamed s. with_scope (parameters_found unnamed ps (entered empty s)))
-  many_hold ps hs unnamed s r h =
-      let a = then_found (parameters_found unnamed ps (entered empty s)) (λ ps s. Ok ((ps, innermost s.scopes), left s)) r h in
-      let e = answer_is (a.0.0, innermost a.0.1.scopes) (left a.0.1) r a.2 in
-      let o = in_turn_holds v (IsParameter v.target) (KnowsTypes v) (types_first v (IsParameter v.target)) (types_second v (IsParameter v.target)) (λ (p : At ParamMeaning) before s. p.node unnamed before s) (λ p. ParamHolds v p.node) (Each (ParameterStands v))
-      (λ p hp before s r h. (hp unnamed before s r h).outcome) ps hs [] (entered empty s) a.0 a.1 in
-      let scope = params_scope unnamed ps hs [] (entered empty s) a.0 a.1 (λ x d f. absurd (nothing_found x d f)) in
-      record {
-        grows = subst (λ (t : State). Extends v s t) (sym e.1) (scope_left_adds v (IsParameter v.target) s a.0.1 o.grows);
-        holds = λ k.
-            let inside = entered_known s a.0.1 (subst (λ (t : State). KnowsTypes v s t) e.1 k) in
-            subst (AreParameters v) (sym e.0) (o.holds inside tt, record { names = scope; tags = inner_tags a.0.1 (o.grows.behind inside).tags });
-      }
+  pub member_list_holds : (specs : List (At SpecMeaning)) (ds : List (At DeclrMeaning)) → Each (λ x. SpecHolds v x.node) specs → Each (λ d. DeclrHolds v d.node) ds → MembersHold v (member_list specs ds)
+  member_list_holds specs ds hs hd ms s r h = record { outcome = member_list_known specs ds hs hd ms s r h; complete = list_complete specs ds hs hd ms s r h }

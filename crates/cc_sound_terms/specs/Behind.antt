@@ -14,7 +14,7 @@ use Rattle.cc_program.specs.declared.func.Entry.{Entry}
 use Rattle.cc_program.specs.declared.func.Func.{Func}
 use Rattle.cc_program.specs.declared.object.Device.{Device}
 use Rattle.cc_program.specs.declared.value.Leaf.{Leaf}
-use Rattle.cc_scopes.specs.State.{State, KnownStructure}
+use Rattle.cc_scopes.specs.State.{State}
 use Rattle.cc_scopes.specs.declared.designated.Designated.{Designated}
 use Rattle.cc_scopes.specs.declared.unit.Declared.{Declared}
 use Rattle.cc_specifiers.specs.Bounds.{is_bound}
@@ -24,15 +24,13 @@ use Rattle.cc_unit.specs.declared.unit.UnitKind.{UnitKind}
 use Rattle.cc_unit.specs.declared.unit.UnitKind.TheVariants as kind
 use Rattle.cc_sound_terms.specs.Growing.{Grows, IsConstant}
 use Rattle.cc_sound_terms.specs.Knowing.{TypesStand, TagsStand}
+use Rattle.cc_sound_terms.specs.Ordered.{HasMembers, IsOrdered}
 use Rattle.cc_sound_terms.specs.Standing.{MembersKnown}
 use Rattle.cc_sound_terms.specs.Typing.{KnowsTypes}
 
--- an entry of that number, and a structure of that number with these members
+-- an entry of that number
 abbrev pub HasEntry : List Declared → ℕ → Type 0
 HasEntry names i = (d : Declared) × (slice_get names i ≡ Some d)
-
-abbrev pub HasMembers : List KnownStructure → ℕ → List Named → Type 0
-HasMembers structures i ms = (k : KnownStructure) × (slice_get structures i ≡ Some k) × (k.members ≡ Some ms)
 
 -- what is declared by its use
 pub data IsUnnamed (target : Target) : Declared → Type 0 where
@@ -69,6 +67,7 @@ module _ (v : View) where
     pub grows : Grows New s t
     pub added : (i : ℕ) (d : Declared) → slice_get t.names i ≡ Some d → HasEntry s.names i ⊎ IsUnnamed v.target d
     pub behind : KnowsTypes v s t → Behind s t
+    pub ordered : IsOrdered s → IsOrdered t
 
   abbrev pub Extends : State → State → Type 0
   Extends s t = Adds (IsConstant v.target) s t
@@ -81,6 +80,7 @@ pub data SameKind : UnitKind → UnitKind → Type 0 where
   Functions : (entry entry' : Option Entry) (body body' : Option Func) → SameKind (kind.Func entry body) (kind.Func entry' body')
 
 pub record EntryKept (d e : Declared) : Type 0 where
+  pub name : e.name ≡ d.name
   pub ctype : e.ctype ≡ d.ctype
   pub kind : SameKind d.kind e.kind
 

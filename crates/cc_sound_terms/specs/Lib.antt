@@ -3,4 +3,5 @@ pub mod Knowing
 pub mod Standing
 pub mod Typing
 pub mod Ranges
+pub mod Ordered
 pub mod Behind

@@ -3,7 +3,7 @@ use Rattle.cc_sound_states.proofs.law.declaring_laws.Goals as goal
 
 pub returns : goal.returns
 returns c = record {
-  goes_on = λ v k. goes_on v k;
-  expressions = λ v s t D g. of_extends v (Unit {0}) s t D g;
+  goes_on = λ v defined k. goes_on v defined k;
+  expressions = λ v defined s t D g. of_extends v defined (Unit {0}) s t D g;
   wider = λ v s t D more L e k. wider v D more L s t e k;
 }
