@@ -1,5 +1,5 @@
 -- What is to hold of the meaning of each kind of construct.
-use Rattle.std.proofs.Common.{◌≡◌, ℕ, ℤ, Bool, List, Some, Ok, sym, subst}
+use Rattle.std.proofs.Common.{◌≡◌, ℕ, ℤ, Bool, List, Ok, sym, subst}
 use Rattle.cc_designators.specs.Designators.{TypedExpr, IsPlace, IsValue, IsFunction, IsIntrinsic, IsAddress, value_at}
 use Rattle.cc_operands.specs.Operands.{Operand, operand}
 use Rattle.cc_operand_types.specs.Typed.{IsTypedExpr}
@@ -8,8 +8,7 @@ use Rattle.cc_primary.specs.Values.{null_judged, valued, value_found}
 use Rattle.cc_program.proofs.Each.{Each}
 use Rattle.cc_program.specs.declared.expr.Expr.{FuncAddr}
 use Rattle.cc_program.specs.declared.types.CType.{CType}
-use Rattle.cc_scopes.specs.State.{State, Scope, Name, find_name, innermost}
-use Rattle.cc_scopes.specs.declared.designated.Designated.{Designated}
+use Rattle.cc_scopes.specs.State.{State, Scope}
 use Rattle.cc_specifiers.specs.declared.derivation.Allowed.{Allowed}
 use Rattle.cc_specifiers.specs.declared.derivation.Declarator.{Declarator}
 use Rattle.cc_specifiers.specs.declared.derivation.Parameter.{Parameter}
@@ -21,7 +20,7 @@ use Rattle.cc_terms.specs.Meanings.{TreeMeaning, DeclrMeaning, ParamsMeaning, Pa
 use Rattle.cc_sound_terms.specs.Behind.{Extends}
 use Rattle.cc_sound_terms.specs.Growing.{IsConstant, IsParameter}
 use Rattle.cc_sound_terms.specs.Ordered.{AreComplete}
-use Rattle.cc_sound_terms.specs.Standing.{IsNamedType, ParameterStands, IsParameterOf, AreParameters, DerivationsStand, SpecifierStands, MembersKnown}
+use Rattle.cc_sound_terms.specs.Standing.{IsNamedType, ParameterStands, DerivationsStand, SpecifierStands, MembersKnown}
 use Rattle.cc_sound_terms.specs.Typing.{KnowsTypes, Knows}
 use Rattle.cc_sound_terms.proofs.Founds.{answer_is, then_found, whole_found}
 use Rattle.cc_sound_terms.proofs.Outcomes.{Outcome}
@@ -41,18 +40,11 @@ module _ (v : View) where
   DeclrHolds m = (allowed : Allowed) (at : ℕ) (s : State) (r : Declarator Scope × State) → m allowed at s ≡ Ok r → TypesHold (Declarator Scope) (λ d. DerivationsStand v allowed.unbounded d.derivations) s r
 
   abbrev pub ParamsHold : ParamsMeaning → Type 0
-  ParamsHold m = (unnamed : Bool) (s : State) (r : (List Parameter × Scope) × State) → m unnamed s ≡ Ok r → TypesHold (List Parameter × Scope) (AreParameters v) s r
-
-  -- what the innermost scope has are these parameters, and enumeration constants
-  abbrev pub AreInScope : List Parameter → State → Type 0
-  AreInScope ps s = (x : Name) (d : Designated) → find_name x (innermost s.scopes).names ≡ Some d → IsParameterOf v ps d
-
-  pub record ParamOutcome (before : List Parameter) (s : State) (r : List Parameter × State) : Type 0 where
-    pub outcome : Outcome v (IsParameter v.target) (KnowsTypes v) (List Parameter) (λ ps. Each (ParameterStands v) before → Each (ParameterStands v) ps) s r
-    pub scope : AreInScope before s → AreInScope r.0 r.1
+  ParamsHold m = (unnamed : Bool) (s : State) (r : (List Parameter × Scope) × State) → m unnamed s ≡ Ok r → TypesHold (List Parameter × Scope) (λ p. Each (ParameterStands v) p.0) s r
 
   abbrev pub ParamHolds : ParamMeaning → Type 0
-  ParamHolds m = (unnamed : Bool) (before : List Parameter) (s : State) (r : List Parameter × State) → m unnamed before s ≡ Ok r → ParamOutcome before s r
+  ParamHolds m = (unnamed : Bool) (before : List Parameter) (s : State) (r : List Parameter × State) → m unnamed before s ≡ Ok r →
+      Outcome v (IsParameter v.target) (KnowsTypes v) (List Parameter) (λ ps. Each (ParameterStands v) before → Each (ParameterStands v) ps) s r
 
   abbrev pub SpecHolds : SpecMeaning → Type 0
   SpecHolds m = (at : ℕ) (s : State) (r : Specifier × State) → m at s ≡ Ok r → TypesHold Specifier (SpecifierStands v) s r

@@ -216,7 +216,7 @@ module _ (v : View) where
         (IsScalar (c || w) v.target.pointer_bytes, pointer_kind_is v c w t k (no_void (is_void t) (is_unqualified t) (no_rule (not (is_void t) || (false && is_unqualified t)) rule.PointerToVoid h)))
     one_stands (to.Array None) t k b h = elim b [ ]
     one_stands (to.Array (Some n)) t k b h = array_stands t n k b (no_rule (is_object v.target structures layouts t) rule.NoObjectType h)
-    one_stands (to.Function ps scope) t k b h = function_stands t ps k b.0 h
+    one_stands (to.Function ps scope) t k b h = function_stands t ps k b h
 
     bounded_stand : (base : CType) (ds : List (At (Derivation Scope))) (t : CType) → Stands v base → Each (λ e. IsBounded v e.node) ds → derived v.target structures layouts false base ds ≡ Ok t → Stands v t
     bounded_stand base [] t k b h = subst (Stands v) (ok_type base t h) k

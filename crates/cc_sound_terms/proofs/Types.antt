@@ -73,7 +73,7 @@ use Rattle.cc_sound_terms.specs.Behind.{HasEntry, IsUnnamed, Behind, Extends}
 use Rattle.cc_sound_terms.specs.Ordered.{HasMembers, IsOrdered, AreComplete}
 use Rattle.cc_sound_terms.specs.Growing.{Grows, StructureKept, StructuresKept, IsConstant, IsTag}
 use Rattle.cc_sound_terms.specs.Knowing.{Stands, KnowsStructures, IsThere}
-use Rattle.cc_sound_terms.specs.Standing.{IsDerived, IsNamedType, AreParameters, IsBounded, DerivationsStand, SpecifierStands, BaseStands, MembersKnown}
+use Rattle.cc_sound_terms.specs.Standing.{IsDerived, ParameterStands, IsNamedType, IsBounded, DerivationsStand, SpecifierStands, BaseStands, MembersKnown}
 use Rattle.cc_sound_terms.specs.Typing.{KnowsTypes}
 use Rattle.cc_sound_terms.proofs.Completeness.{complete_grown, ordered_closed}
 use Rattle.cc_sound_terms.proofs.Founds.{answer, answer_is, then_found, whole_found, located_found, then_judged}
@@ -633,9 +633,9 @@ module _ (v : View) where
       (λ d s. and_then (located s (suffix_found true d.derivations)) (λ done s. and_then (ps (allowed.unnamed || not (is_next_to_name d.derivations)) s) (λ ps s. Ok (with_derivation at (to.Function ps.0 ps.1) d, s)))) s r
       (λ x g. located_then (λ c. Declares allowed.unbounded x.0 → Declares allowed.unbounded c) x.1 (suffix_found true x.0.derivations)
       (λ done s. and_then (ps (allowed.unnamed || not (is_next_to_name x.0.derivations)) s) (λ ps s. Ok (with_derivation at (to.Function ps.0 ps.1) x.0, s))) r
-      (λ done k. then_holds (AreParameters v) (λ c. Declares allowed.unbounded x.0 → Declares allowed.unbounded c) (ps (allowed.unnamed || not (is_next_to_name x.0.derivations)) x.1)
+      (λ done k. then_holds (λ p. Each (ParameterStands v) p.0) (λ c. Declares allowed.unbounded x.0 → Declares allowed.unbounded c) (ps (allowed.unnamed || not (is_next_to_name x.0.derivations)) x.1)
       (λ ps s. Ok (with_derivation at (to.Function ps.0 ps.1) x.0, s)) x.1 r (λ p f. hp (allowed.unnamed || not (is_next_to_name x.0.derivations)) x.1 p f)
-      (λ p f. answer_holds (Declarator Scope) (λ c. AreParameters v p.0 → Declares allowed.unbounded x.0 → Declares allowed.unbounded c) (with_derivation at (to.Function p.0.0 p.0.1) x.0) p.1 r
+      (λ p f. answer_holds (Declarator Scope) (λ c. Each (ParameterStands v) p.0.0 → Declares allowed.unbounded x.0 → Declares allowed.unbounded c) (with_derivation at (to.Function p.0.0 p.0.1) x.0) p.1 r
       (λ w hs hx. more_stand allowed.unbounded x.0.derivations (record { at = at; node = to.Function p.0.0 p.0.1 }) hx hs) f) k) g) h
 
   -- ---- the type that a declarator derives

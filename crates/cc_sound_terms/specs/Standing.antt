@@ -1,7 +1,5 @@
 -- What specifiers, declarators, parameters and type names give stands: the types that they name may stand (C99 6.7.2 to 6.7.6).
-use Rattle.std.specs.Prelude.{◌≡◌, ◌⊎◌, Bool, true, false, List, [], ◌∷◌, Some, None, ℕ, slice_get}
-use Rattle.cc_num.specs.declared.int_type.IntType.TheVariants as int
-use Rattle.cc_num.specs.Integers.{is_value_of}
+use Rattle.std.specs.Prelude.{◌≡◌, ◌⊎◌, Bool, true, false, List, [], ◌∷◌, Some, None}
 use Rattle.cc_operands.specs.Qualified.{plain, unqualified}
 use Rattle.cc_operand_types.specs.Typed.{is_pointed_kind}
 use Rattle.cc_operand_types.specs.Views.{View, kind_in}
@@ -9,11 +7,7 @@ use Rattle.cc_program.proofs.Each.{Each}
 use Rattle.cc_program.specs.declared.types.CType.{CType}
 use Rattle.cc_program.specs.declared.types.Shape.{Array, out-Shape}
 use Rattle.cc_program.specs.declared.types.Shape.TheOpen as shape
-use Rattle.cc_scopes.specs.State.{Scope, Name, find_name}
-use Rattle.cc_scopes.specs.declared.designated.Designated.{Designated}
-use Rattle.cc_scopes.specs.declared.designated.Designated.TheVariants as means
-use Rattle.cc_scopes.specs.declared.designated.Tagged.{Tagged}
-use Rattle.cc_scopes.specs.declared.designated.Tagged.TheVariants as tag
+use Rattle.cc_scopes.specs.State.{Scope}
 use Rattle.cc_specifiers.specs.Bounds.{is_bound}
 use Rattle.cc_specifiers.specs.declared.derivation.Derivation.{Derivation}
 use Rattle.cc_specifiers.specs.declared.derivation.Derivation.TheVariants as to
@@ -27,7 +21,7 @@ use Rattle.cc_syntax.specs.Operators.{is_unqualified}
 use Rattle.cc_syntax.specs.Types.{Named}
 use Rattle.cc_syntax.specs.Values.{is_void}
 use Rattle.cc_tree.specs.declared.at.At.{At}
-use Rattle.cc_sound_terms.specs.Knowing.{Stands, IsThere}
+use Rattle.cc_sound_terms.specs.Knowing.{Stands}
 
 module _ (v : View) where
   -- a type that a declarator derives: it stands; or it is a pointer to void, where one may be; or an array without a bound, where one may be
@@ -45,25 +39,11 @@ module _ (v : View) where
     pub plain : is_plain_scalar (kind_in v (unqualified p.ctype)) ≡ true
     pub pointed : is_pointed_kind false (kind_in v p.ctype) ≡ true
 
-  -- what is declared in the scope of parameters: each by its position, with its type; enumeration constants, which are ints; and tags of structures that there are
-  abbrev pub IsParameterOf : List Parameter → Designated → Type 0
-  IsParameterOf ps (means.Automatic i t) = (p : Parameter) × (slice_get ps i ≡ Some p) × (p.ctype ≡ t)
-  IsParameterOf ps (means.Enumerator n) = is_value_of int.Int v.target n ≡ true
-  IsParameterOf ps (means.Linked i) = ⊥
-  IsParameterOf ps (means.TypeNamed t) = ⊥
-
-  pub record ScopeStands (ps : List Parameter) (scope : Scope) : Type 0 where
-    pub names : (x : Name) (d : Designated) → find_name x scope.names ≡ Some d → IsParameterOf ps d
-    pub tags : (x : Name) (t : Tagged) → find_name x scope.tags ≡ Some t → (i : ℕ) → t ≡ tag.StructureTag i → IsThere v i
-
-  abbrev pub AreParameters : List Parameter × Scope → Type 0
-  AreParameters p = Each ParameterStands p.0 × ScopeStands p.0 p.1
-
   abbrev pub IsBounded : Derivation Scope → Type 0
   IsBounded (to.Pointer constant volatile) = Unit {0}
   IsBounded (to.Array None) = ⊥
   IsBounded (to.Array (Some n)) = is_bound n ≡ true
-  IsBounded (to.Function ps scope) = AreParameters (ps, scope)
+  IsBounded (to.Function ps scope) = Each ParameterStands ps
 
   -- next to the name a bound may be missing, where the flag says so
   abbrev pub DerivationsStand : Bool → List (At (Derivation Scope)) → Type 0
