@@ -65,28 +65,28 @@ module _ (v : View) (k : ℕ) where
   keeps : (L F : List Named) → Lowered L F → Keeps v L (type_of v F)
   keeps L F low = λ e t h. reduced_typed v F L (subst (λ (locals : List Named). ReducedLocals locals L) (sym low) (lowered_reduced k L)) e t h
 
-  values_hold : (roles : Roles) (e : At Tree) → fits e.node ≡ true → ValueHolds (Declares v) Known (AreDeclared k) (goes_on v k) v Lowered roles e
+  values_hold : (roles : Roles) (defined : List Name) (e : At Tree) → fits e.node ≡ true → ValueHolds (Declares v defined) Known (AreDeclared k) (goes_on v defined k) v Lowered roles e
   unfolding value_here
-  values_hold roles e f D s r d h =
+  values_hold roles defined e f D s r d h =
       let o = λ (L : List Named). value_holds v L (here v.target roles e) (tree_holds v L roles e.node f) s r h in
-      record { objects = D; goes = of_extends v (Unit {0}) s r.1 D (o []).grows; holds = λ L more g w. (o L).holds (wider v D more L s r.1 g w) }
+      record { objects = D; goes = of_extends v defined (Unit {0}) s r.1 D (o []).grows; holds = λ L more g w. (o L).holds (wider v D more L s r.1 g w) }
 
-  typed_there : (L : List Named) (es : List Expr) → AssignsTyped v k L es → EachTyped (Declares v) Known (AreDeclared k) (goes_on v k) v Lowered L es
-  typed_there L es h F low = ap (λ (locals : List Named). list_all (λ e. is_some (type_of v locals e)) es) low ∙ h
+  typed_there : (defined : List Name) (L : List Named) (es : List Expr) → AssignsTyped v k L es → EachTyped (Declares v defined) Known (AreDeclared k) (goes_on v defined k) v Lowered L es
+  typed_there defined L es h F low = ap (λ (locals : List Named). list_all (λ e. is_some (type_of v locals e)) es) low ∙ h
 
   declared_there : (roles : Roles) (defined : List Name) (stands : Where) (d : Decl) → DeclarationAt v k roles defined stands d → (D : List Named) (s : State) (r : List Expr × State) → AreDeclared k D s →
-      declaration v.target roles defined stands d s ≡ Ok r → Reached (Declares v) Known (AreDeclared k) (List Expr) (EachTyped (Declares v) Known (AreDeclared k) (goes_on v k) v Lowered) D s r
+      declaration v.target roles defined stands d s ≡ Ok r → Reached (Declares v defined) Known (AreDeclared k) (List Expr) (EachTyped (Declares v defined) Known (AreDeclared k) (goes_on v defined k) v Lowered) D s r
   declared_there roles defined stands d f D s r a h =
-      as_well (Declares v) Known (AreDeclared k) (goes_on v k) (AssignsTyped v k) (EachTyped (Declares v) Known (AreDeclared k) (goes_on v k) v Lowered) D s r (λ L t. typed_there L r.0 t) (f D s r a h)
+      as_well (Declares v defined) Known (AreDeclared k) (goes_on v defined k) (AssignsTyped v k) (EachTyped (Declares v defined) Known (AreDeclared k) (goes_on v defined k) v Lowered) D s r (λ L t. typed_there defined L r.0 t) (f D s r a h)
 
   declares : (roles : Roles) (defined : List Name) → ((d : Decl) → decl_fits d ≡ true → DeclarationHolds v k roles defined d) → (d : Decl) → decl_fits d ≡ true →
-      DeclHolds (Declares v) Known (AreDeclared k) (goes_on v k) v Lowered roles defined d
+      DeclHolds (Declares v defined) Known (AreDeclared k) (goes_on v defined k) v Lowered roles defined d
   declares roles defined f d q = (declared_there roles defined place.InBlock d (f d q).0, declared_there roles defined place.InFor d (f d q).1)
 
   pub body_holds : (roles : Roles) (defined : List Name) (result : CType) → ((to : ValueType) → scalar_value result ≡ Some to → stands v to ≡ true) →
       ((d : Decl) → decl_fits d ≡ true → DeclarationHolds v k roles defined d) → (ls : List (At Line)) → each_fits line_in_range ls ≡ true → (j : Jumps) (D : List Named) (s : State) (r : List Stmt × State) →
-      AreDeclared k D s → lines_found j (map (line_here v.target roles defined result) ls) s ≡ Ok r → BodyReached v k (List Stmt) (StatementsSound v k result j) D s r
+      AreDeclared k D s → lines_found j (map (line_here v.target roles defined result) ls) s ≡ Ok r → BodyReached v k defined (List Stmt) (StatementsSound v k result j) D s r
   body_holds roles defined result there f ls q j D s r a h =
-      as_well (Declares v) Known (AreDeclared k) (goes_on v k) (SoundList (Declares v) Known (AreDeclared k) (goes_on v k) v Lowered keeps result j) (StatementsSound v k result j) D s r
+      as_well (Declares v defined) Known (AreDeclared k) (goes_on v defined k) (SoundList (Declares v defined) Known (AreDeclared k) (goes_on v defined k) v Lowered keeps result j) (StatementsSound v k result j) D s r
       (λ L g. g (lowered k L) refl)
-      (body_sound (Declares v) Known (AreDeclared k) (goes_on v k) v Lowered keeps roles defined result there (values_hold roles) (declares roles defined f) ls q j D s r a h)
+      (body_sound (Declares v defined) Known (AreDeclared k) (goes_on v defined k) v Lowered keeps roles defined result there (values_hold roles defined) (declares roles defined f) ls q j D s r a h)

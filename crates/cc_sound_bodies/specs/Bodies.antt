@@ -19,8 +19,8 @@ use Rattle.cc_typed_declarations.specs.Declarations.{declaration}
 use Rattle.cc_typed_statements.specs.declared.jumps.Jumps.{Jumps}
 
 module _ (v : View) (parameters : ℕ) where
-  abbrev pub BodyReached : (A : Type 0) → (List Named → A → Type 0) → List Named → State → A × State → Type 0
-  BodyReached A T D s r = Reached (Declares v) (λ D s t. Knows v D s t) (AreDeclared parameters) A T D s r
+  abbrev pub BodyReached : List Name → (A : Type 0) → (List Named → A → Type 0) → List Named → State → A × State → Type 0
+  BodyReached defined A T D s r = Reached (Declares v defined) (λ D s t. Knows v D s t) (AreDeclared parameters) A T D s r
 
   -- over the locals of the function, when it declares these objects
   abbrev pub AssignsTyped : List Named → List Expr → Type 0
@@ -32,7 +32,7 @@ module _ (v : View) (parameters : ℕ) where
   -- a declaration, as what stands in a block or first in a `for`
   abbrev pub DeclarationAt : Roles → List Name → Where → Decl → Type 0
   DeclarationAt roles defined stands d =
-      (D : List Named) (s : State) (r : List Expr × State) → AreDeclared parameters D s → declaration v.target roles defined stands d s ≡ Ok r → BodyReached (List Expr) AssignsTyped D s r
+      (D : List Named) (s : State) (r : List Expr × State) → AreDeclared parameters D s → declaration v.target roles defined stands d s ≡ Ok r → BodyReached defined (List Expr) AssignsTyped D s r
 
   abbrev pub DeclarationHolds : Roles → List Name → Decl → Type 0
   DeclarationHolds roles defined d = DeclarationAt roles defined place.InBlock d × DeclarationAt roles defined place.InFor d

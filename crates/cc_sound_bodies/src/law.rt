@@ -24,5 +24,5 @@ pub fn body_laws()
     ensures lines { (v : View) (parameters : ℕ) (roles : Roles) (defined : List Name) (result : CType) → ((to : ValueType) → scalar_value result ≡ Some to → stands v to ≡ true) →
         ((d : Decl) → decl_fits d ≡ true → DeclarationHolds v parameters roles defined d) → (lines : List (At Line)) → each_fits line_in_range lines ≡ true →
         (j : Jumps) (D : List Named) (s : State) (r : List Stmt × State) → AreDeclared parameters D s → lines_found j (map (line_here v.target roles defined result) lines) s ≡ Ok r →
-        BodyReached v parameters (List Stmt) (StatementsSound v parameters result j) D s r }
+        BodyReached v parameters defined (List Stmt) (StatementsSound v parameters result j) D s r }
 {}

@@ -13,13 +13,14 @@ use Rattle.cc_scopes.specs.State.{State, Name, Scope, find_name, or_else, design
 use Rattle.cc_scopes.specs.declared.designated.Designated.{Designated}
 use Rattle.cc_scopes.specs.declared.designated.Designated.TheVariants as means
 use Rattle.cc_scopes.specs.declared.designated.Tagged.{Tagged}
+use Rattle.cc_scopes.specs.declared.designated.Tagged.TheVariants as tag
 use Rattle.cc_sound_bodies.proofs.Bodies.{body_holds}
 use Rattle.cc_sound_bodies.specs.Bodies.{DeclarationHolds}
 use Rattle.cc_sound_parameters.specs.Scopes.{IsParameterIn, IsParameterScope}
 use Rattle.cc_sound_states.proofs.Declaring.{append_nothing, object_wider}
 use Rattle.cc_sound_states.specs.Declaring.{Declares, AreDeclared, lowered}
-use Rattle.cc_sound_terms.specs.Growing.{IsTag}
-use Rattle.cc_sound_terms.specs.Knowing.{Stands, KnowsNames, IsObject, ObjectsStand}
+use Rattle.cc_sound_terms.specs.Growing.{IsTag, StructuresKept}
+use Rattle.cc_sound_terms.specs.Knowing.{Stands, KnowsNames, IsObject, IsThere, ObjectsStand}
 use Rattle.cc_sound_terms.specs.Standing.{ParameterStands}
 use Rattle.cc_sound_terms.specs.Typing.{KnowsTypes, Knows}
 use Rattle.cc_sound_units.specs.Statements.{is_sound_body}
@@ -76,13 +77,16 @@ module _ (v : View) where
     abbrev begun : State
     begun = entered scope (with_locals (locals_of ps) s)
 
-    known_begun : KnowsTypes v s t → KnowsNames v t.names → MembersStand v → ObjectsStand v [] s → Knows v (locals_of ps) begun t
-    known_begun k n m o = record {
+    tag_there : (d : Tagged) → IsTag s.structures d → KnowsTypes v s t → StructuresKept s.structures t.structures → (i : ℕ) → d ≡ tag.StructureTag i → IsThere v i
+    tag_there d h k kept i e = let c = h i e in let l = kept i c.0 c.1 in let w = k.structures i l.0 l.1 in (w.extent, w.there)
+
+    known_begun : StructuresKept s.structures t.structures → KnowsTypes v s t → KnowsNames v t.names → MembersStand v → ObjectsStand v [] s → Knows v (locals_of ps) begun t
+    known_begun kept k n m o = record {
       types = record {
         structures = k.structures;
         types = λ x u h. designated_by (λ (d : Designated). d ≡ means.TypeNamed u → Stands v u) (find_name x scope.names) (designated x s.scopes)
             (λ d f e. absurd (no_type ps u (subst (IsParameterIn v.target ps) e (is.names x d f)))) (λ d f e. k.types x u (f ∙ ap Some e)) (means.TypeNamed u) h refl;
-        tags = λ x u h. designated_by (λ (d : Tagged). IsTag s.structures d) (find_name x scope.tags) (tagged x s.scopes) (is.tags x) (k.tags x) u h;
+        tags = λ x u h. designated_by (λ (d : Tagged). (i : ℕ) → d ≡ tag.StructureTag i → IsThere v i) (find_name x scope.tags) (tagged x s.scopes) (λ d f. tag_there d (is.tags x d f) k kept) (k.tags x) u h;
       };
       names = n;
       objects = λ x d h. designated_by (IsObject v (locals_of ps)) (find_name x scope.names) (designated x s.scopes)
@@ -99,7 +103,7 @@ module _ (v : View) where
   pub function_body : (roles : Roles) (defined : List Name) (result : CType) → ((to : ValueType) → scalar_value result ≡ Some to → stands v to ≡ true) →
       (ps : List Parameter) → ((d : Decl) → decl_fits d ≡ true → DeclarationHolds v (length ps) roles defined d) → (scope : Scope) (s : State) → IsParameterScope v.target ps scope s → Each (ParameterStands v) ps →
       (ls : List (At Line)) → each_fits line_in_range ls ≡ true → (r : List Stmt × State) → lines_found no_jumps (map (line_here v.target roles defined result) ls) (entered scope (with_locals (locals_of ps) s)) ≡ Ok r →
-      (E : List Named) × Declares v (entered scope (with_locals (locals_of ps) s)) (locals_of ps) r.1 E × (r.1.locals ≡ lowered (length ps) E)
+      (E : List Named) × Declares v defined (entered scope (with_locals (locals_of ps) s)) (locals_of ps) r.1 E × (r.1.locals ≡ lowered (length ps) E)
       × (KnowsTypes v s r.1 → KnowsNames v r.1.names → MembersStand v → ObjectsStand v [] s → is_sound_body v.target (type_of v r.1.locals) result r.0 ≡ true)
   function_body roles defined result there ps decls scope s is each ls q r h =
       let begun = entered scope (with_locals (locals_of ps) s) in
@@ -109,5 +113,5 @@ module _ (v : View) where
         o.goes,
         a.locals,
         λ k n m w. subst (λ (locals : List Named). is_sound_body v.target (type_of v locals) result r.0 ≡ true) (sym a.locals)
-            (o.holds o.objects [] (sym (append_nothing o.objects)) (known_begun ps scope s r.1 is each k n m w)),
+            (o.holds o.objects [] (sym (append_nothing o.objects)) (known_begun ps scope s r.1 is each o.goes.structures k n m w)),
       )

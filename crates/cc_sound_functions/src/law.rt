@@ -33,6 +33,6 @@ pub fn function_laws()
         (ps : List Parameter) → ((d : Decl) → decl_fits d ≡ true → DeclarationHolds v (length ps) roles defined d) → (scope : Scope) (s : State) → IsParameterScope v.target ps scope s → Each (ParameterStands v) ps →
         (lines : List (At Line)) → each_fits line_in_range lines ≡ true → (r : List Stmt × State) →
         lines_found no_jumps (map (line_here v.target roles defined result) lines) (entered scope (with_locals (locals_of ps) s)) ≡ Ok r →
-        (E : List Named) × Declares v (entered scope (with_locals (locals_of ps) s)) (locals_of ps) r.1 E × (r.1.locals ≡ lowered (length ps) E)
+        (E : List Named) × Declares v defined (entered scope (with_locals (locals_of ps) s)) (locals_of ps) r.1 E × (r.1.locals ≡ lowered (length ps) E)
         × (KnowsTypes v s r.1 → KnowsNames v r.1.names → MembersStand v → ObjectsStand v [] s → is_sound_body v.target (type_of v r.1.locals) result r.0 ≡ true) }
 {}
