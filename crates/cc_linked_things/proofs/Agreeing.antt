@@ -103,16 +103,16 @@ module _ (texts : List Text) (each : (m : Mention) → In m (mentions texts) →
       let r = in-any (same_identity (identity_of m)) (identities (mentions texts)) (identified texts m h) in
       in-map (thing_of (mentions texts)) (identities (mentions texts)) (identity_of m) (subst (λ (x : Identity). In x (identities (mentions texts))) (sym (same_identity-equal (identity_of m) r.0 r.1.1)) r.1.0)
 
-  from_identity : (t : Thing) → In t (things texts) → (x : Identity) × (thing_of (mentions texts) x ≡ t)
+  pub from_identity : (t : Thing) → In t (things texts) → (x : Identity) × (thing_of (mentions texts) x ≡ t)
   unfolding things_in
   from_identity t h = let r = in-map_from (thing_of (mentions texts)) (identities (mentions texts)) t h in (r.0, r.1.1)
 
   -- the first mention, where there is one
-  first_of : (xs : List Mention) (x : Mention) → In x xs → (f : Mention) × (slice_get xs 0 ≡ Some f) × In f xs
+  pub first_of : (xs : List Mention) (x : Mention) → In x xs → (f : Mention) × (slice_get xs 0 ≡ Some f) × In f xs
   first_of [] x h = absurd h
   first_of (y ∷ xs) x h = (y, refl, inl refl)
 
-  fails : (p : Mention → Bool) (xs : List Mention) (x : Mention) → list_any p xs ≡ false → In x xs → p x ≡ false
+  pub fails : (p : Mention → Bool) (xs : List Mention) (x : Mention) → list_any p xs ≡ false → In x xs → p x ≡ false
   fails p xs x e h = by (p x) refl
     where
       by : (b : Bool) → p x ≡ b → p x ≡ false
@@ -120,10 +120,10 @@ module _ (texts : List Text) (each : (m : Mention) → In m (mentions texts) →
       by false k = k
 
   -- of a thing that has a mention of such an identity, own names are that of the first
-  own_first : (x : Identity) (f : Mention) (y : List ℕ) → slice_get (thing_of (mentions texts) x).mentions 0 ≡ Some f → f.name.name ≡ Some y → is_some (own_name (thing_of (mentions texts) x)) ≡ true
+  pub own_first : (x : Identity) (f : Mention) (y : List ℕ) → slice_get (thing_of (mentions texts) x).mentions 0 ≡ Some f → f.name.name ≡ Some y → is_some (own_name (thing_of (mentions texts) x)) ≡ true
   own_first x f y e g = ap (λ (o : Option Mention). is_some (option_and_then name_of o)) e ∙ ap is_some g
 
-  mention_in : (x : Identity) (k : Mention) → In k (thing_of (mentions texts) x).mentions → In k (mentions texts) × (identity_of k ≡ x)
+  pub mention_in : (x : Identity) (k : Mention) → In k (thing_of (mentions texts) x).mentions → In k (mentions texts) × (identity_of k ≡ x)
   mention_in x k h = (in-filter (λ (m : Mention). same_identity (identity_of m) x) (mentions texts) k h, same_identity-equal (identity_of k) x (filter-passes (λ (m : Mention). same_identity (identity_of m) x) (mentions texts) k h))
 
   external_named : (x : Identity) → is_external (thing_of (mentions texts) x) ≡ true → is_some (own_name (thing_of (mentions texts) x)) ≡ true

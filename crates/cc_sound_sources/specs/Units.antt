@@ -1,5 +1,5 @@
 -- Sound units: what one source gives to a program is what a sound program has, whatever it is linked to (C99 6.9).
-use Rattle.std.specs.Prelude.{◌≡◌, ℕ, Bool, true, false, ◌&&◌, ◌||◌, nat_eq, nat_lt, List, [], length, drop, Option, Some, None, option_and_then, slice_get, is_some, unwrap_or}
+use Rattle.std.specs.Prelude.{◌≡◌, ℕ, Bool, true, false, not, ◌&&◌, ◌||◌, nat_eq, nat_lt, List, [], length, drop, Option, Some, None, option_and_then, slice_get, is_some, unwrap_or}
 use Rattle.std.specs.List.{All, list_all}
 use Rattle.std.specs.Str.{bytes_eq}
 use Rattle.cc_linked_structures.specs.Linked.{structures_of, AreStanding}
@@ -19,6 +19,7 @@ use Rattle.cc_syntax.specs.Names.{local_names}
 use Rattle.cc_syntax.specs.Sound.{have_ids, is_device, is_automatic, are_parameters, is_plain_int, is_plain_void, main_name}
 use Rattle.cc_syntax.specs.Types.{Named}
 use Rattle.cc_syntax.specs.Values.{ValueType, ToFunction, PlaceType, DevicePlace, object_place}
+use Rattle.cc_things.specs.Things.{is_device_kind, is_external_linkage}
 use Rattle.cc_unit.specs.declared.unit.TypedUnit.{TypedUnit}
 use Rattle.cc_unit.specs.declared.unit.UnitKind.{UnitKind}
 use Rattle.cc_unit.specs.declared.unit.UnitKind.TheVariants as kind
@@ -125,6 +126,7 @@ module _ (v : View) where
   pub record IsSoundFunctionName (n : UnitName) (by : Option Entry) (f : Option Func) : Type 0 where
     pub sig : Sig
     pub typed : out-Shape n.ctype.shape ≡ shape.Func sig
+    pub named : is_some n.name ≡ true
     pub entry : is_attributed by ≡ true
     pub main : is_main_name n.name ≡ true → is_main_sig sig ≡ true
     -- it is defined where it has a body
@@ -139,10 +141,16 @@ module _ (v : View) where
   abbrev pub IsSoundName : UnitName → Type 0
   IsSoundName n = IsSoundKind n n.kind
 
+-- what has external linkage has a name; what has none is defined where it is no device (6.2.2, 6.4.5)
+pub record IsWellNamed (n : UnitName) : Type 0 where
+  pub external : is_external_linkage n.linkage ≡ true → is_some n.name ≡ true
+  pub nameless : is_some n.name ≡ false → nat_lt 0 n.count ≡ not (is_device_kind n.kind)
+
 pub record IsSoundUnit (target : Target) (u : TypedUnit) : Type 0 where
   -- what a structure contains comes before it; members have complete object types and names of their own
   pub structures : AreStanding target u
   pub names : All (IsSoundName (unit_view target u)) u.names
+  pub named : All IsWellNamed u.names
 
 -- ---- what each unit of a text has: names are names, and there are fewer than 2 ^ 32 of them in each space
 
