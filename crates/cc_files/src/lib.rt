@@ -1,0 +1,8 @@
+//! The files that commands read, whole and within limits.
+#![tactic(auto)]
+
+mod sources;
+mod unread;
+
+pub use sources::read_sources;
+pub use unread::{Unread, read_file};
