@@ -1,0 +1,4 @@
+pub mod Causes
+pub mod Identifiers
+pub mod Refused
+pub mod TextsLeft
