@@ -1,5 +1,5 @@
 #!/usr/bin/env python3
-"""Time and peak memory of reading 64 sources whose names clash: python3 bench/reading.py [PROGRAM]
+"""Processor time and peak memory of reading 64 sources whose names clash: python3 bench/reading.py [PROGRAM]
 
 PROGRAM is that of crates/cases_read, which `rt run` in its folder builds where none is given. A row is printed for each number
 of functions; the largest has 4,096 of them and 10,000 objects. It ends with status 1 where a doubling costs more than 2.3 times.
@@ -8,7 +8,6 @@ import os
 import subprocess
 import sys
 import tempfile
-import time
 
 TOP = os.path.dirname(os.path.dirname(os.path.abspath(__file__)))
 SOURCES = 64
@@ -52,17 +51,16 @@ def case(made, count):
 
 
 def measured(program, text):
-    """The least time of five runs in seconds, and the peak memory in bytes."""
+    """The least processor time of five runs in seconds, and the peak memory in bytes, but at least that of this script."""
     best, peak = None, 0
     with tempfile.TemporaryFile("w+") as script:
         script.write(text + "\n")
         for _ in range(5):
             script.seek(0)
-            begun = time.monotonic()
             child = subprocess.Popen([program], stdin=script, stdout=subprocess.PIPE)
             written = child.stdout.read()
             _, status, usage = os.wait4(child.pid, 0)
-            took = time.monotonic() - begun
+            took = usage.ru_utime + usage.ru_stime
             if os.waitstatus_to_exitcode(status) or b" | F: " not in written and b"F: main" not in written:
                 sys.exit(f"the program ended with {os.waitstatus_to_exitcode(status)}: {written[-300:]}")
             best = took if best is None else min(best, took)
