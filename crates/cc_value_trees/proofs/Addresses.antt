@@ -27,7 +27,7 @@ use Rattle.cc_syntax.specs.Expressions.{of_one}
 use Rattle.cc_syntax.specs.Initial.{bound_of, step_into, place_at, leads_to_element, names_element, names_whole, names, is_address}
 use Rattle.cc_syntax.specs.Lists.{is_count}
 use Rattle.cc_syntax.specs.Operators.{function_type}
-use Rattle.cc_syntax.specs.Values.{ValueType, PlaceType, object_place, pointer_to, is_assignable_some}
+use Rattle.cc_syntax.specs.Values.{ValueType, PlaceType, object_place, pointer_to, element_of, address_of, is_assignable_some}
 use Rattle.cc_tree.specs.declared.tree.Tree as tree
 use Rattle.cc_tree.specs.declared.tree.Tree.{Tree}
 use Rattle.cc_tree.specs.Terms.{ANumber}
@@ -40,8 +40,8 @@ use Rattle.cc_value_trees.proofs.Known.{member-step}
 
 -- where an element is named, and where the whole
 pub data IsNamed (to : CType) (path : List Part) (index count : ℕ) (a : PlaceType) : Type 0 where
-  NamesElement : has_elements to (Some a) ≡ true → bound_of a ≡ Some count → index ≤ count → IsNamed to path index count a
-  NamesWhole : has_elements to (Some a) ≡ false → leads_to_element path ≡ false → count ≡ 1 → index ≤ 1 → IsNamed to path index count a
+  NamesElement : has_elements to (Some a) ≡ true → bound_of a ≡ Some count → index ≤ count → is_assignable_some (Some (pointer_to to)) (of_one (element_of a) address_of) ≡ true → IsNamed to path index count a
+  NamesWhole : has_elements to (Some a) ≡ false → leads_to_element path ≡ false → count ≡ 1 → index ≤ 1 → is_assignable_some (Some (pointer_to to)) (address_of a) ≡ true → IsNamed to path index count a
 
 at-most : (n m : ℕ) → nat_le n m ≡ true → n ≤ m
 at-most n m h = grind (arith, nat_tests)
@@ -54,12 +54,12 @@ named-by : (to : CType) (path : List Part) (index count : ℕ) (a : PlaceType) (
 named-by to path index count a true e h =
     let f = and-true (is_count count (bound_of a)) _ e in
     let g = and-true (nat_le index count) _ f.1 in
-    NamesElement (element-named to a g.1) (count-is count (bound_of a) f.0) (at-most index count g.0)
+    NamesElement (element-named to a g.1) (count-is count (bound_of a) f.0) (at-most index count g.0) g.1
 named-by to path index count a false e h =
     let f = and-true (not (leads_to_element path)) _ h in
     let g = and-true (nat_eq count 1) _ f.1 in
     let k = and-true (nat_le index 1) _ g.1 in
-    NamesWhole (whole-named to a k.1) (not-true (leads_to_element path) f.0) (eqb-true count 1 g.0) (at-most index 1 k.0)
+    NamesWhole (whole-named to a k.1) (not-true (leads_to_element path) f.0) (eqb-true count 1 g.0) (at-most index 1 k.0) k.1
 
 -- the object, and what is at the end of the path
 pub record Names (p : Program) (to : CType) (object : ℕ) (path : List Part) (index count : ℕ) : Type 0 where
@@ -129,62 +129,62 @@ module _ (p : Program) where
 
   -- ---- `&` in front of it
 
-  abbrev ReadsAddress : Address → ℕ → ℕ → Pieces → Pieces → Type 0
-  ReadsAddress a l at qs ps = ReadsTree (ShowsAddress p a) l at qs ps
+  abbrev ReadsAddress : CType → Address → ℕ → ℕ → Pieces → Pieces → Type 0
+  ReadsAddress to a l at qs ps = ReadsTree (ShowsAddress p to a) l at qs ps
 
-  element-read : (i : ℕ) (path : List Part) (index count : ℕ) (b : PlaceType) → bound_of b ≡ Some count → (at : ℕ) (qs ps : Pieces) → Chain (ShowsPart p i path b) (at + 1) qs (punct m.LBracket ∷ plain_number index ∷ punct m.RBracket ∷ ps) →
-      ReadsAddress (address.At (root.Static i) path index count) 1 at (punct m.Amp ∷ qs) ps
-  element-read i path index count b e at qs ps h =
-      prefix-read (ShowsAddress p (address.At (root.Static i) path index count)) (ShowsAtIndex p i path index count) m.Amp refl (λ x y. ShowsElementAddress i path index count x y) qs ps 1 at (lit≤ tt)
-      (subscript-read (ShowsAtIndex p i path index count) (ShowsPart p i path b) (IsIndex index) (λ x y z w. AtIndex b x y z e w) qs (plain_number index ∷ punct m.RBracket ∷ ps) ps 13 (at + 1) (lit≤ tt)
+  element-read : (to : CType) (i : ℕ) (path : List Part) (index count : ℕ) (b : PlaceType) → bound_of b ≡ Some count → is_assignable_some (Some (pointer_to to)) (of_one (element_of b) address_of) ≡ true → (at : ℕ) (qs ps : Pieces) → Chain (ShowsPart p i path b) (at + 1) qs (punct m.LBracket ∷ plain_number index ∷ punct m.RBracket ∷ ps) →
+      ReadsAddress to (address.At (root.Static i) path index count) 1 at (punct m.Amp ∷ qs) ps
+  element-read to i path index count b e t at qs ps h =
+      prefix-read (ShowsAddress p to (address.At (root.Static i) path index count)) (ShowsAtIndex p to i path index count) m.Amp refl (λ x y. ShowsElementAddress i path index count x y) qs ps 1 at (lit≤ tt)
+      (subscript-read (ShowsAtIndex p to i path index count) (ShowsPart p i path b) (IsIndex index) (λ x y z w. AtIndex b x y z e t w) qs (plain_number index ∷ punct m.RBracket ∷ ps) ps 13 (at + 1) (lit≤ tt)
       (h 15 (lit≤ tt)) (λ at. index-read index 0 at (punct m.RBracket ∷ ps)))
 
-  whole-read : (i : ℕ) (path : List Part) (b : PlaceType) → leads_to_element path ≡ false → (l at : ℕ) (qs ps : Pieces) → l ≤ 14 → Chain (ShowsPart p i path b) (at + 1) qs ps → ReadsAddress (address.At (root.Static i) path 0 1) l at (punct m.Amp ∷ qs) ps
-  whole-read i path b e l at qs ps le h =
-      prefix-read (ShowsAddress p (address.At (root.Static i) path 0 1)) (ShowsPart p i path b) m.Amp refl (λ x y. ShowsWholeAddress i path b x e y) qs ps l at le (h 13 (lit≤ tt))
+  whole-read : (to : CType) (i : ℕ) (path : List Part) (b : PlaceType) → leads_to_element path ≡ false → is_assignable_some (Some (pointer_to to)) (address_of b) ≡ true → (l at : ℕ) (qs ps : Pieces) → l ≤ 14 → Chain (ShowsPart p i path b) (at + 1) qs ps → ReadsAddress to (address.At (root.Static i) path 0 1) l at (punct m.Amp ∷ qs) ps
+  whole-read to i path b e t l at qs ps le h =
+      prefix-read (ShowsAddress p to (address.At (root.Static i) path 0 1)) (ShowsPart p i path b) m.Amp refl (λ x y. ShowsWholeAddress i path b x e t y) qs ps l at le (h 13 (lit≤ tt))
 
-  past-read : (i : ℕ) (path : List Part) (b : PlaceType) → leads_to_element path ≡ false → (at : ℕ) (qs ps : Pieces) → Chain (ShowsPart p i path b) (at + 1) qs (spaced m.Plus (plain_number 1 ∷ ps)) → ReadsAddress (address.At (root.Static i) path 1 1) 1 at (punct m.Amp ∷ qs) ps
-  past-read i path b e at qs ps h =
-      binary-read (ShowsAddress p (address.At (root.Static i) path 1 1)) (ShowsAddress p (address.At (root.Static i) path 0 1)) (IsIndex 1) m.Plus 11 (refl, (lit≤ tt, lit≤ tt)) (λ x y z w. ShowsPast i path x y z w)
-      (punct m.Amp ∷ qs) (plain_number 1 ∷ ps) ps 1 at (lit≤ tt) (whole-read i path b e 11 at qs (spaced m.Plus (plain_number 1 ∷ ps)) (lit≤ tt) h) (λ at. index-read 1 12 at ps)
+  past-read : (to : CType) (i : ℕ) (path : List Part) (b : PlaceType) → leads_to_element path ≡ false → is_assignable_some (Some (pointer_to to)) (address_of b) ≡ true → (at : ℕ) (qs ps : Pieces) → Chain (ShowsPart p i path b) (at + 1) qs (spaced m.Plus (plain_number 1 ∷ ps)) → ReadsAddress to (address.At (root.Static i) path 1 1) 1 at (punct m.Amp ∷ qs) ps
+  past-read to i path b e t at qs ps h =
+      binary-read (ShowsAddress p to (address.At (root.Static i) path 1 1)) (ShowsAddress p to (address.At (root.Static i) path 0 1)) (IsIndex 1) m.Plus 11 (refl, (lit≤ tt, lit≤ tt)) (λ x y z w. ShowsPast i path x y z w)
+      (punct m.Amp ∷ qs) (plain_number 1 ∷ ps) ps 1 at (lit≤ tt) (whole-read to i path b e t 11 at qs (spaced m.Plus (plain_number 1 ∷ ps)) (lit≤ tt) h) (λ at. index-read 1 12 at ps)
 
-  one-read : (i : ℕ) (path : List Part) (b : PlaceType) → leads_to_element path ≡ false → (index : ℕ) → index ≤ 1 → (at : ℕ) (qs ps : Pieces) → (t : Bool) → nat_eq index 1 ≡ t → Chain (ShowsPart p i path b) (at + 1) qs (one_past t ps) →
-      ReadsAddress (address.At (root.Static i) path index 1) 1 at (punct m.Amp ∷ qs) ps
-  one-read i path b e index le at qs ps true f h =
-      subst (λ n. ReadsAddress (address.At (root.Static i) path n 1) 1 at (punct m.Amp ∷ qs) ps) (sym (eqb-true index 1 f)) (past-read i path b e at qs ps h)
-  one-read i path b e index le at qs ps false f h =
-      subst (λ n. ReadsAddress (address.At (root.Static i) path n 1) 1 at (punct m.Amp ∷ qs) ps) (sym (none index le f)) (whole-read i path b e 1 at qs ps (lit≤ tt) h) where
+  one-read : (to : CType) (i : ℕ) (path : List Part) (b : PlaceType) → leads_to_element path ≡ false → is_assignable_some (Some (pointer_to to)) (address_of b) ≡ true → (index : ℕ) → index ≤ 1 → (at : ℕ) (qs ps : Pieces) → (t : Bool) → nat_eq index 1 ≡ t → Chain (ShowsPart p i path b) (at + 1) qs (one_past t ps) →
+      ReadsAddress to (address.At (root.Static i) path index 1) 1 at (punct m.Amp ∷ qs) ps
+  one-read to i path b e u index le at qs ps true f h =
+      subst (λ n. ReadsAddress to (address.At (root.Static i) path n 1) 1 at (punct m.Amp ∷ qs) ps) (sym (eqb-true index 1 f)) (past-read to i path b e u at qs ps h)
+  one-read to i path b e u index le at qs ps false f h =
+      subst (λ n. ReadsAddress to (address.At (root.Static i) path n 1) 1 at (punct m.Amp ∷ qs) ps) (sym (none index le f)) (whole-read to i path b e u 1 at qs ps (lit≤ tt) h) where
         none : (n : ℕ) → n ≤ 1 → nat_eq n 1 ≡ false → n ≡ 0
         none n h e = grind (arith, nat_tests)
 
   end-read : (to : CType) (i : ℕ) (path : List Part) (index count : ℕ) (b : PlaceType) → IsNamed to path index count b → (at : ℕ) (qs ps : Pieces) → Chain (ShowsPart p i path b) (at + 1) qs (last_index (has_elements to (Some b)) index count ps) →
-      ReadsAddress (address.At (root.Static i) path index count) 1 at (punct m.Amp ∷ qs) ps
-  end-read to i path index count b (NamesElement e f g) at qs ps h =
-      element-read i path index count b f at qs ps (subst (λ t. Chain (ShowsPart p i path b) (at + 1) qs (last_index t index count ps)) e h)
-  end-read to i path index count b (NamesWhole e f g k) at qs ps h =
+      ReadsAddress to (address.At (root.Static i) path index count) 1 at (punct m.Amp ∷ qs) ps
+  end-read to i path index count b (NamesElement e f g u) at qs ps h =
+      element-read to i path index count b f u at qs ps (subst (λ t. Chain (ShowsPart p i path b) (at + 1) qs (last_index t index count ps)) e h)
+  end-read to i path index count b (NamesWhole e f g k u) at qs ps h =
       let one = subst (λ t. Chain (ShowsPart p i path b) (at + 1) qs (last_index t index count ps)) e h in
-      subst (λ n. ReadsAddress (address.At (root.Static i) path index n) 1 at (punct m.Amp ∷ qs) ps) (sym g)
-      (one-read i path b f index k at qs ps (nat_eq index 1) refl (subst (λ n. Chain (ShowsPart p i path b) (at + 1) qs (one_past (nat_eq index n) ps)) g one))
+      subst (λ n. ReadsAddress to (address.At (root.Static i) path index n) 1 at (punct m.Amp ∷ qs) ps) (sym g)
+      (one-read to i path b f u index k at qs ps (nat_eq index 1) refl (subst (λ n. Chain (ShowsPart p i path b) (at + 1) qs (one_past (nat_eq index n) ps)) g one))
 
   -- ---- the law of addresses
 
   static-read : (to : CType) (i : ℕ) (path : List Part) (index count : ℕ) → Names p to i path index count → (at : ℕ) (ps : Pieces) →
-      ReadsAddress (address.At (root.Static i) path index count) 1 at (punct m.Amp ∷ object_path p to path index count (slice_get p.objects i) ps) ps
+      ReadsAddress to (address.At (root.Static i) path index count) 1 at (punct m.Amp ∷ object_path p to path index count (slice_get p.objects i) ps) ps
   static-read to i path index count r at ps =
       let o = r.owner in
       let text = path_text p.structures to index count (Some (object_place o.ctype)) path ps in
       let start : Chain (ShowsPart p i [] (object_place o.ctype)) (at + 1) (ident o.name ∷ text) text = λ l le. name-read (ShowsPart p i [] (object_place o.ctype)) o.name (ShowsObject o r.there) l (at + 1) text in
-      subst (λ x. ReadsAddress (address.At (root.Static i) path index count) 1 at (punct m.Amp ∷ object_path p to path index count x ps) ps) (sym r.there)
+      subst (λ x. ReadsAddress to (address.At (root.Static i) path index count) 1 at (punct m.Amp ∷ object_path p to path index count x ps) ps) (sym r.there)
       (end-read to i path index count r.target r.is at (ident o.name ∷ text) ps (path-read to index count i path [] (object_place o.ctype) r.target r.leads (at + 1) (ident o.name ∷ text) ps start))
 
   root-read : (to : CType) (object : Root) (path : List Part) (index count : ℕ) → is_address p (pointer_to to) (address.At object path index count) ≡ true → (at : ℕ) (ps : Pieces) →
-      ReadsAddress (address.At object path index count) 1 at (root_path p to path index count object ps) ps
+      ReadsAddress to (address.At object path index count) 1 at (root_path p to path index count object ps) ps
   root-read to (root.Auto activation f local) path index count h at ps = absurd (true≢false (sym h))
   root-read to (root.Static i) path index count h at ps = static-read to i path index count (names-of p to i path index count h) at ps
 
-  pub address-read : (to : CType) (a : Address) → is_address p (pointer_to to) a ≡ true → (at : ℕ) (ps : Pieces) → ReadsAddress a 1 at (address_text p to a ps) ps
+  pub address-read : (to : CType) (a : Address) → is_address p (pointer_to to) a ≡ true → (at : ℕ) (ps : Pieces) → ReadsAddress to a 1 at (address_text p to a ps) ps
   address-read to address.Null h at ps = showing (λ x i. ShowsNull x i) (zero-read 1 at ps)
   address-read to (address.Func i) h at ps =
       let g = function-there (slice_get p.funcs i) (pointer_to to) h in
-      subst (λ o. ReadsAddress (address.Func i) 1 at (named (func_name o) ps) ps) (sym g.1) (name-read (ShowsAddress p (address.Func i)) g.0.name (ShowsFunction i g.0 g.1) 1 at ps)
+      subst (λ o. ReadsAddress to (address.Func i) 1 at (named (func_name o) ps) ps) (sym g.1) (name-read (ShowsAddress p to (address.Func i)) g.0.name (ShowsFunction i g.0 g.1) 1 at ps)
   address-read to (address.At object path index count) h at ps = root-read to object path index count h at ps

@@ -70,9 +70,9 @@ past-fits false ps f s = (f, soft-no-word (flat ps) s)
 module _ (p : Program) (good : are_structures [] (length p.structures) p.target p.structures ≡ true) (names : HasUnitNames p) where
   end-fits : (to : CType) (path : List Part) (index count : ℕ) (b : PlaceType) → IsKnown p good b → IsNamed to path index count b → (ps : Pieces) → Fits ps → IsSoft (flat ps) →
       Fits (last_index (has_elements to (Some b)) index count ps) × NoWord (flat (last_index (has_elements to (Some b)) index count ps))
-  end-fits to path index count b k (NamesElement e g h) ps f s =
+  end-fits to path index count b k (NamesElement e g h u) ps f s =
       subst (λ t. Fits (last_index t index count ps) × NoWord (flat (last_index t index count ps))) (sym e) (index-fits index ps (few-index index count h (bound-few p good b count k g)) f, refl)
-  end-fits to path index count b k (NamesWhole e g h l) ps f s =
+  end-fits to path index count b k (NamesWhole e g h l u) ps f s =
       subst (λ t. Fits (last_index t index count ps) × NoWord (flat (last_index t index count ps))) (sym e) (past-fits (nat_eq index count) ps f s)
 
   -- what is behind the path is an index or one past

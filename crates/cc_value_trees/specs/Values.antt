@@ -21,8 +21,9 @@ use Rattle.cc_program.specs.declared.value.Leaf.TheVariants as leaf
 use Rattle.cc_program.specs.declared.value.Part.{Part}
 use Rattle.cc_program.specs.declared.value.Part.TheVariants as part
 use Rattle.cc_program.specs.declared.value.Root.TheVariants as root
+use Rattle.cc_syntax.specs.Expressions.{of_one}
 use Rattle.cc_syntax.specs.Initial.{bound_of, step_into, leads_to_element, is_zero}
-use Rattle.cc_syntax.specs.Values.{PlaceType, object_place}
+use Rattle.cc_syntax.specs.Values.{PlaceType, object_place, pointer_to, element_of, address_of, is_assignable_some}
 use Rattle.cc_tree.specs.declared.at.At.{At}
 use Rattle.cc_tree.specs.declared.tree.Tree as tree
 use Rattle.cc_tree.specs.declared.tree.Tree.{Tree}
@@ -49,19 +50,22 @@ module _ (p : Program) where
         ShowsPart object (path ++ part.Index i ∷ []) b (tree.Subscript x y)
 
   -- an element of an array of so many, or the one past the last of them, which may be named in an address (6.5.3.2, 3)
-  pub data ShowsAtIndex (object : ℕ) (path : List Part) (index count : ℕ) : Tree → Type 0 where
-    ElementInParens : (x : At Tree) → ShowsAtIndex object path index count x.node → ShowsAtIndex object path index count (tree.Paren x)
-    AtIndex : (a : PlaceType) (x y : At Tree) → ShowsPart object path a x.node → bound_of a ≡ Some count → IsIndex index y.node → ShowsAtIndex object path index count (tree.Subscript x y)
+  pub data ShowsAtIndex (to : CType) (object : ℕ) (path : List Part) (index count : ℕ) : Tree → Type 0 where
+    ElementInParens : (x : At Tree) → ShowsAtIndex to object path index count x.node → ShowsAtIndex to object path index count (tree.Paren x)
+    AtIndex : (a : PlaceType) (x y : At Tree) → ShowsPart object path a x.node → bound_of a ≡ Some count → is_assignable_some (Some (pointer_to to)) (of_one (element_of a) address_of) ≡ true → IsIndex index y.node →
+        ShowsAtIndex to object path index count (tree.Subscript x y)
 
-  -- what is no element of an array counts as an array of one (6.5.6, 7)
-  pub data ShowsAddress : Address → Tree → Type 0 where
-    AddressInParens : (a : Address) (x : At Tree) → ShowsAddress a x.node → ShowsAddress a (tree.Paren x)
-    ShowsNull : (x : Tree) → IsZero x → ShowsAddress address.Null x
-    ShowsFunction : (i : ℕ) (g : Func) → slice_get p.funcs i ≡ Some g → ShowsAddress (address.Func i) (tree.Named g.name)
-    ShowsElementAddress : (object : ℕ) (path : List Part) (index count : ℕ) (x : At Tree) → ShowsAtIndex object path index count x.node → ShowsAddress (address.At (root.Static object) path index count) (tree.Prefix m.Amp x)
-    ShowsWholeAddress : (object : ℕ) (path : List Part) (a : PlaceType) (x : At Tree) → leads_to_element path ≡ false → ShowsPart object path a x.node → ShowsAddress (address.At (root.Static object) path 0 1) (tree.Prefix m.Amp x)
+  -- What is no element of an array counts as an array of one (6.5.6, 7). The pointed-to type tells the address of an array
+  -- of one from that of its element.
+  pub data ShowsAddress (to : CType) : Address → Tree → Type 0 where
+    AddressInParens : (a : Address) (x : At Tree) → ShowsAddress to a x.node → ShowsAddress to a (tree.Paren x)
+    ShowsNull : (x : Tree) → IsZero x → ShowsAddress to address.Null x
+    ShowsFunction : (i : ℕ) (g : Func) → slice_get p.funcs i ≡ Some g → ShowsAddress to (address.Func i) (tree.Named g.name)
+    ShowsElementAddress : (object : ℕ) (path : List Part) (index count : ℕ) (x : At Tree) → ShowsAtIndex to object path index count x.node → ShowsAddress to (address.At (root.Static object) path index count) (tree.Prefix m.Amp x)
+    ShowsWholeAddress : (object : ℕ) (path : List Part) (a : PlaceType) (x : At Tree) → leads_to_element path ≡ false → is_assignable_some (Some (pointer_to to)) (address_of a) ≡ true → ShowsPart object path a x.node →
+        ShowsAddress to (address.At (root.Static object) path 0 1) (tree.Prefix m.Amp x)
     -- one past it
-    ShowsPast : (object : ℕ) (path : List Part) (x y : At Tree) → ShowsAddress (address.At (root.Static object) path 0 1) x.node → IsIndex 1 y.node → ShowsAddress (address.At (root.Static object) path 1 1) (tree.Binary m.Plus x y)
+    ShowsPast : (object : ℕ) (path : List Part) (x y : At Tree) → ShowsAddress to (address.At (root.Static object) path 0 1) x.node → IsIndex 1 y.node → ShowsAddress to (address.At (root.Static object) path 1 1) (tree.Binary m.Plus x y)
 
   -- ---- values
 
@@ -69,7 +73,7 @@ module _ (p : Program) where
     -- the values of a type's scalars, in order of path, which stand in front of further ones
     pub data ShowsGiven : CType → List Leaf → List Leaf → Given → Type 0 where
       ShowsNumber : (t : CType) (i : IntType) (n : ℤ) (rest : List Leaf) (x : At Tree) → out-Shape t.shape ≡ shape.Int i → ShowsInteger p.target n i x.node → ShowsGiven t (leaf.Int n ∷ rest) rest (given.One x)
-      ShowsPointer : (t to : CType) (a : Address) (rest : List Leaf) (x : At Tree) → out-Shape t.shape ≡ shape.Pointer to → ShowsAddress a x.node → ShowsGiven t (leaf.Place a ∷ rest) rest (given.One x)
+      ShowsPointer : (t to : CType) (a : Address) (rest : List Leaf) (x : At Tree) → out-Shape t.shape ≡ shape.Pointer to → ShowsAddress to a x.node → ShowsGiven t (leaf.Place a ∷ rest) rest (given.One x)
       ShowsArray : (t of : CType) (n : ℕ) (leaves rest : List Leaf) (gs : List (At Given)) → out-Shape t.shape ≡ shape.Array of n → ShowsEach (replicate n of) leaves rest gs → ShowsGiven t leaves rest (given.Many gs)
       ShowsStructure : (t : CType) (i : ℕ) (s : Structure) (leaves rest : List Leaf) (gs : List (At Given)) → out-Shape t.shape ≡ shape.Struct i → slice_get p.structures i ≡ Some s → ShowsEach (map (λ m. m.1) s.members) leaves rest gs →
           ShowsGiven t leaves rest (given.Many gs)
