@@ -1,0 +1,5 @@
+pub mod Numbers
+pub mod Known
+pub mod Normal
+pub mod Fits
+pub mod Typed
