@@ -1,5 +1,5 @@
 -- The declarators of items begin in order: what stands behind a construct ascends from where it began.
-use Rattle.std.proofs.Common.{◌≡◌, ◌≤◌, ◌+◌, ℕ, Bool, true, false, List, [], ◌∷◌, ◌++◌, map, length, refl, ap, sym, ◌∙◌, subst, arith, append_assoc, append-nil}
+use Rattle.std.proofs.Common.{◌≡◌, ◌≤◌, ◌+◌, ℕ, Bool, false, List, [], ◌∷◌, ◌++◌, map, length, refl, ap, sym, ◌∙◌, subst, arith, append_assoc, append-nil}
 use Rattle.cc_lex.specs.declared.token.Token.{Token}
 use Rattle.cc_lex.specs.declared.token.Mark.TheVariants as m
 use Rattle.cc_lex.specs.Tokens.{TokensFrom, NoToken, Separated, Spelled}
@@ -9,7 +9,7 @@ use Rattle.cc_tree.specs.declared.unit.Init.{Init}
 use Rattle.cc_tree.specs.declared.unit.Item.{Item}
 use Rattle.cc_tree.specs.Scopes.{Scope}
 use Rattle.cc_tree.specs.Sentences.{IsItem, ADeclItem, AFunc, IsItems, NoItem, MoreItems}
-use Rattle.cc_tree.specs.Statements.{IsInit, AnInit, IsInits, FirstInit, MoreInits, IsDecl, DeclaresNothing, Declares}
+use Rattle.cc_tree.specs.Statements.{IsInit, AnInit, IsInits, FirstInit, MoreInits, DeclaresNothing, Declares}
 use Rattle.cc_tree.specs.Terms.{IsDeclr, NoName, DeclaredName, DeclrInParens, APointer, AnArray, AnOpenArray, AFunction}
 use Rattle.cc_tree.specs.Tokens.{Tokens, offset, mark}
 use Rattle.cc_item_offsets.specs.Offsets.{declared_at, all_declared_at, NeverFall}

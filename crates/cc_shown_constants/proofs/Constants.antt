@@ -12,7 +12,7 @@ use Rattle.cc_num.specs.declared.int_type.IntType.TheVariants as int
 use Rattle.cc_num.specs.declared.op.BinOp.TheVariants as op
 use Rattle.cc_num.specs.declared.op.UnOp.TheVariants as un
 use Rattle.cc_num.specs.declared.target.Target.{Target}
-use Rattle.cc_num.specs.Integers.{is_signed, least_of, IsValueOf, is_value_of}
+use Rattle.cc_num.specs.Integers.{least_of, IsValueOf, is_value_of}
 use Rattle.cc_num.specs.Promotions.{usual_of}
 use Rattle.cc_num.proofs.Conversions.{converted-same}
 use Rattle.cc_num.proofs.ResultLaws.{is_value_from, value_from_test, truth_value}
@@ -35,7 +35,6 @@ use Rattle.cc_scopes.specs.Verdicts.{Found, and_then}
 use Rattle.cc_syntax.specs.Folding.{Constant, Value, unary_constant, binary_constant, converted_constant}
 use Rattle.cc_syntax.specs.Operators.{is_promoted}
 use Rattle.cc_syntax.specs.SameTypes.{same_int}
-use Rattle.cc_syntax.specs.Values.{Integer}
 use Rattle.cc_syntax.proofs.SameLemmas.{int_same}
 use Rattle.cc_terms.specs.Meanings.{TreeMeaning}
 use Rattle.cc_terms.specs.Operations.{prefixed}
@@ -55,7 +54,7 @@ use Rattle.cc_tree.specs.declared.tree.Tree.TheVariants as rolls
 use Rattle.cc_tree.specs.declared.tree.TypeName.{TypeName}
 use Rattle.cc_type_trees.specs.Types.{suffix, plain_suffix}
 use Rattle.cc_expression_trees.specs.Constants.{number_of, ShowsInteger, InParens, ShowsNatural, ShowsNegative, ShowsLeast, IsZero, Zero, ZeroInParens}
-use Rattle.cc_shown_constants.proofs.Integers.{host, own-host, host-promoted, number-typed, not-below, negated-size, Negated, negated-fits, least-fits, negative-constant, difference-constant, usual-host, one-value}
+use Rattle.cc_shown_constants.proofs.Integers.{host, own-host, host-promoted, number-typed, not-below, negated-size, negated-fits, least-fits, negative-constant, difference-constant, usual-host, one-value}
 
 module _ (target : Target) where
   -- `-a`
@@ -94,7 +93,7 @@ module _ (target : Target) where
     pub paren-tree : (x : At Tree) (at : ℕ) → tree_of target roles (tree.Paren x) at s ≡ tree_of target roles x.node x.at s
     paren-tree x at = tree-at (tree.Paren x) (one.Tree::Paren x) (rolls.outs-Paren x) at
 
-    number-tree : (a : ℕ) (x : Suffix) (at : ℕ) → tree_of target roles (tree.Number a x) at s ≡ Ok (IsValue (integer (pos a) (number_type target a x)), s)
+    pub number-tree : (a : ℕ) (x : Suffix) (at : ℕ) → tree_of target roles (tree.Number a x) at s ≡ Ok (IsValue (integer (pos a) (number_type target a x)), s)
     number-tree a x at = tree-at (tree.Number a x) (one.Number a x) (rolls.outs-Number a x) at
 
     minus-tree : (x : At Tree) (at : ℕ) (y z : Operand) → tree_of target roles x.node x.at s ≡ Ok (IsValue y, s) → unary_of target unary_operator.Minus y ≡ Ok z → tree_of target roles (tree.Prefix m.Minus x) at s ≡ Ok (IsValue z, s)

@@ -1,6 +1,6 @@
 -- The types of the numbers that a program's constants are written with, and the values that `-` and a difference make of them:
 -- a type of a lower rank than int has no constants, so its values are written as those of int.
-use Rattle.std.proofs.Common.{◌≡◌, ℕ, zero, suc, ◌-◌, ◌*◌, ◌^◌, ◌<◌, ◌≤◌, Bool, true, false, not, ◌&&◌, List, [], ◌∷◌, ℤ, pos, negsuc, neg_ℤ, ◌+ℤ◌, ◌-ℤ◌, ◌≤ℤ◌, ◌<ℤ◌, int_lt, unsigned_abs, Option, Some, refl, ap, sym, ◌∙◌, subst, ⊎_elim, arith, pow_mono, if◌then◌else◌, nat_eq, nat_lt}
+use Rattle.std.proofs.Common.{◌≡◌, ℕ, ◌-◌, ◌<◌, ◌≤◌, Bool, true, false, not, ◌&&◌, List, [], ◌∷◌, ℤ, pos, negsuc, neg_ℤ, ◌-ℤ◌, ◌≤ℤ◌, ◌<ℤ◌, int_lt, unsigned_abs, Some, refl, ap, sym, ◌∙◌, subst, ⊎_elim, arith, pow_mono, if◌then◌else◌, nat_eq, nat_lt}
 use Rattle.std.proofs.lemmas.Bool.Decides.{nat_tests, Decides-int_eq}
 use Rattle.std.proofs.lemmas.Int.{ints}
 use Rattle.std.specs.Ordering.{int_eq}
@@ -9,16 +9,16 @@ use Rattle.cc_num.specs.declared.int_type.IntType.TheVariants as int
 use Rattle.cc_num.specs.declared.op.BinOp.TheVariants as op
 use Rattle.cc_num.specs.declared.op.UnOp.TheVariants as un
 use Rattle.cc_num.specs.declared.target.Target.{Target}
-use Rattle.cc_num.specs.Integers.{is_signed, bits_of, least_of, most_of, least_of_bits, most_of_bits, IsValueOf, is_value_of, converted}
+use Rattle.cc_num.specs.Integers.{is_signed, bits_of, least_of, most_of, least_of_bits, most_of_bits, IsValueOf, is_value_of}
 use Rattle.cc_num.specs.Promotions.{rank_of, promoted, usual_of, common_of, common_by}
-use Rattle.cc_num.specs.Results.{represented, result_of, unary_result_of}
+use Rattle.cc_num.specs.Results.{result_of, unary_result_of}
 use Rattle.cc_num.proofs.Conversions.{int_bytes_is}
 use Rattle.cc_num.proofs.DivisionLaws.{ends_apart}
 use Rattle.cc_num.proofs.PromotionLaws.{promoted-same}
-use Rattle.cc_num.proofs.ResultLaws.{is_value_from, value_from_test, represented_same, unsigned_least, least_low, most_high}
+use Rattle.cc_num.proofs.ResultLaws.{is_value_from, represented_same, unsigned_least, least_low, most_high}
 use Rattle.cc_operands.specs.Operands.{first_with, types_by, number_type}
 use Rattle.cc_pieces.specs.Constants.{has_unsigned_letter, long_letters_of, is_narrow}
-use Rattle.cc_syntax.specs.Folding.{Constant, Value, NoConstant, result_constant, unary_constant, binary_constant}
+use Rattle.cc_syntax.specs.Folding.{Value, NoConstant, result_constant, unary_constant, binary_constant}
 use Rattle.cc_syntax.specs.Operators.{is_promoted}
 use Rattle.cc_syntax.specs.SameTypes.{same_int}
 use Rattle.cc_syntax.proofs.SameLemmas.{int_itself}

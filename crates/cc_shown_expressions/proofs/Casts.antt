@@ -1,15 +1,14 @@
 -- Trees of constants, nulls, conversions and casts of pointers that show those of a program are typed to them.
-use Rattle.std.proofs.Common.{◌≡◌, ℕ, ℤ, pos, Bool, true, false, not, ◌&&◌, ◌||◌, Option, Some, None, Ok, refl, ap, sym, ◌∙◌, subst}
-use Rattle.std.specs.Prelude.{if◌then◌else◌}
+use Rattle.std.proofs.Common.{◌≡◌, ℕ, ℤ, pos, Bool, true, false, ◌&&◌, ◌||◌, Ok, refl, ap, sym, ◌∙◌}
 use Rattle.std.specs.Option.{is_some}
 use Rattle.cc_designators.specs.Casts.{cast_of}
 use Rattle.cc_designators.specs.Designators.{TypedExpr, IsValue, IsAddress, null, pointed_in}
 use Rattle.cc_num.specs.declared.int_type.IntType.{IntType}
 use Rattle.cc_num.specs.declared.int_type.IntType.TheVariants as int
-use Rattle.cc_num.specs.Integers.{is_value_of, converted}
+use Rattle.cc_num.specs.Integers.{is_value_of}
 use Rattle.cc_num.proofs.Conversions.{converted-same}
 use Rattle.cc_num.proofs.ResultLaws.{value_from_test}
-use Rattle.cc_operands.specs.Operands.{Operand, operand, integer, constancy, cast_to, folded, is_pointer, is_to_void, is_zero_constant, is_null_constant, is_null_at}
+use Rattle.cc_operands.specs.Operands.{Operand, operand, integer, cast_to, folded, is_pointer, is_to_void, is_zero_constant, is_null_constant, is_null_at}
 use Rattle.cc_operands.specs.Qualified.{unqualified}
 use Rattle.cc_operand_rules.proofs.Casts.{integer-cast, constant-pointer, void-pointer, null-pointer, qualified-pointer}
 use Rattle.cc_operand_rules.proofs.Choices.{alike-void, constancy-of, pointer-scalar}
@@ -18,7 +17,6 @@ use Rattle.cc_primary.specs.Values.{valued, value_found}
 use Rattle.cc_program.specs.declared.expr.Expr.{Expr, Const, Null, Conv, Qualify, out-Expr}
 use Rattle.cc_program.specs.declared.expr.Expr.TheOpen as one
 use Rattle.cc_program.specs.declared.expr.Expr.TheVariants as expr_rolls
-use Rattle.cc_program.specs.declared.expr.Place.{Place}
 use Rattle.cc_program.specs.declared.func.Func.{Func}
 use Rattle.cc_program.specs.declared.program.Program.{Program}
 use Rattle.cc_program.specs.declared.types.CType.{CType}
@@ -27,7 +25,7 @@ use Rattle.cc_program.specs.declared.types.Shape.TheOpen as shape
 use Rattle.cc_program.specs.declared.types.Sig.{Sig}
 use Rattle.cc_scopes.specs.State.{State}
 use Rattle.cc_scopes.specs.Verdicts.{Found, and_then}
-use Rattle.cc_syntax.specs.Folding.{Constant, NoConstant, Value, converted_constant, constant_of, is_folded}
+use Rattle.cc_syntax.specs.Folding.{Constant, Value, converted_constant, constant_of}
 use Rattle.cc_syntax.specs.Kinds.{kind_in}
 use Rattle.cc_syntax.specs.SameTypes.{is_void_shape}
 use Rattle.cc_syntax.specs.Sizes.{AreSized}
@@ -41,17 +39,16 @@ use Rattle.cc_tree.specs.declared.tree.TypeName.{TypeName}
 use Rattle.cc_type_trees.specs.Types.{ShowsTypeName}
 use Rattle.cc_expression_trees.specs.Constants.{plain, ShowsInteger, IsZero, IsVoidNull, VoidNull, NullInParens, void_pointer}
 use Rattle.cc_expression_trees.specs.Exprs.{is_null}
-use Rattle.cc_shown_constants.proofs.Constants.{IsNumber, integer-found, zero-found, paren-tree}
-use Rattle.cc_shown_operations.specs.Fits.{FitsValue}
+use Rattle.cc_shown_constants.proofs.Constants.{integer-found, zero-found, paren-tree}
 use Rattle.cc_shown_operations.specs.Normal.{HasOperand}
 use Rattle.cc_shown_operations.specs.Numbers.{Numbers, expr_numbered}
 use Rattle.cc_shown_operations.specs.Typed.{operand_of, IsTypedAs, IsShown}
-use Rattle.cc_shown_operations.proofs.Fits.{null-fits, qualified-fits, void-to}
+use Rattle.cc_shown_operations.proofs.Fits.{null-fits, qualified-fits}
 use Rattle.cc_shown_operations.proofs.Levels.{when-is, type-at, constant-at, folded-at, expr-at}
 use Rattle.cc_shown_operations.proofs.Operands.{constancy-is, folded-operand, plain-operand, constant-operand, null-constant, no-null}
 use Rattle.cc_shown_operations.proofs.Operations.{integer-shown}
 use Rattle.cc_shown_operations.proofs.Parts.{conversion-parts}
-use Rattle.cc_shown_operations.proofs.PlaceParts.{NullIs, ToVoid, ToOther, null-is, QualifiedParts, qualified-parts}
+use Rattle.cc_shown_operations.proofs.PlaceParts.{NullIs, ToVoid, ToOther, null-is, qualified-parts}
 use Rattle.cc_shown_operations.proofs.Trees.{typed-value, found-value, cast-by}
 use Rattle.cc_shown_types.specs.Known.{KnowsStructures}
 use Rattle.cc_shown_types.specs.Numbers.{type_numbered, value_numbered}

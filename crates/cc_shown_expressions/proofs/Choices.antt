@@ -1,9 +1,8 @@
 -- Trees of `c ? a : b` that show a choice of a program are typed to it.
-use Rattle.std.proofs.Common.{◌≡◌, ℕ, Bool, true, false, not, ◌&&◌, ◌||◌, Option, Some, None, Ok, refl, ap, sym, ◌∙◌, subst}
+use Rattle.std.proofs.Common.{◌≡◌, ℕ, Bool, true, false, not, ◌&&◌, ◌||◌, Ok, refl, ap, sym, ◌∙◌, subst}
 use Rattle.std.specs.Prelude.{if◌then◌else◌}
-use Rattle.cc_num.specs.declared.int_type.IntType.{IntType}
 use Rattle.cc_num.specs.declared.target.Target.{Target}
-use Rattle.cc_operands.specs.Operands.{Operand, operand, constancy, folded, is_pointer, is_to_void, is_null_constant}
+use Rattle.cc_operands.specs.Operands.{Operand, operand, constancy, folded, is_to_void}
 use Rattle.cc_operand_rules.proofs.Choices.{Common, Integers, Pointers, choose-integers, choose-pointers}
 use Rattle.cc_program.specs.declared.expr.Expr.{Expr, Choose, out-Expr}
 use Rattle.cc_program.specs.declared.expr.Expr.TheOpen as one
@@ -12,7 +11,7 @@ use Rattle.cc_program.specs.declared.program.Program.{Program}
 use Rattle.cc_scopes.specs.State.{State}
 use Rattle.cc_syntax.specs.Folding.{Constant, NoConstant, Value, Traps, is_true, chosen_constant, constant_of}
 use Rattle.cc_syntax.specs.Operators.{common_type}
-use Rattle.cc_syntax.specs.SameTypes.{alike, same_sig}
+use Rattle.cc_syntax.specs.SameTypes.{alike}
 use Rattle.cc_syntax.specs.Values.{ValueType, NoValue, Integer, ToObject, ToFunction, is_void, point_alike}
 use Rattle.cc_tree.specs.declared.at.At.{At}
 use Rattle.cc_tree.specs.declared.tree.Tree as tree
@@ -21,7 +20,7 @@ use Rattle.cc_shown_expressions.proofs.Casts.{pointer-numbered-is}
 use Rattle.cc_shown_operations.specs.Fits.{FitsValue}
 use Rattle.cc_shown_operations.specs.Normal.{HasOperand}
 use Rattle.cc_shown_operations.specs.Numbers.{Numbers, expr_numbered}
-use Rattle.cc_shown_operations.specs.Typed.{operand_of, IsTypedAs, IsShown}
+use Rattle.cc_shown_operations.specs.Typed.{operand_of, IsShown}
 use Rattle.cc_shown_operations.proofs.Fits.{common-fits}
 use Rattle.cc_shown_operations.proofs.Levels.{expr-at}
 use Rattle.cc_shown_operations.proofs.Operands.{constancy-is, folded-operand, plain-operand, no-null, to-void}

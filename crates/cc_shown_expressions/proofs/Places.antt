@@ -1,13 +1,13 @@
 -- Trees that show places of a program, what is read there and their addresses are typed to them.
-use Rattle.std.proofs.Common.{◌≡◌, ℕ, Bool, true, false, not, ◌&&◌, ◌||◌, Option, Some, None, Ok, refl, ap, sym, ◌∙◌, subst, slice_get}
-use Rattle.std.specs.Prelude.{is_some, option_map, if◌then◌else◌}
+use Rattle.std.proofs.Common.{◌≡◌, ℕ, Bool, true, false, not, Option, Some, None, Ok, refl, ap, sym, ◌∙◌, subst, slice_get}
+use Rattle.std.specs.Prelude.{is_some, option_map}
 use Rattle.cc_bodies.specs.Names.{member_name}
-use Rattle.cc_designators.specs.Designators.{TypedExpr, IsPlace, IsFunction, loaded, value_at}
+use Rattle.cc_designators.specs.Designators.{IsPlace, IsFunction, loaded, value_at}
 use Rattle.cc_designators.specs.Postfix.{element, element_by, address_at, indirection, pointed_at}
 use Rattle.cc_lex.specs.declared.token.Mark.TheVariants as m
 use Rattle.cc_num.specs.declared.int_type.IntType.{IntType}
 use Rattle.cc_operands.specs.Operands.{Operand, operand}
-use Rattle.cc_operands.specs.Verdicts.{Judged, must}
+use Rattle.cc_operands.specs.Verdicts.{must}
 use Rattle.cc_operands.specs.declared.rule.Rule.TheVariants as rule
 use Rattle.cc_operand_rules.proofs.Rules.{with-scalar}
 use Rattle.cc_primary.specs.Devices.{cast_constant}
@@ -22,13 +22,13 @@ use Rattle.cc_program.specs.declared.types.CType.{CType}
 use Rattle.cc_program.specs.declared.types.Shape.{Shape, out-Shape}
 use Rattle.cc_program.specs.declared.types.Shape.TheOpen as shape
 use Rattle.cc_program.specs.declared.types.Sig.{Sig}
-use Rattle.cc_scopes.specs.State.{State, structures_of}
+use Rattle.cc_scopes.specs.State.{State}
 use Rattle.cc_scopes.specs.Verdicts.{whole}
-use Rattle.cc_syntax.specs.Effects.{Effects, PlaceEffects, no_one, is_soft, effect_step, place_effect_step, effects_of, place_effects_of}
-use Rattle.cc_syntax.specs.Expressions.{type_of, place_type}
-use Rattle.cc_syntax.specs.Operators.{is_integer, is_handler, when, function_type}
+use Rattle.cc_syntax.specs.Effects.{Effects, PlaceEffects, no_one, is_soft, place_effect_step, effects_of, place_effects_of}
+use Rattle.cc_syntax.specs.Expressions.{place_type}
+use Rattle.cc_syntax.specs.Operators.{is_integer, is_handler, function_type}
 use Rattle.cc_syntax.specs.Types.{Named}
-use Rattle.cc_syntax.specs.Values.{ValueType, NoValue, Integer, ToObject, ToFunction, PlaceType, DevicePlace, ObjectPlace, FunctionPlace, is_scalar, scalar_shape, object_place, pointer_to, read_from, address_of, pointed_to, element_shape, element_of, member_of}
+use Rattle.cc_syntax.specs.Values.{ValueType, Integer, ToFunction, PlaceType, DevicePlace, ObjectPlace, FunctionPlace, is_scalar, scalar_shape, object_place, pointer_to, read_from, address_of, pointed_to, element_shape, element_of, member_of}
 use Rattle.cc_terms.specs.Terms.{tree_of}
 use Rattle.cc_tree.specs.declared.at.At.{At}
 use Rattle.cc_tree.specs.declared.tree.Tree as tree
@@ -38,14 +38,13 @@ use Rattle.cc_shown_operations.specs.Fits.{FitsPlace, FitsValue, is_device_place
 use Rattle.cc_shown_operations.specs.Known.{KnowsNames, TypesStand}
 use Rattle.cc_shown_operations.specs.Normal.{HasOperand, HasPlace}
 use Rattle.cc_shown_operations.specs.Numbers.{Numbers, expr_numbered, place_numbered}
-use Rattle.cc_shown_operations.specs.Typed.{operand_of, IsTypedAs, IsPlacedAs, IsShown}
+use Rattle.cc_shown_operations.specs.Typed.{operand_of, IsPlacedAs, IsShown}
 use Rattle.cc_shown_operations.proofs.Fits.{object-place-fits, read-fits, address-fits, deref-fits, element-fits, member-fits}
-use Rattle.cc_shown_operations.proofs.Levels.{one-is, when-is, type-at, place-at, effects-at, place-effects-at, constant-at, folded-at, place-folding-at, expr-at, place-numbered-at}
+use Rattle.cc_shown_operations.proofs.Levels.{one-is, when-is, type-at, place-at, effects-at, place-effects-at, constant-at, folded-at, expr-at, place-numbered-at}
 use Rattle.cc_shown_operations.proofs.Members.{dot-is}
 use Rattle.cc_shown_operations.proofs.Operands.{plain-operand}
 use Rattle.cc_shown_operations.proofs.PlaceParts.{address-parts, element-parts, member-parts, pointed-parts}
-use Rattle.cc_shown_operations.proofs.Trees.{inside-place, name-tree, read-tree, address-tree, element-tree, member-tree, pointed-tree}
-use Rattle.cc_shown_types.specs.Known.{KnowsStructures}
+use Rattle.cc_shown_operations.proofs.Trees.{name-tree, read-tree, address-tree, element-tree, member-tree, pointed-tree}
 use Rattle.cc_shown_types.specs.Numbers.{type_numbered, sig_numbered, value_numbered, place_type_numbered}
 use Rattle.cc_shown_types.proofs.Kept.{object-numbered, read-at, address-at, element-at, pointed-at as pointed-numbered, scalar-stays}
 
@@ -73,7 +72,7 @@ pointed-place x b h e = with-scalar x _ h ∙ ap (pointed_at x) e
 
 -- ---- devices are no operands of a program in normal form
 
-no-device-element : (a b : PlaceType) → element_of a ≡ Some b → (is_device_place a ≡ false) × (is_device_place b ≡ false)
+pub no-device-element : (a b : PlaceType) → element_of a ≡ Some b → (is_device_place a ≡ false) × (is_device_place b ≡ false)
 no-device-element (DevicePlace c t) b h = absurd (cc)
 no-device-element (ObjectPlace c v t) b h = (refl, by (out-Shape t.shape) b h) where
   by : (x : shape.Shape-F Shape CType Sig) (b : PlaceType) → element_shape c v x ≡ Some b → is_device_place b ≡ false

@@ -1,11 +1,11 @@
 -- A null of a pointer type is written by what it points to: a type that may stand in a program has its qualifiers at its
 -- innermost element, so put there again they are as they were.
-use Rattle.std.proofs.Common.{◌≡◌, ℕ, Bool, true, false, ◌||◌, length, Option, Some, None, refl, ap, sym, ◌∙◌, subst}
+use Rattle.std.proofs.Common.{◌≡◌, ℕ, Bool, true, false, ◌||◌, length, refl, ap, sym, ◌∙◌, subst}
 use Rattle.std.specs.Option.{is_some}
 use Rattle.cc_operands.specs.Operands.{null_of}
-use Rattle.cc_operands.specs.Qualified.{plain, qualified_as, instead, at_element, type_of_value}
+use Rattle.cc_operands.specs.Qualified.{plain, qualified_as, instead, at_element}
 use Rattle.cc_program.specs.Qualifiers.{of_element, is_const, is_volatile}
-use Rattle.cc_program.specs.declared.expr.Expr.{Expr, Null}
+use Rattle.cc_program.specs.declared.expr.Expr.{Null}
 use Rattle.cc_program.specs.declared.program.Program.{Program}
 use Rattle.cc_program.specs.declared.types.CType.{CType}
 use Rattle.cc_program.specs.declared.types.Shape.{Shape, Pointer, Array, Func, out-Shape, roll-Shape, out-roll-Shape}
@@ -15,11 +15,11 @@ use Rattle.cc_program.specs.declared.types.Sig.{Sig}
 use Rattle.cc_program.proofs.QualifierLemmas.{const-opens, volatile-opens, parts_const, parts_volatile}
 use Rattle.cc_program.proofs.TypeInduction.{with_shape, TypeParts, by_type}
 use Rattle.cc_syntax.specs.Kinds.{kind_in}
-use Rattle.cc_syntax.specs.Values.{ValueType, ToObject, ToFunction, pointer_shape, pointer_to}
+use Rattle.cc_syntax.specs.Values.{pointer_shape, pointer_to}
 use Rattle.cc_type_trees.proofs.Levels.{array-type, func-type}
 use Rattle.cc_shown_types.specs.Numbers.{type_numbered, sig_numbered, value_numbered}
 use Rattle.cc_shown_types.proofs.Bases.{opens-as, type-of-fields, shape-of-level}
-use Rattle.cc_shown_types.proofs.Numbering.{level, level-at, constant-kept, volatile-kept}
+use Rattle.cc_shown_types.proofs.Numbering.{level-at, constant-kept, volatile-kept}
 use Rattle.cc_shown_types.proofs.Standing.{rolled}
 
 or-false : (b : Bool) → (b || false) ≡ b

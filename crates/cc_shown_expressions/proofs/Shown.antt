@@ -1,7 +1,6 @@
 -- Trees that show expressions and places of a program are typed to them: by induction over what shows them.
-use Rattle.std.proofs.Common.{◌≡◌, ℕ, Bool, true, false, None, Ok, refl, ap, sym, ◌∙◌}
+use Rattle.std.proofs.Common.{◌≡◌, ℕ, false, refl, ◌∙◌}
 use Rattle.cc_designators.specs.Designators.{IsValue}
-use Rattle.cc_primary.specs.Devices.{cast_constant}
 use Rattle.cc_program.specs.declared.expr.Expr.{Expr}
 use Rattle.cc_program.specs.declared.expr.Expr.TheOpen as one
 use Rattle.cc_program.specs.declared.expr.Place.{Place}
@@ -26,7 +25,7 @@ use Rattle.cc_shown_operations.specs.Typed.{operand_of, IsShown}
 use Rattle.cc_shown_operations.proofs.Fits.{null-fits}
 use Rattle.cc_shown_operations.proofs.Levels.{constant-at}
 use Rattle.cc_shown_operations.proofs.Operations.{unary-shown, binary-shown}
-use Rattle.cc_shown_operations.proofs.Trees.{inside, inside-place, typed-value}
+use Rattle.cc_shown_operations.proofs.Trees.{inside, inside-place}
 
 module _ (p : Program) (f : Func) (n : Numbers) (s : State) (sized : AreSized p.structures p.target) (names : KnowsNames p f n s) (stand : TypesStand p f) where
   paren-pointer : (e : Expr) (x : At Tree) (at : ℕ) (v : ValueType) → IsPointerShown p f n s names stand x.node x.at e v → IsPointerShown p f n s names stand (tree.Paren x) at e v

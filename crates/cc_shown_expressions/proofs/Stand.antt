@@ -1,5 +1,5 @@
 -- The types of a sound program's locals, objects and members are those of objects, and members have names of their own.
-use Rattle.std.proofs.Common.{◌≡◌, ℕ, zero, suc, Bool, true, false, ◌&&◌, ◌||◌, List, [], ◌∷◌, ◌++◌, take, length, Option, Some, None, refl, ap, sym, ◌∙◌, subst, slice_get, append_assoc, append-nil}
+use Rattle.std.proofs.Common.{◌≡◌, ℕ, zero, suc, Bool, true, false, ◌&&◌, ◌||◌, List, [], ◌∷◌, ◌++◌, length, Option, Some, None, refl, ap, sym, ◌∙◌, subst, slice_get}
 use Rattle.std.specs.List.{list_all}
 use Rattle.std.specs.Option.{is_some}
 use Rattle.cc_num.specs.declared.target.Target.{Target}
@@ -7,25 +7,22 @@ use Rattle.cc_later_kinds.proofs.Members.{members_stand}
 use Rattle.cc_operand_types.specs.Typed.{is_pointed_kind}
 use Rattle.cc_operand_types.proofs.Programs.{kind_same}
 use Rattle.cc_program.specs.declared.func.Func.{Func}
-use Rattle.cc_program.specs.declared.object.Object.{Object}
 use Rattle.cc_program.specs.declared.program.Program.{Program}
 use Rattle.cc_program.specs.declared.types.CType.{CType}
 use Rattle.cc_program.specs.declared.types.Shape.{Shape, out-Shape}
 use Rattle.cc_program.specs.declared.types.Shape.TheOpen as shape
 use Rattle.cc_program.specs.declared.types.Sig.{Sig}
 use Rattle.cc_program.specs.declared.types.Structure.{Structure}
-use Rattle.cc_syntax.specs.Kinds.{Kind, IsVoid, IsScalar, IsStructure, IsArray, IsIncomplete, IsFunction, kind_in, qualified_kind}
+use Rattle.cc_syntax.specs.Kinds.{Kind, IsVoid, kind_in, qualified_kind}
 use Rattle.cc_syntax.specs.Names.{are_names, local_names}
 use Rattle.cc_syntax.specs.SameTypes.{is_void_shape}
 use Rattle.cc_syntax.specs.Sound.{IsSound, IsFunc, is_local, is_object, have_ids, is_member, is_structure, are_structures}
-use Rattle.cc_syntax.specs.Types.{Named}
-use Rattle.cc_syntax.specs.Values.{is_void}
 use Rattle.cc_syntax.proofs.Parts.{all_at}
 use Rattle.cc_syntax.proofs.Prefixes.{both_true}
 use Rattle.cc_shown_operations.specs.Known.{TypesStand}
 use Rattle.cc_shown_types.proofs.Standing.{kind-at}
 
-tested-at : {A : Type 0} → (test : A → Bool) (xs : List A) (i : ℕ) (x : A) → list_all test xs ≡ true → slice_get xs i ≡ Some x → test x ≡ true
+pub tested-at : {A : Type 0} → (test : A → Bool) (xs : List A) (i : ℕ) (x : A) → list_all test xs ≡ true → slice_get xs i ≡ Some x → test x ≡ true
 tested-at test [] i x h e = absurd (cc)
 tested-at test (y ∷ ys) zero x h e = let k : y ≡ x = cc in subst (λ z. test z ≡ true) k (both_true (test y) (list_all test ys) h).0
 tested-at test (y ∷ ys) (suc i) x h e = tested-at test ys i x (both_true (test y) (list_all test ys) h).1 e

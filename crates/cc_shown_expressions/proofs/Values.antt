@@ -1,20 +1,18 @@
 -- Trees that show whole right sides, arguments and returned values are taken as what they show: a value of a type of a lower rank
 -- than int from a constant of int, and a null from `0`.
-use Rattle.std.proofs.Common.{◌≡◌, ℕ, ℤ, pos, Bool, true, false, Option, Some, None, Ok, refl, ap, sym, ◌∙◌, subst}
-use Rattle.cc_designators.specs.Designators.{TypedExpr, IsValue}
+use Rattle.std.proofs.Common.{◌≡◌, ℕ, ℤ, pos, Bool, true, false, Option, Some, refl, ap, sym, ◌∙◌, subst}
+use Rattle.cc_designators.specs.Designators.{IsValue}
 use Rattle.cc_num.specs.declared.int_type.IntType.{IntType}
 use Rattle.cc_num.specs.declared.int_type.IntType.TheVariants as int
-use Rattle.cc_operands.specs.Operands.{Operand, integer, is_pointer, is_to_void, is_null_constant, null_of}
+use Rattle.cc_operands.specs.Operands.{Operand, integer, is_pointer, is_null_constant, null_of}
 use Rattle.cc_operand_rules.specs.Assigned.{AssignedAs}
 use Rattle.cc_operand_rules.proofs.Choices.{assign-rule, assign-null, assign-constant}
-use Rattle.cc_program.specs.declared.expr.Expr.{Expr, Const, Null, out-Expr}
+use Rattle.cc_program.specs.declared.expr.Expr.{Expr, Null, out-Expr}
 use Rattle.cc_program.specs.declared.expr.Expr.TheOpen as one
 use Rattle.cc_program.specs.declared.expr.Expr.TheVariants as expr_rolls
 use Rattle.cc_program.specs.declared.func.Func.{Func}
 use Rattle.cc_program.specs.declared.program.Program.{Program}
 use Rattle.cc_program.specs.declared.types.CType.{CType}
-use Rattle.cc_program.specs.declared.types.Shape.{out-Shape}
-use Rattle.cc_program.specs.declared.types.Shape.TheOpen as shape
 use Rattle.cc_scopes.specs.State.{State}
 use Rattle.cc_syntax.specs.SameTypes.{alike}
 use Rattle.cc_syntax.specs.Kinds.{kind_in}
@@ -22,9 +20,6 @@ use Rattle.cc_syntax.specs.Sizes.{AreSized}
 use Rattle.cc_syntax.specs.Values.{ValueType, NoValue, Integer, ToObject, ToFunction, scalar_shape, scalar_value, pointer_to, is_assignable}
 use Rattle.cc_syntax.proofs.AlikeLemmas.{alike-scalar}
 use Rattle.cc_syntax.proofs.SameLemmas.{int_same}
-use Rattle.cc_terms.specs.Terms.{tree_of}
-use Rattle.cc_tree.specs.declared.at.At.{At}
-use Rattle.cc_tree.specs.declared.tree.Tree as tree
 use Rattle.cc_tree.specs.declared.tree.Tree.{Tree}
 use Rattle.cc_expression_trees.specs.Constants.{ShowsInteger, IsZero}
 use Rattle.cc_expression_trees.specs.Exprs.{ShowsValue, ValueInParens, ValueOf, NarrowValue, NullValue}

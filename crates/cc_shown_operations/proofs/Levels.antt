@@ -1,17 +1,16 @@
 -- What an expression and a place are at a level: their type, what they are as constants, whether they are folded, and with
 -- other numbers; and what it says that the level has a type.
 use Rattle.std.specs.Prelude.{ℤ}
-use Rattle.std.proofs.Common.{◌≡◌, ℕ, Bool, true, false, not, ◌&&◌, map, Option, Some, None, refl, ap, sym, ◌∙◌, subst}
-use Rattle.std.specs.Option.{is_some}
+use Rattle.std.proofs.Common.{◌≡◌, Bool, true, false, not, map, Option, Some, None, refl, ap, sym, ◌∙◌}
 use Rattle.cc_operands.specs.Operands.{constant_at, is_null_at}
-use Rattle.cc_program.specs.declared.expr.Expr.{Expr, Const, out-Expr, roll-Expr, roll-out-Expr, map-Expr, fold_out-Expr}
+use Rattle.cc_program.specs.declared.expr.Expr.{Expr, out-Expr, map-Expr, fold_out-Expr}
 use Rattle.cc_program.specs.declared.expr.Expr.TheOpen as one
 use Rattle.cc_program.specs.declared.expr.Expr.TheVariants as rolls
-use Rattle.cc_program.specs.declared.expr.Place.{Place, out-Place, roll-Place, roll-out-Place, map-Place, fold_out-Place}
+use Rattle.cc_program.specs.declared.expr.Place.{Place, out-Place, map-Place, fold_out-Place}
 use Rattle.cc_program.specs.declared.func.Func.{Func}
 use Rattle.cc_program.specs.declared.program.Program.{Program}
 use Rattle.cc_num.specs.declared.target.Target.{Target}
-use Rattle.cc_syntax.specs.Effects.{Effects, PlaceEffects, no_one, effect_step, place_effect_step, effects_of, place_effects_of}
+use Rattle.cc_syntax.specs.Effects.{Effects, PlaceEffects, effect_step, place_effect_step, effects_of, place_effects_of}
 use Rattle.cc_syntax.specs.Expressions.{of_one, of_two, expr_step, place_step, type_of, place_type}
 use Rattle.cc_syntax.specs.Folding.{Constant, NoConstant, Value, Traps, Folding, has_value, operation, folding_step, place_folding_step, folding_of, is_folded_place, constant_of, is_folded}
 use Rattle.cc_syntax.specs.Operators.{when}

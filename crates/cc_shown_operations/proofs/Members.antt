@@ -1,5 +1,5 @@
 -- A member is found by its name where the program has it by its position.
-use Rattle.std.proofs.Common.{◌≡◌, ◌<◌, ◌+◌, ℕ, zero, suc, Bool, true, false, not, ◌&&◌, ◌||◌, cond, List, [], ◌∷◌, map, length, Option, Some, None, Ok, refl, ap, sym, ◌∙◌, subst, slice_get, arith}
+use Rattle.std.proofs.Common.{◌≡◌, ◌<◌, ℕ, zero, suc, Bool, true, false, not, ◌||◌, cond, List, [], ◌∷◌, map, length, Option, Some, None, Ok, refl, ap, sym, ◌∙◌, slice_get, arith}
 use Rattle.std.specs.Prelude.{position, option_map, nat_lt}
 use Rattle.std.specs.List.{list_any, list_all, position_or_len}
 use Rattle.std.specs.Str.{bytes_eq}
@@ -8,7 +8,7 @@ use Rattle.std.proofs.lemmas.List.{length-map}
 use Rattle.std.proofs.lemmas.Option.{slice_get-map, slice_get_within}
 use Rattle.std.proofs.lemmas.Slice.Eq.{bytes_eq-Decides}
 use Rattle.cc_bodies.specs.Names.{local_name, member_name, member_shape as name_in_shape, member_at as name_at}
-use Rattle.cc_designators.specs.Designators.{TypedExpr, IsPlace}
+use Rattle.cc_designators.specs.Designators.{IsPlace}
 use Rattle.cc_designators.specs.Postfix.{position_in, position_at, position_of, member_at, member_by, dot}
 use Rattle.cc_operands.specs.declared.rule.Rule.TheVariants as rule
 use Rattle.cc_program.specs.Qualifiers.{is_const, is_volatile}
@@ -21,7 +21,7 @@ use Rattle.cc_program.specs.declared.types.Shape.TheOpen as shape
 use Rattle.cc_program.specs.declared.types.Sig.{Sig}
 use Rattle.cc_program.specs.declared.types.Structure.{Structure}
 use Rattle.cc_scopes.specs.State.{State, structures_of}
-use Rattle.cc_syntax.specs.Names.{are_names, local_names}
+use Rattle.cc_syntax.specs.Names.{local_names}
 use Rattle.cc_syntax.specs.Types.{Named}
 use Rattle.cc_syntax.specs.Values.{PlaceType, DevicePlace, ObjectPlace, FunctionPlace, member_of}
 use Rattle.cc_syntax.specs.Values.{member_at as place_at_member, member_in as place_in_structure, member_shape as place_in_shape}
@@ -29,7 +29,7 @@ use Rattle.cc_syntax.proofs.Prefixes.{both_true}
 use Rattle.cc_words.specs.Names.{is_name, are_distinct}
 use Rattle.cc_shown_operations.specs.Known.{TypesStand}
 use Rattle.cc_shown_types.specs.Known.{KnowsStructures}
-use Rattle.cc_shown_types.specs.Numbers.{place_type_numbered, structure_numbered, named_numbered, type_numbered}
+use Rattle.cc_shown_types.specs.Numbers.{place_type_numbered, named_numbered, type_numbered}
 use Rattle.cc_shown_types.proofs.Kept.{const-numbered, volatile-numbered}
 use Rattle.cc_shown_types.proofs.Numbering.{level, shape-level}
 

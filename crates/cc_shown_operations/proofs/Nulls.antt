@@ -1,5 +1,5 @@
 -- A null constant among operands of a program is a null of a pointer to plain void; what it is compared with is one too.
-use Rattle.std.proofs.Common.{◌≡◌, ℕ, Bool, true, false, not, ◌&&◌, ◌||◌, Option, Some, None, refl, ap, sym, ◌∙◌, subst}
+use Rattle.std.proofs.Common.{◌≡◌, Bool, true, false, refl, ap, sym, ◌∙◌}
 use Rattle.cc_operands.specs.Operands.{is_pointer, is_to_void, is_null_at, is_null_constant, null_of}
 use Rattle.cc_program.specs.declared.expr.Expr.{Expr, out-Expr}
 use Rattle.cc_program.specs.declared.expr.Expr.TheOpen as one
@@ -11,8 +11,8 @@ use Rattle.cc_program.specs.declared.types.Shape.{Shape, out-Shape}
 use Rattle.cc_program.specs.declared.types.Shape.TheOpen as shape
 use Rattle.cc_program.specs.declared.types.Sig.{Sig}
 use Rattle.cc_syntax.specs.Folding.{NoConstant, constant_of}
-use Rattle.cc_syntax.specs.SameTypes.{is_void_shape, alike}
-use Rattle.cc_syntax.specs.Values.{ValueType, NoValue, Integer, ToObject, ToFunction, is_void, pointer_shape, pointer_to, point_alike}
+use Rattle.cc_syntax.specs.SameTypes.{is_void_shape}
+use Rattle.cc_syntax.specs.Values.{ValueType, NoValue, Integer, ToObject, ToFunction, is_void, pointer_shape, point_alike}
 use Rattle.cc_syntax.proofs.Prefixes.{both_true}
 use Rattle.cc_shown_operations.specs.Numbers.{Numbers, expr_numbered}
 use Rattle.cc_shown_operations.specs.Typed.{operand_of}

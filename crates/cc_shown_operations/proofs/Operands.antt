@@ -1,14 +1,12 @@
 -- Operands that are expressions of a program: what they are as constants, when they are null constants, and what rules make
 -- that is such an operand again.
-use Rattle.std.proofs.Common.{◌≡◌, ℕ, Bool, true, false, not, ◌&&◌, ◌||◌, Option, Some, None, refl, ap, sym, ◌∙◌, subst}
+use Rattle.std.proofs.Common.{◌≡◌, Bool, true, false, ◌&&◌, ◌||◌, refl, ap, sym, ◌∙◌}
 use Rattle.std.specs.Prelude.{ℤ, if◌then◌else◌}
 use Rattle.cc_num.specs.declared.int_type.IntType.{IntType}
-use Rattle.cc_operands.specs.Operands.{Operand, operand, integer, constant_at, constancy, folded, is_pointer, is_to_void, is_null_at, is_zero_constant, is_null_constant, null_of}
-use Rattle.cc_operands.specs.Qualified.{plain, qualified_as, instead, type_of_value}
-use Rattle.cc_program.specs.Qualifiers.{of_element, is_const, is_volatile}
+use Rattle.cc_operands.specs.Operands.{Operand, operand, constant_at, constancy, folded, is_to_void, is_null_at, is_zero_constant, is_null_constant, null_of}
+use Rattle.cc_operands.specs.Qualified.{plain, qualified_as, instead}
 use Rattle.cc_program.specs.declared.expr.Expr.{Expr, Null, out-Expr}
 use Rattle.cc_program.specs.declared.expr.Expr.TheOpen as one
-use Rattle.cc_program.specs.declared.expr.Place.{Place}
 use Rattle.cc_program.specs.declared.program.Program.{Program}
 use Rattle.cc_program.specs.declared.types.CType.{CType}
 use Rattle.cc_program.specs.declared.types.Shape.{Pointer, out-Shape}

@@ -1,5 +1,5 @@
 -- Trees of operators that show operations of a program are typed to them.
-use Rattle.std.proofs.Common.{◌≡◌, ℕ, Bool, true, false, not, ◌&&◌, ◌||◌, length, Option, Some, None, Ok, refl, ap, sym, ◌∙◌, subst}
+use Rattle.std.proofs.Common.{◌≡◌, ℕ, Bool, true, false, Some, Ok, refl, ap, sym, ◌∙◌, subst}
 use Rattle.std.specs.Prelude.{if◌then◌else◌}
 use Rattle.cc_bodies.specs.Exprs.{unary_mark, binary_mark, movement_mark}
 use Rattle.cc_expression_trees.specs.Exprs.{IsBinary, AnOperation, AMovement, ADifference, AComparison, ABoth, AnEither}
@@ -11,22 +11,20 @@ use Rattle.cc_num.specs.declared.op.BinOp.{BinOp}
 use Rattle.cc_num.specs.declared.op.BinOp.TheVariants as op
 use Rattle.cc_num.specs.declared.op.UnOp.{UnOp}
 use Rattle.cc_num.specs.declared.op.UnOp.TheVariants as un
-use Rattle.cc_operands.specs.Arithmetic.{truth, worked}
-use Rattle.cc_operands.specs.Operands.{Operand, operand, constancy, folded, is_pointer, is_to_void}
+use Rattle.cc_operands.specs.Operands.{Operand, constancy, folded, is_pointer}
 use Rattle.cc_operands.specs.Operators.{operator_of, unary_operator_of}
-use Rattle.cc_operands.specs.declared.operator.Operator.{Operator}
 use Rattle.cc_operands.specs.declared.operator.Operator.TheVariants as operator
 use Rattle.cc_primary.specs.Operators.{prefix_of}
 use Rattle.cc_primary.specs.declared.prefix.Prefix.TheVariants as prefix
-use Rattle.cc_program.specs.declared.expr.Expr.{Expr, Un, Bin, Move, Gap, Compare, Both, Either, Choose, out-Expr}
+use Rattle.cc_program.specs.declared.expr.Expr.{Expr, Un, Bin, Move, Gap, Compare, Both, Either, out-Expr}
 use Rattle.cc_program.specs.declared.expr.Expr.TheOpen as one
 use Rattle.cc_program.specs.declared.expr.Place.{Place}
 use Rattle.cc_program.specs.declared.func.Func.{Func}
 use Rattle.cc_program.specs.declared.program.Program.{Program}
 use Rattle.cc_scopes.specs.State.{State, structures_of}
-use Rattle.cc_syntax.specs.Folding.{Constant, NoConstant, unary_constant, binary_constant, both_constant, either_constant, chosen_constant, constant_of}
-use Rattle.cc_syntax.specs.Operators.{unary_result, binary_result, difference_type, common_type, is_comparison}
-use Rattle.cc_syntax.specs.Values.{ValueType, NoValue, Integer, ToObject, ToFunction, is_scalar, point_alike}
+use Rattle.cc_syntax.specs.Folding.{Constant, unary_constant, binary_constant, both_constant, either_constant, constant_of}
+use Rattle.cc_syntax.specs.Operators.{unary_result, binary_result, difference_type, is_comparison}
+use Rattle.cc_syntax.specs.Values.{ValueType, Integer}
 use Rattle.cc_tree.specs.declared.at.At.{At}
 use Rattle.cc_tree.specs.declared.tree.Tree as tree
 use Rattle.cc_tree.specs.declared.tree.Tree.{Tree}
@@ -42,7 +40,6 @@ use Rattle.cc_operand_rules.specs.Operators.{unary_for, operator_for}
 use Rattle.cc_operand_rules.proofs.Rules.{unary-rule, integer-rule, move-rule, gap-rule, compare-rule, both-rule, either-rule}
 use Rattle.cc_shown_operations.proofs.Trees.{unary-tree, binary-tree}
 use Rattle.cc_shown_types.specs.Known.{KnowsStructures}
-use Rattle.cc_shown_types.specs.Numbers.{value_numbered}
 use Rattle.cc_shown_types.proofs.Complete.{points-numbered, difference-numbered}
 use Rattle.cc_shown_types.proofs.Kept.{point-numbered, scalar-stays}
 

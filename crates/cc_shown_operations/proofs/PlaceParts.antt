@@ -1,8 +1,7 @@
 -- What it says of the parts of a choice, of a cast of a pointer, of a null, of an address and of places that they are operands
 -- of a program in normal form.
-use Rattle.std.proofs.Common.{◌≡◌, ℕ, Bool, true, false, not, ◌&&◌, ◌||◌, length, List, Option, Some, None, refl, ap, sym, ◌∙◌, subst, slice_get}
-use Rattle.std.specs.Prelude.{option_map, if◌then◌else◌}
-use Rattle.std.specs.Option.{is_some}
+use Rattle.std.proofs.Common.{◌≡◌, ℕ, Bool, true, false, not, ◌&&◌, ◌||◌, Option, Some, None, refl, ap, sym, ◌∙◌}
+use Rattle.std.specs.Prelude.{if◌then◌else◌}
 use Rattle.cc_num.specs.declared.int_type.IntType.{IntType}
 use Rattle.cc_program.specs.declared.expr.Expr.{Expr, out-Expr, map-Expr}
 use Rattle.cc_program.specs.declared.expr.Expr.TheOpen as one
@@ -13,19 +12,18 @@ use Rattle.cc_program.specs.declared.types.CType.{CType}
 use Rattle.cc_program.specs.declared.types.Shape.{Shape, out-Shape}
 use Rattle.cc_program.specs.declared.types.Shape.TheOpen as shape
 use Rattle.cc_program.specs.declared.types.Sig.{Sig}
-use Rattle.cc_syntax.specs.Effects.{Effects, PlaceEffects, no_one, is_soft, effect_step, place_effect_step, effects_of, place_effects_of}
-use Rattle.cc_syntax.specs.Expressions.{of_one, of_two, expr_step, place_step, type_of, place_type}
-use Rattle.cc_syntax.specs.Folding.{Constant, NoConstant, Folding, has_value, chosen_constant, operation, place_folding_step, folding_of, is_folded_place, constant_of, is_folded}
+use Rattle.cc_syntax.specs.Effects.{Effects, PlaceEffects, no_one, effect_step, place_effect_step, effects_of, place_effects_of}
+use Rattle.cc_syntax.specs.Expressions.{of_two, expr_step, place_step, type_of, place_type}
+use Rattle.cc_syntax.specs.Folding.{NoConstant, Folding, has_value, chosen_constant, place_folding_step, folding_of, is_folded_place, constant_of, is_folded}
 use Rattle.cc_syntax.specs.Kinds.{kind_in, is_plain_scalar}
-use Rattle.cc_syntax.specs.Operators.{when, is_integer, is_unqualified, pointer_in, pointer_type, void_pointer_in, first_of, null_type, when_assignable, common_type, choice_type, qualified_type, subscript_type}
+use Rattle.cc_syntax.specs.Operators.{is_integer, is_unqualified, pointer_in, pointer_type, void_pointer_in, first_of, null_type, when_assignable, common_type, choice_type, qualified_type, subscript_type}
 use Rattle.cc_syntax.specs.SameTypes.{is_void_shape}
-use Rattle.cc_syntax.specs.Values.{ValueType, NoValue, Integer, ToObject, ToFunction, PlaceType, is_scalar, is_void, pointer_to, is_assignable, read_from, address_of, pointed_to, element_of, member_of}
+use Rattle.cc_syntax.specs.Values.{ValueType, NoValue, Integer, ToObject, ToFunction, PlaceType, is_scalar, is_void, pointer_to, is_assignable, address_of, pointed_to, element_of, member_of}
 use Rattle.cc_syntax.proofs.Prefixes.{both_true}
 use Rattle.cc_operand_rules.proofs.Choices.{Common, Integers, Pointers, common-is, pointer-scalar}
 use Rattle.cc_shown_operations.proofs.Levels.{one-is, two-is, when-is, type-at, place-at, effects-at, place-effects-at, constant-at, folded-at, folded_in, place-folding-at, operation-is}
 use Rattle.cc_shown_operations.specs.Normal.{HasOperand, HasPlace}
 use Rattle.cc_operand_rules.proofs.Rules.{integer-is}
-use Rattle.cc_shown_types.proofs.Standing.{scalar-plain, scalar-stands}
 
 not-true : (b : Bool) → not b ≡ true → b ≡ false
 not-true false h = refl

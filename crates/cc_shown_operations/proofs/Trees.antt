@@ -1,10 +1,10 @@
 -- What trees mean whose parts are typed to expressions and places: the meaning by its layer, then part for part. Each leaves
 -- what is known as it is.
-use Rattle.std.proofs.Common.{◌≡◌, ℕ, Bool, true, false, List, [], ◌∷◌, map, Option, Some, None, Ok, refl, ap, sym, ◌∙◌, subst}
-use Rattle.std.specs.Prelude.{ℤ, is_some, if◌then◌else◌}
+use Rattle.std.proofs.Common.{◌≡◌, ℕ, Bool, true, Option, Some, None, Ok, refl, ap, ◌∙◌}
+use Rattle.std.specs.Prelude.{is_some, if◌then◌else◌}
 use Rattle.cc_designators.specs.Casts.{cast_of}
-use Rattle.cc_designators.specs.Designators.{TypedExpr, IsPlace, IsValue, IsFunction, IsIntrinsic, IsAddress, value_at}
-use Rattle.cc_designators.specs.Postfix.{element, is_array_place, dot, address, indirection, address_at}
+use Rattle.cc_designators.specs.Designators.{TypedExpr, IsPlace, IsValue, value_at}
+use Rattle.cc_designators.specs.Postfix.{element, dot, address, indirection}
 use Rattle.cc_lex.specs.declared.token.Mark.{Mark}
 use Rattle.cc_lex.specs.declared.token.Mark.TheVariants as m
 use Rattle.cc_operands.specs.Arithmetic.{binary_of}
@@ -12,16 +12,15 @@ use Rattle.cc_operands.specs.Choices.{choose_of}
 use Rattle.cc_operands.specs.Operands.{Operand}
 use Rattle.cc_operands.specs.Operators.{operator_of, unary_operator_of}
 use Rattle.cc_operands.specs.Unary.{unary_of}
-use Rattle.cc_operands.specs.Verdicts.{Judged}
 use Rattle.cc_operands.specs.declared.operator.Operator.{Operator}
 use Rattle.cc_operands.specs.declared.operator.UnaryOperator.{UnaryOperator}
 use Rattle.cc_primary.specs.Devices.{starred_by, cast_constant}
-use Rattle.cc_primary.specs.Operators.{prefix_of, binary_by, unary_by, intrinsic_in}
+use Rattle.cc_primary.specs.Operators.{prefix_of, binary_by, unary_by}
 use Rattle.cc_primary.specs.Primary.{named}
-use Rattle.cc_primary.specs.Values.{found_value, gives, valued, value_found, designating, designated_found}
+use Rattle.cc_primary.specs.Values.{gives, valued, value_found, designating}
 use Rattle.cc_primary.specs.declared.prefix.Prefix.{Prefix}
 use Rattle.cc_primary.specs.declared.prefix.Prefix.TheVariants as prefix
-use Rattle.cc_program.specs.declared.expr.Expr.{Expr, out-Expr}
+use Rattle.cc_program.specs.declared.expr.Expr.{Expr}
 use Rattle.cc_program.specs.declared.expr.Place.{Place}
 use Rattle.cc_program.specs.declared.program.Program.{Program}
 use Rattle.cc_program.specs.declared.types.CType.{CType}
@@ -30,7 +29,7 @@ use Rattle.cc_scopes.specs.Verdicts.{Found, whole, and_then}
 use Rattle.cc_syntax.specs.Values.{ValueType, PlaceType, element_of}
 use Rattle.cc_terms.specs.Meanings.{TreeMeaning}
 use Rattle.cc_terms.specs.Operations.{as_value, subscript_base, subscript_judged, prefixed_by, prefixed}
-use Rattle.cc_terms.specs.Terms.{tree_of, type_name_of, declr_of, params_of, spec_of, enumr_of, members_of, param_of, here}
+use Rattle.cc_terms.specs.Terms.{tree_of, type_name_of, here}
 use Rattle.cc_terms.proofs.Arms.{tree_in, tree-out}
 use Rattle.cc_tree.specs.declared.at.At.{At}
 use Rattle.cc_tree.specs.declared.tree.Declr.{Declr}
@@ -45,7 +44,6 @@ use Rattle.cc_tree.specs.declared.tree.Tree.{Tree, out-Tree}
 use Rattle.cc_tree.specs.declared.tree.Tree.TheVariants as rolls
 use Rattle.cc_tree.specs.declared.tree.TypeName.{TypeName}
 use Rattle.cc_tree.specs.Tokens.{Name}
-use Rattle.cc_expression_trees.specs.Exprs.{is_null}
 use Rattle.cc_shown_operations.specs.Numbers.{Numbers, place_numbered}
 use Rattle.cc_shown_operations.specs.Typed.{operand_of, IsTypedAs, IsPlacedAs}
 use Rattle.cc_shown_types.specs.Numbers.{place_type_numbered}

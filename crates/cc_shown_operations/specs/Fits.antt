@@ -2,7 +2,6 @@
 use Rattle.std.specs.Prelude.{◌≡◌, Bool, true, false}
 use Rattle.std.specs.Option.{is_some}
 use Rattle.cc_program.specs.declared.program.Program.{Program}
-use Rattle.cc_program.specs.declared.types.CType.{CType}
 use Rattle.cc_syntax.specs.Kinds.{kind_in}
 use Rattle.cc_syntax.specs.Values.{ValueType, NoValue, Integer, ToObject, ToFunction, PlaceType, DevicePlace, ObjectPlace, FunctionPlace, is_void}
 

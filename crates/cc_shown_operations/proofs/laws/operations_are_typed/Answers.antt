@@ -1,7 +1,6 @@
 use Rattle.std.proofs.Common.{refl}
 use Rattle.cc_program.specs.declared.expr.Expr.{out-Expr}
 use Rattle.cc_shown_operations.proofs.Operations.{unary-shown, binary-shown}
-use Rattle.cc_shown_operations.proofs.Members.{dot-is}
 use Rattle.cc_shown_operations.proofs.laws.operations_are_typed.Goals as goal
 
 pub returns : goal.returns
