@@ -115,7 +115,7 @@ value-read a (DevicePlace c t) w h = let e : Integer t ≡ w = cc in ap (λ (u :
 value-read a (ObjectPlace c v t) w h = value-level a c v (out-Shape t.shape) w h
 value-read a (FunctionPlace s) w h = absurd (cc)
 
-and-false : (b : Bool) → b && false ≡ false
+pub and-false : (b : Bool) → b && false ≡ false
 and-false true = refl
 and-false false = refl
 
@@ -132,14 +132,14 @@ no-binary _ _ _ _ c (AnEither a b) h = absurd (cc)
 
 -- ---- what is written
 
-written-fits : (p : Program) (t : PlaceType) (w : ValueType) → FitsPlace p t → written_to t ≡ Some w → FitsValue p w
+pub written-fits : (p : Program) (t : PlaceType) (w : ValueType) → FitsPlace p t → written_to t ≡ Some w → FitsValue p w
 written-fits p (DevicePlace true i) w k h = absurd (cc)
 written-fits p (DevicePlace false i) w k h = let e : Integer i ≡ w = cc in subst (FitsValue p) e tt
 written-fits p (ObjectPlace true v t) w k h = absurd (cc)
 written-fits p (ObjectPlace false v t) w k h = read-fits p (ObjectPlace false v t) w k h
 written-fits p (FunctionPlace s) w k h = absurd (cc)
 
-takes-written : (q : PlaceType) (w : ValueType) → written_to q ≡ Some w → (t : CType) → taker (Some q) ≡ Some t → scalar_value t ≡ Some w
+pub takes-written : (q : PlaceType) (w : ValueType) → written_to q ≡ Some w → (t : CType) → taker (Some q) ≡ Some t → scalar_value t ≡ Some w
 takes-written (DevicePlace c i) w h t e = absurd (cc)
 takes-written (ObjectPlace true v u) w h t e = absurd (cc)
 takes-written (ObjectPlace false v u) w h t e = let same : u ≡ t = cc in subst (λ (t : CType). scalar_value t ≡ Some w) same h
@@ -153,7 +153,7 @@ module _ (p : Program) (f : Func) (n : Numbers) (sound : IsSound p) (sized : Are
   value v = value_numbered n.structure v
 
   -- the rule
-  assign-tree : (s u z : State) (x y : At Tree) (at : ℕ) (a : Place) (t : PlaceType) (r : Expr) (w : ValueType) → tree_of p.target p.roles x.node x.at s ≡ Ok (IsPlace (place_numbered n a) (place t), u) → written_to t ≡ Some w → IsTakenFrom p n u z y.node y.at r w →
+  pub assign-tree : (s u z : State) (x y : At Tree) (at : ℕ) (a : Place) (t : PlaceType) (r : Expr) (w : ValueType) → tree_of p.target p.roles x.node x.at s ≡ Ok (IsPlace (place_numbered n a) (place t), u) → written_to t ≡ Some w → IsTakenFrom p n u z y.node y.at r w →
       tree_of p.target p.roles (tree.Assign m.Assign x y) at s ≡ Ok (IsValue (operand (Assign (place_numbered n a) (expr_numbered n r)) (value w)), z)
   assign-tree s u z x y at a t r w h k q =
       let b = IsPlace (place_numbered n a) (place t) in
@@ -165,10 +165,10 @@ module _ (p : Program) (f : Func) (n : Numbers) (sound : IsSound p) (sized : Are
       ∙ ap (λ (j : Judged Operand). gives at z (judge_then j (λ y. Ok (operand (Assign (place_numbered n a) y.value) (value w))))) q.assigned.is
       ∙ ap (λ (e : Expr). Ok (IsValue (operand (Assign (place_numbered n a) e) (value w)), z)) q.assigned.value
 
-  taken-from : (s : State) (x : Tree) (at : ℕ) (e : Expr) (w : ValueType) → IsTakenAs p n s x at e w → IsTakenFrom p n s s x at e w
+  pub taken-from : (s : State) (x : Tree) (at : ℕ) (e : Expr) (w : ValueType) → IsTakenAs p n s x at e w → IsTakenFrom p n s s x at e w
   taken-from s x at e w q = record { found = q.found; is = q.is; operand = q.operand; value = q.value; assigned = q.assigned }
 
-  place-fits : (s : State) (names : KnowsNames p f n s) (a : Place) (x : Tree) (at : ℕ) (t : PlaceType) → ShowsPlace p f a x → HasPlace p f a t → FitsPlace p t
+  pub place-fits : (s : State) (names : KnowsNames p f n s) (a : Place) (x : Tree) (at : ℕ) (t : PlaceType) → ShowsPlace p f a x → HasPlace p f a t → FitsPlace p t
   place-fits s names a x at (DevicePlace c i) h k = tt
   place-fits s names a x at (ObjectPlace c v t) h k = (place-shown p f n s sized names stand a x h at (ObjectPlace c v t) k refl).fits
   place-fits s names a x at (FunctionPlace g) h k = tt
@@ -209,7 +209,7 @@ module _ (p : Program) (f : Func) (n : Numbers) (sound : IsSound p) (sized : Are
     value-read-from _ _ _ (NarrowValue to e c t x i narrow h) o at = absurd (cc)
     value-read-from _ _ _ (NullValue to e t x i l z) o at = absurd (cc)
 
-    read-taken : (to : Option CType) (e : Expr) (x : Tree) (at : ℕ) (v w : ValueType) → ShowsValue p f to e x → out-Expr e ≡ one.Load b → read_from q ≡ Some v → is_assignable w v ≡ true → IsTakenFrom p n s u x at e w
+    pub read-taken : (to : Option CType) (e : Expr) (x : Tree) (at : ℕ) (v w : ValueType) → ShowsValue p f to e x → out-Expr e ≡ one.Load b → read_from q ≡ Some v → is_assignable w v ≡ true → IsTakenFrom p n s u x at e w
     read-taken to e x at v w h o r fits = record {
       found = IsPlace (place_numbered n b) (place q);
       is = value-read-from to e x h o at;
