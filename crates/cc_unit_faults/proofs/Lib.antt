@@ -1,0 +1,6 @@
+mod Definitions
+mod Laws
+mod Lines
+mod Lifted
+mod Statements
+mod Units

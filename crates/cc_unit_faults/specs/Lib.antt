@@ -1,0 +1,4 @@
+pub mod Behind
+pub mod Constructs
+pub mod FirstFault
+pub mod Parts
