@@ -1,0 +1,4 @@
+pub mod OutputLemmas
+pub mod PackLaws
+pub mod ProgramTexts
+pub mod Reading

@@ -1,0 +1,45 @@
+-- How packing ends where nothing is written: the first cause, in the order in which they are looked for.
+use Rattle.std.specs.Prelude.{◌≤◌, ◌<◌, ℕ, List, [], length, slice_index_or}
+use Rattle.cc_cost.specs.declared.profile.Profile.{Profile}
+use Rattle.cc_edge.specs.Files.{Files}
+use Rattle.cc_files.specs.Unread.{IsFirstSourceUnread}
+use Rattle.cc_files.specs.declared.unread.Unread.{Unread}
+use Rattle.cc_layout.specs.Seats.{ram}
+use Rattle.cc_material.specs.Material.{IsProfile, ProfileEnds}
+use Rattle.cc_num.specs.declared.target.Target.{Target}
+use Rattle.cc_packing.specs.Asked.{Asked}
+use Rattle.cc_packing.specs.Headline.{AreRead, IsProgram, ReadsAlone}
+use Rattle.cc_print.specs.Printed.{text}
+use Rattle.cc_program.specs.declared.program.Program.{Program}
+use Rattle.cc_program.specs.declared.program.Roles.{Roles}
+use Rattle.cc_read.specs.Refusals.{IsRefused}
+use Rattle.cc_read.specs.declared.refusal.Refusal.{Refusal}
+use Rattle.cc_status.specs.Statuses.{for_unread}
+use Rattle.cc_status.specs.declared.status.Status.{Status}
+use Rattle.cc_status.specs.declared.status.Status.TheVariants as status
+use Rattle.cc_status.specs.declared.status.What.TheVariants as what
+use Rattle.cc_syntax.specs.Normal.{IsNormal}
+
+-- the profile is not read, and else the first source that is not
+pub data FilesEnd (files : Files) (rose : Type 0) (a : Asked) : Status → Type 0 where
+  AtProfile : (s : Status) → ProfileEnds files rose a.profile s → FilesEnd files rose a s
+  AtSources : (profile : Profile) (u : Unread) → IsProfile files a.profile profile → IsFirstSourceUnread files rose a.sources u → FilesEnd files rose a (for_unread u)
+
+-- The program of sources, of which `first` is the name of the first, is not packed: it is not in normal form, or above a
+-- limit, or its printed text does not read as it.
+pub data ProgramEnds (target : Target) (roles : Roles) (first : List ℕ) (p : Program) : Status → Type 0 where
+  NotNormal : (IsNormal p → ⊥) → ProgramEnds target roles first p (status.Later first)
+  ManyFunctions : IsNormal p → 4096 < length p.funcs → ProgramEnds target roles first p (status.Limit what.Functions (length p.funcs))
+  MuchRam : IsNormal p → length p.funcs ≤ 4096 → 65536 < ram p → ProgramEnds target roles first p (status.Limit what.Ram (ram p))
+  LongText : IsNormal p → length p.funcs ≤ 4096 → ram p ≤ 65536 → 16777216 < length (text p) → ProgramEnds target roles first p (status.Limit what.Out (length (text p)))
+  OtherText : IsNormal p → length p.funcs ≤ 4096 → ram p ≤ 65536 → length (text p) ≤ 16777216 → (ReadsAlone target roles (text p) p → ⊥) → ProgramEnds target roles first p (status.Later first)
+
+-- sources of these names are refused, with the name of the one at fault, or their program is not packed
+pub data TextsEnd (names : List (List ℕ)) (profile : Profile) (texts : List (List ℕ)) : Status → Type 0 where
+  AreRefused : (e : Refusal) → IsRefused profile.target profile.roles texts e → TextsEnd names profile texts (status.Refused (slice_index_or names e.file []) e.why)
+  NotPacked : (p : Program) (s : Status) → IsProgram profile texts p → ProgramEnds profile.target profile.roles (slice_index_or names 0 []) p s → TextsEnd names profile texts s
+
+-- where memory did not run out; where the store's faults have risen, a file may be told not to be read
+pub data PackEnds (files : Files) (rose : Type 0) (a : Asked) : Status → Type 0 where
+  AtFiles : (s : Status) → FilesEnd files rose a s → PackEnds files rose a s
+  AtTexts : (profile : Profile) (texts : List (List ℕ)) (s : Status) → AreRead files a profile texts → TextsEnd a.sources profile texts s → PackEnds files rose a s

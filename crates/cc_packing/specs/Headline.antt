@@ -1,0 +1,97 @@
+-- What packing promises of the files, where they are told.
+use Rattle.std.specs.Prelude.{◌≡◌, ◌≤◌, ◌⊎◌, ⊤, ℕ, Bool, List, [], ◌∷◌, length, Option, Some, IsTrue}
+use Rattle.std.specs.List.{All}
+use Rattle.cc_cost.specs.declared.profile.Profile.{Profile}
+use Rattle.cc_edge.specs.Files.{Files}
+use Rattle.cc_files.specs.Unread.{AreSources}
+use Rattle.cc_layout.specs.Seats.{ram}
+use Rattle.cc_material.specs.Material.{IsProfile}
+use Rattle.cc_num.specs.declared.target.Target.{Target}
+use Rattle.cc_packing.specs.Asked.{Asked}
+use Rattle.cc_packing.specs.Outputs.{AreWritten, IsOutLeft, IsTableLeft}
+use Rattle.cc_print.specs.Printed.{text}
+use Rattle.cc_program.specs.declared.program.Program.{Program}
+use Rattle.cc_program.specs.declared.program.Roles.{Roles}
+use Rattle.cc_read.specs.Texts.{IsLow, Reads}
+use Rattle.cc_steps.specs.Runs.{Follows, Answers}
+use Rattle.cc_syntax.specs.Normal.{IsNormal}
+use Rattle.cc_table.specs.Table.{table_text}
+
+-- the program q does what p does, in no more RAM
+pub record IsPacked (q p : Program) : Type 0 where
+  pub follows : Follows q p
+  pub answers : Answers q p
+  pub ram : ram q ≤ ram p
+
+-- the text alone reads as the program
+pub record ReadsAlone (target : Target) (roles : Roles) (bytes : List ℕ) (p : Program) : Type 0 where
+  pub reads : Reads (bytes ∷ []) target roles p
+  pub low : IsLow bytes
+
+-- the program is one that is packed today: it is in normal form, within the limits, and its printed text reads as it
+pub record IsPackable (target : Target) (roles : Roles) (p : Program) : Type 0 where
+  pub normal : IsNormal p
+  pub few : length p.funcs ≤ 4096
+  pub small : ram p ≤ 65536
+  pub short : length (text p) ≤ 16777216
+  pub reads_back : ReadsAlone target roles (text p) p
+
+-- the bytes are the printed text of a packed program in normal form, as which they read; the rows tell the RAM of both
+pub record IsPackedText (target : Target) (roles : Roles) (p : Program) (bytes rows : List ℕ) : Type 0 where
+  pub packed : Program
+  pub normal : IsNormal packed
+  pub printed : bytes ≡ text packed
+  pub reads_back : ReadsAlone target roles bytes packed
+  pub is_packed : IsPacked packed p
+  pub tabled : rows ≡ table_text (ram p) (ram packed)
+
+-- the texts are the program, with the profile's target and roles
+pub record IsProgram (profile : Profile) (texts : List (List ℕ)) (p : Program) : Type 0 where
+  pub reads : Reads texts profile.target profile.roles p
+  pub low : All IsLow texts
+
+-- the output and the table of the program that texts are
+pub record AreMade (profile : Profile) (texts : List (List ℕ)) (bytes rows : List ℕ) : Type 0 where
+  pub read : Program
+  pub is_program : IsProgram profile texts read
+  pub packable : IsPackable profile.target profile.roles read
+  pub output : IsPackedText profile.target profile.roles read bytes rows
+
+-- what is read, as it stands in the files
+pub record AreRead (files : Files) (a : Asked) (profile : Profile) (texts : List (List ℕ)) : Type 0 where
+  pub profile_is : IsProfile files a.profile profile
+  pub sources_are : AreSources files a.sources texts
+
+-- the output and the table that are asked for
+pub record AreAsked (files : Files) (a : Asked) (bytes rows : List ℕ) : Type 0 where
+  pub profile : Profile
+  pub texts : List (List ℕ)
+  pub are_read : AreRead files a profile texts
+  pub made : AreMade profile texts bytes rows
+
+-- the output does what the sources do, in no more RAM, the table, where it is named, tells the RAM of both, and nothing else
+-- has changed
+pub record Packs (a : Asked) (old new : Files) : Type 0 where
+  pub bytes : List ℕ
+  pub rows : List ℕ
+  pub asked : AreAsked old a bytes rows
+  pub written : AreWritten a.out a.table bytes rows old new
+
+-- the output is as before, or has the first bytes of its text, and nothing else has changed
+pub record Leaves (a : Asked) (old new : Files) : Type 0 where
+  pub bytes : List ℕ
+  pub rows : List ℕ
+  pub asked : AreAsked old a bytes rows
+  pub left : IsOutLeft a.out bytes old new
+
+-- the output is whole, the table is as before, or has the first bytes of its text, and nothing else has changed
+pub record LeavesTable (a : Asked) (table : List ℕ) (old new : Files) : Type 0 where
+  pub bytes : List ℕ
+  pub rows : List ℕ
+  pub asked : AreAsked old a bytes rows
+  pub left : IsTableLeft a.out table bytes rows old new
+
+-- the name is that of the file at fault: the output, and then no other file has changed, or else the table, and then
+-- the output is whole
+abbrev pub IsAtFault : List ℕ → Asked → Bool → Files → Files → Type 0
+IsAtFault name a told old new = ((name ≡ a.out) × (IsTrue told → Leaves a old new)) ⊎ ((a.table ≡ Some name) × (IsTrue told → LeavesTable a name old new))

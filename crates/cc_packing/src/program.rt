@@ -1,0 +1,124 @@
+//! The texts of one program.
+
+ghost use Rattle.std.specs.Prelude.{◌≡◌, ◌≢◌, ◌≤◌, ◌<◌, ◌^◌, ◌↔◌, ℕ, List as ListOf, None, false, true, IsTrue, length, IfOk, IfErr, IfSome};
+ghost use Rattle.cc_layout.specs.Seats.{ram as ram_of};
+ghost use Rattle.cc_material.specs.Material.{TellsFile, is_refusal};
+ghost use Rattle.cc_num.specs.declared.target.Target.{Target as TargetOf};
+ghost use Rattle.cc_packing.specs.Ends.{ProgramEnds};
+ghost use Rattle.cc_packing.specs.Headline.{IsPackable, IsPackedText, ReadsAlone};
+ghost use Rattle.cc_program.specs.declared.program.Roles.{Roles as RolesOf};
+ghost use Rattle.cc_status.specs.declared.status.Status.TheVariants as status;
+ghost use Rattle.cc_syntax.specs.Normal.{IsNormal};
+
+use crate::outputs::Texts;
+use cc_cost::Profile;
+use cc_discard::discard_program;
+use cc_layout::ram;
+use cc_normal::is_normal;
+use cc_num::{Name, NoMemory};
+use cc_print::print;
+use cc_program::Program;
+use cc_read::{ReadRefusal, read};
+use cc_same::same_program;
+use cc_status::{Status, What};
+use cc_table::table;
+use std::alloc::Global;
+
+/// The most functions of a program.
+const FUNCTION_LIMIT: u64 = 4096;
+
+/// The most bytes of RAM of a program.
+const RAM_LIMIT: u64 = 65536;
+
+/// The most bytes of a printed text.
+const OUT_LIMIT: u64 = 16 << 20;
+
+/// The limit that a program is above, with the number, if there is one.
+#[tactic(auto, using(crate::proofs::ProgramTexts::of_programs))]
+fn above(p: &Program) -> Option<(What, u64)>
+    requires { IsNormal p.now }
+    ensures within { result ≡ None → (length p.now.funcs ≤ 4096) × (ram_of p.now ≤ 65536) }
+    ensures limit { IfSome result (λ l. (target : TargetOf) (roles : RolesOf) (first : ListOf ℕ) → ProgramEnds target roles first p.now (status.Limit l.0 l.1)) }
+    ensures refusal { IfSome result (λ l. is_refusal (status.Limit l.0 l.1) ≡ true) }
+{
+    let functions = p.funcs.all().len() as u64;
+    if functions > FUNCTION_LIMIT {
+        return Some((What::Functions, functions));
+    }
+    let bytes = ram(p);
+    if bytes > RAM_LIMIT {
+        return Some((What::Ram, bytes));
+    }
+    None
+}
+
+/// Whether a program is this one; it is let go.
+fn is_program(q: Program, p: &Program) -> bool
+    ensures { IsTrue result ↔ (q ≡ p.now) }
+{
+    let same = same_program(&q, p);
+    discard_program(q);
+    same
+}
+
+/// Whether a text alone reads as the program.
+fn reads_as(alloc: Global, text: &Vec<u8>, profile: &Profile, p: &Program) -> Result<bool, NoMemory>
+    requires { length text.now.items < 2 ^ 32 }
+    ensures yes { IfOk result (λ reads. reads ≡ true → ReadsAlone profile.now.target profile.now.roles text.now.items p.now) }
+    ensures no { IfOk result (λ reads. reads ≡ false → ReadsAlone profile.now.target profile.now.roles text.now.items p.now → ⊥) }
+{
+    match read(
+        alloc,
+        std::slice::from_ref(text),
+        &profile.target,
+        &profile.roles,
+    ) {
+        Ok(q) => Ok(is_program(q, p)),
+        Err(refusal) => match refusal.why {
+            ReadRefusal::NoMemory => Err(NoMemory),
+            _ => Ok(false),
+        },
+    }
+}
+
+/// The texts that are written of a program in normal form, within the limits of its functions and its RAM.
+#[tactic(auto, using(crate::proofs::ProgramTexts::of_programs))]
+fn texts_within(alloc: Global, first: Name, profile: &Profile, p: &Program) -> Result<Texts, Status>
+    requires normal { IsNormal p.now }
+    requires few { length p.now.funcs ≤ 4096 }
+    requires small { ram_of p.now ≤ 65536 }
+    ensures packable { IfOk result (λ _. IsPackable profile.now.target profile.now.roles p.now) }
+    ensures packed { IfOk result (λ t. IsPackedText profile.now.target profile.now.roles p.now t.out.items t.table.items) }
+    ensures ends { IfErr result (λ s. s ≢ status.NoMemory → ProgramEnds profile.now.target profile.now.roles first p.now s) }
+    ensures refusal { IfErr result (λ s. is_refusal s ≡ true) }
+    ensures no_file { IfErr result (λ s. TellsFile (λ _. ⊥) (λ _. ⊥) s) }
+{
+    let out = print(alloc, p)?;
+    let length = out.len() as u64;
+    if length > OUT_LIMIT {
+        return Err(Status::Limit(What::Out, length));
+    }
+    if !reads_as(alloc, &out, profile, p)? {
+        return Err(Status::Later(first));
+    }
+    let bytes = ram(p);
+    let table = table(alloc, bytes, bytes)?;
+    Ok(Texts { out, table })
+}
+
+/// The texts that are written of a program, or why none are; `first` is the name of the first of its sources.
+pub fn texts_of(alloc: Global, first: Name, profile: &Profile, p: &Program) -> Result<Texts, Status>
+    ensures packable { IfOk result (λ _. IsPackable profile.now.target profile.now.roles p.now) }
+    ensures packed { IfOk result (λ t. IsPackedText profile.now.target profile.now.roles p.now t.out.items t.table.items) }
+    ensures ends { IfErr result (λ s. s ≢ status.NoMemory → ProgramEnds profile.now.target profile.now.roles first p.now s) }
+    ensures refusal { IfErr result (λ s. is_refusal s ≡ true) }
+    ensures no_file { IfErr result (λ s. TellsFile (λ _. ⊥) (λ _. ⊥) s) }
+{
+    if !is_normal(p) {
+        return Err(Status::Later(first));
+    }
+    match above(p) {
+        Some(limit) => Err(Status::Limit(limit.0, limit.1)),
+        None => texts_within(alloc, first, profile, p),
+    }
+}

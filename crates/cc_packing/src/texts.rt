@@ -1,0 +1,73 @@
+//! The texts that are written of sources.
+
+ghost use Rattle.std.specs.Prelude.{◌≡◌, ◌≢◌, ◌<◌, ◌^◌, [], true, length, map, sum, slice_index_or, IfOk, IfErr};
+ghost use Rattle.cc_files.specs.Unread.{names_of, texts_of as bytes_of};
+ghost use Rattle.cc_material.specs.Material.{TellsFile, is_refusal};
+ghost use Rattle.cc_packing.specs.Ends.{ProgramEnds, TextsEnd};
+ghost use Rattle.cc_packing.specs.Headline.{AreMade, IsPackable, IsPackedText};
+ghost use Rattle.cc_status.specs.declared.status.Status.TheVariants as status;
+
+use crate::outputs::Texts;
+use crate::program::texts_of;
+use cc_cost::Profile;
+use cc_discard::discard_program;
+use cc_material::{name_at, refused};
+use cc_program::Program;
+use cc_read::read;
+use cc_status::Status;
+use std::alloc::Global;
+
+/// The texts that are written of the program of sources of these names, or why none are.
+fn texts_of_named(
+    alloc: Global,
+    names: &[String],
+    profile: &Profile,
+    p: &Program,
+) -> Result<Texts, Status>
+    ensures packable { IfOk result (λ _. IsPackable profile.now.target profile.now.roles p.now) }
+    ensures packed { IfOk result (λ t. IsPackedText profile.now.target profile.now.roles p.now t.out.items t.table.items) }
+    ensures ends { IfErr result (λ s. s ≢ status.NoMemory → ProgramEnds profile.now.target profile.now.roles (slice_index_or (names_of names.now) 0 []) p.now s) }
+    ensures refusal { IfErr result (λ s. is_refusal s ≡ true) }
+    ensures no_file { IfErr result (λ s. TellsFile (λ _. ⊥) (λ _. ⊥) s) }
+{
+    let first = name_at(alloc, names, 0)?;
+    texts_of(alloc, first, profile, p)
+}
+
+/// The same; the program is let go.
+fn texts_of_program(
+    alloc: Global,
+    names: &[String],
+    profile: &Profile,
+    p: Program,
+) -> Result<Texts, Status>
+    ensures packable { IfOk result (λ _. IsPackable profile.now.target profile.now.roles p) }
+    ensures packed { IfOk result (λ t. IsPackedText profile.now.target profile.now.roles p t.out.items t.table.items) }
+    ensures ends { IfErr result (λ s. s ≢ status.NoMemory → ProgramEnds profile.now.target profile.now.roles (slice_index_or (names_of names.now) 0 []) p s) }
+    ensures refusal { IfErr result (λ s. is_refusal s ≡ true) }
+    ensures no_file { IfErr result (λ s. TellsFile (λ _. ⊥) (λ _. ⊥) s) }
+{
+    let texts = texts_of_named(alloc, names, profile, &p);
+    discard_program(p);
+    texts
+}
+
+/// The texts that are written of the program that sources are, or why none are.
+pub fn texts_of_sources(
+    alloc: Global,
+    names: &[String],
+    profile: &Profile,
+    sources: &[Vec<u8>],
+) -> Result<Texts, Status>
+    requires few { length sources.now < 2 ^ 32 }
+    requires small { sum (map length (bytes_of sources.now)) < 2 ^ 32 }
+    ensures made { IfOk result (λ t. AreMade profile.now (bytes_of sources.now) t.out.items t.table.items) }
+    ensures ends { IfErr result (λ s. s ≢ status.NoMemory → TextsEnd (names_of names.now) profile.now (bytes_of sources.now) s) }
+    ensures refusal { IfErr result (λ s. is_refusal s ≡ true) }
+    ensures no_file { IfErr result (λ s. TellsFile (λ _. ⊥) (λ _. ⊥) s) }
+{
+    match read(alloc, sources, &profile.target, &profile.roles) {
+        Err(refusal) => Err(refused(alloc, names, refusal)),
+        Ok(p) => texts_of_program(alloc, names, profile, p),
+    }
+}
