@@ -5,7 +5,7 @@ use ccomp::{ccomp, explain, number};
 use std::alloc::{AllocError, Global};
 use std::io::{self, Write};
 
-/// The name of the source.
+/// The name of the source, where none is given.
 const SOURCE: &str = "s.c";
 
 /// The name of the output.
@@ -14,11 +14,27 @@ const OUTPUT: &str = "o.c";
 /// The most bytes of a file that is printed.
 const FILE_LIMIT: u64 = 1 << 20;
 
+/// A file that is there when the command begins.
+#[derive(Drop)]
+struct File {
+    name: String,
+    text: Vec<u8>,
+}
+
+impl File {
+    fn new(alloc: Global, name: &str) -> Result<File, AllocError> {
+        Ok(File {
+            name: name.to_string(alloc)?,
+            text: Vec::new(alloc),
+        })
+    }
+}
+
 /// What the command is run over.
 #[derive(Drop)]
 pub struct Case {
-    /// The bytes of the source, where there is one.
-    source: Option<Vec<u8>>,
+    /// The files, each of which has a name of its own.
+    files: Vec<File>,
     /// The numbers of the store's calls that are to fail.
     failing: Vec<u64>,
     /// The numbers of the sink's calls that are to fail.
@@ -28,25 +44,34 @@ pub struct Case {
 impl Case {
     pub fn new(alloc: Global) -> Case {
         Case {
-            source: None,
+            files: Vec::new(alloc),
             failing: Vec::new(alloc),
             deaf: Vec::new(alloc),
         }
     }
 
-    /// Puts a text behind the source, so many times.
+    /// Begins a file.
+    fn begin(&mut self, alloc: Global, name: &str) -> Result<(), AllocError> {
+        let file = File::new(alloc, name)?;
+        self.files.push(file)
+    }
+
+    /// Puts a text behind the last file, so many times.
     fn put(&mut self, alloc: Global, text: &str, times: u32) -> Result<(), AllocError> {
-        let mut source = self.source.take().unwrap_or(Vec::new(alloc));
+        let mut file = match self.files.pop() {
+            None => File::new(alloc, SOURCE)?,
+            Some(file) => file,
+        };
         for _ in 0..times {
-            source.extend_from_slice(text.as_bytes())?;
+            file.text.extend_from_slice(text.as_bytes())?;
         }
-        self.source = Some(source);
-        Ok(())
+        self.files.push(file)
     }
 
     /// Does what a line says that neither begins a case nor runs one; false where it says nothing.
     pub fn set(&mut self, alloc: Global, word: &str, rest: &str) -> Result<bool, AllocError> {
         match (word, quoted(rest), first_number(rest)) {
+            ("file", None, None) => self.begin(alloc, rest)?,
             ("text", Some(text), _) => self.put(alloc, text, 1)?,
             ("line", Some(text), _) => {
                 self.put(alloc, text, 1)?;
@@ -63,8 +88,8 @@ impl Case {
     /// The store, of which no call was made yet.
     fn store(&self, alloc: Global) -> Result<MemoryStore, WriteFault> {
         let mut store = MemoryStore::new(alloc);
-        if let Some(source) = &self.source {
-            write_whole(&mut store, SOURCE, source)?;
+        for file in &self.files {
+            write_whole(&mut store, file.name.as_str(), &file.text)?;
         }
         store.calls = 0;
         if store.failing.extend_from_slice(&self.failing).is_err() {
@@ -113,7 +138,7 @@ impl Case {
 /// The table, where the words name one.
 fn table(words: &[String]) -> Option<&str> {
     match words {
-        [_, _, _, table, _, _] => match table.as_str() {
+        [_, _, _, table, _, _, ..] => match table.as_str() {
             "-" => None,
             name => Some(name),
         },

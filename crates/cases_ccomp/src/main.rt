@@ -1,7 +1,8 @@
 //! Reads a script of cases of the command from the input, and prints how each ends. A line of it is
 //!
 //!     == NAME           begins a case: a store without files, of whose calls none is to fail
-//!     text "TEXT"       puts a text behind the source `s.c`
+//!     file NAME         begins a file, the source `s.c` where no line says which
+//!     text "TEXT"       puts a text behind the last file
 //!     line "TEXT"       puts a text and a line feed there
 //!     times N "TEXT"    puts a text there so many times
 //!     failing N         has the store's call of this number fail

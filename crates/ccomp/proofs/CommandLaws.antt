@@ -1,9 +1,13 @@
 -- No words ask for a table of the output's name, or for no counters.
-use Rattle.std.proofs.Common.{◌≡◌, ◌≢◌, ◌≤◌, ◌&&◌, ◌∙◌, sym, refl, Bool, true, false, not, ℕ, nat_le, ◌-◌, ◌^◌, List, [], ◌∷◌, Option, Some, None, IfSome, if◌then◌else◌, nat_eq, arith}
+use Rattle.std.proofs.Common.{◌≡◌, ◌≢◌, ◌≤◌, ◌<◌, ◌&&◌, ◌∙◌, sym, subst, refl, Bool, true, false, not, ℕ, nat_le, ◌-◌, ◌^◌, List, [], ◌∷◌, length, Option, Some, None, IfSome, if◌then◌else◌, nat_eq, arith}
 use Rattle.std.specs.Cmp.Lexicographic.{pointwise}
 use Rattle.std.proofs.lemmas.Bool.Decides.{nat_tests}
+use Rattle.std.proofs.lemmas.List.{length-map}
 use Rattle.std.proofs.lemmas.Slice.Eq.{bytes_eq-Decides}
-use Rattle.ccomp.specs.Command.{Command, Pack, Wrong, is_dash, is_pack, is_make, named, pack_asked, make_with, pack_of, make_of, command_of, IsApart, IsMeant}
+use Rattle.std.specs.Prelude.{string_bytes}
+use Rattle.cc_packing.specs.Asked.{Asked as Packed, asked_of as packed_of}
+use Rattle.cc_packing.specs.declared.packing.Packing.{Packing}
+use Rattle.ccomp.specs.Command.{Command, Pack, Wrong, is_dash, is_pack, is_make, named, pack_asked, make_with, pack_of, make_of, command_of, ForEither, IsPacking, IsMeant}
 use Rattle.ccomp.specs.Make.{number_of, bounded, seed_of, count_of}
 
 either : (b : Bool) (x y : Command) → IsMeant x → IsMeant y → IsMeant (if b then x else y)
@@ -14,28 +18,31 @@ either false x y h k = k
 differs : (table out : List ℕ) → pointwise nat_eq table out ≡ false → table ≢ out
 differs table out h e = let same : pointwise nat_eq table out ≡ true = (bytes_eq-Decides table out).1 e in let both = sym h ∙ same in absurd (cc)
 
-named-apart : (d : Bool) (out table : List ℕ) → table ≢ out → IsApart out (if d then None else Some table)
+named-apart : (d : Bool) (out table : List ℕ) → table ≢ out → IfSome (if d then None else Some table) (λ name. name ≢ out)
 named-apart true out table h = tt
 named-apart false out table h = h
 
-last-apart : (b : Bool) (out table source : List ℕ) → pointwise nat_eq table out ≡ b → IsMeant (if b then Wrong out else Pack out (named table) source)
-last-apart true out table source h = tt
-last-apart false out table source h = named-apart (is_dash table) out table (differs table out h)
+last-apart : (b : Bool) (profile out table : List ℕ) (sources : List (List ℕ)) → 1 ≤ length sources → length sources ≤ 64 → pointwise nat_eq table out ≡ b →
+    IsMeant (if b then Wrong out else Pack (record { profile = named profile; out = out; table = named table; sources = sources }))
+last-apart true profile out table sources some few h = tt
+last-apart false profile out table sources some few h = record { apart = named-apart (is_dash table) out table (differs table out h); some = some; few = few }
 
-pack-meant : (profile out table certificate source : List ℕ) → IsMeant (pack_asked profile out table certificate source)
-pack-meant profile out table certificate source =
-    either (not (is_dash profile)) (Wrong profile) _ tt
-    (either (not (is_dash certificate)) (Wrong certificate) _ tt
-    (either (is_dash out) (Wrong out) _ tt (last-apart (pointwise nat_eq table out) out table source refl)))
+pack-meant : (profile out table certificate : List ℕ) (sources : List (List ℕ)) → 1 ≤ length sources → length sources ≤ 64 → IsMeant (pack_asked profile out table certificate sources)
+pack-meant profile out table certificate sources some few =
+    either (not (is_dash certificate)) (Wrong certificate) _ tt
+    (either (is_dash out) (Wrong out) _ tt (last-apart (pointwise nat_eq table out) profile out table sources some few refl))
+
+within : (a b : Bool) (n : ℕ) → nat_le 1 n ≡ a → nat_le n 64 ≡ b → (x : Command) → (1 ≤ n → n ≤ 64 → IsMeant x) → (command : List ℕ) → IsMeant (if a && b then x else Wrong command)
+within true true n h k x meant command = meant (grind (arith, nat_tests)) (grind (arith, nat_tests))
+within true false n h k x meant command = tt
+within false b n h k x meant command = tt
 
 words-of-pack : (command : List ℕ) (rest : List (List ℕ)) → IsMeant (pack_of command rest)
 words-of-pack x [] = tt
 words-of-pack x (a ∷ []) = tt
 words-of-pack x (a ∷ b ∷ []) = tt
 words-of-pack x (a ∷ b ∷ c ∷ []) = tt
-words-of-pack x (a ∷ b ∷ c ∷ d ∷ []) = tt
-words-of-pack x (a ∷ b ∷ c ∷ d ∷ e ∷ []) = pack-meant a b c d e
-words-of-pack x (a ∷ b ∷ c ∷ d ∷ e ∷ f ∷ rest) = tt
+words-of-pack x (a ∷ b ∷ c ∷ d ∷ rest) = within (nat_le 1 (length rest)) (nat_le (length rest) 64) (length rest) refl refl (pack_asked a b c d rest) (pack-meant a b c d rest) x
 
 -- a number within bounds is no less than the least
 low : (a b : Bool) (n : ℕ) → nat_le 1 n ≡ a → IfSome (if a && b then Some n else None) (λ m. 1 ≤ m)
@@ -61,5 +68,13 @@ words-of-make x (a ∷ b ∷ c ∷ rest) = tt
 pub command-meant : (words : List (List ℕ)) → IsMeant (command_of words)
 command-meant [] = tt
 command-meant (a ∷ rest) = either (is_pack a) (pack_of a rest) _ (words-of-pack a rest) (either (is_make a) (make_of a rest) (Wrong a) (words-of-make a rest) tt)
+
+-- the sources of what may be packed are few enough to be counted
+pub few-sources : (p : Packing) → IsPacking (packed_of p) → length p.sources.now < 2 ^ 32
+few-sources p h = let n = length-map p.sources.now string_bytes in let k = h.few in omega (arith, n, k)
+
+-- what holds of what `pack` asks for
+pub for-pack : (k : Command) (a : Packed) (P : Packed → Type 0) (Q : ℕ → ℕ → Type 0) → Pack a ≡ k → P a → ForEither k P Q
+for-pack k a P Q e h = subst (λ c. ForEither c P Q) e h
 
 pub ruleset of_commands = (command-meant)

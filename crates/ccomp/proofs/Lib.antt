@@ -1,5 +1,3 @@
+pub mod Answers
 pub mod CommandLaws
-pub mod Counts
 pub mod Numbers
-pub mod OutputLemmas
-pub mod PackLaws

@@ -1,5 +1,2 @@
 pub mod Command
-pub mod Headline
 pub mod Make
-pub mod Outputs
-pub mod Statuses

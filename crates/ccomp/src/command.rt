@@ -2,25 +2,21 @@
 
 ghost use Rattle.std.specs.Prelude.{◌≡◌, option_map, nat_eq};
 ghost use Rattle.std.specs.Cmp.Lexicographic.{pointwise};
-ghost use Rattle.ccomp.specs.Command.{command_of, asked_of, texts, is_dash as is_dash_of, is_pack as is_pack_of, is_make as is_make_of, named as named_of, pack_asked, pack_of, make_of, IsMeant};
+ghost use Rattle.ccomp.specs.Command.{command_of, asked_of, texts, is_dash as is_dash_of, is_pack as is_pack_of, is_make as is_make_of, named as named_of, may_be_sources as may_be_sources_of, pack_asked, pack_of, make_of, IsMeant};
 
 use crate::make;
+use cc_packing::Packing;
+
+/// The most sources of a program.
+const SOURCE_LIMIT: usize = 64;
 
 /// What words ask for.
 #[derive(Clone, Copy)]
 pub enum Asked<'w> {
-    /// To rewrite the file `source` into the file `out`, and to write the table into the file `table`, where one is
-    /// named.
-    Pack {
-        out: &'w str,
-        table: Option<&'w str>,
-        source: &'w str,
-    },
+    /// To rewrite sources.
+    Pack(Packing<'w>),
     /// To say the source of so many counters, drawn from a seed.
-    Make {
-        seed: u64,
-        count: u32,
-    },
+    Make { seed: u64, count: u32 },
     /// Nothing: they are no command, for this word.
     Wrong(&'w str),
 }
@@ -56,25 +52,35 @@ fn named(word: &str) -> Option<&str>
     if is_dash(word) { None } else { Some(word) }
 }
 
-/// The first word that is not `-` where it has to be, or a name of the output that is `-` or the table's too.
+fn may_be_sources(names: &[String]) -> bool
+    ensures { result ≡ may_be_sources_of (texts names.now) }
+{
+    1 <= names.len() && names.len() <= SOURCE_LIMIT
+}
+
+/// What `pack` asks for with these words, or a certificate that is not `-`, or a name of the output that is `-` or the table's too.
 fn pack<'w>(
     profile: &'w str,
     out: &'w str,
     table: &'w str,
     certificate: &'w str,
-    source: &'w str,
+    sources: &'w [String],
 ) -> Asked<'w>
-    ensures { asked_of result ≡ pack_asked profile.now out.now table.now certificate.now source.now }
+    ensures { asked_of result ≡ pack_asked profile.now out.now table.now certificate.now (texts sources.now) }
 {
-    if !is_dash(profile) {
-        Asked::Wrong(profile)
-    } else if !is_dash(certificate) {
+    if !is_dash(certificate) {
         Asked::Wrong(certificate)
     } else if is_dash(out) || is_same(table, out) {
         Asked::Wrong(out)
     } else {
+        let profile = named(profile);
         let table = named(table);
-        Asked::Pack { out, table, source }
+        Asked::Pack(Packing {
+            profile,
+            out,
+            table,
+            sources,
+        })
     }
 }
 
@@ -83,8 +89,12 @@ fn pack_words<'w>(command: &'w str, rest: &'w [String]) -> Asked<'w>
     ensures { asked_of result ≡ pack_of command.now (texts rest.now) }
 {
     match rest {
-        [profile, out, table, certificate, source] => {
-            pack(profile, out, table, certificate, source)
+        [profile, out, table, certificate, sources @ ..] => {
+            if may_be_sources(sources) {
+                pack(profile, out, table, certificate, sources)
+            } else {
+                Asked::Wrong(command)
+            }
         }
         _ => Asked::Wrong(command),
     }
@@ -100,7 +110,7 @@ fn make_words<'w>(command: &'w str, rest: &'w [String]) -> Asked<'w>
     }
 }
 
-/// What the words ask for: the commands are `pack - OUT TABLE - SOURCE`, where TABLE may be `-`, and
+/// What the words ask for: the commands are `pack PROFILE OUT TABLE - SOURCE..`, where PROFILE and TABLE may be `-`, and
 /// `make SEED COUNT`.
 #[tactic(auto, using(crate::proofs::CommandLaws::of_commands))]
 pub fn command(words: &[String]) -> Asked<'_>

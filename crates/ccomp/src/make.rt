@@ -3,15 +3,15 @@
 ghost use Rattle.std.specs.Prelude.{◌≡◌, ◌≤◌, ◌<◌, ◌⊎◌, ◌++◌, ℕ, false, IfOk, IfSome, IsTrue, List as ListOf, take, codes};
 ghost use Rattle.cc_edge.specs.Faults.{Rose};
 ghost use Rattle.cc_make.specs.Source.{made};
-ghost use Rattle.ccomp.specs.declared.status.What.{What as WhatOf};
+ghost use Rattle.cc_status.specs.Statuses.{may_write, is_of_files};
+ghost use Rattle.cc_status.specs.declared.status.What.{What as WhatOf};
 ghost use Rattle.ccomp.specs.Command.{asked_of, make_asked};
 ghost use Rattle.ccomp.specs.Make.{number_of, bounded, seed_of, count_of};
-ghost use Rattle.ccomp.specs.Statuses.{may_write};
 
 use crate::command::Asked;
-use crate::status::{Status, What};
 use cc_edge::{Sink, say_whole};
 use cc_num::{List, Name, NoMemory};
+use cc_status::{Status, What};
 use std::alloc::Global;
 
 /// The most counters of a made source.
@@ -96,6 +96,7 @@ pub fn make<O: Sink>(alloc: Global, seed: u64, count: u32, sink: &mut O) -> Stat
     ensures answers { (result ≡ Status.Limit What.Count count) ⊎ ((result ≡ Status.NoMemory) ⊎ ((result ≡ Status.Done) ⊎ (result ≡ Status.WriteFault (codes "-")))) }
     ensures limit { 1000 < count → result ≡ Status.Limit What.Count count }
     ensures within { (what : WhatOf) (number : ℕ) → result ≡ Status.Limit what number → (what ≡ What.Count) × (number ≡ count) × (1000 < count) }
+    ensures not_of_files { is_of_files result ≡ false }
     ensures not_begun { may_write result ≡ false → O.said sink.new ≡ O.said sink.old }
     ensures said { result ≡ Status.Done → IsTrue (O.told sink.old) → O.said sink.new ≡ O.said sink.old ++ made seed count }
     ensures write_fault { (name : ListOf ℕ) → result ≡ Status.WriteFault name →

@@ -1,9 +1,0 @@
-pub mod Cells
-pub mod Control
-pub mod Eval
-pub mod State
-pub mod Step
-pub mod Turn
-pub mod Rows
-pub mod Runs
-pub mod View

@@ -1,3 +1,0 @@
-pub mod Layout
-pub mod Normal
-pub mod NormalTest

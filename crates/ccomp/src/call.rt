@@ -1,0 +1,98 @@
+//! The top call.
+
+ghost use Rattle.std.specs.Prelude.{◌≡◌, ◌≢◌, ◌≤◌, ◌<◌, ◌⊎◌, ◌++◌, ℕ, take, codes, IsTrue, IfOk, List as ListOf, true, false};
+ghost use Rattle.cc_cost.specs.declared.fault.ProfileFault.{ProfileFault as ProfileFaultOf};
+ghost use Rattle.cc_cost.specs.declared.fault.ProfileFault.TheVariants.{NoMemory as NoRoomForRows};
+ghost use Rattle.cc_edge.specs.Faults.{Rose};
+ghost use Rattle.cc_edge.specs.Files.{KeepsFiles};
+ghost use Rattle.cc_make.specs.Source.{made};
+ghost use Rattle.cc_packing.specs.Asked.{IsUntold};
+ghost use Rattle.cc_packing.specs.Ends.{PackEnds};
+ghost use Rattle.cc_packing.specs.Headline.{Packs, IsAtFault};
+ghost use Rattle.cc_read.specs.declared.refusal.ReadRefusal.{ReadRefusal as ReadRefusalOf};
+ghost use Rattle.cc_read.specs.declared.refusal.ReadRefusal.TheVariants.{NoMemory as NoRoom};
+ghost use Rattle.cc_status.specs.Statuses.{may_write, is_of_files, is_of_programs};
+ghost use Rattle.cc_status.specs.declared.status.What.{What as WhatOf};
+ghost use Rattle.ccomp.specs.Command.{Command, Make, Wrong, ForPack, ForEither, says, command_of, texts};
+
+use crate::command::{Asked, command};
+use crate::make::make;
+use cc_edge::{Sink, Store};
+use cc_num::{List, Name, NoMemory};
+use cc_packing::pack;
+use cc_status::{Status, What};
+use std::alloc::Global;
+
+/// A copy of a name.
+fn copy_name(alloc: Global, name: &str) -> Result<Name, NoMemory>
+    ensures { IfOk result (λ r. r ≡ name.now) }
+{
+    Ok(List::of(Vec::from_slice(alloc, name.as_bytes())?))
+}
+
+/// Does what the words say. Where the store tells its files, the clauses speak of them; where it does
+/// not, of answers and their causes alone.
+#[tactic(auto, using(crate::proofs::Answers::of_answers))]
+pub fn ccomp<F: Store, O: Sink>(
+    alloc: Global,
+    words: &[String],
+    store: &mut F,
+    sink: &mut O,
+) -> Status
+    ensures told { F.told store.new ≡ F.told store.old }
+    ensures later_faults { F.faults store.old ≤ F.faults store.new }
+
+    // Usage comes exactly where the words are no command, and with the word that is wrong.
+    ensures usage_word { (word : ListOf ℕ) → result ≡ Status.Usage word → command_of (texts words.now) ≡ Wrong word }
+    ensures usage { (word : ListOf ℕ) → command_of (texts words.now) ≡ Wrong word → (result ≡ Status.Usage word) ⊎ (result ≡ Status.NoMemory) }
+
+    // The output does what the sources do, in no more RAM, the table, where it is named, tells the RAM of both, and
+    // nothing else has changed. Of `make`, nothing has.
+    ensures headline { result ≡ Status.Done → IsTrue (F.told store.old) →
+        ForEither (command_of (texts words.now)) (λ a. Packs a (F.files store.old) (F.files store.new)) (λ seed count. KeepsFiles (F.files store.old) (F.files store.new)) }
+    // `make` says exactly the made source.
+    ensures said { result ≡ Status.Done → IsTrue (O.told sink.old) →
+        ForEither (command_of (texts words.now)) (λ a. O.said sink.new ≡ O.said sink.old) (λ seed count. O.said sink.new ≡ O.said sink.old ++ made seed count) }
+    // Limit of `make` comes exactly where the count is above 1,000, and with it.
+    ensures limit { (seed count : ℕ) → command_of (texts words.now) ≡ Make seed count → 1000 < count → result ≡ Status.Limit What.Count count }
+    ensures above { (what : WhatOf) (number : ℕ) → result ≡ Status.Limit what number →
+        ForEither (command_of (texts words.now)) (λ a. is_of_programs what ≡ true) (λ seed count. (what ≡ What.Count) × (number ≡ count) × (1000 < count)) }
+
+    // Any other answer of `pack` before it writes has its cause in the files, the first in the order in which they are looked for.
+    ensures ends { is_of_files result ≡ true → IsTrue (F.told store.old) →
+        ForPack (command_of (texts words.now)) (λ a. PackEnds (F.files store.old) (Rose (F.faults store.old) (F.faults store.new)) a result) }
+    // Over a store that does not tell its files, a fault names one that is read, and it comes where the store's faults rose, or
+    // where more bytes were taken than a file of its kind may have.
+    ensures untold { is_of_files result ≡ true → F.told store.old ≡ false →
+        ForPack (command_of (texts words.now)) (λ a. IsUntold a (Rose (F.faults store.old) (F.faults store.new)) (F.taken store.old) (F.taken store.new) result) }
+    // Neither Refused nor Profile is ever for want of memory.
+    ensures memory { (name : ListOf ℕ) (why : ReadRefusalOf) → result ≡ Status.Refused name why → why ≢ NoRoom }
+    ensures memory_of_profile { (fault : ProfileFaultOf) → result ≡ Status.Profile fault → fault ≢ NoRoomForRows }
+
+    // WriteFault names the file that was not written whole. Where it is the output, the table is as it was; where it is
+    // the table, the output is whole. `-` is the sink, to which the first bytes of a made source were said.
+    ensures write_fault { (name : ListOf ℕ) → result ≡ Status.WriteFault name →
+        ForEither (command_of (texts words.now)) (λ a. Rose (F.faults store.old) (F.faults store.new) × IsAtFault name a (F.told store.old) (F.files store.old) (F.files store.new))
+        (λ seed count. (name ≡ codes "-") × Rose (O.faults sink.old) (O.faults sink.new)
+        × (IsTrue (F.told store.old) → KeepsFiles (F.files store.old) (F.files store.new))
+        × (IsTrue (O.told sink.old) → (n : ℕ) × (O.said sink.new ≡ O.said sink.old ++ take n (made seed count)))) }
+
+    // After any other answer than Done and WriteFault the files are as they were.
+    ensures unchanged { may_write result ≡ false → IsTrue (F.told store.old) → KeepsFiles (F.files store.old) (F.files store.new) }
+
+    // Nothing is said but by `make`, and by it only once the source is whole.
+    ensures silent { says (command_of (texts words.now)) ≡ false → O.said sink.new ≡ O.said sink.old }
+    ensures no_fault { says (command_of (texts words.now)) ≡ false → O.faults sink.new ≡ O.faults sink.old }
+    ensures not_begun { may_write result ≡ false → O.said sink.new ≡ O.said sink.old }
+    ensures told_sink { O.told sink.new ≡ O.told sink.old }
+    ensures later_sink { O.faults sink.old ≤ O.faults sink.new }
+{
+    match command(words) {
+        Asked::Wrong(word) => match copy_name(alloc, word) {
+            Ok(word) => Status::Usage(word),
+            Err(NoMemory) => Status::NoMemory,
+        },
+        Asked::Make { seed, count } => make(alloc, seed, count, sink),
+        Asked::Pack(packing) => pack(alloc, &packing, store),
+    }
+}
