@@ -53,7 +53,8 @@ impl Case {
     /// Begins a file.
     fn begin(&mut self, alloc: Global, name: &str) -> Result<(), AllocError> {
         let file = File::new(alloc, name)?;
-        self.files.push(file)
+        self.files.push(file)?;
+        Ok(())
     }
 
     /// Puts a text behind the last file, so many times.
@@ -65,7 +66,8 @@ impl Case {
         for _ in 0..times {
             file.text.extend_from_slice(text.as_bytes())?;
         }
-        self.files.push(file)
+        self.files.push(file)?;
+        Ok(())
     }
 
     /// Does what a line says that neither begins a case nor runs one; false where it says nothing.
