@@ -2,8 +2,8 @@
 """Time and peak memory of `ccomp pack` on sources from 64 KiB to 1 MiB.
 
 It builds the program once through ./ccomp and prints a row a source. It ends with status 1 where a
-doubling costs more than 2.3 times, or memory more than 300 bytes for each byte of a tiny source, or
-more than 1,000 for each byte of ordinary C, which is a sentence and no tiny source.
+doubling costs more than 2.3 times, or memory more than 300 bytes for each byte of a source in normal form, or
+more than 1,000 for each byte of ordinary C, which is not in normal form.
 """
 import os
 import subprocess
@@ -40,12 +40,12 @@ def names(size):
 
 
 def functions(size):
-    """Many functions, each with nested blocks."""
+    """Functions, at most 4,096, each with nested blocks."""
     parts, length = [], 40
     while True:
         part = (
             f"__attribute__((signal)) void handler{len(parts)}(void) {{\n  unsigned char t;\n"
-            "  while (1) { t = 1; if (t) { while (1) { break; } } else { irq_on(); } }\n}\n"
+            + "  while (1) { t = 1; if (t) { while (1) { break; } } else { irq_on(); } }\n" * 3 + "}\n"
         )
         length += len(part)
         if length > size:
@@ -57,9 +57,9 @@ def ordinary(size):
     """Functions of ordinary C, behind linemarkers."""
     front = (
         "typedef unsigned char uint8_t;\ntypedef unsigned short uint16_t;\n"
-        "void log_text(const char *text, unsigned value);\n"
+        "void log_text(const char *text, unsigned value) { }\n"
     )
-    parts, length = [front], len(front)
+    parts, length = [front], len(front) + 30
     while True:
         part = (
             f"# {len(parts) + 1} \"part.c\"\n/* sums up a buffer */\n"
@@ -71,7 +71,7 @@ def ordinary(size):
         )
         length += len(part)
         if length > size:
-            return "".join(parts)
+            return "".join(parts) + "int main(void) { return 0; }\n"
         parts.append(part)
 
 
