@@ -32,7 +32,8 @@ pub struct Builder {
 }
 
 fn condition(alloc: Global) -> Option<Boxed<Expr>> {
-    Boxed::new(alloc, Expr::Load(Place::Local(0))).ok()
+    let register = Boxed::new(alloc, Place::Local(0)).ok()?;
+    Boxed::new(alloc, Expr::Load(register)).ok()
 }
 
 impl Builder {
@@ -55,7 +56,8 @@ impl Builder {
     /// A write to the first device.
     pub fn put_write(&mut self) -> Option<()> {
         let zero = Boxed::new(self.alloc, Expr::Const(0, IntType::UChar)).ok()?;
-        let write = Boxed::new(self.alloc, Expr::Assign(Place::Device(0), zero)).ok()?;
+        let device = Boxed::new(self.alloc, Place::Device(0)).ok()?;
+        let write = Boxed::new(self.alloc, Expr::Assign(device, zero)).ok()?;
         self.put(Stmt::Do(write))
     }
 

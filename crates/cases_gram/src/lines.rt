@@ -3,7 +3,7 @@
 use crate::form::Form;
 use crate::terms::{write_attrs, write_declr, write_spec, write_tree};
 use cc_gram::{At, Decl, First, Given, Init, Item, Line, Spec, Tree, Unit};
-use cc_num::List;
+use cc_num::{Boxed, List};
 
 fn write_given(form: &mut Form, given: &At<Given>) {
     form.begin(" ", given.at);
@@ -47,10 +47,10 @@ fn write_decl(form: &mut Form, decl: &Decl) {
     form.put("}");
 }
 
-fn write_maybe(form: &mut Form, tree: &Option<At<Tree>>) {
+fn write_maybe(form: &mut Form, tree: &Option<Boxed<At<Tree>>>) {
     match tree {
         None => form.put(" -"),
-        Some(e) => write_tree(form, " ", e),
+        Some(e) => write_tree(form, " ", e.get()),
     }
 }
 
@@ -91,7 +91,7 @@ fn write_line(form: &mut Form, line: &At<Line>) {
         Line::Break | Line::Continue => {}
         Line::Expr(e) | Line::Return(e) => {
             if let Some(e) = e {
-                write_tree(form, " ", e);
+                write_tree(form, " ", e.get());
             }
         }
         Line::Block(lines) => {
@@ -100,23 +100,23 @@ fn write_line(form: &mut Form, line: &At<Line>) {
             }
         }
         Line::While(c, body) | Line::Switch(c, body) | Line::Case(c, body) => {
-            write_tree(form, " ", c);
+            write_tree(form, " ", c.get());
             write_line(form, body.get());
         }
         Line::Default(body) => write_line(form, body.get()),
         Line::DoWhile(body, c) => {
             write_line(form, body.get());
-            write_tree(form, " ", c);
+            write_tree(form, " ", c.get());
         }
         Line::If(c, a, b) => {
-            write_tree(form, " ", c);
+            write_tree(form, " ", c.get());
             write_line(form, a.get());
             if let Some(b) = b {
                 write_line(form, b.get());
             }
         }
         Line::For(first, test, step, body) => {
-            write_first(form, first);
+            write_first(form, first.get());
             write_maybe(form, test);
             write_maybe(form, step);
             write_line(form, body.get());

@@ -39,7 +39,7 @@ fn call(b: &mut Builder, count: &str) -> Option<Expr> {
 fn change(b: &mut Builder, rest: &str) -> Option<Expr> {
     let (op, t) = split(rest);
     let value = b.boxed()?;
-    let a = b.places.pop()?;
+    let a = boxed_place(b)?;
     Some(Expr::Change(a, bin_op(op)?, int_type(t)?, value))
 }
 
@@ -70,12 +70,12 @@ fn is_access(head: &str) -> bool {
 
 fn access(b: &mut Builder, head: &str, rest: &str) -> Option<Expr> {
     match head {
-        "load" => Some(Expr::Load(b.places.pop()?)),
-        "addr" => Some(Expr::AddrOf(b.places.pop()?)),
-        "after" => Some(Expr::After(b.places.pop()?, rest == "down")),
+        "load" => Some(Expr::Load(boxed_place(b)?)),
+        "addr" => Some(Expr::AddrOf(boxed_place(b)?)),
+        "after" => Some(Expr::After(boxed_place(b)?, rest == "down")),
         "assign" => {
             let value = b.boxed()?;
-            Some(Expr::Assign(b.places.pop()?, value))
+            Some(Expr::Assign(boxed_place(b)?, value))
         }
         "change" => change(b, rest),
         _ => call(b, rest),

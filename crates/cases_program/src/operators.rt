@@ -1,6 +1,7 @@
 //! Constants and operators.
 
 use crate::builder::Builder;
+use crate::types::boxed_type;
 use crate::words::{bin_op, int_type};
 use cc_num::{BinOp, UnOp};
 use cc_syntax::Expr;
@@ -54,11 +55,11 @@ fn is_other(head: &str) -> bool {
 
 fn other(b: &mut Builder, head: &str, rest: &str) -> Option<Expr> {
     match head {
-        "null" => Some(Expr::Null(b.types.pop()?)),
+        "null" => Some(Expr::Null(boxed_type(b)?)),
         "func" => Some(Expr::FuncAddr(rest.parse().ok()?)),
         "conv" => Some(Expr::Conv(int_type(rest)?, b.boxed()?)),
         "qualify" => {
-            let t = b.types.pop()?;
+            let t = boxed_type(b)?;
             Some(Expr::Qualify(t, b.boxed()?))
         }
         _ => choice(b),

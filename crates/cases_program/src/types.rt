@@ -13,7 +13,7 @@ fn plain(shape: Shape) -> CType {
     }
 }
 
-fn boxed_type(b: &mut Builder) -> Option<Boxed<CType>> {
+pub fn boxed_type(b: &mut Builder) -> Option<Boxed<CType>> {
     let t = b.types.pop()?;
     Boxed::new(b.alloc, t).ok()
 }

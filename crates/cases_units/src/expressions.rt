@@ -53,7 +53,7 @@ fn write_head(page: &mut Page, e: &Expr) {
         }
         Expr::Null(t) => {
             page.put("(null ");
-            write_type(page, t);
+            write_type(page, t.get());
         }
         Expr::FuncAddr(f) => put_number(page, "(fun g", *f),
         Expr::Load(_) => {}
@@ -64,7 +64,7 @@ fn write_head(page: &mut Page, e: &Expr) {
         Expr::Conv(t, _) => write_operator(page, "to", "", int_word(*t)),
         Expr::Qualify(t, _) => {
             page.put("(qualify ");
-            write_type(page, t);
+            write_type(page, t.get());
             page.put(" ");
         }
         Expr::Move(_, _, back) => page.put(if *back { "(move- " } else { "(move " }),
@@ -98,7 +98,7 @@ fn write_operator(page: &mut Page, word: &str, end: &str, t: &str) {
 fn write_operands(page: &mut Page, e: &Expr) {
     match e {
         Expr::Const(_, _) | Expr::Null(_) | Expr::FuncAddr(_) => {}
-        Expr::Load(a) | Expr::AddrOf(a) | Expr::After(a, _) => write_place(page, a),
+        Expr::Load(a) | Expr::AddrOf(a) | Expr::After(a, _) => write_place(page, a.get()),
         Expr::Un(_, _, a) | Expr::Conv(_, a) | Expr::Qualify(_, a) => write_expr(page, a.get()),
         Expr::Bin(_, _, a, b)
         | Expr::Move(a, b, _)
@@ -119,7 +119,7 @@ fn write_operands(page: &mut Page, e: &Expr) {
             write_expr(page, b.get());
         }
         Expr::Assign(a, b) | Expr::Change(a, _, _, b) => {
-            write_place(page, a);
+            write_place(page, a.get());
             page.put(" ");
             write_expr(page, b.get());
         }

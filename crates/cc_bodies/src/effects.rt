@@ -181,7 +181,7 @@ pub fn put_done<'p>(out: &mut Vec<Piece<'p>>, c: Context<'p>, e: &'p Expr) -> Re
     ensures { OnOk result (pieces_of out.new.items ≡ done c.entry.program.now c.entry.func.now e.now (pieces_of out.old.items)) }
 {
     match e {
-        Expr::Assign(a, b) => put_assignment(out, c, a, b.get()),
+        Expr::Assign(a, b) => put_assignment(out, c, a.get(), b.get()),
         _ => put_right_side(out, c, None, e),
     }
 }

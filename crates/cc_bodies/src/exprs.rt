@@ -52,12 +52,12 @@ pub fn put_expr<'p>(
 {
     match e {
         Expr::Const(n, t) => put_constant_text(out, &c.program.target, *n, *t, spot),
-        Expr::Null(t) => put_null(out, c.program.structures.all(), t, spot),
+        Expr::Null(t) => put_null(out, c.program.structures.all(), t.get(), spot),
         Expr::FuncAddr(i) => put_named(out, func_name(c.program.funcs.all(), *i)),
-        Expr::Load(a) => put_place(out, c, a, spot),
+        Expr::Load(a) => put_place(out, c, a.get(), spot),
         Expr::AddrOf(a) => {
             close(out, wraps_operation(spot))?;
-            put_place(out, c, a, Spot::Operand)?;
+            put_place(out, c, a.get(), Spot::Operand)?;
             mark(out, Mark::Amp)?;
             open(out, wraps_operation(spot))
         }
@@ -77,7 +77,7 @@ pub fn put_expr<'p>(
         Expr::Qualify(t, a) => {
             close(out, wraps_conversion(spot))?;
             put_expr(out, c, a.get(), Spot::Converted)?;
-            put_cast(out, c.program.structures.all(), t)?;
+            put_cast(out, c.program.structures.all(), t.get())?;
             open(out, wraps_conversion(spot))
         }
         Expr::Move(a, b, back) => {

@@ -24,7 +24,7 @@ pub fn assign_to(
         return Err(Breach::Breaks(Rule::NotModifiable));
     };
     let to = t.get().written(alloc)?;
-    stored(alloc, target, place.into_inner(), to, x)
+    stored(alloc, target, place, to, x)
 }
 
 /// `a op= b` (C99 6.5.16.2).
@@ -42,7 +42,7 @@ pub fn change_of(
         return Err(Breach::Breaks(Rule::NotModifiable));
     };
     let to = t.get().written(alloc)?;
-    changed(alloc, target, structures, op, place.into_inner(), to, x)
+    changed(alloc, target, structures, op, place, to, x)
 }
 
 /// `++a`, and `--a` where the flag is set (C99 6.5.3.1).
@@ -73,5 +73,5 @@ pub fn stepped_after(
         return Err(Breach::Breaks(Rule::NotModifiable));
     };
     let to = t.get().written(alloc)?;
-    stepped(alloc, structures, down, place.into_inner(), to)
+    stepped(alloc, structures, down, place, to)
 }

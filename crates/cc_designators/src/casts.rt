@@ -49,6 +49,7 @@ fn qualified_cast(alloc: Global, t: CType, to: &CType, x: Operand) -> Result<Typ
     }
     let ctype = owned(alloc, pointer_to(to))?;
     if ctype.is_assignable(&x.ctype) {
+        let t = Boxed::new(alloc, t)?;
         let value = Boxed::new(alloc, Expr::Qualify(t, x.value))?;
         Ok(valued(alloc, typed(value, ctype))?)
     } else {

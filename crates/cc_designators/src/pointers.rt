@@ -13,7 +13,7 @@ use cc_syntax::{Expr, Place, Structure};
 use std::alloc::Global;
 
 /// The address of a place that is no device.
-fn place_address(alloc: Global, place: Place, t: DesignatedType) -> Result<Operand, Breach>
+fn place_address(alloc: Global, place: Boxed<Place>, t: DesignatedType) -> Result<Operand, Breach>
     ensures { Judges operand_view result (address_at place (address_of (designated_view t))) }
 {
     let to = match t {
@@ -34,7 +34,7 @@ pub fn address(alloc: Global, a: TypedExpr) -> Result<Operand, Breach>
     ensures { Judges operand_view result (address_of_expr (expr_view a)) }
 {
     match a {
-        TypedExpr::Place(place, t) => place_address(alloc, place.into_inner(), t.into_inner()),
+        TypedExpr::Place(place, t) => place_address(alloc, place, t.into_inner()),
         TypedExpr::Function(f, sig) => {
             let value = Boxed::new(alloc, Expr::FuncAddr(f))?;
             Ok(typed(value, OperandType::ToFunction(sig)))

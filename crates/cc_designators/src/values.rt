@@ -25,7 +25,8 @@ fn first_element(
     ensures { IfOk result (λ r. operand_view r ≡ first_element_of place constant volatile of.now) }
 {
     let first = Boxed::new(alloc, Expr::Const(0, IntType::Int))?;
-    let value = Boxed::new(alloc, Expr::AddrOf(Place::Element(place, first)))?;
+    let element = Boxed::new(alloc, Place::Element(place, first))?;
+    let value = Boxed::new(alloc, Expr::AddrOf(element))?;
     let of = Boxed::new(alloc, of.copy(alloc)?)?;
     Ok(typed(value, OperandType::ToObject(constant, volatile, of)))
 }
@@ -42,17 +43,17 @@ fn loaded(
 {
     match &t.shape {
         Shape::Int(i) => {
-            let value = Boxed::new(alloc, Expr::Load(place.into_inner()))?;
+            let value = Boxed::new(alloc, Expr::Load(place))?;
             Ok(typed(value, OperandType::Integer(*i)))
         }
         Shape::Pointer(to) => {
             let to = owned(alloc, pointer_to(to.get()))?;
-            let value = Boxed::new(alloc, Expr::Load(place.into_inner()))?;
+            let value = Boxed::new(alloc, Expr::Load(place))?;
             Ok(typed(value, to))
         }
         Shape::Array(of, _) => Ok(first_element(alloc, place, constant, volatile, of.get())?),
         Shape::Struct(_) => Ok(Operand {
-            value: Boxed::new(alloc, Expr::Load(place.into_inner()))?,
+            value: Boxed::new(alloc, Expr::Load(place))?,
             ctype: OperandType::NoValue,
             traps: false,
             structure: true,
@@ -68,14 +69,14 @@ pub fn value_at(alloc: Global, place: Boxed<Place>, t: DesignatedType) -> Result
 {
     match t {
         DesignatedType::Device(_, t) => {
-            let value = Boxed::new(alloc, Expr::Load(place.into_inner()))?;
+            let value = Boxed::new(alloc, Expr::Load(place))?;
             Ok(typed(value, OperandType::Integer(t)))
         }
         DesignatedType::Object(constant, volatile, t) => {
             loaded(alloc, place, constant, volatile, t.get())
         }
         DesignatedType::Function(sig) => {
-            let value = Boxed::new(alloc, Expr::AddrOf(place.into_inner()))?;
+            let value = Boxed::new(alloc, Expr::AddrOf(place))?;
             Ok(typed(value, OperandType::ToFunction(sig)))
         }
     }
@@ -89,5 +90,6 @@ pub fn null(alloc: Global, t: CType) -> Result<Operand, NoMemory>
         Shape::Pointer(to) => owned(alloc, pointer_to(to.get()))?,
         _ => OperandType::Integer(IntType::Int),
     };
+    let t = Boxed::new(alloc, t)?;
     Ok(typed(Boxed::new(alloc, Expr::Null(t))?, ctype))
 }

@@ -26,8 +26,8 @@ pub fn is_assigned(c: Context, e: &Expr, register: u32) -> bool
 {
     match e {
         Expr::Const(_, _) | Expr::Null(_) | Expr::FuncAddr(_) => false,
-        Expr::Load(a) => is_assigned_at(c, a, register),
-        Expr::AddrOf(a) => is_assigned_at(c, a, register),
+        Expr::Load(a) => is_assigned_at(c, a.get(), register),
+        Expr::AddrOf(a) => is_assigned_at(c, a.get(), register),
         Expr::Un(_, _, a) => is_assigned(c, a.get(), register),
         Expr::Bin(_, _, a, b) => is_assigned(c, a.get(), register)
             || is_assigned(c, b.get(), register),
@@ -47,17 +47,17 @@ pub fn is_assigned(c: Context, e: &Expr, register: u32) -> bool
                 || is_assigned(c, b.get(), register)
         }
         Expr::Assign(a, e) => {
-            is_only(place_register(c, a), register)
-                || is_assigned_at(c, a, register)
+            is_only(place_register(c, a.get()), register)
+                || is_assigned_at(c, a.get(), register)
                 || is_assigned(c, e.get(), register)
         }
         Expr::Change(a, _, _, e) => {
-            is_only(place_register(c, a), register)
-                || is_assigned_at(c, a, register)
+            is_only(place_register(c, a.get()), register)
+                || is_assigned_at(c, a.get(), register)
                 || is_assigned(c, e.get(), register)
         }
         Expr::After(a, _) => {
-            is_only(place_register(c, a), register) || is_assigned_at(c, a, register)
+            is_only(place_register(c, a.get()), register) || is_assigned_at(c, a.get(), register)
         }
         Expr::Call(f, args) => {
             is_assigned(c, f.get(), register) || is_one_assigned(c, args.all(), register)
@@ -164,8 +164,8 @@ pub fn is_pure(c: Context, e: &Expr, later: &Later<'_>) -> bool
 {
     match e {
         Expr::Const(_, _) | Expr::Null(_) | Expr::FuncAddr(_) => true,
-        Expr::Load(a) => is_soft(c, a, later),
-        Expr::AddrOf(a) => is_pure_at(c, a, later),
+        Expr::Load(a) => is_soft(c, a.get(), later),
+        Expr::AddrOf(a) => is_pure_at(c, a.get(), later),
         Expr::Un(_, _, a) => is_pure(c, a.get(), later),
         Expr::Bin(_, _, a, b) => is_pure(c, a.get(), later) && is_pure(c, b.get(), later),
         Expr::Conv(_, a) => is_pure(c, a.get(), later),

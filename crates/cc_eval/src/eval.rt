@@ -41,8 +41,8 @@ pub fn next<'e, 'm>(
         Expr::Const(n, _) => Ok(Stage::Known(Some(Value::Int(*n)), marks)),
         Expr::Null(_) => Ok(Stage::Known(Some(Value::Place(Address::Null)), marks)),
         Expr::FuncAddr(f) => Ok(Stage::Known(Some(Value::Place(Address::Func(*f))), marks)),
-        Expr::Load(a) => at_place(alloc, c, AtPlace::Load, a, later, marks),
-        Expr::AddrOf(a) => at_place(alloc, c, AtPlace::Address, a, later, marks),
+        Expr::Load(a) => at_place(alloc, c, AtPlace::Load, a.get(), later, marks),
+        Expr::AddrOf(a) => at_place(alloc, c, AtPlace::Address, a.get(), later, marks),
         Expr::Un(op, t, a) => {
             of_one(
                 alloc,
@@ -90,11 +90,19 @@ pub fn next<'e, 'm>(
             let is_pure = is_pure(c, e, later);
             chosen_arm(alloc, c, is_pure, d.get(), a.get(), b.get(), later, marks)
         }
-        Expr::Assign(a, e) => to_place(alloc, c, ToPlace::Assign, a, e.get(), later, marks),
+        Expr::Assign(a, e) => to_place(alloc, c, ToPlace::Assign, a.get(), e.get(), later, marks),
         Expr::Change(a, op, t, e) => {
-            to_place(alloc, c, ToPlace::Change(*op, *t), a, e.get(), later, marks)
+            to_place(
+                alloc,
+                c,
+                ToPlace::Change(*op, *t),
+                a.get(),
+                e.get(),
+                later,
+                marks,
+            )
         }
-        Expr::After(a, down) => at_place(alloc, c, AtPlace::Step(*down), a, later, marks),
+        Expr::After(a, down) => at_place(alloc, c, AtPlace::Step(*down), a.get(), later, marks),
         Expr::Call(f, args) => {
             let callee = next(
                 alloc,

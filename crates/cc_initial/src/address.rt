@@ -38,7 +38,7 @@ fn located<'p, N: Statics>(
     match e {
         Expr::Null(_) => Ok(Located::Null),
         Expr::FuncAddr(f) => Ok(Located::Function(*f)),
-        Expr::AddrOf(a) => place_located(alloc, structures, statics, a),
+        Expr::AddrOf(a) => place_located(alloc, structures, statics, a.get()),
         Expr::Qualify(_, a) => located(alloc, structures, statics, a.get()),
         Expr::Move(a, b, back) => {
             let from = located(alloc, structures, statics, a.get())?;

@@ -39,7 +39,7 @@ fn behind_read(next: u64, e: &Expr) -> Option<u64>
     ensures { result ≡ next_of next (device_read_of (form_of e.now)) }
 {
     match e {
-        Expr::Load(a) => behind_place(next, a),
+        Expr::Load(a) => behind_place(next, a.get()),
         _ => Some(next),
     }
 }
@@ -50,7 +50,7 @@ fn behind_effect(next: u64, e: &Expr) -> Option<u64>
 {
     match e {
         Expr::Assign(a, value) => {
-            let next = behind_place(next, a)?;
+            let next = behind_place(next, a.get())?;
             behind_read(next, value.get())
         }
         _ => Some(next),

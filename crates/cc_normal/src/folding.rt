@@ -55,7 +55,10 @@ pub fn folding_of(e: &Expr, target: &Target) -> Folding
             is_folded: true,
         },
         Expr::Null(_) | Expr::FuncAddr(_) => variable(true),
-        Expr::Load(a) | Expr::AddrOf(a) | Expr::After(a, _) => variable(is_folded_place(a, target)),
+        Expr::Load(a) | Expr::AddrOf(a) | Expr::After(a, _) => variable(is_folded_place(
+            a.get(),
+            target,
+        )),
         Expr::Un(op, t, a) => {
             let a = folding_of(a.get(), target);
             operation(a.constant.unary(*op, *t, target), a.is_folded)
@@ -94,7 +97,7 @@ pub fn folding_of(e: &Expr, target: &Target) -> Folding
             operation(c.constant.chosen(a.constant, b.constant), parts)
         }
         Expr::Assign(a, b) | Expr::Change(a, _, _, b) => {
-            let place = is_folded_place(a, target);
+            let place = is_folded_place(a.get(), target);
             variable(place && folding_of(b.get(), target).is_folded)
         }
         Expr::Call(f, args) => {

@@ -35,8 +35,8 @@ fn is_pure(f: &Func, e: &Expr) -> bool
 {
     match e {
         Expr::Const(_, _) | Expr::Null(_) | Expr::FuncAddr(_) => true,
-        Expr::Load(a) => is_register_place(f, a),
-        Expr::AddrOf(a) => is_pure_place(f, a),
+        Expr::Load(a) => is_register_place(f, a.get()),
+        Expr::AddrOf(a) => is_pure_place(f, a.get()),
         Expr::Un(_, _, a) | Expr::Conv(_, a) | Expr::Qualify(_, a) => is_pure(f, a.get()),
         Expr::Bin(_, _, a, b)
         | Expr::Move(a, b, _)

@@ -34,7 +34,7 @@ impl<'p> Body<'p> {
     {
         match f {
             Expr::FuncAddr(_) => true,
-            Expr::Load(a) => self.is_register_place(a),
+            Expr::Load(a) => self.is_register_place(a.get()),
             _ => false,
         }
     }
@@ -56,7 +56,7 @@ impl<'p> Body<'p> {
         ensures { result ≡ is_place_read_of self.entry.target.now self.entry.func.now (form_of e.now) }
     {
         match e {
-            Expr::Load(a) => self.is_other_place(a),
+            Expr::Load(a) => self.is_other_place(a.get()),
             _ => false,
         }
     }
@@ -77,7 +77,7 @@ impl<'p> Body<'p> {
         ensures { result ≡ is_expression_statement_of self.entry.target.now self.entry.func.now (form_of e.now) }
     {
         match e {
-            Expr::Assign(a, value) => self.is_assignment(a, value.get()),
+            Expr::Assign(a, value) => self.is_assignment(a.get(), value.get()),
             _ => self.is_call(e),
         }
     }

@@ -126,7 +126,8 @@ pub fn assignments(
             return Ok(List::of(es));
         };
         let e = Boxed::new(alloc, e)?;
-        es.push(Expr::Assign(a.copy(alloc)?, e))?;
+        let place = Boxed::new(alloc, a.copy(alloc)?)?;
+        es.push(Expr::Assign(place, e))?;
     }
     Ok(List::of(es))
 }

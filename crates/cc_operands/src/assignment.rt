@@ -81,7 +81,7 @@ pub fn assigned(
 pub fn stored(
     alloc: Global,
     target: &Target,
-    place: Place,
+    place: Boxed<Place>,
     to: Option<OperandType>,
     x: Operand,
 ) -> Result<Operand, Breach>
@@ -109,7 +109,7 @@ fn integer_changed(
     alloc: Global,
     target: &Target,
     op: BinOp,
-    place: Place,
+    place: Boxed<Place>,
     s: IntType,
     x: Operand,
 ) -> Result<Operand, Breach>
@@ -129,7 +129,7 @@ fn pointer_changed(
     alloc: Global,
     structures: &[Structure],
     op: BinOp,
-    place: Place,
+    place: Boxed<Place>,
     to: OperandType,
     x: Operand,
 ) -> Result<Operand, Breach>
@@ -154,7 +154,7 @@ pub fn changed(
     target: &Target,
     structures: &[Structure],
     op: BinOp,
-    place: Place,
+    place: Boxed<Place>,
     to: Option<OperandType>,
     x: Operand,
 ) -> Result<Operand, Breach>
@@ -176,7 +176,7 @@ pub fn stepped(
     alloc: Global,
     structures: &[Structure],
     down: bool,
-    place: Place,
+    place: Boxed<Place>,
     to: Option<OperandType>,
 ) -> Result<Operand, Breach>
     ensures { Judges operand_view result (stepped_at structures.now down place (option_map type_view to)) }

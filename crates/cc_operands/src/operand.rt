@@ -137,7 +137,7 @@ pub fn converted_to(
 pub fn null_of(alloc: Global, t: &OperandType) -> Result<Boxed<Expr>, NoMemory>
     ensures { IfOk result (λ r. r ≡ null_of_of (type_view t.now)) }
 {
-    let ctype = type_of_value(alloc, t)?;
+    let ctype = Boxed::new(alloc, type_of_value(alloc, t)?)?;
     Boxed::new(alloc, Expr::Null(ctype))
 }
 

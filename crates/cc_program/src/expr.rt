@@ -41,13 +41,13 @@ pub enum Expr {
     /// A value and its type.
     Const(i128, IntType),
     /// A null pointer of a pointer type.
-    Null(CType),
+    Null(Boxed<CType>),
     /// A pointer to a function, by id.
     FuncAddr(u32),
     /// The value of a scalar (C99 6.3.2.1, 2).
-    Load(Place),
+    Load(Boxed<Place>),
     /// A pointer to a place (C99 6.5.3.2). The value of an array is one to its first element (6.3.2.1, 3).
-    AddrOf(Place),
+    AddrOf(Boxed<Place>),
     /// An operator in the type to which its operand was promoted (C99 6.5.3.3).
     Un(UnOp, IntType, Boxed<Expr>),
     /// An operator in the type to which its operands were brought (C99 6.3.1.8), or for a shift its first one
@@ -57,7 +57,7 @@ pub enum Expr {
     Conv(IntType, Boxed<Expr>),
     /// A cast of a pointer to a type with the same qualifiers or more (C99 6.5.4). The value is the operand's.
     /// Where no cast stands, qualifiers that are added (6.3.2.3, 2) leave nothing.
-    Qualify(CType, Boxed<Expr>),
+    Qualify(Boxed<CType>, Boxed<Expr>),
     /// A pointer moved by an integer (C99 6.5.6, 8), back where the flag is set.
     Move(Boxed<Expr>, Boxed<Expr>, bool),
     /// The difference of two pointers (C99 6.5.6, 9).
@@ -72,12 +72,12 @@ pub enum Expr {
     /// `? :` (C99 6.5.15).
     Choose(Boxed<Expr>, Boxed<Expr>, Boxed<Expr>),
     /// `=` (C99 6.5.16.1).
-    Assign(Place, Boxed<Expr>),
+    Assign(Boxed<Place>, Boxed<Expr>),
     /// A compound assignment (C99 6.5.16.2) or a prefix `++` or `--` (6.5.3.1). The type is that in which the
     /// operator works; where the place is a pointer it is that of the integer.
-    Change(Place, BinOp, IntType, Boxed<Expr>),
+    Change(Boxed<Place>, BinOp, IntType, Boxed<Expr>),
     /// A postfix `++`, or `--` where the flag is set (C99 6.5.2.4).
-    After(Place, bool),
+    After(Boxed<Place>, bool),
     /// A call of what a pointer to a function points to (C99 6.5.2.2).
     Call(Boxed<Expr>, List<Expr>),
     /// A call of an intrinsic. `Restore` has an operand, the others have none.

@@ -17,7 +17,7 @@ pub fn same_expr(e: &Expr, other: &Expr) -> bool
             _ => false,
         },
         Expr::Null(s) => match other {
-            Expr::Null(t) => same_type(s, t),
+            Expr::Null(t) => same_type(s.get(), t.get()),
             _ => false,
         },
         Expr::FuncAddr(f) => match other {
@@ -25,11 +25,11 @@ pub fn same_expr(e: &Expr, other: &Expr) -> bool
             _ => false,
         },
         Expr::Load(p) => match other {
-            Expr::Load(q) => same_place(p, q),
+            Expr::Load(q) => same_place(p.get(), q.get()),
             _ => false,
         },
         Expr::AddrOf(p) => match other {
-            Expr::AddrOf(q) => same_place(p, q),
+            Expr::AddrOf(q) => same_place(p.get(), q.get()),
             _ => false,
         },
         Expr::Un(op, s, a) => match other {
@@ -50,7 +50,7 @@ pub fn same_expr(e: &Expr, other: &Expr) -> bool
             _ => false,
         },
         Expr::Qualify(s, a) => match other {
-            Expr::Qualify(t, b) => same_type(s, t) && same_expr(a.get(), b.get()),
+            Expr::Qualify(t, b) => same_type(s.get(), t.get()) && same_expr(a.get(), b.get()),
             _ => false,
         },
         Expr::Move(a, b, back) => match other {
@@ -84,18 +84,18 @@ pub fn same_expr(e: &Expr, other: &Expr) -> bool
             _ => false,
         },
         Expr::Assign(p, a) => match other {
-            Expr::Assign(q, b) => same_place(p, q) && same_expr(a.get(), b.get()),
+            Expr::Assign(q, b) => same_place(p.get(), q.get()) && same_expr(a.get(), b.get()),
             _ => false,
         },
         Expr::Change(p, op, s, a) => match other {
-            Expr::Change(q, other_op, t, b) => same_place(p, q)
+            Expr::Change(q, other_op, t, b) => same_place(p.get(), q.get())
                 && same_bin(*op, *other_op)
                 && same_int(*s, *t)
                 && same_expr(a.get(), b.get()),
             _ => false,
         },
         Expr::After(p, down) => match other {
-            Expr::After(q, other_down) => same_place(p, q) && down == other_down,
+            Expr::After(q, other_down) => same_place(p.get(), q.get()) && down == other_down,
             _ => false,
         },
         Expr::Call(f, args) => match other {

@@ -12,7 +12,7 @@ use cc_lex::{Kind, Token, Word};
 use cc_tree::state::{Control, For, Frame, LineFrame, Node, PartFrame, Scoping, Turn};
 use cc_tree::stop::Stop;
 use cc_tree::{Line, Tree};
-use cc_turns::turns::{opens, refused, scoped, unboxed};
+use cc_turns::turns::{opens, refused, scoped};
 use std::alloc::Global;
 
 fn is_else(word: Word) -> bool
@@ -97,7 +97,7 @@ fn give_if<'t>(
     ensures { Gives went_of result (then_done_of at test line tokens.now NoneOf) }
 {
     let height = test.height.max(line.height);
-    let node = Line::If(test.node.into_inner(), line.node, None);
+    let node = Line::If(test.node, line.node, None);
     have_line(alloc, at, node, height, tokens)
 }
 
@@ -113,7 +113,7 @@ fn give_else<'t>(
 {
     let height = line.height.max(other.height);
     let height = test.height.max(height);
-    let node = Line::If(test.node.into_inner(), line.node, Some(other.node));
+    let node = Line::If(test.node, line.node, Some(other.node));
     have_line(alloc, at, node, height, tokens)
 }
 
@@ -127,7 +127,7 @@ fn give_while<'t>(
     ensures { Gives went_of result (give_line_of line tokens.now (While at test)) }
 {
     let height = test.height.max(line.height);
-    let node = Line::While(test.node.into_inner(), line.node);
+    let node = Line::While(test.node, line.node);
     have_line(alloc, at, node, height, tokens)
 }
 
@@ -141,7 +141,7 @@ fn give_switch<'t>(
     ensures { Gives went_of result (give_line_of line tokens.now (Switch at test)) }
 {
     let height = test.height.max(line.height);
-    let node = Line::Switch(test.node.into_inner(), line.node);
+    let node = Line::Switch(test.node, line.node);
     have_line(alloc, at, node, height, tokens)
 }
 
@@ -183,7 +183,7 @@ fn give_for<'t>(
         height,
     } = parts;
     let height = height.max(line.height);
-    let node = Line::For(first.into_inner(), unboxed(test), unboxed(step), line.node);
+    let node = Line::For(first, test, step, line.node);
     let turn = have_line(alloc, at, node, height, tokens)?;
     Ok(scoped(Scoping::Leaves(scope), turn))
 }
@@ -198,7 +198,7 @@ fn give_case<'t>(
     ensures { Gives went_of result (give_line_of line tokens.now (Case at value)) }
 {
     let height = value.height.max(line.height);
-    let node = Line::Case(value.node.into_inner(), line.node);
+    let node = Line::Case(value.node, line.node);
     have_line(alloc, at, node, height, tokens)
 }
 

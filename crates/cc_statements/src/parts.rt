@@ -42,7 +42,7 @@ pub fn give_do<'t>(
     let (read, rest) = closed((line, expr), Mark::RParen, tokens)?;
     let ((line, expr), rest) = closed(read, Mark::Semi, rest)?;
     let height = line.height.max(expr.height);
-    let node = Line::DoWhile(line.node, expr.node.into_inner());
+    let node = Line::DoWhile(line.node, expr.node);
     have_line(alloc, at, node, height, rest)
 }
 
@@ -57,7 +57,7 @@ pub fn give_first<'t>(
     ensures { Gives went_of result (give_part_of expr tokens.now (FirstFrame at scope)) }
 {
     let (expr, rest) = closed(expr, Mark::Semi, tokens)?;
-    let first = First::Expr(Some(expr.node.into_inner()));
+    let first = First::Expr(Some(expr.node));
     on(
         alloc,
         Control::Test(new_for(alloc, at, scope, first, expr.height)?),
@@ -126,7 +126,7 @@ pub fn give_return<'t>(
     ensures { Gives went_of result (give_part_of expr tokens.now (Return at)) }
 {
     let (expr, rest) = closed(expr, Mark::Semi, tokens)?;
-    let node = Line::Return(Some(expr.node.into_inner()));
+    let node = Line::Return(Some(expr.node));
     have_line(alloc, at, node, expr.height, rest)
 }
 
@@ -140,6 +140,6 @@ pub fn give_statement<'t>(
     ensures { Gives went_of result (give_part_of expr tokens.now (Expr at)) }
 {
     let (expr, rest) = closed(expr, Mark::Semi, tokens)?;
-    let node = Line::Expr(Some(expr.node.into_inner()));
+    let node = Line::Expr(Some(expr.node));
     have_line(alloc, at, node, expr.height, rest)
 }

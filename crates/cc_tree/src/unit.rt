@@ -47,22 +47,22 @@ pub enum Given {
 pub enum Line {
     Block(List<At<Line>>),
     Decl(Decl),
-    Expr(Option<At<Tree>>),
-    If(At<Tree>, Boxed<At<Line>>, Option<Boxed<At<Line>>>),
-    While(At<Tree>, Boxed<At<Line>>),
-    DoWhile(Boxed<At<Line>>, At<Tree>),
-    For(First, Option<At<Tree>>, Option<At<Tree>>, Boxed<At<Line>>),
-    Switch(At<Tree>, Boxed<At<Line>>),
-    Case(At<Tree>, Boxed<At<Line>>),
+    Expr(Option<Boxed<At<Tree>>>),
+    If(Boxed<At<Tree>>, Boxed<At<Line>>, Option<Boxed<At<Line>>>),
+    While(Boxed<At<Tree>>, Boxed<At<Line>>),
+    DoWhile(Boxed<At<Line>>, Boxed<At<Tree>>),
+    For(Boxed<First>, Option<Boxed<At<Tree>>>, Option<Boxed<At<Tree>>>, Boxed<At<Line>>),
+    Switch(Boxed<At<Tree>>, Boxed<At<Line>>),
+    Case(Boxed<At<Tree>>, Boxed<At<Line>>),
     Default(Boxed<At<Line>>),
     Break,
     Continue,
-    Return(Option<At<Tree>>),
+    Return(Option<Boxed<At<Tree>>>),
 }
 
 /// The first part of a `for`.
 #[derive(Drop)]
 pub enum First {
     Decl(Decl),
-    Expr(Option<At<Tree>>),
+    Expr(Option<Boxed<At<Tree>>>),
 }

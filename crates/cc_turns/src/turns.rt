@@ -123,16 +123,6 @@ pub fn grown<A: Drop, T: Drop>(beside: A, list: List<T>, more: T) -> Result<(A, 
     Ok((beside, list))
 }
 
-/// What is in a box, where there is one.
-pub fn unboxed<T>(boxed: Option<Boxed<T>>) -> Option<T>
-    ensures { result ≡ boxed }
-{
-    match boxed {
-        Some(value) => Some(value.into_inner()),
-        None => None,
-    }
-}
-
 /// Refuses what was read.
 pub fn refused<A: Drop>(read: A, tokens: &[Token]) -> Stop
     ensures { result ≡ WrongOf (length tokens.now) }

@@ -145,17 +145,17 @@ impl<'p> Scope<'p> {
         let p = self.program;
         match e {
             Expr::Const(n, t) => constant_type(*n, *t, &p.target),
-            Expr::Null(t) => null_type(p, t),
+            Expr::Null(t) => null_type(p, t.get()),
             Expr::FuncAddr(f) => function_type(at(p.funcs.all(), *f as usize)),
-            Expr::Load(a) => self.place_type(a)?.read(),
-            Expr::AddrOf(a) => self.place_type(a)?.address(),
+            Expr::Load(a) => self.place_type(a.get())?.read(),
+            Expr::AddrOf(a) => self.place_type(a.get())?.address(),
             Expr::Un(op, t, a) => self.type_of(a.get())?.unary(*op, *t, &p.target),
             Expr::Bin(op, t, a, b) => {
                 let a = self.type_of(a.get())?;
                 a.binary(*op, *t, self.type_of(b.get())?, &p.target)
             }
             Expr::Conv(t, a) => self.type_of(a.get())?.converted(*t),
-            Expr::Qualify(t, a) => qualified_type(p, t, self.type_of(a.get())?),
+            Expr::Qualify(t, a) => qualified_type(p, t.get(), self.type_of(a.get())?),
             Expr::Move(a, b, _) => {
                 let a = self.type_of(a.get())?;
                 a.moved(self.type_of(b.get())?, p.structures.all())
@@ -182,11 +182,11 @@ impl<'p> Scope<'p> {
                 a.chosen(c, self.type_of(b.get())?, &p.target)
             }
             Expr::Assign(a, b) => {
-                let to = self.place_type(a)?.written()?;
+                let to = self.place_type(a.get())?.written()?;
                 to.assigned(self.type_of(b.get())?)
             }
             Expr::Change(a, op, t, b) => {
-                let to = self.place_type(a)?.written()?;
+                let to = self.place_type(a.get())?.written()?;
                 to.changed(
                     *op,
                     *t,
@@ -195,7 +195,10 @@ impl<'p> Scope<'p> {
                     &p.target,
                 )
             }
-            Expr::After(a, _) => self.place_type(a)?.written()?.stepped(p.structures.all()),
+            Expr::After(a, _) => self
+                .place_type(a.get())?
+                .written()?
+                .stepped(p.structures.all()),
             Expr::Call(f, args) => self.call_type(self.type_of(f.get())?, args),
             Expr::Intr(i, None) => intrinsic_type(*i, None),
             Expr::Intr(i, Some(a)) => intrinsic_type(*i, Some(self.type_of(a.get()))),

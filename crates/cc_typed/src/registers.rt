@@ -28,8 +28,8 @@ fn is_address_taken(local: u32, e: &Expr) -> bool
 {
     match e {
         Expr::Const(_, _) | Expr::Null(_) | Expr::FuncAddr(_) => false,
-        Expr::Load(a) | Expr::After(a, _) => is_address_taken_in(local, a),
-        Expr::AddrOf(a) => is_local(local, a) || is_address_taken_in(local, a),
+        Expr::Load(a) | Expr::After(a, _) => is_address_taken_in(local, a.get()),
+        Expr::AddrOf(a) => is_local(local, a.get()) || is_address_taken_in(local, a.get()),
         Expr::Un(_, _, a) | Expr::Conv(_, a) | Expr::Qualify(_, a) => is_address_taken(
             local,
             a.get(),
@@ -47,7 +47,7 @@ fn is_address_taken(local: u32, e: &Expr) -> bool
                 || is_address_taken(local, b.get())
         }
         Expr::Assign(a, b) | Expr::Change(a, _, _, b) => {
-            is_address_taken_in(local, a) || is_address_taken(local, b.get())
+            is_address_taken_in(local, a.get()) || is_address_taken(local, b.get())
         }
         Expr::Call(f, args) => is_address_taken(local, f.get()) || any_address_taken(local, args),
         Expr::Intr(_, None) => false,

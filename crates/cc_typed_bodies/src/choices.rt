@@ -9,7 +9,7 @@ use crate::expressions::value_here;
 use crate::function::Function;
 use crate::scopes::{enter, leave};
 use crate::switched::switched;
-use cc_num::{IntType, List};
+use cc_num::{Boxed, IntType, List};
 use cc_scopes::{State, Stop, placed};
 use cc_syntax::Stmt;
 use cc_tree::{At, Line, Tree};
@@ -41,7 +41,7 @@ fn switch_body(
 pub fn switch_inside(
     at: u32,
     a: &At<Line>,
-    e: &At<Tree>,
+    e: &Boxed<At<Tree>>,
     jumps: Jumps,
     alloc: Global,
     f: Function<'_>,

@@ -20,19 +20,19 @@ use std::alloc::Global;
 /// The value of an expression.
 #[tactic(auto, unfolding(crate::specs::Parts::value_here))]
 pub fn value_here(
-    e: &At<Tree>,
+    e: &Boxed<At<Tree>>,
     alloc: Global,
     f: Function<'_>,
     state: &mut State,
 ) -> Result<Operand, Stop>
     ensures { Gives operand_view result (state_of state.new) (value_here_of f.entry.target.now f.entry.roles.now e.now (state_of state.old)) }
 {
-    value(e, alloc, f.target, f.roles, state)
+    value(e.get(), alloc, f.target, f.roles, state)
 }
 
 /// The value of an expression, where there is one.
 pub fn maybe_value(
-    e: &Option<At<Tree>>,
+    e: &Option<Boxed<At<Tree>>>,
     alloc: Global,
     f: Function<'_>,
     state: &mut State,
@@ -51,7 +51,7 @@ pub fn maybe_value(
 /// An expression for what it does (C99 6.8.3).
 #[tactic(auto, using(cc_scopes::proofs::Outcomes::of_outcomes), unfolding(crate::specs::Parts::effect_found))]
 pub fn effect_here(
-    e: &At<Tree>,
+    e: &Boxed<At<Tree>>,
     alloc: Global,
     f: Function<'_>,
     state: &mut State,
@@ -59,12 +59,12 @@ pub fn effect_here(
     ensures { Gives (λ e. e) result (state_of state.new) (effect_found f.entry.target.now f.entry.roles.now e.now (state_of state.old)) }
 {
     let x = value_here(e, alloc, f, state)?;
-    placed(e.at, effect(x))
+    placed(e.get().at, effect(x))
 }
 
 /// An expression for what it does, where there is one.
 pub fn maybe_effect(
-    e: &Option<At<Tree>>,
+    e: &Option<Boxed<At<Tree>>>,
     alloc: Global,
     f: Function<'_>,
     state: &mut State,

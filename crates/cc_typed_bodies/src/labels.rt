@@ -9,7 +9,7 @@ use crate::blocks::line;
 use crate::expressions::value_here;
 use crate::function::Function;
 use crate::switched::item;
-use cc_num::{IntType, List};
+use cc_num::{Boxed, IntType, List};
 use cc_operands::{Breach, Rule};
 use cc_scopes::{State, Stop, placed};
 use cc_syntax::Stmt;
@@ -40,7 +40,7 @@ pub fn misplaced(
 pub fn misplaced_case(
     at: u32,
     a: &At<Line>,
-    e: &At<Tree>,
+    e: &Boxed<At<Tree>>,
     jumps: Jumps,
     alloc: Global,
     f: Function<'_>,
@@ -78,7 +78,7 @@ pub fn labelled(
 #[tactic(auto, unfolding(crate::specs::Lines::case_found))]
 pub fn case_item(
     a: &At<Line>,
-    e: &At<Tree>,
+    e: &Boxed<At<Tree>>,
     at: u32,
     jumps: Jumps,
     t: IntType,

@@ -8,7 +8,7 @@ use crate::blocks::body;
 use crate::declarations::first_here;
 use crate::expressions::{maybe_effect, maybe_value, value_here};
 use crate::function::Function;
-use cc_num::List;
+use cc_num::{Boxed, List};
 use cc_scopes::{State, Stop, placed};
 use cc_syntax::Stmt;
 use cc_tree::{At, First, Line, Tree};
@@ -21,7 +21,7 @@ use std::alloc::Global;
 pub fn while_inside(
     at: u32,
     a: &At<Line>,
-    e: &At<Tree>,
+    e: &Boxed<At<Tree>>,
     jumps: Jumps,
     alloc: Global,
     f: Function<'_>,
@@ -40,7 +40,7 @@ pub fn while_inside(
 pub fn do_inside(
     at: u32,
     a: &At<Line>,
-    e: &At<Tree>,
+    e: &Boxed<At<Tree>>,
     jumps: Jumps,
     alloc: Global,
     f: Function<'_>,
@@ -59,9 +59,9 @@ pub fn do_inside(
 pub fn for_inside(
     at: u32,
     a: &At<Line>,
-    first: &First,
-    test: &Option<At<Tree>>,
-    step: &Option<At<Tree>>,
+    first: &Boxed<First>,
+    test: &Option<Boxed<At<Tree>>>,
+    step: &Option<Boxed<At<Tree>>>,
     jumps: Jumps,
     alloc: Global,
     f: Function<'_>,
@@ -69,7 +69,7 @@ pub fn for_inside(
 ) -> Result<List<Stmt>, Stop>
     ensures { Gives (λ ss. ss) result (state_of state.new) (for_found f.entry.target.now f.entry.roles.now f.entry.defined.now first.now test.now step.now (line_here f.entry.target.now f.entry.roles.now f.entry.defined.now f.entry.result.now a.now) jumps at (state_of state.old)) }
 {
-    let first = first_here(first, alloc, f, state)?;
+    let first = first_here(first.get(), alloc, f, state)?;
     let test = maybe_value(test, alloc, f, state)?;
     let step = maybe_effect(step, alloc, f, state)?;
     let body = body(a, jumps.in_loop(), alloc, f, state)?;

@@ -6,7 +6,7 @@ ghost use Rattle.cc_typed_bodies.specs.Parts.{expression_found, return_found};
 
 use crate::expressions::{effect_here, maybe_value};
 use crate::function::Function;
-use cc_num::List;
+use cc_num::{Boxed, List};
 use cc_scopes::{State, Stop, placed};
 use cc_syntax::Stmt;
 use cc_tree::{At, Tree};
@@ -16,7 +16,7 @@ use std::alloc::Global;
 /// An expression for what it does, or an empty statement (C99 6.8.3).
 #[tactic(auto, unfolding(crate::specs::Parts::expression_found))]
 pub fn expression_statement(
-    e: &Option<At<Tree>>,
+    e: &Option<Boxed<At<Tree>>>,
     alloc: Global,
     f: Function<'_>,
     state: &mut State,
@@ -36,7 +36,7 @@ pub fn expression_statement(
 #[tactic(auto, using(cc_scopes::proofs::Outcomes::of_outcomes), unfolding(crate::specs::Parts::return_found))]
 pub fn return_statement(
     at: u32,
-    e: &Option<At<Tree>>,
+    e: &Option<Boxed<At<Tree>>>,
     alloc: Global,
     f: Function<'_>,
     state: &mut State,

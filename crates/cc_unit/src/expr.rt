@@ -5,7 +5,7 @@ ghost use Rattle.std.specs.Option.{option_copied};
 ghost use Rattle.cc_unit.specs.Renumbered.{object_by as object_by_of, func_by as func_by_of, device_by as device_by_of, expr_renumbered, place_renumbered};
 
 use crate::ids::{Id, Ids};
-use crate::types::renumber_type;
+use crate::types::renumber_boxed_type;
 use cc_num::{Boxed, List, NoMemory, at};
 use cc_program::{Expr, Place};
 use std::alloc::Global;
@@ -49,10 +49,10 @@ pub fn renumber_expr(alloc: Global, ids: &Ids, e: &Expr) -> Result<Expr, NoMemor
 {
     match e {
         Expr::Const(n, t) => Ok(Expr::Const(*n, *t)),
-        Expr::Null(t) => Ok(Expr::Null(renumber_type(alloc, ids.structures.all(), t)?)),
+        Expr::Null(t) => Ok(Expr::Null(renumber_boxed_type(alloc, ids.structures.all(), t.get())?)),
         Expr::FuncAddr(f) => Ok(Expr::FuncAddr(func_at(ids, *f))),
-        Expr::Load(p) => Ok(Expr::Load(renumber_place(alloc, ids, p)?)),
-        Expr::AddrOf(p) => Ok(Expr::AddrOf(renumber_place(alloc, ids, p)?)),
+        Expr::Load(p) => Ok(Expr::Load(renumber_boxed_place(alloc, ids, p.get())?)),
+        Expr::AddrOf(p) => Ok(Expr::AddrOf(renumber_boxed_place(alloc, ids, p.get())?)),
         Expr::Un(op, t, a) => Ok(Expr::Un(*op, *t, renumber_boxed(alloc, ids, a.get())?)),
         Expr::Bin(op, t, a, b) => {
             let (a, b) = renumber_two(alloc, ids, a, b)?;
@@ -61,7 +61,10 @@ pub fn renumber_expr(alloc: Global, ids: &Ids, e: &Expr) -> Result<Expr, NoMemor
         Expr::Conv(t, a) => Ok(Expr::Conv(*t, renumber_boxed(alloc, ids, a.get())?)),
         Expr::Qualify(t, a) => {
             let a = renumber_boxed(alloc, ids, a.get())?;
-            Ok(Expr::Qualify(renumber_type(alloc, ids.structures.all(), t)?, a))
+            Ok(Expr::Qualify(
+                renumber_boxed_type(alloc, ids.structures.all(), t.get())?,
+                a,
+            ))
         }
         Expr::Move(a, b, back) => {
             let (a, b) = renumber_two(alloc, ids, a, b)?;
@@ -90,13 +93,13 @@ pub fn renumber_expr(alloc: Global, ids: &Ids, e: &Expr) -> Result<Expr, NoMemor
         }
         Expr::Assign(p, a) => {
             let a = renumber_boxed(alloc, ids, a.get())?;
-            Ok(Expr::Assign(renumber_place(alloc, ids, p)?, a))
+            Ok(Expr::Assign(renumber_boxed_place(alloc, ids, p.get())?, a))
         }
         Expr::Change(p, op, t, a) => {
             let a = renumber_boxed(alloc, ids, a.get())?;
-            Ok(Expr::Change(renumber_place(alloc, ids, p)?, *op, *t, a))
+            Ok(Expr::Change(renumber_boxed_place(alloc, ids, p.get())?, *op, *t, a))
         }
-        Expr::After(p, down) => Ok(Expr::After(renumber_place(alloc, ids, p)?, *down)),
+        Expr::After(p, down) => Ok(Expr::After(renumber_boxed_place(alloc, ids, p.get())?, *down)),
         Expr::Call(f, args) => {
             let args = renumber_args(alloc, ids, args)?;
             Ok(Expr::Call(renumber_boxed(alloc, ids, f.get())?, args))

@@ -17,9 +17,9 @@ fn put_expr(e: &Expr, numbers: &mut Vec<u32>) -> Result<(), NoMemory>
             numbers.push(*f)?;
             Ok(())
         }
-        Expr::Load(p) => put_place(p, numbers),
-        Expr::AddrOf(p) => put_place(p, numbers),
-        Expr::After(p, _) => put_place(p, numbers),
+        Expr::Load(p) => put_place(p.get(), numbers),
+        Expr::AddrOf(p) => put_place(p.get(), numbers),
+        Expr::After(p, _) => put_place(p.get(), numbers),
         Expr::Un(_, _, a) => put_expr(a.get(), numbers),
         Expr::Conv(_, a) => put_expr(a.get(), numbers),
         Expr::Qualify(_, a) => put_expr(a.get(), numbers),
@@ -35,11 +35,11 @@ fn put_expr(e: &Expr, numbers: &mut Vec<u32>) -> Result<(), NoMemory>
             put_two(a, b, numbers)
         }
         Expr::Assign(p, a) => {
-            put_place(p, numbers)?;
+            put_place(p.get(), numbers)?;
             put_expr(a.get(), numbers)
         }
         Expr::Change(p, _, _, a) => {
-            put_place(p, numbers)?;
+            put_place(p.get(), numbers)?;
             put_expr(a.get(), numbers)
         }
         Expr::Call(f, args) => {

@@ -31,7 +31,11 @@ pub fn renumber_type(alloc: Global, structures: &[u32], t: &CType) -> Result<CTy
 
 #[cycle(renumber)]
 #[tactic(auto, unfolding(crate::specs::Renumbered::type_renumbered, crate::specs::Renumbered::shape_renumbered, crate::specs::Renumbered::sig_renumbered))]
-fn renumber_boxed(alloc: Global, structures: &[u32], t: &CType) -> Result<Boxed<CType>, NoMemory>
+pub fn renumber_boxed_type(
+    alloc: Global,
+    structures: &[u32],
+    t: &CType,
+) -> Result<Boxed<CType>, NoMemory>
     ensures { IfOk result (λ r. r ≡ type_renumbered structures.now t.now) }
 {
     Boxed::new(alloc, renumber_type(alloc, structures, t)?)
@@ -45,8 +49,11 @@ fn renumber_shape(alloc: Global, structures: &[u32], s: &Shape) -> Result<Shape,
     match s {
         Shape::Void => Ok(Shape::Void),
         Shape::Int(t) => Ok(Shape::Int(*t)),
-        Shape::Pointer(t) => Ok(Shape::Pointer(renumber_boxed(alloc, structures, t.get())?)),
-        Shape::Array(t, n) => Ok(Shape::Array(renumber_boxed(alloc, structures, t.get())?, *n)),
+        Shape::Pointer(t) => Ok(Shape::Pointer(renumber_boxed_type(alloc, structures, t.get())?)),
+        Shape::Array(t, n) => Ok(Shape::Array(
+            renumber_boxed_type(alloc, structures, t.get())?,
+            *n,
+        )),
         Shape::Struct(i) => Ok(Shape::Struct(structure_at(structures, *i))),
         Shape::Func(sig) => Ok(Shape::Func(Boxed::new(
             alloc,

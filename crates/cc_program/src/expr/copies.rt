@@ -14,10 +14,10 @@ impl Expr {
     {
         match self {
             Expr::Const(n, t) => Ok(Expr::Const(*n, *t)),
-            Expr::Null(t) => Ok(Expr::Null(t.copy(alloc)?)),
+            Expr::Null(t) => Ok(Expr::Null(t.get().copy_boxed(alloc)?)),
             Expr::FuncAddr(f) => Ok(Expr::FuncAddr(*f)),
-            Expr::Load(p) => Ok(Expr::Load(p.copy(alloc)?)),
-            Expr::AddrOf(p) => Ok(Expr::AddrOf(p.copy(alloc)?)),
+            Expr::Load(p) => Ok(Expr::Load(p.get().copy_boxed(alloc)?)),
+            Expr::AddrOf(p) => Ok(Expr::AddrOf(p.get().copy_boxed(alloc)?)),
             Expr::Un(op, t, a) => Ok(Expr::Un(*op, *t, a.get().copy_boxed(alloc)?)),
             Expr::Bin(op, t, a, b) => {
                 let (a, b) = copy_two(alloc, a, b)?;
@@ -26,7 +26,7 @@ impl Expr {
             Expr::Conv(t, a) => Ok(Expr::Conv(*t, a.get().copy_boxed(alloc)?)),
             Expr::Qualify(t, a) => {
                 let a = a.get().copy_boxed(alloc)?;
-                Ok(Expr::Qualify(t.copy(alloc)?, a))
+                Ok(Expr::Qualify(t.get().copy_boxed(alloc)?, a))
             }
             Expr::Move(a, b, back) => {
                 let (a, b) = copy_two(alloc, a, b)?;
@@ -55,13 +55,13 @@ impl Expr {
             }
             Expr::Assign(p, a) => {
                 let a = a.get().copy_boxed(alloc)?;
-                Ok(Expr::Assign(p.copy(alloc)?, a))
+                Ok(Expr::Assign(p.get().copy_boxed(alloc)?, a))
             }
             Expr::Change(p, op, t, a) => {
                 let a = a.get().copy_boxed(alloc)?;
-                Ok(Expr::Change(p.copy(alloc)?, *op, *t, a))
+                Ok(Expr::Change(p.get().copy_boxed(alloc)?, *op, *t, a))
             }
-            Expr::After(p, down) => Ok(Expr::After(p.copy(alloc)?, *down)),
+            Expr::After(p, down) => Ok(Expr::After(p.get().copy_boxed(alloc)?, *down)),
             Expr::Call(f, args) => {
                 let args = copy_args(alloc, args)?;
                 Ok(Expr::Call(f.get().copy_boxed(alloc)?, args))

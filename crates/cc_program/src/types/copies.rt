@@ -19,8 +19,9 @@ impl CType {
         })
     }
 
+    /// The same type, in a box.
     #[cycle(copy)]
-    fn copy_boxed(&self, alloc: Global) -> Result<Boxed<CType>, NoMemory>
+    pub fn copy_boxed(&self, alloc: Global) -> Result<Boxed<CType>, NoMemory>
         ensures { IfOk result (λ r. r ≡ self.now) }
     {
         Boxed::new(alloc, self.copy(alloc)?)
