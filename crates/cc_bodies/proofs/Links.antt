@@ -4,7 +4,8 @@ use Rattle.cc_program.specs.declared.expr.Expr.{Expr, roll-Expr, map-Expr, fold-
 use Rattle.cc_program.specs.declared.expr.Expr.TheOpen as one
 use Rattle.cc_program.specs.declared.expr.Place.{Place, roll-Place, map-Place, fold-roll-Place}
 use Rattle.cc_program.proofs.FoldFusion.{fused, place_fused}
-use Rattle.cc_syntax.specs.Expressions.{expr_step, place_step, type_of, place_type}
+use Rattle.cc_syntax.specs.Expressions as typing
+use Rattle.cc_syntax.specs.Programs.{expr_step, place_step, type_of, place_type}
 use Rattle.cc_syntax.specs.Values.{ValueType, PlaceType}
 use Rattle.cc_program.specs.declared.func.Func.{Func}
 use Rattle.cc_program.specs.declared.program.Program.{Program}
@@ -21,12 +22,12 @@ place_level p f x = fold-roll-Place Written WrittenPlace (expr_written p f) (pla
 
 module _ (p : Program) (f : Func) where
   pub type_linked : (e : Expr) → (written p f e).ctype ≡ type_of p f.locals e
-  unfolding written type_of
+  unfolding written typing.type_of
   type_linked = fused (expr_written p f) (place_written p f) (expr_step p f.locals) (place_step p f.locals)
       (λ a. a.ctype) (λ a. a.ctype) (λ x. refl) (λ x. refl)
 
   pub place_type_linked : (a : Place) → (place p f a).ctype ≡ place_type p f.locals a
-  unfolding place place_type
+  unfolding place typing.place_type
   place_type_linked = place_fused (expr_written p f) (place_written p f) (expr_step p f.locals) (place_step p f.locals)
       (λ a. a.ctype) (λ a. a.ctype) (λ x. refl) (λ x. refl)
 

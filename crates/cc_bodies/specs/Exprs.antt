@@ -17,7 +17,7 @@ use Rattle.cc_program.specs.declared.object.Device.{Device}
 use Rattle.cc_program.specs.declared.program.Program.{Program}
 use Rattle.cc_program.specs.declared.types.CType.{CType}
 use Rattle.cc_program.specs.declared.types.Structure.{Structure}
-use Rattle.cc_syntax.specs.Expressions.{expr_step, place_step}
+use Rattle.cc_syntax.specs.Programs.{expr_step, place_step}
 use Rattle.cc_syntax.specs.SameTypes.{alike}
 use Rattle.cc_syntax.specs.Values.{ValueType, PlaceType}
 use Rattle.cc_pieces.specs.Constants.{constant, is_narrow}

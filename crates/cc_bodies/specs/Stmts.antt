@@ -19,7 +19,7 @@ use Rattle.cc_program.specs.declared.stmt.Stmt.{Stmt, fold-Stmt}
 use Rattle.cc_program.specs.declared.stmt.Stmt.TheOpen as is
 use Rattle.cc_program.specs.declared.types.CType.{CType}
 use Rattle.cc_program.specs.declared.types.Sig.{Sig, out-Sig}
-use Rattle.cc_syntax.specs.Expressions.{type_of, place_type}
+use Rattle.cc_syntax.specs.Programs.{type_of, place_type}
 use Rattle.cc_syntax.specs.Values.{ValueType, NoValue, Integer, ToObject, ToFunction, PlaceType, DevicePlace, ObjectPlace, FunctionPlace}
 use Rattle.cc_pieces.specs.Constants.{constant}
 use Rattle.cc_pieces.specs.Pieces.{Pieces, punct, keyword, ident, space, indent, end_of_line}

@@ -4,7 +4,7 @@ ghost use Rattle.std.specs.Prelude.{◌≡◌, OnOk, option_map};
 ghost use Rattle.std.specs.Option.{option_copied};
 ghost use Rattle.cc_pieces.specs.View.{pieces_of};
 ghost use Rattle.cc_bodies.specs.Stmts.{intrinsic_name as intrinsic_name_of, optional_argument, intrinsic, further_arguments, arguments, call, parameters_of as parameters_of_of, taker as taker_of, right_side, assignment, done};
-ghost use Rattle.cc_syntax.specs.Expressions.{type_of, place_type as place_type_of};
+ghost use Rattle.cc_syntax.specs.Programs.{type_of, place_type as place_type_of};
 ghost use Rattle.cc_syntax.specs.Sizes.{AreSized};
 ghost use Rattle.cc_typed.specs.View.{value_view, place_view};
 

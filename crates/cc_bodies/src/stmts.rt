@@ -5,7 +5,7 @@ ghost use Rattle.cc_pieces.specs.Pieces.{indent, keyword};
 ghost use Rattle.cc_pieces.specs.View.{pieces_of};
 ghost use Rattle.cc_program.specs.declared.types.Sig.{out-Sig};
 ghost use Rattle.cc_bodies.specs.Stmts.{ended, opened, closed, head, all_lines, else_lines, case_body, case_lines, case_text, label_line, label_lines, label_type as label_type_of, returned, done, stmt, stmts};
-ghost use Rattle.cc_syntax.specs.Expressions.{type_of};
+ghost use Rattle.cc_syntax.specs.Programs.{type_of};
 ghost use Rattle.cc_syntax.specs.Sizes.{AreSized};
 ghost use Rattle.cc_typed.specs.View.{value_view};
 

@@ -1,7 +1,7 @@
 -- Why sources are no program: the causes, in the order in which they are looked for.
 use Rattle.std.specs.Prelude.{ℕ, Bool, false, not, ◌&&◌, nat_lt, List, find, length, slice_get, Option, Some, None, option_and_then, option_map, if◌then◌else◌}
 use Rattle.std.specs.List.{list_any}
-use Rattle.std.specs.Option.{option_map_or}
+use Rattle.std.specs.Option.{option_map_or, option_or}
 use Rattle.cc_definitions.specs.Definitions.{thing_at, numbers_below}
 use Rattle.cc_definitions.specs.Handlers.{is_named_main}
 use Rattle.cc_causes.specs.Entries.{is_bad_handler, is_nowhere}
@@ -11,10 +11,6 @@ use Rattle.cc_program.specs.declared.program.Roles.{Roles}
 use Rattle.cc_structures.specs.Structures.{Numbering, same_types}
 use Rattle.cc_things.specs.Mentions.{Mention}
 use Rattle.cc_things.specs.Things.{Thing, own_name, definitions, is_defined, is_device, is_external, is_used}
-
-abbrev pub option_or : {A : Type 0} → Option A → Option A → Option A
-option_or None other = other
-option_or (Some x) other = Some x
 
 -- ---- what one thing has against it
 

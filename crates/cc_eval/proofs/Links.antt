@@ -5,7 +5,8 @@ use Rattle.cc_program.specs.declared.expr.Expr.TheOpen as one
 use Rattle.cc_program.specs.declared.expr.Place.{Place, roll-Place, map-Place, fold-roll-Place}
 use Rattle.cc_program.proofs.FoldFusion.{fused, place_fused}
 use Rattle.cc_syntax.specs.Effects.{effect_step, place_effect_step, effects_of, place_effects_of}
-use Rattle.cc_syntax.specs.Expressions.{expr_step, place_step, type_of, place_type}
+use Rattle.cc_syntax.specs.Expressions as typing
+use Rattle.cc_syntax.specs.Programs.{expr_step, place_step, type_of, place_type}
 use Rattle.cc_eval.specs.Context.{Context}
 use Rattle.cc_eval.specs.Eval.{Meaning, Designation, expr_meaning, place_meaning, meaning, designation}
 
@@ -20,12 +21,12 @@ place_level c x = fold-roll-Place Meaning Designation (expr_meaning c) (place_me
 
 module _ (c : Context) where
   pub type_linked : (e : Expr) → (meaning c e).ctype ≡ type_of c.program c.func.locals e
-  unfolding meaning type_of
+  unfolding meaning typing.type_of
   type_linked = fused (expr_meaning c) (place_meaning c) (expr_step c.program c.func.locals) (place_step c.program c.func.locals)
       (λ m. m.ctype) (λ m. m.ctype) (λ x. refl) (λ x. refl)
 
   pub place_type_linked : (a : Place) → (designation c a).ctype ≡ place_type c.program c.func.locals a
-  unfolding designation place_type
+  unfolding designation typing.place_type
   place_type_linked = place_fused (expr_meaning c) (place_meaning c) (expr_step c.program c.func.locals) (place_step c.program c.func.locals)
       (λ m. m.ctype) (λ m. m.ctype) (λ x. refl) (λ x. refl)
 

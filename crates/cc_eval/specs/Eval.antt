@@ -18,7 +18,8 @@ use Rattle.cc_program.specs.declared.value.Address.TheVariants as address
 use Rattle.cc_program.specs.declared.value.Root.TheVariants as root
 use Rattle.cc_program.specs.declared.value.Value.{Value}
 use Rattle.cc_program.specs.declared.value.Value.TheVariants.{Int, Place}
-use Rattle.cc_syntax.specs.Expressions.{expr_step, place_step, of_two}
+use Rattle.cc_syntax.specs.Expressions.{of_two}
+use Rattle.cc_syntax.specs.Programs.{expr_step, place_step}
 use Rattle.cc_syntax.specs.Values.{ValueType, NoValue, Integer, ToObject, ToFunction, PlaceType, read_from}
 use Rattle.cc_eval.specs.declared.action.Action.TheVariants.{Read, Write, Choose, Call, Flag, Save}
 use Rattle.cc_eval.specs.declared.action.Manner.{Manner}

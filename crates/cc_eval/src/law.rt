@@ -2,7 +2,7 @@ ghost use Rattle.std.specs.Prelude.{◌≡◌};
 ghost use Rattle.cc_program.specs.declared.expr.Expr.{Expr};
 ghost use Rattle.cc_program.specs.declared.expr.Place.{Place};
 ghost use Rattle.cc_syntax.specs.Effects.{Registers, effects_of, place_effects_of};
-ghost use Rattle.cc_syntax.specs.Expressions.{type_of, place_type};
+ghost use Rattle.cc_syntax.specs.Programs.{type_of, place_type};
 ghost use Rattle.cc_eval.specs.Context.{Context};
 ghost use Rattle.cc_eval.specs.Eval.{meaning, designation};
 ghost use Rattle.cc_eval.specs.Marks.{UsesFirst};

@@ -39,8 +39,8 @@ use Rattle.cc_bodies.specs.Exprs.{Text, unary_mark, binary_mark, movement_mark, 
 use Rattle.cc_bodies.specs.Names.{named, local_name, object_name, func_name, member_name, member_shape, member_at}
 use Rattle.cc_bodies.specs.Spots.{Spot, Whole, Operand, Converted, Pointed, wraps_operation, wraps_conversion, converts_constant}
 use Rattle.cc_bodies.proofs.Links.{level, place_level, place_type_linked}
-use Rattle.cc_syntax.specs.Expressions.{place_type}
-use Rattle.cc_syntax.specs.Operators.{null_type, function_type, when}
+use Rattle.cc_syntax.specs.Programs.{place_type, null_type}
+use Rattle.cc_syntax.specs.Operators.{function_type, when}
 use Rattle.cc_syntax.specs.SameTypes.{alike}
 use Rattle.cc_syntax.specs.Types.{Named}
 use Rattle.cc_syntax.specs.Values.{PlaceType, DevicePlace, ObjectPlace, FunctionPlace, Integer}

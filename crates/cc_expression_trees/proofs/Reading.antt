@@ -32,8 +32,8 @@ use Rattle.cc_bodies.specs.Exprs.{Text, unary_mark, binary_mark, movement_mark, 
 use Rattle.cc_bodies.specs.Names.{named, local_name, object_name, func_name, member_name}
 use Rattle.cc_bodies.specs.Spots.{Spot, Whole, Operand, Converted, Pointed, wraps_operation, wraps_conversion, converts_constant}
 use Rattle.cc_bodies.proofs.Links.{level, place_level, place_type_linked}
-use Rattle.cc_syntax.specs.Expressions.{place_type}
-use Rattle.cc_syntax.specs.Operators.{null_type, function_type}
+use Rattle.cc_syntax.specs.Programs.{place_type, null_type}
+use Rattle.cc_syntax.specs.Operators.{function_type}
 use Rattle.cc_syntax.specs.SameTypes.{alike}
 use Rattle.cc_type_trees.specs.Types.{ShowsTypeName, plain_suffix}
 use Rattle.cc_type_trees.proofs.Parameters.{Reads}

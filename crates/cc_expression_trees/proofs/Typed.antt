@@ -14,8 +14,10 @@ use Rattle.cc_program.specs.declared.types.Sig.{Sig}
 use Rattle.cc_program.specs.declared.types.Structure.{Structure}
 use Rattle.cc_bodies.specs.Names.{member_name, member_shape, member_at, local_name}
 use Rattle.cc_syntax.specs.Effects.{Effects, PlaceEffects, no_one, is_soft, effect_step, place_effect_step, effects_of, place_effects_of}
-use Rattle.cc_syntax.specs.Expressions.{of_one, of_two, expr_step, place_step, type_of, place_type}
-use Rattle.cc_syntax.specs.Operators.{constant_type, null_type, function_type, pointer_type, when_assignable, choice_type, subscript_type}
+use Rattle.cc_syntax.specs.Expressions.{of_one, of_two}
+use Rattle.cc_syntax.specs.Expressions as typing
+use Rattle.cc_syntax.specs.Programs.{expr_step, place_step, type_of, place_type, null_type, pointer_type}
+use Rattle.cc_syntax.specs.Operators.{constant_type, function_type, when_assignable, choice_type, subscript_type}
 use Rattle.cc_syntax.specs.Types.{Named}
 use Rattle.cc_syntax.specs.Values.{ValueType, PlaceType, DevicePlace, ObjectPlace, FunctionPlace, member_of, member_in, member_at as member_place, member_shape as member_type}
 
@@ -75,11 +77,11 @@ member-named structures m (Some (FunctionPlace sig)) h = absurd (cc)
 
 module _ (p : Program) (f : Func) where
   pub type-roll : (x : one.Expr-F Expr Place) → type_of p f.locals (roll-Expr x) ≡ expr_step p f.locals (map-Expr Expr Place (Option ValueType) (Option PlaceType) (type_of p f.locals) (place_type p f.locals) x)
-  unfolding type_of place_type
+  unfolding typing.type_of typing.place_type
   type-roll x = fold-roll-Expr (Option ValueType) (Option PlaceType) (expr_step p f.locals) (place_step p f.locals) x
 
   pub place-type-roll : (x : one.Place-F Expr Place) → place_type p f.locals (roll-Place x) ≡ place_step p f.locals (map-Place Expr Place (Option ValueType) (Option PlaceType) (type_of p f.locals) (place_type p f.locals) x)
-  unfolding type_of place_type
+  unfolding typing.type_of typing.place_type
   place-type-roll x = fold-roll-Place (Option ValueType) (Option PlaceType) (expr_step p f.locals) (place_step p f.locals) x
 
   effects-roll : (x : one.Expr-F Expr Place) → effects_of f (roll-Expr x) ≡ effect_step (map-Expr Expr Place Effects PlaceEffects (effects_of f) (place_effects_of f) x)

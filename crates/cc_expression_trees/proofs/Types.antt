@@ -10,8 +10,9 @@ use Rattle.cc_program.specs.declared.types.Sig.{Sig}
 use Rattle.cc_program.specs.declared.types.Structure.{Structure}
 use Rattle.cc_program.proofs.TypeInduction.{with_shape}
 use Rattle.cc_pieces.specs.Declarators.{declarator}
-use Rattle.cc_syntax.specs.Kinds.{kind_in, is_plain_scalar}
-use Rattle.cc_syntax.specs.Operators.{null_type, pointer_type, pointer_in, void_pointer_in, first_of, is_unqualified}
+use Rattle.cc_syntax.specs.Kinds.{is_plain_scalar}
+use Rattle.cc_syntax.specs.Programs.{kind_in, null_type, pointer_type}
+use Rattle.cc_syntax.specs.Operators.{pointer_in, void_pointer_in, first_of, is_unqualified}
 use Rattle.cc_syntax.specs.SameTypes.{is_void_shape}
 use Rattle.cc_syntax.specs.Values.{ValueType, is_void, pointer_to}
 use Rattle.cc_type_trees.proofs.Levels.{scalar-some}

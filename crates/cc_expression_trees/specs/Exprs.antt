@@ -19,7 +19,7 @@ use Rattle.cc_program.specs.declared.object.Object.{Object}
 use Rattle.cc_program.specs.declared.program.Program.{Program}
 use Rattle.cc_program.specs.declared.types.CType.{CType}
 use Rattle.cc_program.specs.declared.types.Shape.TheOpen as shape
-use Rattle.cc_syntax.specs.Expressions.{place_type}
+use Rattle.cc_syntax.specs.Programs.{place_type}
 use Rattle.cc_syntax.specs.SameTypes.{alike}
 use Rattle.cc_syntax.specs.Types.{Named}
 use Rattle.cc_tree.specs.declared.at.At.{At}

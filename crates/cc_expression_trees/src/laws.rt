@@ -15,7 +15,7 @@ ghost use Rattle.cc_program.specs.declared.func.Func.{Func};
 ghost use Rattle.cc_program.specs.declared.object.Device.{Device};
 ghost use Rattle.cc_program.specs.declared.program.Program.{Program};
 ghost use Rattle.cc_syntax.specs.Effects.{no_one, effects_of, place_effects_of};
-ghost use Rattle.cc_syntax.specs.Expressions.{type_of, place_type};
+ghost use Rattle.cc_syntax.specs.Programs.{type_of, place_type};
 ghost use Rattle.cc_type_trees.specs.Soft.{IsSoft};
 
 /// What holds of the text of an expression that has a type and no effect, and of a place with such operands,

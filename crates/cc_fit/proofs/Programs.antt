@@ -6,7 +6,7 @@ use Rattle.cc_program.specs.declared.func.Func.{Func}
 use Rattle.cc_program.specs.declared.object.Device.{Device}
 use Rattle.cc_program.specs.declared.object.Object.{Object}
 use Rattle.cc_program.specs.declared.program.Program.{Program}
-use Rattle.cc_syntax.specs.Initial.{IsInitial}
+use Rattle.cc_syntax.specs.Programs.{IsInitial}
 use Rattle.cc_syntax.specs.Normal.{IsNormal, is_normal_body}
 use Rattle.cc_syntax.specs.Sound.{is_numbered, is_device, is_object, IsFunc}
 use Rattle.cc_fit.proofs.Lists.{all-at, All-at}

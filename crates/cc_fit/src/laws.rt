@@ -10,7 +10,7 @@ ghost use Rattle.cc_program.specs.declared.object.Device.{Device};
 ghost use Rattle.cc_program.specs.declared.object.Object.{Object};
 ghost use Rattle.cc_program.specs.declared.program.Program.{Program};
 ghost use Rattle.cc_program.specs.declared.types.Structure.{Structure};
-ghost use Rattle.cc_syntax.specs.Initial.{IsInitial};
+ghost use Rattle.cc_syntax.specs.Programs.{IsInitial};
 ghost use Rattle.cc_syntax.specs.Normal.{IsNormal, is_normal_body};
 ghost use Rattle.cc_syntax.specs.Sound.{is_member, is_object, IsFunc};
 ghost use Rattle.cc_syntax.specs.Types.{has_members};

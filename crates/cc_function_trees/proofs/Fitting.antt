@@ -21,7 +21,7 @@ use Rattle.cc_program.specs.declared.types.CType.{CType}
 use Rattle.cc_program.specs.declared.types.Sig.{out-Sig}
 use Rattle.cc_program.specs.declared.types.Structure.{Structure}
 use Rattle.cc_statement_trees.proofs.Fitting.{body-fits}
-use Rattle.cc_syntax.specs.Kinds.{kind_in}
+use Rattle.cc_syntax.specs.Programs.{kind_in}
 use Rattle.cc_syntax.specs.Normal.{is_normal_body}
 use Rattle.cc_syntax.specs.Sound.{is_local, IsFunc}
 use Rattle.cc_syntax.specs.Types.{Named}

@@ -1,5 +1,5 @@
 -- What soundness says of the types of objects and of a function's result, parameters and locals.
-use Rattle.std.proofs.Common.{◌≡◌, ℕ, zero, suc, ◌||◌, Bool, true, false, List, [], ◌∷◌, take, drop, length, Option, Some, None, refl, ap, sym, ◌∙◌, subst}
+use Rattle.std.proofs.Common.{◌≡◌, ℕ, zero, suc, ◌||◌, Bool, true, false, List, [], ◌∷◌, take, drop, Option, Some, None, refl, ap, sym, ◌∙◌, subst}
 use Rattle.std.specs.List.{list_all}
 use Rattle.std.specs.Option.{is_some}
 use Rattle.cc_lex.proofs.Booleans.{and-true}
@@ -8,7 +8,8 @@ use Rattle.cc_program.specs.declared.program.Program.{Program}
 use Rattle.cc_program.specs.declared.types.CType.{CType}
 use Rattle.cc_program.specs.declared.types.Shape.{out-Shape}
 use Rattle.cc_program.specs.declared.types.Shape.TheOpen as shape
-use Rattle.cc_syntax.specs.Kinds.{Kind, IsVoid, kind_in, qualified_kind, shape_kind, is_result, is_object_type}
+use Rattle.cc_syntax.specs.Kinds.{Kind, IsVoid, qualified_kind, shape_kind, is_result, is_object_type, extent_in}
+use Rattle.cc_syntax.specs.Programs.{kind_in}
 use Rattle.cc_syntax.specs.Sound.{is_local}
 use Rattle.cc_syntax.specs.Types.{Named}
 use Rattle.cc_syntax.proofs.KindRolls.{kind-opens, parts_kind}
@@ -36,13 +37,13 @@ module _ (p : Program) where
   pub result-reads : (t : CType) → is_result (kind_in p t) ≡ true → Reads p.structures (declarator p.structures t) t
   result-reads t h = known-reads t (result-some (kind_in p t) h)
 
-  void-object : (q : Bool) → is_object_type (qualified_kind p.structures (length p.structures) p.target q (Some IsVoid)) ≡ true → ⊥
+  void-object : (q : Bool) → is_object_type (qualified_kind q (Some IsVoid)) ≡ true → ⊥
   void-object q h = cc
 
   object-other : (t : CType) → is_object_type (kind_in p t) ≡ true → out-Shape t.shape ≡ shape.Void → ⊥
   object-other t h k = void-object (t.constant || t.volatile)
-      (subst (λ o. is_object_type o ≡ true) (kind-opens p.structures (length p.structures) p.target t
-      ∙ ap (λ x. qualified_kind p.structures (length p.structures) p.target (t.constant || t.volatile) (shape_kind p.structures (length p.structures) p.target (parts_kind p.structures (length p.structures) p.target x))) k) h)
+      (subst (λ o. is_object_type o ≡ true) (kind-opens p.target (extent_in p.structures p.target) t
+      ∙ ap (λ x. qualified_kind (t.constant || t.volatile) (shape_kind p.target (extent_in p.structures p.target) (parts_kind p.target (extent_in p.structures p.target) x))) k) h)
 
   pub parameters-known : (n : ℕ) (ls : List Named) → list_all (is_local p) ls ≡ true → EachParameter p (take n ls)
   parameters-known zero [] h = tt

@@ -13,7 +13,6 @@ use Rattle.cc_operands.specs.Operands.{Operand, integer, character_value}
 use Rattle.cc_operands.specs.Verdicts.{Judged, judge_then}
 use Rattle.cc_operands.specs.declared.rule.Rule.TheVariants as rule
 use Rattle.cc_operand_types.specs.Typed.{IsTypedOperand, IsAssigned, stands}
-use Rattle.cc_operand_types.specs.Views.{View}
 use Rattle.cc_operand_types.proofs.Agreement.{assigned_from}
 use Rattle.cc_operand_types.proofs.Constants.{truth_fits}
 use Rattle.cc_operand_types.proofs.Literals.{character_fits}
@@ -41,6 +40,7 @@ use Rattle.cc_syntax.specs.Types.{Named}
 use Rattle.cc_syntax.specs.Values.{ValueType, NoValue, Integer, ToObject, ToFunction, is_scalar}
 use Rattle.cc_syntax.proofs.AlikeLemmas.{alike_itself, implies_itself, assignable_object, function_itself}
 use Rattle.cc_syntax.proofs.SameLemmas.{int_itself}
+use Rattle.cc_syntax.specs.Views.{View}
 use Rattle.cc_terms.specs.InTurn.{in_turn}
 use Rattle.cc_terms.specs.Terms.{here}
 use Rattle.cc_tree.specs.declared.at.At.{At}

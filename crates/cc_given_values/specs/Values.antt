@@ -2,10 +2,10 @@
 use Rattle.std.specs.Prelude.{◌≡◌, true, false, List, [], ◌∷◌}
 use Rattle.cc_given_scalars.specs.Scalars.{OneScalar}
 use Rattle.cc_operand_types.specs.Typed.{IsAssigned, stands}
-use Rattle.cc_operand_types.specs.Views.{View}
 use Rattle.cc_program.specs.declared.expr.Expr.{Expr}
 use Rattle.cc_syntax.specs.Types.{Named}
 use Rattle.cc_syntax.specs.Values.{is_scalar}
+use Rattle.cc_syntax.specs.Views.{View}
 
 -- a scalar of a type that may stand
 abbrev pub MayStand : View → OneScalar → Type 0

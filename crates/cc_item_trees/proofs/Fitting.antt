@@ -1,5 +1,5 @@
 -- The pieces of items part from one another.
-use Rattle.std.proofs.Common.{◌≡◌, ℕ, Bool, true, false, ◌&&◌, List, [], ◌∷◌, map, length, Option, Some, None, slice_get, codes, refl, ◌∙◌}
+use Rattle.std.proofs.Common.{◌≡◌, ℕ, Bool, true, false, ◌&&◌, List, [], ◌∷◌, map, Option, Some, None, slice_get, codes, refl, ◌∙◌}
 use Rattle.std.specs.List.{list_all}
 use Rattle.cc_num.specs.declared.int_type.IntType.TheVariants as int
 use Rattle.cc_words.specs.Names.{is_name}
@@ -26,7 +26,8 @@ use Rattle.cc_program.specs.declared.object.Object.{Object}
 use Rattle.cc_program.specs.declared.program.Program.{Program}
 use Rattle.cc_program.specs.declared.types.CType.{CType}
 use Rattle.cc_program.specs.declared.types.Sig.{Sig, out-Sig, fold_out-Sig}
-use Rattle.cc_syntax.specs.Kinds.{Kind, kind_of, kind_in, is_sig, shape_kind, type_kind, is_signature, is_plain_scalar, is_result}
+use Rattle.cc_syntax.specs.Kinds.{Kind, kind_of, is_sig, shape_kind, type_kind, is_signature, is_plain_scalar, is_result, extent_in}
+use Rattle.cc_syntax.specs.Programs.{kind_in}
 use Rattle.cc_syntax.specs.Sound.{is_object, IsFunc, IsSound}
 use Rattle.cc_tree.specs.Tokens.{Name}
 use Rattle.cc_type_trees.specs.Soft.{IsSoft}
@@ -102,11 +103,11 @@ scalars k [] h = refl
 scalars k (t ∷ ts) h = let e = and-true (is_plain_scalar (k t)) (list_all (λ t. is_plain_scalar (k t)) ts) h in both-true (is_plain_scalar (k t)) (list_all is_plain_scalar (map k ts)) e.0 (scalars k ts e.1)
 
 module _ (p : Program) where
-  sig-opens : (s : Sig) → is_sig p.structures (length p.structures) p.target s ≡ (is_result (kind_in p (out-Sig s).result) && list_all is_plain_scalar (map (kind_in p) (out-Sig s).params))
+  sig-opens : (s : Sig) → is_sig p.target (extent_in p.structures p.target) s ≡ (is_result (kind_in p (out-Sig s).result) && list_all is_plain_scalar (map (kind_in p) (out-Sig s).params))
   unfolding kind_of is_sig
-  sig-opens s = fold_out-Sig (Option Kind) (Option Kind) Bool (shape_kind p.structures (length p.structures) p.target) (type_kind p.structures (length p.structures) p.target) (is_signature p.structures (length p.structures) p.target) s
+  sig-opens s = fold_out-Sig (Option Kind) (Option Kind) Bool (shape_kind p.target (extent_in p.structures p.target)) type_kind is_signature s
 
-  pub function-sig : (f : Func) → IsFunc p f → is_sig p.structures (length p.structures) p.target f.sig ≡ true
+  pub function-sig : (f : Func) → IsFunc p f → is_sig p.target (extent_in p.structures p.target) f.sig ≡ true
   function-sig f h = sig-opens f.sig ∙ both-true (is_result (kind_in p (out-Sig f.sig).result)) (list_all is_plain_scalar (map (kind_in p) (out-Sig f.sig).params)) h.result (scalars (kind_in p) (out-Sig f.sig).params h.parameters)
 
   module _ (names : HasUnitNames p) where

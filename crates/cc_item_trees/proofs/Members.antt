@@ -18,7 +18,7 @@ use Rattle.cc_print.specs.Units.{each, tag_line, member_line, structure_of, stru
 use Rattle.cc_program.specs.declared.program.Program.{Program}
 use Rattle.cc_program.specs.declared.types.CType.{CType}
 use Rattle.cc_program.specs.declared.types.Structure.{Structure}
-use Rattle.cc_syntax.specs.Kinds.{kind_of}
+use Rattle.cc_syntax.specs.Kinds.{kind_of, extent_with}
 use Rattle.cc_syntax.specs.Sound.{is_member, IsSound}
 use Rattle.cc_syntax.specs.Types.{Named, has_members}
 use Rattle.cc_syntax.proofs.Prefixes.{get_taken}
@@ -150,7 +150,7 @@ module _ (p : Program) where
     before = take i p.structures
 
     abbrev Known : CType → Type 0
-    Known t = is_some (kind_of before (length p.structures) p.target t) ≡ true
+    Known t = is_some (kind_of p.target (extent_with before (length p.structures) p.target) t) ≡ true
 
     among : (j : ℕ) (o : Option Structure) → slice_get before j ≡ o → has_members o ≡ true → (s : Structure) × (slice_get p.structures j ≡ Some s)
     among j None e h = absurd (true≢false (sym h))
@@ -163,7 +163,7 @@ module _ (p : Program) where
     AreMembers ls = list_all (is_member before (length p.structures) p.target) ls ≡ true
 
     first-known : (l : Named) (ls : List Named) → AreMembers (l ∷ ls) → Known l.1
-    first-known l ls h = some-kind (kind_of before (length p.structures) p.target l.1) (and-true (is_member before (length p.structures) p.target l) (list_all (is_member before (length p.structures) p.target) ls) h).0
+    first-known l ls h = some-kind (kind_of p.target (extent_with before (length p.structures) p.target) l.1) (and-true (is_member before (length p.structures) p.target l) (list_all (is_member before (length p.structures) p.target) ls) h).0
 
     rest-known : (l : Named) (ls : List Named) → AreMembers (l ∷ ls) → AreMembers ls
     rest-known l ls h = (and-true (is_member before (length p.structures) p.target l) (list_all (is_member before (length p.structures) p.target) ls) h).1

@@ -9,10 +9,9 @@ use Rattle.cc_program.specs.declared.types.CType.{CType}
 use Rattle.cc_program.specs.declared.types.Shape.{Shape, roll-Shape, out-roll-Shape}
 use Rattle.cc_program.specs.declared.types.Shape.TheOpen as shape
 use Rattle.cc_program.specs.declared.types.Sig.{Sig, roll-Sig, fold-roll-Sig}
-use Rattle.cc_syntax.specs.Kinds.{Kind, IsStructure, IsIncomplete, IsFunction, bytes_in, array_kind, pointer_kind, is_result, is_plain_scalar}
+use Rattle.cc_syntax.specs.Kinds.{Kind, IsStructure, IsIncomplete, IsFunction, bytes_in, array_kind, pointer_kind, is_result, is_plain_scalar, extent_kind, qualified_kind, type_kind, is_signature, shape_kind, kind_of, is_sig}
 use Rattle.cc_syntax.proofs.Prefixes.{both_true}
-use Rattle.cc_operand_types.specs.Views.{extent_kind, qualified_kind, type_kind, is_signature, shape_kind, kind_of, is_sig}
-use Rattle.cc_operand_types.proofs.KindRolls.{parts_kind, kind-opens}
+use Rattle.cc_syntax.proofs.KindRolls.{parts_kind, kind-opens}
 use Rattle.cc_later_kinds.specs.Later.{Grow, Later, Same, Completed}
 
 module _ (target : Target) (before after : ℕ → Option (Option ℕ)) (grow : Grow before after) where

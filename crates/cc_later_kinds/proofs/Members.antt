@@ -1,20 +1,17 @@
 -- In a program each member of a structure may be designated: its kind is judged over the structures in front of its own, and it has one over all.
-use Rattle.std.proofs.Common.{◌≡◌, ℕ, zero, suc, Bool, true, false, ◌&&◌, ◌||◌, nat_lt, List, [], ◌∷◌, ◌++◌, length, take, Option, Some, None, unwrap_or, slice_get, refl, ap, sym, ◌∙◌, subst, append_assoc, append-nil}
-use Rattle.std.proofs.Math.Path.{fun_ext}
+use Rattle.std.proofs.Common.{◌≡◌, ℕ, zero, suc, Bool, true, false, ◌&&◌, nat_lt, List, [], ◌∷◌, ◌++◌, length, take, Option, Some, None, unwrap_or, slice_get, refl, ap, sym, ◌∙◌, subst, append_assoc, append-nil}
 use Rattle.std.specs.Prelude.{if◌then◌else◌}
 use Rattle.std.specs.List.{list_all}
 use Rattle.cc_num.specs.declared.target.Target.{Target}
 use Rattle.cc_operands.specs.Qualified.{plain}
 use Rattle.cc_operand_types.specs.Typed.{is_pointed_kind, MembersStand}
-use Rattle.cc_operand_types.specs.Views.{extent_kind, qualified_kind, shape_kind, type_kind, is_signature, kind_of, extent_in, of_program}
+use Rattle.cc_syntax.specs.Views.{of_program}
 use Rattle.cc_program.specs.declared.program.Program.{Program}
-use Rattle.cc_program.specs.declared.types.CType.{CType, fold-CType}
+use Rattle.cc_program.specs.declared.types.CType.{CType}
 use Rattle.cc_program.specs.declared.types.Shape.{Struct}
-use Rattle.cc_program.specs.declared.types.Shape.TheOpen as shape
 use Rattle.cc_program.specs.declared.types.Shape.TheVariants.{outs-Struct}
 use Rattle.cc_program.specs.declared.types.Structure.{Structure}
-use Rattle.cc_syntax.specs.Kinds as kinds
-use Rattle.cc_syntax.specs.Kinds.{Kind, IsVoid, IsScalar, IsStructure, IsArray, IsIncomplete, IsFunction, is_object_type}
+use Rattle.cc_syntax.specs.Kinds.{Kind, IsVoid, IsScalar, IsStructure, IsArray, IsIncomplete, IsFunction, is_object_type, kind_of, extent_with, extent_in}
 use Rattle.cc_syntax.specs.Layout.{nothing, shape_layout, layouts, layout_of}
 use Rattle.cc_syntax.specs.Names.{are_names, local_names}
 use Rattle.cc_syntax.specs.Sound.{is_member, is_structure, have_ids, are_structures}
@@ -24,42 +21,6 @@ use Rattle.cc_syntax.proofs.Prefixes.{both_true, get_taken, layout-taken}
 use Rattle.cc_syntax.proofs.TypeLayouts.{parts_layout, layout-opens, parts_complete, complete-opens}
 use Rattle.cc_later_kinds.specs.Later.{Grow, Later, Same, Completed}
 use Rattle.cc_later_kinds.proofs.LaterKinds.{kind_stays}
-
--- ---- kinds over some of the structures, with so many in all
-
-abbrev extent_with : List Structure → ℕ → Target → ℕ → Option (Option ℕ)
-extent_with structures count target i =
-    if has_members (slice_get structures i) then Some (Some (unwrap_or (slice_get (layouts target structures) i) nothing).size)
-    else (if nat_lt i count then Some None else None)
-
-extent_same : (a b : Bool) (n : ℕ) → extent_kind (if a then Some (Some n) else (if b then Some None else None)) ≡ (if a then Some (IsStructure n) else (if b then Some IsIncomplete else None))
-extent_same true b n = refl
-extent_same false true n = refl
-extent_same false false n = refl
-
-module _ (structures : List Structure) (count : ℕ) (target : Target) where
-  shape_same : (x : shape.Shape-F (Option Kind) (Option Kind) Bool) → shape_kind target (extent_with structures count target) x ≡ kinds.shape_kind structures count target x
-  shape_same shape.Void = refl
-  shape_same (shape.Int t) = refl
-  shape_same (shape.Pointer None) = refl
-  shape_same (shape.Pointer (Some to)) = refl
-  shape_same (shape.Array None n) = refl
-  shape_same (shape.Array (Some of) n) = refl
-  shape_same (shape.Struct i) = extent_same (has_members (slice_get structures i)) (nat_lt i count) (unwrap_or (slice_get (layouts target structures) i) nothing).size
-  shape_same (shape.Func good) = refl
-
-  qualified_same : (q : Bool) (s : Option Kind) → qualified_kind q s ≡ kinds.qualified_kind structures count target q s
-  qualified_same q None = refl
-  qualified_same q (Some k) = refl
-
-  level_same : (t : shape.CType-F (Option Kind) (Option Kind) Bool) → type_kind t ≡ kinds.type_kind structures count target t
-  level_same t = qualified_same (t.constant || t.volatile) t.shape
-
-  kind_with : (t : CType) → kind_of target (extent_with structures count target) t ≡ kinds.kind_of structures count target t
-  unfolding kind_of kinds.kind_of
-  kind_with t =
-      ap (λ f. fold-CType (Option Kind) (Option Kind) Bool f type_kind is_signature t) (fun_ext shape_same)
-      ∙ ap (λ f. fold-CType (Option Kind) (Option Kind) Bool (kinds.shape_kind structures count target) f is_signature t) (fun_ext level_same)
 
 -- ---- a structure in front is the same over all
 
@@ -147,4 +108,4 @@ members_stand p h = λ i s m member e f.
     let b = both_true (have_ids (length s.members)) (are_names (local_names s.members) && list_all (is_member (take i p.structures) n p.target) s.members) a in
     let c = both_true (are_names (local_names s.members)) (list_all (is_member (take i p.structures) n p.target) s.members) b.1 in
     let o = member_at (is_member (take i p.structures) n p.target) s.members m member c.1 f in
-    object_by p.structures p.target i member.1 (kind_of p.target (extent_with (take i p.structures) n p.target) member.1) refl (ap is_object_type (kind_with (take i p.structures) n p.target member.1) ∙ o)
+    object_by p.structures p.target i member.1 (kind_of p.target (extent_with (take i p.structures) n p.target) member.1) refl o

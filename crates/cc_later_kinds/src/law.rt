@@ -1,10 +1,10 @@
 ghost use Rattle.std.specs.Prelude.{◌≡◌, ℕ, true, [], List, Option, Some, length};
 ghost use Rattle.cc_num.specs.declared.target.Target.{Target};
 ghost use Rattle.cc_operand_types.specs.Typed.{MembersStand};
-ghost use Rattle.cc_operand_types.specs.Views.{kind_of, of_program};
+ghost use Rattle.cc_syntax.specs.Views.{of_program};
 ghost use Rattle.cc_program.specs.declared.program.Program.{Program};
 ghost use Rattle.cc_program.specs.declared.types.CType.{CType};
-ghost use Rattle.cc_syntax.specs.Kinds.{Kind};
+ghost use Rattle.cc_syntax.specs.Kinds.{Kind, kind_of};
 ghost use Rattle.cc_syntax.specs.Sound.{are_structures};
 ghost use Rattle.cc_later_kinds.specs.Later.{Grow, Later};
 

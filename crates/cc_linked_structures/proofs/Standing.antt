@@ -19,7 +19,7 @@ use Rattle.cc_structures.proofs.Numbered.{one-looks}
 use Rattle.cc_structures.proofs.OrderLemmas.{in-order, from-order, in-firsts}
 use Rattle.cc_structures.proofs.TypeLemmas.{one-place}
 use Rattle.cc_structures.proofs.WordLaws.{number_by}
-use Rattle.cc_syntax.specs.Kinds.{Kind, IsStructure, IsIncomplete, is_object_type, kind_of, struct_kind}
+use Rattle.cc_syntax.specs.Kinds.{Kind, IsStructure, IsIncomplete, is_object_type, extent_kind, kind_of, struct_kind, extent_in, extent_with}
 use Rattle.cc_syntax.specs.Layout.{nothing, type_layout, structure, layouts}
 use Rattle.cc_syntax.specs.Lists.{come_first}
 use Rattle.cc_syntax.specs.Names.{are_names, local_names}
@@ -110,7 +110,7 @@ module _ (count : ℕ) (target : Target) where
 
   -- what an object's type is over the structures before it
   member-complete : (ss : List Structure) → are_structures [] count target ss ≡ true → (i : ℕ) (r : Structure) → slice_get ss i ≡ Some r → (m : Named) → In m r.members →
-      (is_object_type (kind_of (take i ss) count target m.1) ≡ true) × (is_complete_type (take i ss) m.1 ≡ true)
+      (is_object_type (kind_of target (extent_with (take i ss) count target) m.1) ≡ true) × (is_complete_type (take i ss) m.1 ≡ true)
   member-complete ss h i r e m j =
       let good = structure-in [] ss h i r e in
       let rest = (both_true (have_ids (length r.members)) (are_names (local_names r.members) && list_all (is_member (take i ss) count target) r.members) good).1 in
@@ -331,9 +331,16 @@ module _ (units : List TypedUnit) (numbering : Numbering) (firsts : List Known) 
 
   -- ---- kinds
 
+  extent-same : (a b : Bool) (n : ℕ) → extent_kind (cond a (Some (Some n)) (cond b (Some None) None)) ≡ cond a (Some (IsStructure n)) (cond b (Some IsIncomplete) None)
+  extent-same true b n = refl
+  extent-same false true n = refl
+  extent-same false false n = refl
+
   struct-kind : (ss : List Structure) (count j : ℕ) (b : Bool) → has_members (slice_get ss j) ≡ b →
       struct_kind ss count target j ≡ cond b (Some (IsStructure (unwrap_or (slice_get (layouts target ss) j) nothing).size)) (cond (nat_lt j count) (Some IsIncomplete) None)
-  struct-kind ss count j b e = ap (λ c. cond c (Some (IsStructure (unwrap_or (slice_get (layouts target ss) j) nothing).size)) (cond (nat_lt j count) (Some IsIncomplete) None)) e
+  struct-kind ss count j b e =
+      extent-same (has_members (slice_get ss j)) (nat_lt j count) (unwrap_or (slice_get (layouts target ss) j) nothing).size
+      ∙ ap (λ c. cond c (Some (IsStructure (unwrap_or (slice_get (layouts target ss) j) nothing).size)) (cond (nat_lt j count) (Some IsIncomplete) None)) e
 
   incomplete-kind : (ss : List Structure) (count j : ℕ) (b : Bool) → has_members (slice_get ss j) ≡ false → nat_lt j count ≡ b → struct_kind ss count target j ≡ cond b (Some IsIncomplete) None
   incomplete-kind ss count j b e h = struct-kind ss count j false e ∙ ap (λ c. cond c (Some IsIncomplete) None) h
@@ -404,7 +411,7 @@ module _ (units : List TypedUnit) (numbering : Numbering) (firsts : List Known) 
       object m i =
           let there : slice_get (structures_of u) f.position ≡ Some (untagged f.structure) = slice_get-map untagged u.structures f.position ∙ ap (option_map untagged) inside.place in
           let old = (member-complete (length u.structures) target (structures_of u) (standing f.text u inside.unit).structures f.position (untagged f.structure) there m i).0 in
-          object-kept (Unit {0}) (kind_of (take f.position (structures_of u)) (length u.structures) target m.1) (kind_of (take k program) (length program) target (type_renumbered (numbers_of numbering f.text) m.1))
+          object-kept (Unit {0}) (kind_of target (extent_with (take f.position (structures_of u)) (length u.structures) target) m.1) (kind_of target (extent_with (take k program) (length program) target) (type_renumbered (numbers_of numbering f.text) m.1))
           (kind-kept (Unit {0}) (numbers_of numbering f.text) (take f.position (structures_of u)) (take k program) (length u.structures) (length program) target (below-first k f u first inside (declared-in f m i)) m.1) old
 
   -- the structures of the program stand as those of a sound program
@@ -435,10 +442,10 @@ module _ (units : List TypedUnit) (numbering : Numbering) (firsts : List Known) 
           ∙ (ap (λ (b : Bool). cond (has_members (slice_get (structures_of u) j)) (Some (IsStructure (unwrap_or (slice_get (layouts target program) (at s)) nothing).size)) (cond b (Some IsIncomplete) None)) (low ∙ sym (low-number s x.1.0.known))
           ∙ sym (struct-kind program (length program) (at s) (has_members (slice_get (structures_of u) j)) same)))))
 
-  pub kind-same : (t : ℕ) (u : TypedUnit) → slice_get units t ≡ Some u → (c : CType) (k : Kind) → kind_of (structures_of u) (length u.structures) target c ≡ Some k →
-      kind_of program (length program) target (type_renumbered (numbers_of numbering t) c) ≡ Some k
+  pub kind-same : (t : ℕ) (u : TypedUnit) → slice_get units t ≡ Some u → (c : CType) (k : Kind) → kind_of target (extent_with (structures_of u) (length u.structures) target) c ≡ Some k →
+      kind_of target (extent_in program target) (type_renumbered (numbers_of numbering t) c) ≡ Some k
   kind-same t u e c k h =
-      kind-stays (kind_of (structures_of u) (length u.structures) target c) (kind_of program (length program) target (type_renumbered (numbers_of numbering t) c)) k
+      kind-stays (kind_of target (extent_with (structures_of u) (length u.structures) target) c) (kind_of target (extent_in program target) (type_renumbered (numbers_of numbering t) c)) k
       (kind-kept ⊥ (numbers_of numbering t) (structures_of u) program (length u.structures) (length program) target (whole-below t u e) c) h
 
   -- those that are only named stand in front

@@ -11,7 +11,7 @@ use Rattle.cc_program.specs.declared.types.Structure.{Structure}
 use Rattle.cc_program.proofs.Each.{Each}
 use Rattle.cc_program.proofs.TypeInduction.{with_shape, TypeParts, SigParts, by_type}
 use Rattle.cc_structures.proofs.WordLaws.{number_by, renumbered_level, level-renumbered, constant-kept, volatile-kept, renumbered_sig_level, sig_level}
-use Rattle.cc_syntax.specs.Kinds.{Kind, IsStructure, IsIncomplete, shape_kind, type_kind, is_signature, qualified_kind, kind_of, is_sig, is_result, is_plain_scalar, is_object_type, struct_kind}
+use Rattle.cc_syntax.specs.Kinds.{Kind, IsStructure, IsIncomplete, shape_kind, type_kind, is_signature, qualified_kind, kind_of, is_sig, is_result, is_plain_scalar, is_object_type, struct_kind, extent_with}
 use Rattle.cc_syntax.specs.Layout.{nothing, shape_layout, type_layout}
 use Rattle.cc_syntax.specs.Types.{has_members, complete_shape, is_complete}
 use Rattle.cc_syntax.specs.declared.sizes.Layout.{Layout}
@@ -29,16 +29,16 @@ layout-at : (target : Target) (ls : List Layout) (t : CType) (x : shape.Shape-F 
 layout-at target ls t x e = layout-opens target ls t ∙ ap (λ y. shape_layout target ls (parts_layout target ls y)) e
 
 kind-at : (structures : List Structure) (count : ℕ) (target : Target) (t : CType) (x : shape.Shape-F Shape CType Sig) → out-Shape t.shape ≡ x →
-    kind_of structures count target t ≡ qualified_kind structures count target (t.constant || t.volatile) (shape_kind structures count target (parts_kind structures count target x))
-kind-at structures count target t x e = kind-opens structures count target t ∙ ap (λ y. qualified_kind structures count target (t.constant || t.volatile) (shape_kind structures count target (parts_kind structures count target y))) e
+    kind_of target (extent_with structures count target) t ≡ qualified_kind (t.constant || t.volatile) (shape_kind target (extent_with structures count target) (parts_kind target (extent_with structures count target) x))
+kind-at structures count target t x e = kind-opens target (extent_with structures count target) t ∙ ap (λ y. qualified_kind (t.constant || t.volatile) (shape_kind target (extent_with structures count target) (parts_kind target (extent_with structures count target) y))) e
 
 abbrev sig_in : List Structure → ℕ → Target → shape.Sig-F Shape CType Sig → Bool
-sig_in structures count target x = is_signature structures count target (record { result = kind_of structures count target x.result; params = map (kind_of structures count target) x.params })
+sig_in structures count target x = is_signature (record { result = kind_of target (extent_with structures count target) x.result; params = map (kind_of target (extent_with structures count target)) x.params })
 
-sig-at : (structures : List Structure) (count : ℕ) (target : Target) (s : Sig) (x : shape.Sig-F Shape CType Sig) → out-Sig s ≡ x → is_sig structures count target s ≡ sig_in structures count target x
+sig-at : (structures : List Structure) (count : ℕ) (target : Target) (s : Sig) (x : shape.Sig-F Shape CType Sig) → out-Sig s ≡ x → is_sig target (extent_with structures count target) s ≡ sig_in structures count target x
 unfolding kind_of is_sig
 sig-at structures count target s x e =
-    fold_out-Sig (Option Kind) (Option Kind) Bool (shape_kind structures count target) (type_kind structures count target) (is_signature structures count target) s ∙ ap (sig_in structures count target) e
+    fold_out-Sig (Option Kind) (Option Kind) Bool (shape_kind target (extent_with structures count target)) type_kind is_signature s ∙ ap (sig_in structures count target) e
 
 -- ---- complete types
 
@@ -111,69 +111,69 @@ kind-stays o p k (inr (inr g)) h = absurd g.0
 module _ (Grows : Type 0) (numbers : List ℕ) (old new : List Structure) (old_count new_count : ℕ) (target : Target)
     (below : (k : ℕ) → IsBelow Grows (struct_kind old old_count target k) (struct_kind new new_count target (number_by numbers k))) where
   abbrev old_kind : CType → Option Kind
-  old_kind t = kind_of old old_count target t
+  old_kind t = kind_of target (extent_with old old_count target) t
 
   abbrev new_kind : CType → Option Kind
-  new_kind t = kind_of new new_count target (type_renumbered numbers t)
+  new_kind t = kind_of target (extent_with new new_count target) (type_renumbered numbers t)
 
   abbrev IsKept : CType → Type 0
   IsKept t = IsBelow Grows (old_kind t) (new_kind t)
 
   abbrev SigKept : Sig → Type 0
-  SigKept s = is_sig old old_count target s ≡ true → is_sig new new_count target (sig_renumbered numbers s) ≡ true
+  SigKept s = is_sig target (extent_with old old_count target) s ≡ true → is_sig target (extent_with new new_count target) (sig_renumbered numbers s) ≡ true
 
-  qualified-same : (q : Bool) (o : Option Kind) → qualified_kind old old_count target q o ≡ qualified_kind new new_count target q o
+  qualified-same : (q : Bool) (o : Option Kind) → qualified_kind q o ≡ qualified_kind q o
   qualified-same q None = refl
   qualified-same q (Some k) = refl
 
-  pointer-same : (o : Option Kind) → shape_kind old old_count target (shape.Pointer o) ≡ shape_kind new new_count target (shape.Pointer o)
+  pointer-same : (o : Option Kind) → shape_kind target (extent_with old old_count target) (shape.Pointer o) ≡ shape_kind target (extent_with new new_count target) (shape.Pointer o)
   pointer-same None = refl
   pointer-same (Some k) = refl
 
-  array-same : (n : ℕ) (o : Option Kind) → shape_kind old old_count target (shape.Array o n) ≡ shape_kind new new_count target (shape.Array o n)
+  array-same : (n : ℕ) (o : Option Kind) → shape_kind target (extent_with old old_count target) (shape.Array o n) ≡ shape_kind target (extent_with new new_count target) (shape.Array o n)
   array-same n None = refl
   array-same n (Some k) = refl
 
-  qualified-below : (q : Bool) (o p : Option Kind) → IsBelow Grows o p → IsBelow Grows (qualified_kind old old_count target q o) (qualified_kind new new_count target q p)
-  qualified-below q o p (inl e) = inl (ap (qualified_kind old old_count target q) e)
-  qualified-below q o p (inr (inl e)) = inr (inl (ap (qualified_kind old old_count target q) e ∙ qualified-same q p))
-  qualified-below q o p (inr (inr g)) = inr (inr (g.0, (ap (qualified_kind old old_count target q) g.1.0, (g.1.1.0, ap (qualified_kind new new_count target q) g.1.1.1))))
+  qualified-below : (q : Bool) (o p : Option Kind) → IsBelow Grows o p → IsBelow Grows (qualified_kind q o) (qualified_kind q p)
+  qualified-below q o p (inl e) = inl (ap (qualified_kind q) e)
+  qualified-below q o p (inr (inl e)) = inr (inl (ap (qualified_kind q) e ∙ qualified-same q p))
+  qualified-below q o p (inr (inr g)) = inr (inr (g.0, (ap (qualified_kind q) g.1.0, (g.1.1.0, ap (qualified_kind q) g.1.1.1))))
 
-  pointer-below : (o p : Option Kind) → IsBelow Grows o p → IsBelow Grows (shape_kind old old_count target (shape.Pointer o)) (shape_kind new new_count target (shape.Pointer p))
-  pointer-below o p (inl e) = inl (ap (λ (k : Option Kind). shape_kind old old_count target (shape.Pointer k)) e)
-  pointer-below o p (inr (inl e)) = inr (inl (ap (λ (k : Option Kind). shape_kind old old_count target (shape.Pointer k)) e ∙ pointer-same p))
+  pointer-below : (o p : Option Kind) → IsBelow Grows o p → IsBelow Grows (shape_kind target (extent_with old old_count target) (shape.Pointer o)) (shape_kind target (extent_with new new_count target) (shape.Pointer p))
+  pointer-below o p (inl e) = inl (ap (λ (k : Option Kind). shape_kind target (extent_with old old_count target) (shape.Pointer k)) e)
+  pointer-below o p (inr (inl e)) = inr (inl (ap (λ (k : Option Kind). shape_kind target (extent_with old old_count target) (shape.Pointer k)) e ∙ pointer-same p))
   pointer-below o p (inr (inr g)) =
-      inr (inl (ap (λ (k : Option Kind). shape_kind old old_count target (shape.Pointer k)) g.1.0 ∙ sym (ap (λ (k : Option Kind). shape_kind new new_count target (shape.Pointer k)) g.1.1.1)))
+      inr (inl (ap (λ (k : Option Kind). shape_kind target (extent_with old old_count target) (shape.Pointer k)) g.1.0 ∙ sym (ap (λ (k : Option Kind). shape_kind target (extent_with new new_count target) (shape.Pointer k)) g.1.1.1)))
 
-  array-below : (n : ℕ) (o p : Option Kind) → IsBelow Grows o p → IsBelow Grows (shape_kind old old_count target (shape.Array o n)) (shape_kind new new_count target (shape.Array p n))
-  array-below n o p (inl e) = inl (ap (λ (k : Option Kind). shape_kind old old_count target (shape.Array k n)) e)
-  array-below n o p (inr (inl e)) = inr (inl (ap (λ (k : Option Kind). shape_kind old old_count target (shape.Array k n)) e ∙ array-same n p))
-  array-below n o p (inr (inr g)) = inl (ap (λ (k : Option Kind). shape_kind old old_count target (shape.Array k n)) g.1.0)
+  array-below : (n : ℕ) (o p : Option Kind) → IsBelow Grows o p → IsBelow Grows (shape_kind target (extent_with old old_count target) (shape.Array o n)) (shape_kind target (extent_with new new_count target) (shape.Array p n))
+  array-below n o p (inl e) = inl (ap (λ (k : Option Kind). shape_kind target (extent_with old old_count target) (shape.Array k n)) e)
+  array-below n o p (inr (inl e)) = inr (inl (ap (λ (k : Option Kind). shape_kind target (extent_with old old_count target) (shape.Array k n)) e ∙ array-same n p))
+  array-below n o p (inr (inr g)) = inl (ap (λ (k : Option Kind). shape_kind target (extent_with old old_count target) (shape.Array k n)) g.1.0)
 
-  func-below : (a b : Bool) → (a ≡ true → b ≡ true) → IsBelow Grows (shape_kind old old_count target (shape.Func a)) (shape_kind new new_count target (shape.Func b))
+  func-below : (a b : Bool) → (a ≡ true → b ≡ true) → IsBelow Grows (shape_kind target (extent_with old old_count target) (shape.Func a)) (shape_kind target (extent_with new new_count target) (shape.Func b))
   func-below false b h = inl refl
-  func-below true b h = inr (inl (sym (ap (λ (c : Bool). shape_kind new new_count target (shape.Func c)) (h refl))))
+  func-below true b h = inr (inl (sym (ap (λ (c : Bool). shape_kind target (extent_with new new_count target) (shape.Func c)) (h refl))))
 
   level-below : (x : shape.Shape-F Shape CType Sig) → TypeParts IsKept SigKept x →
-      IsBelow Grows (shape_kind old old_count target (parts_kind old old_count target x)) (shape_kind new new_count target (parts_kind new new_count target (renumbered_level numbers x)))
+      IsBelow Grows (shape_kind target (extent_with old old_count target) (parts_kind target (extent_with old old_count target) x)) (shape_kind target (extent_with new new_count target) (parts_kind target (extent_with new new_count target) (renumbered_level numbers x)))
   level-below shape.Void h = inr (inl refl)
   level-below (shape.Int t) h = inr (inl refl)
   level-below (shape.Pointer t) h = pointer-below (old_kind t) (new_kind t) h
   level-below (shape.Array t n) h = array-below n (old_kind t) (new_kind t) h
   level-below (shape.Struct k) h = below k
-  level-below (shape.Func s) h = func-below (is_sig old old_count target s) (is_sig new new_count target (sig_renumbered numbers s)) h
+  level-below (shape.Func s) h = func-below (is_sig target (extent_with old old_count target) s) (is_sig target (extent_with new new_count target) (sig_renumbered numbers s)) h
 
   kind-made : (t : CType) (x : shape.Shape-F Shape CType Sig) → out-Shape t.shape ≡ x → TypeParts IsKept SigKept x → IsKept t
   kind-made t x e h =
       let u = type_renumbered numbers t in
       let flags : (u.constant || u.volatile) ≡ (t.constant || t.volatile) = ap (λ (b : Bool). b || u.volatile) (constant-kept numbers t) ∙ ap (λ (b : Bool). t.constant || b) (volatile-kept numbers t) in
-      let opened : kind_of new new_count target u ≡ qualified_kind new new_count target (t.constant || t.volatile) (shape_kind new new_count target (parts_kind new new_count target (renumbered_level numbers x))) =
+      let opened : kind_of target (extent_with new new_count target) u ≡ qualified_kind (t.constant || t.volatile) (shape_kind target (extent_with new new_count target) (parts_kind target (extent_with new new_count target) (renumbered_level numbers x))) =
       kind-at new new_count target u (renumbered_level numbers x) (level-renumbered numbers t x e)
-      ∙ ap (λ (q : Bool). qualified_kind new new_count target q (shape_kind new new_count target (parts_kind new new_count target (renumbered_level numbers x)))) flags in
-      let both : IsBelow Grows (qualified_kind old old_count target (t.constant || t.volatile) (shape_kind old old_count target (parts_kind old old_count target x)))
-      (qualified_kind new new_count target (t.constant || t.volatile) (shape_kind new new_count target (parts_kind new new_count target (renumbered_level numbers x)))) =
-      qualified-below (t.constant || t.volatile) (shape_kind old old_count target (parts_kind old old_count target x)) (shape_kind new new_count target (parts_kind new new_count target (renumbered_level numbers x))) (level-below x h) in
-      subst (λ o. IsBelow Grows o (new_kind t)) (sym (kind-at old old_count target t x e)) (subst (λ p. IsBelow Grows (qualified_kind old old_count target (t.constant || t.volatile) (shape_kind old old_count target (parts_kind old old_count target x))) p) (sym opened) both)
+      ∙ ap (λ (q : Bool). qualified_kind q (shape_kind target (extent_with new new_count target) (parts_kind target (extent_with new new_count target) (renumbered_level numbers x)))) flags in
+      let both : IsBelow Grows (qualified_kind (t.constant || t.volatile) (shape_kind target (extent_with old old_count target) (parts_kind target (extent_with old old_count target) x)))
+      (qualified_kind (t.constant || t.volatile) (shape_kind target (extent_with new new_count target) (parts_kind target (extent_with new new_count target) (renumbered_level numbers x)))) =
+      qualified-below (t.constant || t.volatile) (shape_kind target (extent_with old old_count target) (parts_kind target (extent_with old old_count target) x)) (shape_kind target (extent_with new new_count target) (parts_kind target (extent_with new new_count target) (renumbered_level numbers x))) (level-below x h) in
+      subst (λ o. IsBelow Grows o (new_kind t)) (sym (kind-at old old_count target t x e)) (subst (λ p. IsBelow Grows (qualified_kind (t.constant || t.volatile) (shape_kind target (extent_with old old_count target) (parts_kind target (extent_with old old_count target) x))) p) (sym opened) both)
 
   result-kept : (o p : Option Kind) → IsBelow Grows o p → is_result o ≡ true → is_result p ≡ true
   result-kept o p (inl e) h = absurd (true≢false (sym h ∙ ap is_result e))
@@ -185,21 +185,21 @@ module _ (Grows : Type 0) (numbers : List ℕ) (old new : List Structure) (old_c
   scalar-kept o p (inr (inl e)) h = sym (ap is_plain_scalar e) ∙ h
   scalar-kept o p (inr (inr g)) h = absurd (true≢false (sym h ∙ ap is_plain_scalar g.1.0))
 
-  params-kept : (ts : List CType) → Each IsKept ts → list_all is_plain_scalar (map (kind_of old old_count target) ts) ≡ true → list_all is_plain_scalar (map (kind_of new new_count target) (map (type_renumbered numbers) ts)) ≡ true
+  params-kept : (ts : List CType) → Each IsKept ts → list_all is_plain_scalar (map (kind_of target (extent_with old old_count target)) ts) ≡ true → list_all is_plain_scalar (map (kind_of target (extent_with new new_count target)) (map (type_renumbered numbers) ts)) ≡ true
   params-kept [] h c = refl
   params-kept (t ∷ ts) h c =
-      let b = both_true (is_plain_scalar (old_kind t)) (list_all is_plain_scalar (map (kind_of old old_count target) ts)) c in
+      let b = both_true (is_plain_scalar (old_kind t)) (list_all is_plain_scalar (map (kind_of target (extent_with old old_count target)) ts)) c in
       rw (scalar-kept (old_kind t) (new_kind t) h.0 b.0, params-kept ts h.1 b.1) refl
 
   sig-made : (s : Sig) (x : shape.Sig-F Shape CType Sig) → out-Sig s ≡ x → SigParts IsKept SigKept x → SigKept s
   sig-made s x e h c =
-      let b = both_true (is_result (old_kind x.result)) (list_all is_plain_scalar (map (kind_of old old_count target) x.params)) (sym (sig-at old old_count target s x e) ∙ c) in
+      let b = both_true (is_result (old_kind x.result)) (list_all is_plain_scalar (map (kind_of target (extent_with old old_count target)) x.params)) (sym (sig-at old old_count target s x e) ∙ c) in
       let r = result-kept (old_kind x.result) (new_kind x.result) h.0 b.0 in
       let ps = params-kept x.params h.1 b.1 in
       sig-at new new_count target (sig_renumbered numbers s) (renumbered_sig_level numbers x) (sig_level numbers s x e) ∙ both r ps
     where
-      both : is_result (new_kind x.result) ≡ true → list_all is_plain_scalar (map (kind_of new new_count target) (map (type_renumbered numbers) x.params)) ≡ true → sig_in new new_count target (renumbered_sig_level numbers x) ≡ true
+      both : is_result (new_kind x.result) ≡ true → list_all is_plain_scalar (map (kind_of target (extent_with new new_count target)) (map (type_renumbered numbers) x.params)) ≡ true → sig_in new new_count target (renumbered_sig_level numbers x) ≡ true
       both r ps = rw (r, ps) refl
 
-  pub kind-kept : (t : CType) → IsBelow Grows (kind_of old old_count target t) (kind_of new new_count target (type_renumbered numbers t))
+  pub kind-kept : (t : CType) → IsBelow Grows (kind_of target (extent_with old old_count target) t) (kind_of target (extent_with new new_count target) (type_renumbered numbers t))
   kind-kept = by_type IsKept SigKept (λ constant volatile x h. kind-made (with_shape constant volatile (roll-Shape x)) x (out-roll-Shape x) h) (λ x h. sig-made (roll-Sig x) x (out-roll-Sig x) h)

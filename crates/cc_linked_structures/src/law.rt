@@ -4,7 +4,7 @@ ghost use Rattle.std.specs.Prelude.{◌≡◌, ℕ, true, List, [], length, Some
 ghost use Rattle.cc_num.specs.declared.target.Target.{Target};
 ghost use Rattle.cc_program.specs.declared.types.CType.{CType};
 ghost use Rattle.cc_structures.specs.Structures.{Known, Numbering, AreNumbered, type_in};
-ghost use Rattle.cc_syntax.specs.Kinds.{Kind, kind_of};
+ghost use Rattle.cc_syntax.specs.Kinds.{Kind, kind_of, extent_in, extent_with};
 ghost use Rattle.cc_syntax.specs.Lists.{come_first};
 ghost use Rattle.cc_syntax.specs.Sound.{are_structures, is_only_named};
 ghost use Rattle.cc_unit.specs.declared.unit.TypedUnit.{TypedUnit};
@@ -21,6 +21,6 @@ pub fn laws()
         AllStand target units → come_first is_only_named (linked numbering tags firsts) ≡ true }
     // A type has its kind.
     ensures kinds { (units : List TypedUnit) (numbering : Numbering) (firsts : List Known) (tags : List (List ℕ)) (target : Target) → AreNumbered units numbering firsts → length tags ≡ length firsts →
-        AllStand target units → (t : ℕ) (u : TypedUnit) → slice_get units t ≡ Some u → (c : CType) (k : Kind) → kind_of (structures_of u) (length u.structures) target c ≡ Some k →
-        kind_of (linked numbering tags firsts) (length (linked numbering tags firsts)) target (type_in numbering t c) ≡ Some k }
+        AllStand target units → (t : ℕ) (u : TypedUnit) → slice_get units t ≡ Some u → (c : CType) (k : Kind) → kind_of target (extent_with (structures_of u) (length u.structures) target) c ≡ Some k →
+        kind_of target (extent_in (linked numbering tags firsts) target) (type_in numbering t c) ≡ Some k }
 {}

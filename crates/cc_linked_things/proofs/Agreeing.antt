@@ -1,9 +1,9 @@
 -- Where no cause stands against sources, what has a name in several has one type in all, and what is used is defined, or a device.
 use Rattle.std.proofs.Common.{◌≡◌, ◌∙◌, ◌⊎◌, inl, inr, ℕ, Bool, true, false, true≢false, not, ◌&&◌, ◌||◌, List, [], ◌∷◌, Option, Some, None, is_some, slice_get, refl, ap, sym, subst}
 use Rattle.std.specs.Prelude.{find, option_and_then, option_map}
-use Rattle.std.specs.Option.{option_map_or}
+use Rattle.std.specs.Option.{option_map_or, option_or}
 use Rattle.std.specs.List.{list_any}
-use Rattle.cc_causes.specs.Causes.{option_or, first_named, types_differ, disagree, agree, is_undefined, is_twice, cause_of_things}
+use Rattle.cc_causes.specs.Causes.{first_named, types_differ, disagree, agree, is_undefined, is_twice, cause_of_things}
 use Rattle.cc_causes.specs.declared.fault.LinkFault.TheVariants as fault
 use Rattle.cc_structures.specs.Structures.{Numbering, type_in}
 use Rattle.cc_linked_structures.proofs.ProgramOrder.{filter-passes}

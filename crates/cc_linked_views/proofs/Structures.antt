@@ -6,8 +6,6 @@ use Rattle.cc_linked_structures.specs.Linked.{linked, untagged, structures_of, A
 use Rattle.cc_linked_structures.proofs.Standing.{at-number, kind-same}
 use Rattle.cc_linked_structures.proofs.UnitPlaces.{known, in-unit}
 use Rattle.cc_num.specs.declared.target.Target.{Target}
-use Rattle.cc_operand_types.specs.Views.{extent_in, extent_kind, kind_of, shape_kind, qualified_kind}
-use Rattle.cc_operand_types.proofs.KindRolls.{parts_kind, kind-opens}
 use Rattle.cc_operands.specs.Qualified.{plain}
 use Rattle.cc_program.specs.declared.types.CType.{CType}
 use Rattle.cc_program.specs.declared.types.Shape.{Struct, out-Shape}
@@ -19,9 +17,10 @@ use Rattle.cc_relocated_types.specs.Renumbering.{MemberTypes}
 use Rattle.cc_sound_sources.proofs.UnitKinds.{kind_same, unit_kind}
 use Rattle.cc_structures.specs.Structures.{Known, Numbering, numbers_of, AreNumbered}
 use Rattle.cc_structures.proofs.WordLaws.{number_by, level-renumbered, constant-kept, volatile-kept}
-use Rattle.cc_syntax.specs.Kinds.{Kind, IsStructure, IsIncomplete}
+use Rattle.cc_syntax.specs.Kinds.{Kind, IsStructure, IsIncomplete, extent_in, extent_kind, kind_of, shape_kind, qualified_kind}
 use Rattle.cc_syntax.specs.Kinds as kinds
 use Rattle.cc_syntax.specs.Types.{Named}
+use Rattle.cc_syntax.proofs.KindRolls.{parts_kind, kind-opens}
 use Rattle.cc_unit.specs.Renumbered.{type_renumbered}
 use Rattle.cc_unit.specs.declared.unit.TypedUnit.{TypedUnit}
 use Rattle.cc_unit.specs.declared.unit.UnitStructure.{UnitStructure}

@@ -4,7 +4,7 @@ ghost use Rattle.cc_definitions.specs.Definitions.{devices, objects};
 ghost use Rattle.cc_link.specs.Linked.{all_ids, device_at, id_at, object_at};
 ghost use Rattle.cc_linked_structures.specs.Linked.{linked, structures_of, AllStand};
 ghost use Rattle.cc_num.specs.declared.target.Target.{Target};
-ghost use Rattle.cc_operand_types.specs.Views.{extent_in};
+ghost use Rattle.cc_syntax.specs.Kinds.{extent_in};
 ghost use Rattle.cc_program.specs.declared.object.Device.{Device};
 ghost use Rattle.cc_program.specs.declared.object.Object.{Object};
 ghost use Rattle.cc_program.specs.declared.types.Structure.{Structure};

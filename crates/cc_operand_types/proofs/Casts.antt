@@ -24,7 +24,8 @@ use Rattle.cc_operand_types.proofs.Nulls.{points_something, null_operand}
 use Rattle.cc_operand_types.proofs.Operands.{ok_is, must_ok, value_ok, structure_ok, value_of, any_type, integer_as, exact, as_operand, as_constant, cast_typed}
 use Rattle.cc_operand_types.proofs.Rolls.{type-Qualify}
 use Rattle.cc_operand_types.proofs.Stores.{assignable_there}
-use Rattle.cc_operand_types.specs.Views.{View, pointer_type, null_type}
+use Rattle.cc_syntax.specs.Views.{View}
+use Rattle.cc_syntax.specs.Expressions.{pointer_type, null_type}
 
 first_pointer : (q w u : Bool) (t : ValueType) (rest : Option ValueType) (r : ValueType) → w ≡ false → first_of (when (q && (w && u)) t) rest ≡ Some r → rest ≡ Some r
 first_pointer true true u t rest r e h = absurd (cc)

@@ -27,7 +27,8 @@ use Rattle.cc_operand_types.proofs.Pointers.{scalar_there, pointer_there, alike_
 use Rattle.cc_operand_types.proofs.Requalified.{not_void, any_pointed}
 use Rattle.cc_operand_types.proofs.Rolls.{type-Choose, type-Seq}
 use Rattle.cc_syntax.proofs.SameLemmas.{int_itself, sig_compared}
-use Rattle.cc_operand_types.specs.Views.{View, type_of, kind_in}
+use Rattle.cc_syntax.specs.Views.{View, kind_in}
+use Rattle.cc_syntax.specs.Expressions.{type_of}
 
 -- ---- the common type of types that agree
 

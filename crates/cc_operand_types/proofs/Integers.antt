@@ -23,7 +23,7 @@ use Rattle.cc_operand_types.proofs.Constants.{binary_fits, unary_fits}
 use Rattle.cc_operand_types.proofs.Operands.{ok_is, IsInteger, as_folded, converted_typed, value_integer}
 use Rattle.cc_operand_types.proofs.Rolls.{type-Un, type-Bin}
 use Rattle.cc_syntax.proofs.SameLemmas.{int_itself}
-use Rattle.cc_operand_types.specs.Views.{View}
+use Rattle.cc_syntax.specs.Views.{View}
 
 pub when_one : {A : Type 0} (a : Bool) (x : A) → a ≡ true → when a x ≡ Some x
 when_one a x h = rw h refl

@@ -16,7 +16,7 @@ use Rattle.cc_program.specs.declared.types.Sig.{Sig, out-Sig, out-roll-Sig}
 use Rattle.cc_operands.specs.Operands.{Operand}
 use Rattle.cc_operands.specs.Qualified.{plain}
 use Rattle.cc_designators.specs.Calls.{signature, byte_type, first_or_none, called_with, intrinsic}
-use Rattle.cc_syntax.specs.Kinds.{is_result, is_plain_scalar}
+use Rattle.cc_syntax.specs.Kinds.{is_result, is_plain_scalar, kind_of, is_sig}
 use Rattle.cc_syntax.specs.Operators.{when, is_of, intrinsic_type}
 use Rattle.cc_syntax.specs.SameTypes.{is_void_shape}
 use Rattle.cc_syntax.specs.Types.{Named}
@@ -30,7 +30,8 @@ use Rattle.cc_operand_types.proofs.Requalified.{kind_at}
 use Rattle.cc_operand_types.proofs.Rolls.{expr-roll}
 use Rattle.cc_syntax.proofs.SameLemmas.{int_itself, and_true}
 use Rattle.cc_operand_types.proofs.Standing.{sig-opens}
-use Rattle.cc_operand_types.specs.Views.{View, type_of, kind_of, kind_in, is_sig}
+use Rattle.cc_syntax.specs.Views.{View, kind_in}
+use Rattle.cc_syntax.specs.Expressions.{type_of}
 
 void_result : result_value (plain Void) ≡ Some NoValue
 void_result = ap (λ (x : shape.Shape-F Shape CType Sig). if is_void_shape x then Some NoValue else scalar_shape x) outs-Void

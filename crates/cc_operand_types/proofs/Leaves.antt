@@ -11,7 +11,7 @@ use Rattle.cc_syntax.specs.Values.{ValueType, PlaceType, object_place}
 use Rattle.cc_operand_types.specs.Typed.{SamePlace, is_pointed_kind, stands, place_stands, HasType, IsTypedPlace}
 use Rattle.cc_operand_types.proofs.Operands.{exact}
 use Rattle.cc_operand_types.proofs.Rolls.{expr-roll, place-roll}
-use Rattle.cc_operand_types.specs.Views.{View, kind_in}
+use Rattle.cc_syntax.specs.Views.{View, kind_in}
 
 module _ (p : View) (locals : List Named) where
   pub local_typed : (r : ℕ) (l : Named) → slice_get locals r ≡ Some l → is_pointed_kind false (kind_in p l.1) ≡ true → IsTypedPlace p locals (Local r) (object_place l.1)

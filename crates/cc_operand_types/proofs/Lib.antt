@@ -16,5 +16,3 @@ pub mod Casts
 pub mod Intrinsics
 pub mod Literals
 pub mod Leaves
-pub mod KindRolls
-pub mod Programs

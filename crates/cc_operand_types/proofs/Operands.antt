@@ -19,7 +19,8 @@ use Rattle.cc_operand_types.proofs.Agreement.{integer_agrees}
 use Rattle.cc_operand_types.proofs.Constants.{Fits, converted_fits}
 use Rattle.cc_operand_types.proofs.Rolls.{expr-roll, type-Const, type-Conv}
 use Rattle.cc_syntax.proofs.SameLemmas.{int_same}
-use Rattle.cc_operand_types.specs.Views.{View, expr_step, type_of, place_type}
+use Rattle.cc_syntax.specs.Views.{View}
+use Rattle.cc_syntax.specs.Expressions.{expr_step, type_of, place_type}
 
 -- ---- verdicts
 

@@ -27,7 +27,8 @@ use Rattle.cc_operand_types.proofs.Operands.{ok_is, must_ok, value_ok, value_of,
 use Rattle.cc_operand_types.proofs.Pointers.{integer_there, object_there, move_typed}
 use Rattle.cc_operand_types.proofs.Rolls.{type-Const, type-Load, type-AddrOf, place-Element, place-Member, place-Deref}
 use Rattle.cc_operand_types.proofs.Standing.{pointer_stands, pointed_stands, address_stands, elements_stand, members_stand}
-use Rattle.cc_operand_types.specs.Views.{View, type_of}
+use Rattle.cc_syntax.specs.Views.{View}
+use Rattle.cc_syntax.specs.Expressions.{type_of}
 
 address_there : (t : PlaceType) (r : ValueType) → address_of t ≡ Some r → is_nothing r ≡ false
 address_there (DevicePlace c i) r h = absurd (cc)

@@ -34,7 +34,7 @@ use Rattle.cc_operand_types.proofs.Nulls.{null_typed}
 use Rattle.cc_operand_types.proofs.Operands.{ok_is, must_ok, value_ok, value_of, as_operand, integer_operand, as_folded}
 use Rattle.cc_operand_types.proofs.Rolls.{type-Move, type-Gap, type-Compare, type-Both, type-Either}
 use Rattle.cc_syntax.proofs.SameLemmas.{sig_compared}
-use Rattle.cc_operand_types.specs.Views.{View}
+use Rattle.cc_syntax.specs.Views.{View}
 
 -- ---- what has a value
 

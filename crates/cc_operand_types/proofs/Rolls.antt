@@ -9,11 +9,11 @@ use Rattle.cc_program.specs.declared.expr.Expr.TheVariants.{rolls-Const, rolls-N
 use Rattle.cc_program.specs.declared.expr.Place.{Place, Element, Member, Deref, roll-Place, map-Place, fold-roll-Place}
 use Rattle.cc_program.specs.declared.expr.Place.TheVariants.{rolls-Element, rolls-Member, rolls-Deref}
 use Rattle.cc_program.specs.declared.types.CType.{CType}
-use Rattle.cc_syntax.specs.Expressions.{of_one, of_two}
+use Rattle.cc_syntax.specs.Expressions.{of_one, of_two, expr_step, place_step, type_of, place_type, null_type, qualified_type}
 use Rattle.cc_syntax.specs.Operators.{constant_type, unary_type, binary_type, conversion_type, moved_type, gap_type, comparison_type, logical_type, choice_type, assignment_type, change_type, after_type, call_type, subscript_type}
 use Rattle.cc_syntax.specs.Types.{Named}
 use Rattle.cc_syntax.specs.Values.{ValueType, PlaceType, read_from, written_to, address_of, pointed_to, member_of}
-use Rattle.cc_operand_types.specs.Views.{View, expr_step, place_step, type_of, place_type, null_type, qualified_type}
+use Rattle.cc_syntax.specs.Views.{View}
 
 pub one_there : {A B : Type 0} (a : Option A) (f : A → Option B) (x : A) (r : Option B) → a ≡ Some x → f x ≡ r → of_one a f ≡ r
 one_there a f x r h e = rw h e

@@ -41,7 +41,8 @@ use Rattle.cc_operand_types.proofs.Rolls.{type-Assign, type-Change, type-After}
 use Rattle.cc_syntax.proofs.SameLemmas.{int_same, int_itself, and_true}
 use Rattle.cc_operand_types.proofs.Standing.{written_stands}
 use Rattle.cc_operand_types.proofs.Usual.{usual_again}
-use Rattle.cc_operand_types.specs.Views.{View, type_of}
+use Rattle.cc_syntax.specs.Views.{View}
+use Rattle.cc_syntax.specs.Expressions.{type_of}
 
 pub then_ok : {A B : Type 0} (j : Judged A) (next : A → Judged B) (r : B) → judge_then j next ≡ Ok r → (x : A) × (j ≡ Ok x) × (next x ≡ Ok r)
 then_ok (Ok x) next r h = (x, refl, h)

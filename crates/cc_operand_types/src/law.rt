@@ -19,27 +19,18 @@ ghost use Rattle.cc_operands.specs.Unary.{unary_of};
 ghost use Rattle.cc_operands.specs.declared.operator.Operator.{Operator};
 ghost use Rattle.cc_operands.specs.declared.operator.UnaryOperator.{UnaryOperator};
 ghost use Rattle.cc_program.proofs.Each.{Each};
-ghost use Rattle.cc_program.specs.declared.expr.Expr.{Expr};
 ghost use Rattle.cc_program.specs.declared.expr.Intr.{Intr as Intrinsic};
 ghost use Rattle.cc_program.specs.declared.expr.Place.{Place, Local, Static, Device as DeviceAt};
-ghost use Rattle.cc_program.specs.declared.program.Program.{Program};
 ghost use Rattle.cc_program.specs.declared.types.CType.{CType};
 ghost use Rattle.cc_program.specs.declared.types.Shape.{out-Shape};
 ghost use Rattle.cc_program.specs.declared.types.Shape.TheOpen as shape;
 ghost use Rattle.cc_program.specs.declared.types.Sig.{Sig};
-ghost use Rattle.cc_syntax.specs.Expressions.{type_of as type_in_program, place_type as place_type_in_program};
-ghost use Rattle.cc_syntax.specs.Kinds.{Kind, is_object_type, kind_in as kind_in_program};
+ghost use Rattle.cc_syntax.specs.Kinds.{Kind, is_object_type};
 ghost use Rattle.cc_syntax.specs.Types.{Named};
 ghost use Rattle.cc_syntax.specs.Values.{Integer, ToFunction, PlaceType, ValueType, is_scalar, object_place};
 ghost use Rattle.cc_operand_types.specs.Typed.{HasType, IsAssigned, IsNullType, IsTypedExpr, IsTypedOperand, IsTypedPlace, MembersStand, is_pointed_kind, stands, place_stands};
-ghost use Rattle.cc_operand_types.specs.Views.{View, of_program, type_of, place_type, kind_in};
-
-/// A program is a view: over it types have their kinds, and expressions and places their types. The call does nothing.
-pub fn program_laws()
-    ensures kinds { (p : Program) (t : CType) → kind_in (of_program p) t ≡ kind_in_program p t }
-    ensures expressions { (p : Program) (locals : List Named) (e : Expr) → type_of (of_program p) locals e ≡ type_in_program p locals e }
-    ensures places { (p : Program) (locals : List Named) (a : Place) → place_type (of_program p) locals a ≡ place_type_in_program p locals a }
-{}
+ghost use Rattle.cc_syntax.specs.Views.{View, kind_in};
+ghost use Rattle.cc_syntax.specs.Expressions.{type_of};
 
 /// What holds of constants, conversions and operators, over any view of a program and any locals, where the operands are typed (C99 6.5.3.3, 6.5.5 to 6.5.15, 6.5.17). The call does nothing.
 pub fn operator_laws()

@@ -3,4 +3,4 @@
 
 mod law;
 
-pub use law::{assignment_laws, call_laws, designator_laws, operator_laws, program_laws};
+pub use law::{assignment_laws, call_laws, designator_laws, operator_laws};

@@ -4,7 +4,7 @@ use Rattle.std.specs.Prelude.{nat_lt, slice_get, option_map, option_and_then, if
 use Rattle.std.proofs.lemmas.Option.{slice_get-map}
 use Rattle.cc_num.specs.declared.target.Target.{Target}
 use Rattle.cc_operand_types.specs.Typed.{is_pointed_kind, MembersStand}
-use Rattle.cc_operand_types.specs.Views.{View, kind_in}
+use Rattle.cc_syntax.specs.Views.{View, kind_in}
 use Rattle.cc_operand_types.proofs.Standing.{object_type}
 use Rattle.cc_program.proofs.Each.{Each}
 use Rattle.cc_program.specs.declared.types.CType.{CType}

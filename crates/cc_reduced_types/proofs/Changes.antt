@@ -9,10 +9,9 @@ use Rattle.cc_program.specs.declared.stmt.Stmt.TheOpen as is
 use Rattle.cc_program.specs.declared.types.CType.{CType}
 use Rattle.cc_program.proofs.Each.{Each, Held}
 use Rattle.cc_program.proofs.StmtInduction.{StmtParts, CaseParts, by_stmt}
-use Rattle.cc_syntax.specs.Statements.{SoundWhere, Labelled, sound_case, labels_fit, are_apart, has_label, is_condition}
+use Rattle.cc_syntax.specs.Statements.{SoundWhere, Labelled, sound_case, labels_fit, are_apart, has_label, is_condition, is_sound_stmt, is_sound_body, sound_step, is_typed, is_optional_condition, returns}
 use Rattle.cc_syntax.specs.Values.{ValueType, is_void}
 use Rattle.cc_syntax.proofs.Prefixes.{both_true}
-use Rattle.cc_sound_units.specs.Statements.{is_sound_stmt, is_sound_body, sound_step, is_typed, is_optional_condition, returns}
 use Rattle.cc_reduced_types.specs.Kept.{Keeps}
 use Rattle.cc_reduced_types.proofs.Rules.{both}
 
@@ -24,11 +23,9 @@ module _ (target : Target) (typed : Expr → Option ValueType) (result : CType) 
   level_of x = sound_step target typed result (map-Stmt Stmt Case SoundWhere Labelled (is_sound_stmt target typed result) case_of x)
 
   pub stmt-roll : (x : is.Stmt-F Stmt Case) → is_sound_stmt target typed result (roll-Stmt x) ≡ level_of x
-  unfolding is_sound_stmt
   stmt-roll x = fold-roll-Stmt SoundWhere Labelled (sound_step target typed result) sound_case x
 
   pub case-roll : (x : is.Case-F Stmt Case) → case_of (roll-Case x) ≡ record { labels = x.labels; body = λ breaks continues. list_all (λ (s : SoundWhere). s breaks continues) (map (is_sound_stmt target typed result) x.body) }
-  unfolding is_sound_stmt
   case-roll x = fold-roll-Case SoundWhere Labelled (sound_step target typed result) sound_case x
 
 -- a level with its expressions, statements and cases changed

@@ -2,8 +2,7 @@
 use Rattle.std.proofs.Common.{◌≡◌, ℕ, Bool, true, false, ◌&&◌, ◌||◌, List, [], ◌∷◌, map, Option, Some, None, refl, ap, sym, ◌∙◌}
 use Rattle.std.specs.List.{list_all}
 use Rattle.cc_num.specs.declared.target.Target.{Target}
-use Rattle.cc_operand_types.proofs.KindRolls.{parts_kind, kind-opens}
-use Rattle.cc_operand_types.specs.Views.{extent_kind, qualified_kind, type_kind, is_signature, shape_kind, kind_of, is_sig}
+use Rattle.cc_syntax.proofs.KindRolls.{parts_kind, kind-opens}
 use Rattle.cc_program.proofs.Each.{Each}
 use Rattle.cc_program.proofs.TypeInduction.{with_shape, TypeParts, SigParts, by_type, by_sig}
 use Rattle.cc_program.specs.declared.types.CType.{CType}
@@ -11,7 +10,7 @@ use Rattle.cc_program.specs.declared.types.Shape.{Shape, out-Shape, roll-Shape, 
 use Rattle.cc_program.specs.declared.types.Shape.TheOpen as shape
 use Rattle.cc_program.specs.declared.types.Sig.{Sig, roll-Sig, out-Sig, out-roll-Sig, fold_out-Sig}
 use Rattle.cc_structures.proofs.WordLaws.{number_by, renumbered_level, level-renumbered, constant-kept, volatile-kept, renumbered_sig_level, sig_level}
-use Rattle.cc_syntax.specs.Kinds.{Kind, is_result, is_plain_scalar}
+use Rattle.cc_syntax.specs.Kinds.{Kind, is_result, is_plain_scalar, extent_kind, qualified_kind, type_kind, is_signature, shape_kind, kind_of, is_sig}
 use Rattle.cc_syntax.proofs.Prefixes.{both_true}
 use Rattle.cc_unit.specs.Renumbered.{type_renumbered, sig_renumbered}
 

@@ -2,7 +2,7 @@
 use Rattle.std.proofs.Common.{◌≡◌, ℕ, Bool, true, List, [], ◌∷◌, ◌++◌, map, Option, Some, None, slice_get, option_map, refl, ap, sym, ◌∙◌, subst}
 use Rattle.std.proofs.lemmas.Option.{same_Some}
 use Rattle.cc_num.specs.declared.target.Target.{Target}
-use Rattle.cc_operand_types.specs.Views.{View, type_of, place_type, expr_step, place_step, pointer_type, kind_in, kind_of}
+use Rattle.cc_syntax.specs.Views.{View, kind_in}
 use Rattle.cc_operand_types.proofs.Rolls.{expr-roll, place-roll}
 use Rattle.cc_program.specs.declared.expr.Expr.{Expr, roll-Expr, map-Expr, fold-roll-Expr}
 use Rattle.cc_program.specs.declared.expr.Expr.TheOpen as one
@@ -13,8 +13,8 @@ use Rattle.cc_program.specs.declared.types.CType.{CType}
 use Rattle.cc_program.proofs.Each.{Each}
 use Rattle.cc_program.proofs.ExprInduction.{Parts, PlaceParts, by_expr, by_place}
 use Rattle.cc_structures.proofs.WordLaws.{number_by}
-use Rattle.cc_syntax.specs.Expressions.{of_one, of_two}
-use Rattle.cc_syntax.specs.Kinds.{Kind, is_plain_scalar}
+use Rattle.cc_syntax.specs.Expressions.{of_one, of_two, type_of, place_type, expr_step, place_step, pointer_type}
+use Rattle.cc_syntax.specs.Kinds.{Kind, is_plain_scalar, kind_of}
 use Rattle.cc_syntax.specs.Operators.{constant_type, unary_type, binary_type, conversion_type, when_assignable, moved_type, gap_type, comparison_type, logical_type, choice_type, assignment_type, change_type, after_type, call_type, subscript_type}
 use Rattle.cc_syntax.specs.Types.{Named, has_members}
 use Rattle.cc_syntax.specs.Values.{ValueType, PlaceType, read_from, written_to, address_of, pointed_to, member_of, object_place}

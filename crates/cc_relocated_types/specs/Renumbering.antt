@@ -1,6 +1,7 @@
 -- A view and another, in which structures, objects, devices and functions have other numbers; and types by those.
 use Rattle.std.specs.Prelude.{◌≡◌, ℕ, Bool, true, List, map, Option, Some, slice_get}
-use Rattle.cc_operand_types.specs.Views.{View, place_type}
+use Rattle.cc_syntax.specs.Views.{View}
+use Rattle.cc_syntax.specs.Expressions.{place_type}
 use Rattle.cc_program.specs.declared.types.Structure.{Structure as Content}
 use Rattle.cc_sound_units.specs.Reduced.{ReducedPlace}
 use Rattle.cc_syntax.specs.Types.{Named}

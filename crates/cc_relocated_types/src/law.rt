@@ -1,5 +1,6 @@
 ghost use Rattle.std.specs.Prelude.{◌≡◌, ℕ, Bool, true, List, Some};
-ghost use Rattle.cc_operand_types.specs.Views.{View, kind_in, place_type, type_of};
+ghost use Rattle.cc_syntax.specs.Views.{View, kind_in};
+ghost use Rattle.cc_syntax.specs.Expressions.{place_type, type_of};
 ghost use Rattle.cc_program.proofs.Each.{Each};
 ghost use Rattle.cc_program.specs.declared.expr.Expr.{Expr};
 ghost use Rattle.cc_program.specs.declared.expr.Place.{Place};

@@ -5,7 +5,7 @@ use Rattle.std.specs.List.{list_all, flat_map}
 use Rattle.cc_num.specs.declared.int_type.IntType.{IntType}
 use Rattle.cc_num.specs.declared.target.Target.{Target}
 use Rattle.cc_num.specs.Integers.{is_value_of}
-use Rattle.cc_operand_types.specs.Views.{View}
+use Rattle.cc_syntax.specs.Views.{View}
 use Rattle.cc_program.specs.declared.types.CType.{CType}
 use Rattle.cc_program.specs.declared.types.Shape.{Shape, out-Shape}
 use Rattle.cc_program.specs.declared.types.Shape.TheOpen as shape
@@ -22,14 +22,13 @@ use Rattle.cc_program.specs.declared.value.Root.TheVariants as root
 use Rattle.cc_program.proofs.Each.{Each}
 use Rattle.cc_structures.proofs.WordLaws.{number_by, renumbered_level, level-renumbered}
 use Rattle.cc_syntax.specs.Expressions.{of_one}
-use Rattle.cc_syntax.specs.Initial.{bound_shape, bound_of, is_below, step_into, place_at, leads_to_element, names_element, names_whole, names, is_zero}
+use Rattle.cc_syntax.specs.Initial.{bound_shape, bound_of, is_below, step_into, place_at, leads_to_element, names_element, names_whole, names, is_zero, static_place, is_address, AreLeaves, AreElements, AreMembers, OfInteger, OfPointer, OfArray, OfStructure, NoElement, Element, NoMember, Member, IsInitial}
 use Rattle.cc_syntax.specs.Lists.{is_count}
 use Rattle.cc_syntax.specs.Types.{Named}
 use Rattle.cc_syntax.specs.Values.{ValueType, PlaceType, DevicePlace, ObjectPlace, FunctionPlace, pointer_to, address_of, element_of, is_assignable_some}
 use Rattle.cc_unit.specs.Mentioned.{in_leaf, in_address, in_root}
 use Rattle.cc_unit.specs.Renumbered.{type_renumbered, leaf_renumbered, address_renumbered, root_renumbered, func_by, object_by}
 use Rattle.cc_unit.specs.declared.ids.Ids.{Ids}
-use Rattle.cc_sound_units.specs.Initial.{static_place, is_address, AreLeaves, AreElements, AreMembers, OfInteger, OfPointer, OfArray, OfStructure, NoElement, Element, NoMember, Member, IsInitial}
 use Rattle.cc_reduced_types.proofs.Rules.{each_of_two, second_of}
 use Rattle.cc_relocated_types.specs.Renumbering.{Renumbers, value_renumbered, place_type_renumbered, MemberTypes}
 use Rattle.cc_relocated_types.proofs.Places.{element_exact, member_exact, address_exact}

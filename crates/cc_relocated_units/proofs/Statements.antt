@@ -1,7 +1,8 @@
 -- Statements that are sound over a view are so, by other numbers, over one that has what they mention.
 use Rattle.std.proofs.Common.{◌≡◌, ℕ, ℤ, Bool, true, List, [], ◌∷◌, ◌++◌, map, Option, Some, None, option_map, is_some, refl, sym, ◌∙◌, subst}
 use Rattle.cc_num.specs.declared.target.Target.{Target}
-use Rattle.cc_operand_types.specs.Views.{View, type_of}
+use Rattle.cc_syntax.specs.Views.{View}
+use Rattle.cc_syntax.specs.Expressions.{type_of}
 use Rattle.cc_program.specs.declared.expr.Expr.{Expr}
 use Rattle.cc_program.specs.declared.stmt.Case.{Case, roll-Case, fold-roll-Case}
 use Rattle.cc_program.specs.declared.stmt.Stmt.{Stmt, roll-Stmt, map-Stmt, fold-roll-Stmt}
@@ -9,7 +10,7 @@ use Rattle.cc_program.specs.declared.stmt.Stmt.TheOpen as is
 use Rattle.cc_program.specs.declared.stmt.Stmt.TheVariants.{rolls-Do, rolls-If, rolls-While, rolls-DoWhile, rolls-For, rolls-Switch, rolls-Break, rolls-Continue, rolls-Return, rolls-Empty, rolls-Block}
 use Rattle.cc_program.specs.declared.types.CType.{CType}
 use Rattle.cc_program.proofs.Each.{Each, Held}
-use Rattle.cc_syntax.specs.Statements.{labels_fit, is_condition}
+use Rattle.cc_syntax.specs.Statements.{labels_fit, is_condition, is_sound_body}
 use Rattle.cc_syntax.specs.Types.{Named}
 use Rattle.cc_syntax.specs.Values.{ValueType, NoValue, Integer, ToObject, ToFunction}
 use Rattle.cc_unit.specs.Mentioned as mentioned
@@ -17,7 +18,6 @@ use Rattle.cc_unit.specs.Mentioned.{in_expr, in_maybe, in_stmt, in_case, all_of}
 use Rattle.cc_unit.specs.Renumbered as renumbered
 use Rattle.cc_unit.specs.Renumbered.{expr_renumbered, stmt_renumbered, case_renumbered, type_renumbered}
 use Rattle.cc_unit.specs.declared.ids.Ids.{Ids}
-use Rattle.cc_sound_units.specs.Statements.{is_sound_body}
 use Rattle.cc_reduced_types.specs.Kept.{Keeps}
 use Rattle.cc_reduced_types.proofs.Bodies.{follows_kept}
 use Rattle.cc_reduced_types.proofs.Changes.{changed, GoodLevel, IsChange, body_stays}

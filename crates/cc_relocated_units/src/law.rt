@@ -1,13 +1,14 @@
 ghost use Rattle.std.specs.Prelude.{◌≡◌, ℕ, Bool, true, List, map};
 ghost use Rattle.std.specs.List.{flat_map};
-ghost use Rattle.cc_operand_types.specs.Views.{View, type_of};
+ghost use Rattle.cc_syntax.specs.Views.{View};
+ghost use Rattle.cc_syntax.specs.Expressions.{type_of};
 ghost use Rattle.cc_program.proofs.Each.{Each};
 ghost use Rattle.cc_program.specs.declared.stmt.Stmt.{Stmt};
 ghost use Rattle.cc_program.specs.declared.types.CType.{CType};
 ghost use Rattle.cc_program.specs.declared.value.Leaf.{Leaf};
 ghost use Rattle.cc_relocated_types.specs.Renumbering.{Renumbers, RenumberedLocals};
-ghost use Rattle.cc_sound_units.specs.Initial.{IsInitial};
-ghost use Rattle.cc_sound_units.specs.Statements.{is_sound_body};
+ghost use Rattle.cc_syntax.specs.Initial.{IsInitial};
+ghost use Rattle.cc_syntax.specs.Statements.{is_sound_body};
 ghost use Rattle.cc_syntax.specs.Types.{Named};
 ghost use Rattle.cc_unit.specs.declared.ids.Ids.{Ids};
 ghost use Rattle.cc_unit.specs.Mentioned.{all_of, in_leaf, in_stmt};

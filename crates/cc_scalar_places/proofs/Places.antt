@@ -6,7 +6,6 @@ use Rattle.cc_initialisers.specs.Contents.{Contents, Scalar, Elements, NoMember,
 use Rattle.cc_initialisers.specs.Scalars.{decimal, index_at, elements_from, scalars_from}
 use Rattle.cc_operands.specs.Operands.{integer, number_type}
 use Rattle.cc_operand_types.specs.Typed.{is_pointed_kind, MembersStand}
-use Rattle.cc_operand_types.specs.Views.{View, kind_in, type_of, place_type, qualified_kind, shape_kind}
 use Rattle.cc_operand_types.proofs.Literals.{number_fits}
 use Rattle.cc_operand_types.proofs.Operands.{as_constant, integer_as}
 use Rattle.cc_operand_types.proofs.Requalified.{kind_at}
@@ -22,9 +21,11 @@ use Rattle.cc_program.specs.declared.types.Shape.TheOpen as shape
 use Rattle.cc_program.specs.declared.types.Sig.{Sig, fold-Sig}
 use Rattle.cc_program.specs.declared.types.Structure.{Structure}
 use Rattle.cc_sound_terms.proofs.Within.{AreWithin}
-use Rattle.cc_syntax.specs.Kinds.{Kind, IsArray, array_kind, bytes_in, is_small}
+use Rattle.cc_syntax.specs.Kinds.{Kind, IsArray, array_kind, bytes_in, is_small, qualified_kind, shape_kind}
 use Rattle.cc_syntax.specs.Types.{Named}
 use Rattle.cc_syntax.specs.Values.{ValueType, Integer, ObjectPlace, pointer_to, scalar_value, scalar_shape, element_shape, member_shape, member_in, member_at}
+use Rattle.cc_syntax.specs.Views.{View, kind_in}
+use Rattle.cc_syntax.specs.Expressions.{type_of, place_type}
 use Rattle.cc_scalar_places.specs.Places.{ArePlaces}
 
 -- ---- what an object of a type consists of, by its shape

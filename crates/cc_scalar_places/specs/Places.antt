@@ -2,11 +2,12 @@
 use Rattle.std.specs.Prelude.{◌≡◌, Bool, true, List, [], ◌∷◌, Some}
 use Rattle.cc_given_scalars.specs.Scalars.{OneScalar}
 use Rattle.cc_operand_types.specs.Typed.{stands}
-use Rattle.cc_operand_types.specs.Views.{View, place_type}
 use Rattle.cc_program.specs.declared.expr.Place.{Place}
 use Rattle.cc_program.specs.declared.types.CType.{CType}
 use Rattle.cc_syntax.specs.Types.{Named}
 use Rattle.cc_syntax.specs.Values.{ObjectPlace, scalar_value}
+use Rattle.cc_syntax.specs.Views.{View}
+use Rattle.cc_syntax.specs.Expressions.{place_type}
 
 module _ (v : View) (locals : List Named) where
   pub record IsScalarPlace (s : OneScalar) (a : Place) : Type 0 where

@@ -1,5 +1,5 @@
 -- Trees that show devices, and other places, are typed to them, also where a statement accesses them.
-use Rattle.std.proofs.Common.{◌≡◌, ℕ, ◌*◌, ◌^◌, pos, Bool, true, false, ◌||◌, length, List, Option, Some, None, Ok, refl, ap, sym, ◌∙◌, slice_get, nat_lt}
+use Rattle.std.proofs.Common.{◌≡◌, ℕ, ◌*◌, ◌^◌, pos, Bool, true, false, ◌||◌, List, Option, Some, None, Ok, refl, ap, sym, ◌∙◌, slice_get, nat_lt}
 use Rattle.std.specs.Prelude.{option_map, nat_eq, Err, if◌then◌else◌}
 use Rattle.std.specs.Option.{is_some, is_none}
 use Rattle.cc_designators.specs.Casts.{fits_pointer, no_device}
@@ -28,7 +28,8 @@ use Rattle.cc_program.specs.declared.types.Shape.TheOpen as shape
 use Rattle.cc_program.specs.declared.types.Sig.{Sig}
 use Rattle.cc_scopes.specs.State.{State, with_declared}
 use Rattle.cc_scopes.specs.Verdicts.{Found, whole, and_then}
-use Rattle.cc_syntax.specs.Kinds.{Kind, kind_in, qualified_kind, shape_kind}
+use Rattle.cc_syntax.specs.Kinds.{Kind, qualified_kind, shape_kind, extent_in}
+use Rattle.cc_syntax.specs.Programs.{kind_in}
 use Rattle.cc_syntax.specs.Sizes.{AreSized}
 use Rattle.cc_syntax.specs.Sound.{IsSound, is_device}
 use Rattle.cc_syntax.specs.SameTypes.{is_void_shape}
@@ -189,7 +190,7 @@ module _ (p : Program) (f : Func) (n : Numbers) (s : State) (sound : IsSound p) 
     pointer-stands : is_some (kind_in p (plain (shape.Pointer (qualified d.constant true (shape.Int d.int))))) ≡ true
     pointer-stands =
         ap is_some (kind-at p (plain (shape.Pointer (qualified d.constant true (shape.Int d.int)))) (shape.Pointer (qualified d.constant true (shape.Int d.int))) pointer-level
-        ∙ ap (λ (k : Option Kind). qualified_kind p.structures (length p.structures) p.target false (shape_kind p.structures (length p.structures) p.target (shape.Pointer k))) (kind-at p (qualified d.constant true (shape.Int d.int)) (shape.Int d.int) target-level))
+        ∙ ap (λ (k : Option Kind). qualified_kind false (shape_kind p.target (extent_in p.structures p.target) (shape.Pointer k))) (kind-at p (qualified d.constant true (shape.Int d.int)) (shape.Int d.int) target-level))
 
     address-tree : (type : TypeName) (j k : ℕ) → ShowsTypeName p.structures pointer type →
         tree_of p.target p.roles (tree.Cast type (record { at = k; node = tree.Number d.number (plain_suffix d.number) })) j s ≡ Ok (IsAddress (pos d.number) (unqualified (numbered pointer)) j, s)

@@ -17,9 +17,9 @@ use Rattle.cc_program.specs.declared.types.Sig.{Sig}
 use Rattle.cc_scopes.specs.State.{State}
 use Rattle.cc_scopes.specs.Verdicts.{Found, and_then}
 use Rattle.cc_syntax.specs.Effects.{no_one, effects_of}
-use Rattle.cc_syntax.specs.Expressions.{type_of}
+use Rattle.cc_syntax.specs.Programs.{type_of, kind_in}
 use Rattle.cc_syntax.specs.Folding.{is_folded}
-use Rattle.cc_syntax.specs.Kinds.{kind_in, is_plain_scalar}
+use Rattle.cc_syntax.specs.Kinds.{is_plain_scalar}
 use Rattle.cc_syntax.specs.Normal.{is_operand}
 use Rattle.cc_syntax.specs.SameTypes.{is_void_shape}
 use Rattle.cc_syntax.specs.Sizes.{AreSized}

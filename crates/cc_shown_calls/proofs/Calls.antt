@@ -22,9 +22,9 @@ use Rattle.cc_program.specs.declared.types.Sig.{Sig, out-Sig}
 use Rattle.cc_scopes.specs.State.{State}
 use Rattle.cc_scopes.specs.Verdicts.{Found, and_then}
 use Rattle.cc_syntax.specs.Effects.{Effects, PlaceEffects, no_one, is_soft, place_effects_of}
-use Rattle.cc_syntax.specs.Expressions.{type_of, place_type}
+use Rattle.cc_syntax.specs.Programs.{type_of, place_type, kind_in}
 use Rattle.cc_syntax.specs.Forms.{form_at, form_of}
-use Rattle.cc_syntax.specs.Kinds.{kind_in, is_plain_scalar}
+use Rattle.cc_syntax.specs.Kinds.{is_plain_scalar}
 use Rattle.cc_syntax.specs.Normal.{is_operand, is_callee, is_register_place}
 use Rattle.cc_syntax.specs.Operators.{is_handler, function_type, call_type}
 use Rattle.cc_syntax.specs.Sizes.{AreSized}

@@ -15,7 +15,7 @@ ghost use Rattle.cc_shown_operations.specs.Known.{KnowsNames};
 ghost use Rattle.cc_shown_operations.specs.Numbers.{Numbers, expr_numbered};
 ghost use Rattle.cc_shown_types.specs.Numbers.{value_numbered};
 ghost use Rattle.cc_statement_trees.specs.Effects.{ShowsArguments};
-ghost use Rattle.cc_syntax.specs.Expressions.{type_of};
+ghost use Rattle.cc_syntax.specs.Programs.{type_of};
 ghost use Rattle.cc_syntax.specs.Forms.{form_of};
 ghost use Rattle.cc_syntax.specs.Normal.{is_callee, is_operand};
 ghost use Rattle.cc_syntax.specs.Sound.{IsSound};

@@ -26,7 +26,7 @@ use Rattle.cc_program.specs.declared.types.Sig.{Sig}
 use Rattle.cc_scopes.specs.State.{State}
 use Rattle.cc_scopes.specs.Verdicts.{Found, and_then}
 use Rattle.cc_syntax.specs.Folding.{Constant, Value, converted_constant, constant_of}
-use Rattle.cc_syntax.specs.Kinds.{kind_in}
+use Rattle.cc_syntax.specs.Programs.{kind_in}
 use Rattle.cc_syntax.specs.SameTypes.{is_void_shape}
 use Rattle.cc_syntax.specs.Sizes.{AreSized}
 use Rattle.cc_syntax.specs.Values.{ValueType, NoValue, Integer, ToObject, ToFunction, is_void, pointer_shape, pointer_to, is_assignable}

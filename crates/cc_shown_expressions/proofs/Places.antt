@@ -25,7 +25,7 @@ use Rattle.cc_program.specs.declared.types.Sig.{Sig}
 use Rattle.cc_scopes.specs.State.{State}
 use Rattle.cc_scopes.specs.Verdicts.{whole}
 use Rattle.cc_syntax.specs.Effects.{Effects, PlaceEffects, no_one, is_soft, place_effect_step, effects_of, place_effects_of}
-use Rattle.cc_syntax.specs.Expressions.{place_type}
+use Rattle.cc_syntax.specs.Programs.{place_type}
 use Rattle.cc_syntax.specs.Operators.{is_integer, is_handler, function_type}
 use Rattle.cc_syntax.specs.Types.{Named}
 use Rattle.cc_syntax.specs.Values.{ValueType, Integer, ToFunction, PlaceType, DevicePlace, ObjectPlace, FunctionPlace, is_scalar, scalar_shape, object_place, pointer_to, read_from, address_of, pointed_to, element_shape, element_of, member_of}

@@ -14,7 +14,7 @@ use Rattle.cc_program.specs.declared.types.Shape.TheVariants.{outs-Pointer, outs
 use Rattle.cc_program.specs.declared.types.Sig.{Sig}
 use Rattle.cc_program.proofs.QualifierLemmas.{const-opens, volatile-opens, parts_const, parts_volatile}
 use Rattle.cc_program.proofs.TypeInduction.{with_shape, TypeParts, by_type}
-use Rattle.cc_syntax.specs.Kinds.{kind_in}
+use Rattle.cc_syntax.specs.Programs.{kind_in}
 use Rattle.cc_syntax.specs.Values.{pointer_shape, pointer_to}
 use Rattle.cc_type_trees.proofs.Levels.{array-type, func-type}
 use Rattle.cc_shown_types.specs.Numbers.{type_numbered, sig_numbered, value_numbered}

@@ -5,7 +5,6 @@ use Rattle.std.specs.Option.{is_some}
 use Rattle.cc_num.specs.declared.target.Target.{Target}
 use Rattle.cc_later_kinds.proofs.Members.{members_stand}
 use Rattle.cc_operand_types.specs.Typed.{is_pointed_kind}
-use Rattle.cc_operand_types.proofs.Programs.{kind_same}
 use Rattle.cc_program.specs.declared.func.Func.{Func}
 use Rattle.cc_program.specs.declared.program.Program.{Program}
 use Rattle.cc_program.specs.declared.types.CType.{CType}
@@ -13,7 +12,8 @@ use Rattle.cc_program.specs.declared.types.Shape.{Shape, out-Shape}
 use Rattle.cc_program.specs.declared.types.Shape.TheOpen as shape
 use Rattle.cc_program.specs.declared.types.Sig.{Sig}
 use Rattle.cc_program.specs.declared.types.Structure.{Structure}
-use Rattle.cc_syntax.specs.Kinds.{Kind, IsVoid, kind_in, qualified_kind}
+use Rattle.cc_syntax.specs.Kinds.{Kind, IsVoid, qualified_kind}
+use Rattle.cc_syntax.specs.Programs.{kind_in}
 use Rattle.cc_syntax.specs.Names.{are_names, local_names}
 use Rattle.cc_syntax.specs.SameTypes.{is_void_shape}
 use Rattle.cc_syntax.specs.Sound.{IsSound, IsFunc, is_local, is_object, have_ids, is_member, is_structure, are_structures}
@@ -42,7 +42,7 @@ module _ (p : Program) where
   some-pointed None h = absurd (cc)
   some-pointed (Some k) h = refl
 
-  void-kind : (q : Bool) → is_pointed_kind false (qualified_kind p.structures (length p.structures) p.target q (Some IsVoid)) ≡ true → ⊥
+  void-kind : (q : Bool) → is_pointed_kind false (qualified_kind q (Some IsVoid)) ≡ true → ⊥
   void-kind true h = cc
   void-kind false h = cc
 
@@ -59,7 +59,7 @@ module _ (p : Program) where
     locals = λ j l e. tested-at (is_local p) f.locals j l (all_at (IsFunc p) p.funcs i f there sound.funcs).locals e;
     objects = λ j o e. tested-at (is_object p) p.objects j o sound.objects e;
     members = λ j k s m e g.
-        let h : is_pointed_kind false (kind_in p m.1) ≡ true = sym (ap (is_pointed_kind false) (kind_same p m.1)) ∙ members_stand p sound.structures j s k m e g in
+        let h : is_pointed_kind false (kind_in p m.1) ≡ true = members_stand p sound.structures j s k m e g in
         (no-void m.1 (out-Shape m.1.shape) refl h, some-pointed (kind_in p m.1) h);
     names = λ j s e. structure-at [] p.structures (length p.structures) p.target j s e sound.structures;
   }

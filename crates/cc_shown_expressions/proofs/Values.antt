@@ -15,7 +15,7 @@ use Rattle.cc_program.specs.declared.program.Program.{Program}
 use Rattle.cc_program.specs.declared.types.CType.{CType}
 use Rattle.cc_scopes.specs.State.{State}
 use Rattle.cc_syntax.specs.SameTypes.{alike}
-use Rattle.cc_syntax.specs.Kinds.{kind_in}
+use Rattle.cc_syntax.specs.Programs.{kind_in}
 use Rattle.cc_syntax.specs.Sizes.{AreSized}
 use Rattle.cc_syntax.specs.Values.{ValueType, NoValue, Integer, ToObject, ToFunction, scalar_shape, scalar_value, pointer_to, is_assignable}
 use Rattle.cc_syntax.proofs.AlikeLemmas.{alike-scalar}

@@ -11,7 +11,9 @@ use Rattle.cc_program.specs.declared.func.Func.{Func}
 use Rattle.cc_program.specs.declared.program.Program.{Program}
 use Rattle.cc_num.specs.declared.target.Target.{Target}
 use Rattle.cc_syntax.specs.Effects.{Effects, PlaceEffects, effect_step, place_effect_step, effects_of, place_effects_of}
-use Rattle.cc_syntax.specs.Expressions.{of_one, of_two, expr_step, place_step, type_of, place_type}
+use Rattle.cc_syntax.specs.Expressions.{of_one, of_two}
+use Rattle.cc_syntax.specs.Expressions as typing
+use Rattle.cc_syntax.specs.Programs.{expr_step, place_step, type_of, place_type}
 use Rattle.cc_syntax.specs.Folding.{Constant, NoConstant, Value, Traps, Folding, has_value, operation, folding_step, place_folding_step, folding_of, is_folded_place, constant_of, is_folded}
 use Rattle.cc_syntax.specs.Operators.{when}
 use Rattle.cc_syntax.specs.Values.{ValueType, PlaceType}
@@ -39,11 +41,11 @@ when-is false x r h = absurd (cc)
 
 module _ (p : Program) (f : Func) where
   pub type-at : (e : Expr) (x : one.Expr-F Expr Place) → out-Expr e ≡ x → type_of p f.locals e ≡ expr_step p f.locals (map-Expr Expr Place (Option ValueType) (Option PlaceType) (type_of p f.locals) (place_type p f.locals) x)
-  unfolding type_of place_type
+  unfolding typing.type_of typing.place_type
   type-at e x h = fold_out-Expr (Option ValueType) (Option PlaceType) (expr_step p f.locals) (place_step p f.locals) e ∙ ap (λ y. expr_step p f.locals (map-Expr Expr Place (Option ValueType) (Option PlaceType) (type_of p f.locals) (place_type p f.locals) y)) h
 
   pub place-at : (a : Place) (x : one.Place-F Expr Place) → out-Place a ≡ x → place_type p f.locals a ≡ place_step p f.locals (map-Place Expr Place (Option ValueType) (Option PlaceType) (type_of p f.locals) (place_type p f.locals) x)
-  unfolding type_of place_type
+  unfolding typing.type_of typing.place_type
   place-at a x h = fold_out-Place (Option ValueType) (Option PlaceType) (expr_step p f.locals) (place_step p f.locals) a ∙ ap (λ y. place_step p f.locals (map-Place Expr Place (Option ValueType) (Option PlaceType) (type_of p f.locals) (place_type p f.locals) y)) h
 
   pub effects-at : (e : Expr) (x : one.Expr-F Expr Place) → out-Expr e ≡ x → effects_of f e ≡ effect_step (map-Expr Expr Place Effects PlaceEffects (effects_of f) (place_effects_of f) x)

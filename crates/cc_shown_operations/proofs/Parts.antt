@@ -12,7 +12,8 @@ use Rattle.cc_program.specs.declared.expr.Place.{Place}
 use Rattle.cc_program.specs.declared.func.Func.{Func}
 use Rattle.cc_program.specs.declared.program.Program.{Program}
 use Rattle.cc_syntax.specs.Effects.{Effects, PlaceEffects, no_one, effect_step, effects_of, place_effects_of}
-use Rattle.cc_syntax.specs.Expressions.{of_two, expr_step, type_of, place_type}
+use Rattle.cc_syntax.specs.Expressions.{of_two}
+use Rattle.cc_syntax.specs.Programs.{expr_step, type_of, place_type}
 use Rattle.cc_syntax.specs.Folding.{Constant, NoConstant, has_value, unary_constant, binary_constant, converted_constant, both_constant, either_constant, operation, constant_of, is_folded}
 use Rattle.cc_syntax.specs.Operators.{is_promoted, is_of, second_fits, binary_result, unary_result, is_integer, is_comparison, points_to_object, has_difference, difference_type, unary_type, conversion_type, binary_type, moved_type, gap_type, comparison_type, logical_type}
 use Rattle.cc_syntax.specs.Values.{ValueType, NoValue, Integer, ToObject, ToFunction, PlaceType, is_scalar, point_alike}

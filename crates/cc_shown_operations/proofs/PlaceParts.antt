@@ -13,10 +13,11 @@ use Rattle.cc_program.specs.declared.types.Shape.{Shape, out-Shape}
 use Rattle.cc_program.specs.declared.types.Shape.TheOpen as shape
 use Rattle.cc_program.specs.declared.types.Sig.{Sig}
 use Rattle.cc_syntax.specs.Effects.{Effects, PlaceEffects, no_one, effect_step, place_effect_step, effects_of, place_effects_of}
-use Rattle.cc_syntax.specs.Expressions.{of_two, expr_step, place_step, type_of, place_type}
+use Rattle.cc_syntax.specs.Expressions.{of_two}
+use Rattle.cc_syntax.specs.Programs.{expr_step, place_step, type_of, place_type, kind_in, pointer_type, null_type, qualified_type}
 use Rattle.cc_syntax.specs.Folding.{NoConstant, Folding, has_value, chosen_constant, place_folding_step, folding_of, is_folded_place, constant_of, is_folded}
-use Rattle.cc_syntax.specs.Kinds.{kind_in, is_plain_scalar}
-use Rattle.cc_syntax.specs.Operators.{is_integer, is_unqualified, pointer_in, pointer_type, void_pointer_in, first_of, null_type, when_assignable, common_type, choice_type, qualified_type, subscript_type}
+use Rattle.cc_syntax.specs.Kinds.{is_plain_scalar}
+use Rattle.cc_syntax.specs.Operators.{is_integer, is_unqualified, pointer_in, void_pointer_in, first_of, when_assignable, common_type, choice_type, subscript_type}
 use Rattle.cc_syntax.specs.SameTypes.{is_void_shape}
 use Rattle.cc_syntax.specs.Values.{ValueType, NoValue, Integer, ToObject, ToFunction, PlaceType, is_scalar, is_void, pointer_to, is_assignable, address_of, pointed_to, element_of, member_of}
 use Rattle.cc_syntax.proofs.Prefixes.{both_true}

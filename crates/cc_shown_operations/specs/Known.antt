@@ -12,7 +12,8 @@ use Rattle.cc_program.specs.declared.object.Object.{Object}
 use Rattle.cc_program.specs.declared.program.Program.{Program}
 use Rattle.cc_program.specs.declared.types.Structure.{Structure}
 use Rattle.cc_scopes.specs.State.{State}
-use Rattle.cc_syntax.specs.Kinds.{is_object_type, kind_in}
+use Rattle.cc_syntax.specs.Kinds.{is_object_type}
+use Rattle.cc_syntax.specs.Programs.{kind_in}
 use Rattle.cc_syntax.specs.Names.{are_names, local_names}
 use Rattle.cc_syntax.specs.Types.{Named}
 use Rattle.cc_syntax.specs.Values.{DevicePlace, object_place, is_void}

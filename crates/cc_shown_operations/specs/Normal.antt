@@ -6,7 +6,7 @@ use Rattle.cc_program.specs.declared.expr.Place.{Place}
 use Rattle.cc_program.specs.declared.func.Func.{Func}
 use Rattle.cc_program.specs.declared.program.Program.{Program}
 use Rattle.cc_syntax.specs.Effects.{no_one, effects_of, place_effects_of}
-use Rattle.cc_syntax.specs.Expressions.{type_of, place_type}
+use Rattle.cc_syntax.specs.Programs.{type_of, place_type}
 use Rattle.cc_syntax.specs.Folding.{is_folded, is_folded_place}
 use Rattle.cc_syntax.specs.Values.{ValueType, PlaceType, is_scalar}
 

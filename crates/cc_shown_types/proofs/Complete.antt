@@ -11,7 +11,8 @@ use Rattle.cc_program.specs.declared.types.Structure.{Structure}
 use Rattle.cc_program.proofs.TypeInduction.{with_shape, TypeParts, by_type}
 use Rattle.cc_scopes.specs.State.{State, structures_of, layouts_of}
 use Rattle.cc_specifiers.specs.Objects.{is_object}
-use Rattle.cc_syntax.specs.Kinds.{Kind, bytes_in, is_small, kind_in}
+use Rattle.cc_syntax.specs.Kinds.{Kind, bytes_in, is_small}
+use Rattle.cc_syntax.specs.Programs.{kind_in}
 use Rattle.cc_syntax.specs.Layout.{nothing, shape_layout, type_layout, layouts}
 use Rattle.cc_syntax.specs.Operators.{points_to_object, has_difference}
 use Rattle.cc_syntax.specs.Sizes.{AreSized}

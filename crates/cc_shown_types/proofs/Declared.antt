@@ -39,7 +39,8 @@ use Rattle.cc_specifiers.specs.declared.derivation.Derivation.TheVariants as to
 use Rattle.cc_specifiers.specs.declared.derivation.Parameter.{Parameter}
 use Rattle.cc_specifiers.specs.declared.specifier.Specified.{Specified}
 use Rattle.cc_specifiers.specs.declared.storage.Where.TheVariants as stands
-use Rattle.cc_syntax.specs.Kinds.{is_plain_scalar, kind_in, is_sig}
+use Rattle.cc_syntax.specs.Kinds.{is_plain_scalar, is_sig, extent_in}
+use Rattle.cc_syntax.specs.Programs.{kind_in}
 use Rattle.cc_syntax.specs.Sizes.{AreSized}
 use Rattle.cc_syntax.specs.Values.{is_void}
 use Rattle.cc_syntax.proofs.Prefixes.{both_true}
@@ -294,7 +295,7 @@ module _ (p : Program) (number : ℕ → ℕ) (roles : Roles) (sized : AreSized 
         fits = Further at (to.Array (Some n)) (numbered b) t q.derivations (array-breaks s known c b n e h) (subst (λ (u : CType). FitsIn s u q.derivations t) (sym (array-type c b n e f g)) q.fits);
       }
 
-  function-found : (s : State) (c t : CType) (sig : Sig) (ps : Params) (d : At Declr) (x : Option Name) (allowed : Allowed) (at : ℕ) → out-Shape c.shape ≡ shape.Func sig → c.constant ≡ false → c.volatile ≡ false → is_sig p.structures (length p.structures) p.target sig ≡ true →
+  function-found : (s : State) (c t : CType) (sig : Sig) (ps : Params) (d : At Declr) (x : Option Name) (allowed : Allowed) (at : ℕ) → out-Shape c.shape ≡ shape.Func sig → c.constant ≡ false → c.volatile ≡ false → is_sig p.target (extent_in p.structures p.target) sig ≡ true →
       (flag : (ds : Derivations) → declr_of p.target roles d.node allowed d.at s ≡ Ok (record { name = x; derivations = ds }, s) → allowed.unnamed || not (is_next_to_name ds) ≡ true) →
       DeclaredAs s d.node allowed d.at x c t → UnnamedFound s ps (out-Sig sig).params → DeclaredAs s (declr.Func d ps) allowed at x (out-Sig sig).result t
   function-found s c t sig ps d x allowed at e f g h flag q v =

@@ -13,7 +13,8 @@ use Rattle.cc_program.specs.declared.types.Sig.{Sig, out-Sig, roll-out-Sig}
 use Rattle.cc_program.proofs.TypeInduction.{with_shape}
 use Rattle.cc_specifiers.specs.Bounds.{is_bound}
 use Rattle.cc_specifiers.specs.Declarators.{result_breach}
-use Rattle.cc_syntax.specs.Kinds.{Kind, IsVoid, IsScalar, IsStructure, IsArray, IsIncomplete, IsFunction, bytes_in, is_small, pointer_kind, array_kind, is_result, is_plain_scalar, shape_kind, qualified_kind, kind_in, is_sig}
+use Rattle.cc_syntax.specs.Kinds.{Kind, IsVoid, IsScalar, IsStructure, IsArray, IsIncomplete, IsFunction, bytes_in, is_small, pointer_kind, array_kind, is_result, is_plain_scalar, extent_kind, shape_kind, qualified_kind, is_sig, extent_in}
+use Rattle.cc_syntax.specs.Programs.{kind_in}
 use Rattle.cc_syntax.specs.SameTypes.{is_void_shape}
 use Rattle.cc_syntax.specs.Types.{has_members}
 use Rattle.cc_syntax.specs.Values.{is_void}
@@ -30,25 +31,25 @@ module _ (p : Program) where
   Stands t = is_some (kind_in p t) ≡ true
 
   abbrev shaped : shape.Shape-F Shape CType Sig → Option Kind
-  shaped x = shape_kind p.structures (length p.structures) p.target (parts_kind p.structures (length p.structures) p.target x)
+  shaped x = shape_kind p.target (extent_in p.structures p.target) (parts_kind p.target (extent_in p.structures p.target) x)
 
   abbrev qualified : Bool → Option Kind → Option Kind
-  qualified q k = qualified_kind p.structures (length p.structures) p.target q k
+  qualified q k = qualified_kind q k
 
   pub kind-at : (t : CType) (x : shape.Shape-F Shape CType Sig) → out-Shape t.shape ≡ x → kind_in p t ≡ qualified (t.constant || t.volatile) (shaped x)
-  kind-at t x e = kind-opens p.structures (length p.structures) p.target t ∙ ap (λ y. qualified (t.constant || t.volatile) (shaped y)) e
+  kind-at t x e = kind-opens p.target (extent_in p.structures p.target) t ∙ ap (λ y. qualified (t.constant || t.volatile) (shaped y)) e
 
   -- ---- pointers
 
   pub pointed-stands : (c b : CType) → out-Shape c.shape ≡ shape.Pointer b → Stands c → Stands b
   pointed-stands c b e h = pointer-type p.structures (length p.structures) p.target c.constant c.volatile b (subst Stands (rolled c (shape.Pointer b) e) h)
 
-  no-void : (q r : Bool) → is_some (qualified q (shape_kind p.structures (length p.structures) p.target (shape.Pointer (qualified r (Some IsVoid))))) ≡ true → ⊥
+  no-void : (q r : Bool) → is_some (qualified q (shape_kind p.target (extent_in p.structures p.target) (shape.Pointer (qualified r (Some IsVoid))))) ≡ true → ⊥
   no-void q r h = cc
 
   void-by : (c b : CType) (x : shape.Shape-F Shape CType Sig) → out-Shape c.shape ≡ shape.Pointer b → out-Shape b.shape ≡ x → Stands c → is_void_shape x ≡ false
   void-by c b shape.Void e f h =
-      absurd (no-void (c.constant || c.volatile) (b.constant || b.volatile) (subst (λ o. is_some o ≡ true) (kind-at c (shape.Pointer b) e ∙ ap (λ (k : Option Kind). qualified (c.constant || c.volatile) (shape_kind p.structures (length p.structures) p.target (shape.Pointer k))) (kind-at b shape.Void f)) h))
+      absurd (no-void (c.constant || c.volatile) (b.constant || b.volatile) (subst (λ o. is_some o ≡ true) (kind-at c (shape.Pointer b) e ∙ ap (λ (k : Option Kind). qualified (c.constant || c.volatile) (shape_kind p.target (extent_in p.structures p.target) (shape.Pointer k))) (kind-at b shape.Void f)) h))
   void-by c b (shape.Int t) e f h = refl
   void-by c b (shape.Pointer to) e f h = refl
   void-by c b (shape.Array of n) e f h = refl
@@ -83,7 +84,7 @@ module _ (p : Program) where
       let w : is_bound n ≡ true = rw (u.0, v.0) refl in
       record { kind = k; is = e; size = size; bytes = f; small = v.1; bound = w }
 
-  element-kind : (q : Bool) (b : CType) (n : ℕ) (o : Option Kind) → kind_in p b ≡ o → is_some (qualified q (shape_kind p.structures (length p.structures) p.target (shape.Array o n))) ≡ true → IsElement b n
+  element-kind : (q : Bool) (b : CType) (n : ℕ) (o : Option Kind) → kind_in p b ≡ o → is_some (qualified q (shape_kind p.target (extent_in p.structures p.target) (shape.Array o n))) ≡ true → IsElement b n
   element-kind q b n None e h = absurd (cc)
   element-kind q b n (Some k) e h = element-bytes q b n k (bytes_in k) e refl h
 
@@ -95,13 +96,13 @@ module _ (p : Program) where
 
   -- ---- functions
 
-  pub signature-stands : (c : CType) (sig : Sig) → out-Shape c.shape ≡ shape.Func sig → Stands c → is_sig p.structures (length p.structures) p.target sig ≡ true
+  pub signature-stands : (c : CType) (sig : Sig) → out-Shape c.shape ≡ shape.Func sig → Stands c → is_sig p.target (extent_in p.structures p.target) sig ≡ true
   signature-stands c sig e h = (func-type p.structures (length p.structures) p.target c.constant c.volatile sig (subst Stands (rolled c (shape.Func sig) e) h)).0
 
-  pub signature-parts : (sig : Sig) → is_sig p.structures (length p.structures) p.target sig ≡ true → (is_result (kind_in p (out-Sig sig).result) ≡ true) × (list_all is_plain_scalar (map (kind_in p) (out-Sig sig).params) ≡ true)
+  pub signature-parts : (sig : Sig) → is_sig p.target (extent_in p.structures p.target) sig ≡ true → (is_result (kind_in p (out-Sig sig).result) ≡ true) × (list_all is_plain_scalar (map (kind_in p) (out-Sig sig).params) ≡ true)
   signature-parts sig h =
       both_true (is_result (kind_in p (out-Sig sig).result)) (list_all is_plain_scalar (map (kind_in p) (out-Sig sig).params))
-      (sym (sig-roll p.structures (length p.structures) p.target (out-Sig sig)) ∙ ap (is_sig p.structures (length p.structures) p.target) (roll-out-Sig sig) ∙ h)
+      (sym (sig-roll p.structures (length p.structures) p.target (out-Sig sig)) ∙ ap (is_sig p.target (extent_in p.structures p.target)) (roll-out-Sig sig) ∙ h)
 
   pub result-stands : (k : Option Kind) → is_result k ≡ true → is_some k ≡ true
   result-stands None h = absurd (cc)
@@ -117,11 +118,11 @@ module _ (p : Program) where
   no-array-bytes q n None h = cc
   no-array-bytes q n (Some size) h = no-array q (nat_le 1 n && (nat_le n 65535 && is_small size)) (n * size) h
 
-  no-array-kind : (q : Bool) (n : ℕ) (o : Option Kind) → is_result (qualified q (shape_kind p.structures (length p.structures) p.target (shape.Array o n))) ≡ true → ⊥
+  no-array-kind : (q : Bool) (n : ℕ) (o : Option Kind) → is_result (qualified q (shape_kind p.target (extent_in p.structures p.target) (shape.Array o n))) ≡ true → ⊥
   no-array-kind q n None h = cc
   no-array-kind q n (Some k) h = no-array-bytes q n (bytes_in k) h
 
-  no-struct : (q t u : Bool) (n : ℕ) → is_result (qualified q (cond t (Some (IsStructure n)) (cond u (Some IsIncomplete) None))) ≡ true → ⊥
+  no-struct : (q t u : Bool) (n : ℕ) → is_result (qualified q (extent_kind (cond t (Some (Some n)) (cond u (Some None) None)))) ≡ true → ⊥
   no-struct q true u n h = cc
   no-struct q false true n h = cc
   no-struct q false false n h = cc
@@ -138,7 +139,7 @@ module _ (p : Program) where
   result-level number q (shape.Pointer to) h = refl
   result-level number q (shape.Array of n) h = absurd (no-array-kind q n (kind_in p of) h)
   result-level number q (shape.Struct i) h = absurd (no-struct q (has_members (slice_get p.structures i)) (nat_lt i (length p.structures)) _ h)
-  result-level number q (shape.Func sig) h = absurd (no-func q (is_sig p.structures (length p.structures) p.target sig) h)
+  result-level number q (shape.Func sig) h = absurd (no-func q (is_sig p.target (extent_in p.structures p.target) sig) h)
 
   pub result-breaks : (number : ℕ → ℕ) (t : CType) → is_result (kind_in p t) ≡ true → result_breach (level number (out-Shape t.shape)) ≡ None
   result-breaks number t h = result-level number (t.constant || t.volatile) (out-Shape t.shape) (sym (ap is_result (kind-at t (out-Shape t.shape) refl)) ∙ h)
@@ -167,7 +168,7 @@ module _ (p : Program) where
   scalar-level q (shape.Pointer to) h = IsPointer (shape.Pointer to) to refl
   scalar-level q (shape.Array of n) h = absurd (no-array-kind q n (kind_in p of) (plain-result _ h))
   scalar-level q (shape.Struct i) h = absurd (no-struct q (has_members (slice_get p.structures i)) (nat_lt i (length p.structures)) _ (plain-result _ h))
-  scalar-level q (shape.Func sig) h = absurd (no-func q (is_sig p.structures (length p.structures) p.target sig) (plain-result _ h))
+  scalar-level q (shape.Func sig) h = absurd (no-func q (is_sig p.target (extent_in p.structures p.target) sig) (plain-result _ h))
 
   pub scalar-shape : (t : CType) → is_plain_scalar (kind_in p t) ≡ true → ScalarShape (out-Shape t.shape)
   scalar-shape t h = scalar-level (t.constant || t.volatile) (out-Shape t.shape) (sym (ap is_plain_scalar (kind-at t (out-Shape t.shape) refl)) ∙ h)
@@ -185,7 +186,7 @@ module _ (p : Program) where
   plain-pointer true n IsFunction h = absurd (cc)
   plain-pointer false n IsFunction h = refl
 
-  plain-to : (q : Bool) (o : Option Kind) → is_plain_scalar (qualified q (shape_kind p.structures (length p.structures) p.target (shape.Pointer o))) ≡ true → q ≡ false
+  plain-to : (q : Bool) (o : Option Kind) → is_plain_scalar (qualified q (shape_kind p.target (extent_in p.structures p.target) (shape.Pointer o))) ≡ true → q ≡ false
   plain-to q None h = absurd (cc)
   plain-to q (Some k) h = plain-pointer q p.target.pointer_bytes k h
 

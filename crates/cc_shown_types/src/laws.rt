@@ -15,7 +15,7 @@ ghost use Rattle.cc_specifiers.specs.declared.derivation.Allowed.{Allowed};
 ghost use Rattle.cc_specifiers.specs.declared.derivation.Derivation.{Derivation};
 ghost use Rattle.cc_specifiers.specs.declared.specifier.Specs.{Specs};
 ghost use Rattle.cc_specifiers.specs.declared.storage.Setting.{Setting};
-ghost use Rattle.cc_syntax.specs.Kinds.{kind_in};
+ghost use Rattle.cc_syntax.specs.Programs.{kind_in};
 ghost use Rattle.cc_syntax.specs.Sound.{IsSound};
 ghost use Rattle.cc_terms.specs.Specifiers.{specified_found};
 ghost use Rattle.cc_terms.specs.Terms.{declr_of, spec_here, type_name_of};

@@ -7,7 +7,7 @@ use Rattle.cc_program.specs.declared.value.Leaf.{Leaf}
 use Rattle.cc_program.specs.declared.value.Leaf.TheVariants as leaf
 use Rattle.cc_program.specs.declared.value.Part.{Part}
 use Rattle.cc_program.specs.declared.value.Part.TheVariants as part
-use Rattle.cc_syntax.specs.Initial.{is_address}
+use Rattle.cc_syntax.specs.Programs.{is_address}
 use Rattle.cc_syntax.specs.Values.{ValueType}
 
 abbrev pub is_index : Option Part → Bool

@@ -8,7 +8,8 @@ use Rattle.cc_operands.specs.Verdicts.{Judged}
 use Rattle.cc_operands.specs.declared.rule.Rule.{Rule}
 use Rattle.cc_operands.specs.declared.rule.Rule.TheVariants as rule
 use Rattle.cc_operand_types.specs.Typed.{IsTypedOperand, stands}
-use Rattle.cc_operand_types.specs.Views.{View, type_of}
+use Rattle.cc_syntax.specs.Views.{View}
+use Rattle.cc_syntax.specs.Expressions.{type_of}
 use Rattle.cc_program.proofs.Each.{Each}
 use Rattle.cc_program.specs.declared.expr.Expr.{Expr}
 use Rattle.cc_program.specs.declared.program.Roles.{Roles}
@@ -22,7 +23,7 @@ use Rattle.cc_sound_statements.proofs.Cases.{none_sound, case_sound, default_sou
 use Rattle.cc_sound_statements.proofs.Kept.{has_type}
 use Rattle.cc_sound_statements.proofs.Opened.{all_do_sound, append_sound, do_sound, empty_sound, block_sound, body_sound}
 use Rattle.cc_sound_statements.proofs.Switches.{switched_sound}
-use Rattle.cc_sound_units.specs.Statements.{is_typed}
+use Rattle.cc_syntax.specs.Statements.{is_typed}
 use Rattle.cc_specifiers.specs.declared.storage.Where.TheVariants as place
 use Rattle.cc_syntax.specs.Types.{Named}
 use Rattle.cc_syntax.specs.Values.{ValueType, scalar_value}

@@ -1,7 +1,8 @@
 -- What is found in the body of a function with so many parameters is sound: what declarations give, and statements (C99 6.8, 6.9.1).
 use Rattle.std.specs.Prelude.{◌≡◌, ℕ, true, List, Ok, is_some}
 use Rattle.std.specs.List.{list_all}
-use Rattle.cc_operand_types.specs.Views.{View, type_of}
+use Rattle.cc_syntax.specs.Views.{View}
+use Rattle.cc_syntax.specs.Expressions.{type_of}
 use Rattle.cc_program.specs.declared.expr.Expr.{Expr}
 use Rattle.cc_program.specs.declared.program.Roles.{Roles}
 use Rattle.cc_program.specs.declared.stmt.Stmt.{Stmt}

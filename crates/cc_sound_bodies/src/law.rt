@@ -1,6 +1,6 @@
 ghost use Rattle.std.specs.Prelude.{◌≡◌, ℕ, true, List, map, Ok, Option, Some};
 ghost use Rattle.cc_operand_types.specs.Typed.{stands};
-ghost use Rattle.cc_operand_types.specs.Views.{View};
+ghost use Rattle.cc_syntax.specs.Views.{View};
 ghost use Rattle.cc_program.specs.declared.program.Roles.{Roles};
 ghost use Rattle.cc_program.specs.declared.stmt.Stmt.{Stmt};
 ghost use Rattle.cc_program.specs.declared.types.CType.{CType};

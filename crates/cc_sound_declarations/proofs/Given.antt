@@ -1,6 +1,6 @@
 -- What is declared is put behind types that are found: what is known of them is what the rest stands on.
 use Rattle.std.proofs.Common.{◌≡◌, ℕ, List, ◌∙◌, subst, sym}
-use Rattle.cc_operand_types.specs.Views.{View}
+use Rattle.cc_syntax.specs.Views.{View}
 use Rattle.cc_scopes.specs.State.{State, Name}
 use Rattle.cc_sound_states.specs.Declaring.{AreDeclared, DeclaresGiven}
 use Rattle.cc_sound_states.proofs.Entries.{entries_through}

@@ -17,7 +17,7 @@ use Rattle.cc_operands.specs.Operands.{Operand}
 use Rattle.cc_operands.specs.Qualified.{is_function_type, without_const}
 use Rattle.cc_operands.specs.Verdicts.{Judged}
 use Rattle.cc_operands.specs.declared.rule.Rule.TheVariants as rule
-use Rattle.cc_operand_types.specs.Views.{View, kind_in}
+use Rattle.cc_syntax.specs.Views.{View, kind_in}
 use Rattle.cc_primary.specs.Primary.{is_intrinsic, leaves_or_none}
 use Rattle.cc_program.proofs.Each.{Each}
 use Rattle.cc_program.specs.declared.expr.Expr.{Expr}

@@ -9,7 +9,7 @@ use Rattle.cc_operands.specs.Qualified.{plain, is_function_type}
 use Rattle.cc_operands.specs.Verdicts.{Judged, must, some_or}
 use Rattle.cc_operands.specs.declared.rule.Rule.TheVariants as rule
 use Rattle.cc_operand_types.specs.Typed.{is_pointed_kind}
-use Rattle.cc_operand_types.specs.Views.{View, qualified_kind, shape_kind, kind_in, is_sig}
+use Rattle.cc_syntax.specs.Views.{View, kind_in}
 use Rattle.cc_operand_types.proofs.Operands.{given, ok_is, must_ok}
 use Rattle.cc_operand_types.proofs.Requalified.{shaped, kind_at}
 use Rattle.cc_program.specs.declared.types.CType.{CType}
@@ -30,7 +30,7 @@ use Rattle.cc_specifiers.specs.Places.{judged_at}
 use Rattle.cc_specifiers.specs.declared.attribute.Attribute.{Attribute}
 use Rattle.cc_specifiers.specs.declared.attribute.Attribute.TheVariants as attribute
 use Rattle.cc_syntax.specs.Initial.{bound_shape}
-use Rattle.cc_syntax.specs.Kinds.{Kind, IsVoid, IsScalar, IsStructure, IsArray, IsIncomplete, IsFunction, bytes_in, array_kind, is_object_kind, is_object_type}
+use Rattle.cc_syntax.specs.Kinds.{Kind, IsVoid, IsScalar, IsStructure, IsArray, IsIncomplete, IsFunction, bytes_in, array_kind, is_object_kind, is_object_type, qualified_kind, shape_kind, is_sig}
 use Rattle.cc_syntax.specs.SameTypes.{is_func_shape}
 use Rattle.cc_tree.specs.declared.at.At.{At}
 use Rattle.cc_tree.specs.declared.unit.Given.{Given}

@@ -2,7 +2,8 @@
 use Rattle.std.proofs.Common.{arith, ◌≡◌, ℕ, zero, suc, true, false, List, [], ◌∷◌, map, length, Option, Some, None, Ok, refl, ap, sym, ◌∙◌, subst}
 use Rattle.std.specs.Prelude.{slice_get}
 use Rattle.cc_operand_types.specs.Typed.{MembersStand, is_pointed_kind, stands}
-use Rattle.cc_operand_types.specs.Views.{View, kind_in, type_of}
+use Rattle.cc_syntax.specs.Views.{View, kind_in}
+use Rattle.cc_syntax.specs.Expressions.{type_of}
 use Rattle.cc_program.proofs.Each.{Each}
 use Rattle.cc_program.specs.declared.program.Roles.{Roles}
 use Rattle.cc_program.specs.declared.stmt.Stmt.{Stmt}
@@ -23,7 +24,7 @@ use Rattle.cc_sound_terms.specs.Growing.{IsTag, StructuresKept}
 use Rattle.cc_sound_terms.specs.Knowing.{Stands, KnowsNames, IsObject, IsThere, ObjectsStand}
 use Rattle.cc_sound_terms.specs.Standing.{ParameterStands}
 use Rattle.cc_sound_terms.specs.Typing.{KnowsTypes, Knows}
-use Rattle.cc_sound_units.specs.Statements.{is_sound_body}
+use Rattle.cc_syntax.specs.Statements.{is_sound_body}
 use Rattle.cc_specifiers.specs.declared.derivation.Parameter.{Parameter}
 use Rattle.cc_syntax.specs.Types.{Named}
 use Rattle.cc_syntax.specs.Values.{ValueType, scalar_value}

@@ -1,6 +1,7 @@
 ghost use Rattle.std.specs.Prelude.{◌≡◌, true, List, [], length, map, Ok, Option, Some};
 ghost use Rattle.cc_operand_types.specs.Typed.{MembersStand, stands};
-ghost use Rattle.cc_operand_types.specs.Views.{View, type_of};
+ghost use Rattle.cc_syntax.specs.Views.{View};
+ghost use Rattle.cc_syntax.specs.Expressions.{type_of};
 ghost use Rattle.cc_program.proofs.Each.{Each};
 ghost use Rattle.cc_program.specs.declared.program.Roles.{Roles};
 ghost use Rattle.cc_program.specs.declared.stmt.Stmt.{Stmt};
@@ -14,7 +15,7 @@ ghost use Rattle.cc_sound_states.specs.Declaring.{Declares, lowered};
 ghost use Rattle.cc_sound_terms.specs.Knowing.{KnowsNames, ObjectsStand};
 ghost use Rattle.cc_sound_terms.specs.Standing.{ParameterStands};
 ghost use Rattle.cc_sound_terms.specs.Typing.{KnowsTypes};
-ghost use Rattle.cc_sound_units.specs.Statements.{is_sound_body};
+ghost use Rattle.cc_syntax.specs.Statements.{is_sound_body};
 ghost use Rattle.cc_specifiers.specs.declared.derivation.Parameter.{Parameter};
 ghost use Rattle.cc_syntax.specs.Types.{Named};
 ghost use Rattle.cc_syntax.specs.Values.{ValueType, scalar_value};

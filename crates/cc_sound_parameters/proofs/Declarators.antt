@@ -2,7 +2,7 @@
 use Rattle.std.proofs.Common.{◌≡◌, ℕ, Bool, true, false, ◌&&◌, ◌||◌, not, List, [], ◌∷◌, ◌++◌, Option, Some, None, Ok, refl, ap, sym, ◌∙◌, subst}
 use Rattle.cc_declarators.specs.Located.{located}
 use Rattle.cc_operand_types.proofs.Operands.{must_ok, ok_is}
-use Rattle.cc_operand_types.specs.Views.{View}
+use Rattle.cc_syntax.specs.Views.{View}
 use Rattle.cc_operands.specs.Operands.{Operand}
 use Rattle.cc_operands.specs.declared.rule.Rule.TheVariants as rule
 use Rattle.cc_primary.specs.Values.{value_found}

@@ -6,7 +6,7 @@ use Rattle.cc_declarators.specs.Declarators.{derived_type}
 use Rattle.cc_declarators.specs.Names.{new_name}
 use Rattle.cc_declarators.specs.Parameters.{parameter, parameter_bound}
 use Rattle.cc_operand_types.proofs.Operands.{must_ok, ok_is}
-use Rattle.cc_operand_types.specs.Views.{View}
+use Rattle.cc_syntax.specs.Views.{View}
 use Rattle.cc_operands.specs.Verdicts.{must}
 use Rattle.cc_operands.specs.declared.rule.Rule.TheVariants as rule
 use Rattle.cc_program.specs.declared.program.Roles.{Roles}

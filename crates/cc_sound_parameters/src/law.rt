@@ -1,5 +1,5 @@
 ghost use Rattle.std.specs.Prelude.{◌≡◌, ℕ, true, false, List, ◌∷◌, Ok};
-ghost use Rattle.cc_operand_types.specs.Views.{View};
+ghost use Rattle.cc_syntax.specs.Views.{View};
 ghost use Rattle.cc_program.specs.declared.program.Roles.{Roles};
 ghost use Rattle.cc_scopes.specs.State.{State, Scope};
 ghost use Rattle.cc_sound_parameters.specs.Scopes.{IsParameterScope, have_names};

@@ -4,7 +4,8 @@ use Rattle.std.specs.List.{All, list_all}
 use Rattle.std.specs.Str.{bytes_eq}
 use Rattle.cc_linked_structures.specs.Linked.{structures_of, AreStanding}
 use Rattle.cc_num.specs.declared.target.Target.{Target}
-use Rattle.cc_operand_types.specs.Views.{View, extent_in, kind_in, type_of}
+use Rattle.cc_syntax.specs.Views.{View, kind_in}
+use Rattle.cc_syntax.specs.Expressions.{type_of}
 use Rattle.cc_program.specs.declared.func.Entry.{Entry}
 use Rattle.cc_program.specs.declared.func.Entry.TheVariants as entry
 use Rattle.cc_program.specs.declared.func.Func.{Func}
@@ -14,7 +15,7 @@ use Rattle.cc_program.specs.declared.types.Shape.{Shape, out-Shape}
 use Rattle.cc_program.specs.declared.types.Shape.TheOpen as shape
 use Rattle.cc_program.specs.declared.types.Sig.{Sig, out-Sig}
 use Rattle.cc_program.specs.declared.value.Leaf.{Leaf}
-use Rattle.cc_syntax.specs.Kinds.{is_result, is_plain_scalar, is_object_type}
+use Rattle.cc_syntax.specs.Kinds.{is_result, is_plain_scalar, is_object_type, extent_in}
 use Rattle.cc_syntax.specs.Names.{local_names}
 use Rattle.cc_syntax.specs.Sound.{have_ids, is_device, is_automatic, are_parameters, is_plain_int, is_plain_void, main_name}
 use Rattle.cc_syntax.specs.Types.{Named}
@@ -26,8 +27,8 @@ use Rattle.cc_unit.specs.declared.unit.UnitKind.TheVariants as kind
 use Rattle.cc_unit.specs.declared.unit.UnitName.{UnitName}
 use Rattle.cc_unit.specs.declared.unit.UnitStructure.{UnitStructure}
 use Rattle.cc_words.specs.Names.{is_name}
-use Rattle.cc_sound_units.specs.Initial.{IsInitial}
-use Rattle.cc_sound_units.specs.Statements.{is_sound_body}
+use Rattle.cc_syntax.specs.Initial.{IsInitial}
+use Rattle.cc_syntax.specs.Statements.{is_sound_body}
 
 -- ---- the view that a unit is: no function is a handler yet
 

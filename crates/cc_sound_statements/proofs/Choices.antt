@@ -11,13 +11,13 @@ use Rattle.cc_operand_types.proofs.Operands.{ok_is, must_ok, value_ok, structure
 use Rattle.cc_operand_types.proofs.Rolls.{type-Seq}
 use Rattle.cc_operand_types.proofs.Stores.{then_ok, assigned_typed}
 use Rattle.cc_operand_types.specs.Typed.{IsTypedOperand, IsAssigned, stands}
-use Rattle.cc_operand_types.specs.Views.{View, type_of}
+use Rattle.cc_syntax.specs.Views.{View}
+use Rattle.cc_syntax.specs.Expressions.{type_of}
 use Rattle.cc_program.specs.declared.expr.Expr.{Expr, Seq}
 use Rattle.cc_program.specs.declared.stmt.Stmt.{Stmt, If, While, DoWhile, For, Break, Continue, Return}
 use Rattle.cc_program.specs.declared.types.CType.{CType}
-use Rattle.cc_sound_units.specs.Statements.{is_typed, is_optional_condition}
 use Rattle.cc_syntax.proofs.Prefixes.{both_true}
-use Rattle.cc_syntax.specs.Statements.{is_condition}
+use Rattle.cc_syntax.specs.Statements.{is_condition, is_typed, is_optional_condition}
 use Rattle.cc_syntax.specs.Types.{Named}
 use Rattle.cc_syntax.specs.Values.{ValueType, is_scalar, is_void, scalar_value, is_assignable, is_assignable_some}
 use Rattle.cc_typed_statements.specs.Conditions.{condition as condition_of, maybe_condition, effect, joined, joined_to, then_one}

@@ -4,7 +4,8 @@ use Rattle.std.specs.Prelude.{is_some}
 use Rattle.cc_num.specs.declared.int_type.IntType.{IntType}
 use Rattle.cc_operands.specs.Operands.{Operand}
 use Rattle.cc_operand_types.specs.Typed.{IsTypedOperand}
-use Rattle.cc_operand_types.specs.Views.{View, type_of}
+use Rattle.cc_syntax.specs.Views.{View}
+use Rattle.cc_syntax.specs.Expressions.{type_of}
 use Rattle.cc_operand_types.proofs.Choices.{condition}
 use Rattle.cc_program.specs.declared.expr.Expr.{Expr}
 use Rattle.cc_program.specs.declared.types.CType.{CType}

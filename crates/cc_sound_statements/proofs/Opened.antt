@@ -11,9 +11,8 @@ use Rattle.cc_program.specs.declared.stmt.Stmt.{Stmt, Do, If, While, DoWhile, Fo
 use Rattle.cc_program.specs.declared.stmt.Stmt.TheVariants.{rolls-Do, rolls-If, rolls-While, rolls-DoWhile, rolls-For, rolls-Switch, rolls-Break, rolls-Continue, rolls-Return, rolls-Empty, rolls-Block}
 use Rattle.cc_program.specs.declared.stmt.Stmt.TheOpen as is
 use Rattle.cc_program.specs.declared.types.CType.{CType}
-use Rattle.cc_sound_units.specs.Statements.{is_sound_stmt, sound_step, is_typed, is_optional_condition, returns}
 use Rattle.cc_syntax.proofs.SameLemmas.{and_true}
-use Rattle.cc_syntax.specs.Statements.{SoundWhere, Labelled, sound_case, labels_of, labels_fit, are_apart, has_label, is_condition}
+use Rattle.cc_syntax.specs.Statements.{SoundWhere, Labelled, sound_case, labels_of, labels_fit, are_apart, has_label, is_condition, is_sound_stmt, sound_step, is_typed, is_optional_condition, returns}
 use Rattle.cc_syntax.specs.Values.{ValueType}
 use Rattle.cc_typed_statements.specs.Conditions.{body_of, inside_block}
 use Rattle.cc_sound_statements.specs.Sound.{sound_list}
@@ -29,45 +28,35 @@ module _ (target : Target) (typed : Expr → Option ValueType) (result : CType) 
   rolled x = sound_step target typed result (map-Stmt Stmt Case SoundWhere Labelled of (fold-Case SoundWhere Labelled (sound_step target typed result) sound_case) x)
 
   do-opens : (e : Expr) (b c : Bool) → of (Do e) b c ≡ is_some (typed e)
-  unfolding is_sound_stmt
   do-opens e b c = ap (λ (g : SoundWhere). g b c) (ap of (sym (rolls-Do e)) ∙ fold-roll-Stmt SoundWhere Labelled (sound_step target typed result) sound_case (is.Do e))
 
   if-opens : (e : Expr) (x y : List Stmt) (b c : Bool) → of (If e x y) b c ≡ (is_condition (typed e) && (list b c x && list b c y))
-  unfolding is_sound_stmt
   if-opens e x y b c = ap (λ (g : SoundWhere). g b c) (ap of (sym (rolls-If e x y)) ∙ fold-roll-Stmt SoundWhere Labelled (sound_step target typed result) sound_case (is.If e x y))
 
   while-opens : (e : Expr) (x : List Stmt) (b c : Bool) → of (While e x) b c ≡ (is_condition (typed e) && list true true x)
-  unfolding is_sound_stmt
   while-opens e x b c = ap (λ (g : SoundWhere). g b c) (ap of (sym (rolls-While e x)) ∙ fold-roll-Stmt SoundWhere Labelled (sound_step target typed result) sound_case (is.While e x))
 
   do_while-opens : (x : List Stmt) (e : Expr) (b c : Bool) → of (DoWhile x e) b c ≡ (is_condition (typed e) && list true true x)
-  unfolding is_sound_stmt
   do_while-opens x e b c = ap (λ (g : SoundWhere). g b c) (ap of (sym (rolls-DoWhile x e)) ∙ fold-roll-Stmt SoundWhere Labelled (sound_step target typed result) sound_case (is.DoWhile x e))
 
   for-opens : (first test step : Option Expr) (x : List Stmt) (b c : Bool) →
       of (For first test step x) b c ≡ (is_typed target typed result first && (is_optional_condition target typed result test && (is_typed target typed result step && list true true x)))
-  unfolding is_sound_stmt
   for-opens first test step x b c =
       ap (λ (g : SoundWhere). g b c) (ap of (sym (rolls-For first test step x)) ∙ fold-roll-Stmt SoundWhere Labelled (sound_step target typed result) sound_case (is.For first test step x))
 
   break-opens : (b c : Bool) → of Break b c ≡ b
-  unfolding is_sound_stmt
   break-opens b c = ap (λ (g : SoundWhere). g b c) (ap of (sym rolls-Break) ∙ fold-roll-Stmt SoundWhere Labelled (sound_step target typed result) sound_case is.Break)
 
   continue-opens : (b c : Bool) → of Continue b c ≡ c
-  unfolding is_sound_stmt
   continue-opens b c = ap (λ (g : SoundWhere). g b c) (ap of (sym rolls-Continue) ∙ fold-roll-Stmt SoundWhere Labelled (sound_step target typed result) sound_case is.Continue)
 
   return-opens : (e : Option Expr) (b c : Bool) → of (Return e) b c ≡ returns target typed result e
-  unfolding is_sound_stmt
   return-opens e b c = ap (λ (g : SoundWhere). g b c) (ap of (sym (rolls-Return e)) ∙ fold-roll-Stmt SoundWhere Labelled (sound_step target typed result) sound_case (is.Return e))
 
   empty-opens : (b c : Bool) → of Empty b c ≡ true
-  unfolding is_sound_stmt
   empty-opens b c = ap (λ (g : SoundWhere). g b c) (ap of (sym rolls-Empty) ∙ fold-roll-Stmt SoundWhere Labelled (sound_step target typed result) sound_case is.Empty)
 
   block-opens : (x : List Stmt) (b c : Bool) → of (Block x) b c ≡ list b c x
-  unfolding is_sound_stmt
   block-opens x b c = ap (λ (g : SoundWhere). g b c) (ap of (sym (rolls-Block x)) ∙ fold-roll-Stmt SoundWhere Labelled (sound_step target typed result) sound_case (is.Block x))
 
   -- ---- the cases of a `switch`
@@ -79,7 +68,6 @@ module _ (target : Target) (typed : Expr → Option ValueType) (result : CType) 
   case-labels c = ap (λ (l : Labelled). l.labels) (fold_out-Case SoundWhere Labelled (sound_step target typed result) sound_case c)
 
   case-body : (c : Case) (continues : Bool) → (tested c).body true continues ≡ list true continues (out-Case c).body
-  unfolding is_sound_stmt
   case-body c continues = ap (λ (l : Labelled). l.body true continues) (fold_out-Case SoundWhere Labelled (sound_step target typed result) sound_case c)
 
   all-labels : (cases : List Case) → flat_map (λ c. c.labels) (map tested cases) ≡ labels_of cases
@@ -95,7 +83,6 @@ module _ (target : Target) (typed : Expr → Option ValueType) (result : CType) 
   all-bodies (c ∷ cases) continues = ap (λ b. b && list_all (λ c. c.body true continues) (map tested cases)) (case-body c continues) ∙ ap (λ b. list true continues (out-Case c).body && b) (all-bodies cases continues)
 
   switch-rolls : (e : Expr) (cases : List Case) (b c : Bool) → of (Switch e cases) b c ≡ sound_step target typed result (is.Switch e (map tested cases)) b c
-  unfolding is_sound_stmt
   switch-rolls e cases b c = ap (λ (g : SoundWhere). g b c) (ap of (sym (rolls-Switch e cases)) ∙ fold-roll-Stmt SoundWhere Labelled (sound_step target typed result) sound_case (is.Switch e cases))
 
   switch-opens : (e : Expr) (cases : List Case) (b c : Bool) →
@@ -164,7 +151,6 @@ module _ (target : Target) (typed : Expr → Option ValueType) (result : CType) 
   -- ---- a body that is a block is the list of its statements
 
   inside_sound : (s : Stmt) (x : is.Stmt-F Stmt Case) (b c : Bool) → out-Stmt s ≡ x → of s b c ≡ true → list b c (inside_block s x) ≡ true
-  unfolding is_sound_stmt
   inside_sound s (is.Block ss) b c e h =
       sym (ap (λ (g : SoundWhere). g b c) (fold_out-Stmt SoundWhere Labelled (sound_step target typed result) sound_case s ∙ ap rolled e)) ∙ h
   inside_sound s (is.Do d) b c e h = one_sound s b c h

@@ -10,7 +10,7 @@ use Rattle.cc_operand_types.proofs.Integers.{promoted_is}
 use Rattle.cc_operand_types.proofs.Operands.{given, ok_is, must_ok, value_ok, converted_typed, value_integer}
 use Rattle.cc_operand_types.proofs.Stores.{then_ok}
 use Rattle.cc_operand_types.specs.Typed.{IsTypedOperand}
-use Rattle.cc_operand_types.specs.Views.{View}
+use Rattle.cc_syntax.specs.Views.{View}
 use Rattle.cc_program.specs.declared.expr.Expr.{Expr}
 use Rattle.cc_program.specs.declared.stmt.Case.{Case}
 use Rattle.cc_program.specs.declared.stmt.Stmt.{Stmt, Switch}

@@ -3,14 +3,14 @@ use Rattle.std.specs.Prelude.{◌≡◌, Bool, true, List, map, Option, Some}
 use Rattle.std.specs.List.{list_all}
 use Rattle.cc_num.specs.declared.int_type.IntType.{IntType}
 use Rattle.cc_num.specs.declared.target.Target.{Target}
-use Rattle.cc_operand_types.specs.Views.{View, type_of}
+use Rattle.cc_syntax.specs.Views.{View}
+use Rattle.cc_syntax.specs.Expressions.{type_of}
 use Rattle.cc_program.specs.declared.expr.Expr.{Expr}
 use Rattle.cc_program.specs.declared.stmt.Case.{Case, out-Case}
 use Rattle.cc_program.specs.declared.stmt.Stmt.{Stmt}
 use Rattle.cc_program.specs.declared.types.CType.{CType}
 use Rattle.cc_sound_units.specs.Reduced.{Reduced}
-use Rattle.cc_sound_units.specs.Statements.{is_sound_stmt}
-use Rattle.cc_syntax.specs.Statements.{label_fits, labels_of, are_apart, has_label}
+use Rattle.cc_syntax.specs.Statements.{label_fits, labels_of, are_apart, has_label, is_sound_stmt}
 use Rattle.cc_syntax.specs.Types.{Named}
 use Rattle.cc_syntax.specs.Values.{ValueType}
 use Rattle.cc_typed_statements.specs.declared.jumps.Jumps.{Jumps}

@@ -1,7 +1,7 @@
 -- Declarations and statements are put one behind another, and into scopes of their own.
 use Rattle.std.proofs.Common.{◌≡◌, inl, ◌≤◌, ℕ, zero, suc, List, [], ◌∷◌, ◌++◌, length, map, Some, refl, ap, sym, ◌∙◌, append_assoc, arith}
 use Rattle.std.specs.Prelude.{slice_get, option_map}
-use Rattle.cc_operand_types.specs.Views.{View}
+use Rattle.cc_syntax.specs.Views.{View}
 use Rattle.cc_scopes.specs.State.{State, Name, tagged, empty, designated, entered, left, outer_scopes}
 use Rattle.cc_scopes.specs.declared.designated.Designated.{Designated}
 use Rattle.cc_scopes.specs.declared.designated.Designated.TheVariants as means

@@ -2,7 +2,7 @@
 use Rattle.std.proofs.Common.{◌≡◌, ◌≤◌, ◌⊎◌, inl, inr, ℕ, zero, suc, true, false, List, [], ◌∷◌, ◌++◌, length, Option, Some, refl, ap, sym, ◌∙◌, subst, arith}
 use Rattle.std.specs.Prelude.{slice_get}
 use Rattle.cc_operand_types.specs.Typed.{is_pointed_kind}
-use Rattle.cc_operand_types.specs.Views.{View, kind_in}
+use Rattle.cc_syntax.specs.Views.{View, kind_in}
 use Rattle.cc_operands.specs.Qualified.{without_const}
 use Rattle.cc_program.specs.declared.expr.Place.{Place}
 use Rattle.cc_program.specs.declared.types.CType.{CType}

@@ -1,7 +1,7 @@
 -- What a declaration or a statement leaves behind it. Beside the state of the rules stand the automatic objects of the function with their declared types: the state's
 -- own list has lost their const, by which they may be initialised (C99 6.2.1, 6.2.4, 6.7.8).
 use Rattle.std.specs.Prelude.{◌≡◌, ◌⊎◌, ◌≤◌, ℕ, zero, suc, List, [], ◌∷◌, ◌++◌, length, map, Some, slice_get}
-use Rattle.cc_operand_types.specs.Views.{View}
+use Rattle.cc_syntax.specs.Views.{View}
 use Rattle.cc_operands.specs.Qualified.{without_const}
 use Rattle.cc_scopes.specs.State.{State, Name, outer_scopes}
 use Rattle.cc_scopes.specs.declared.unit.Declared.{Declared}

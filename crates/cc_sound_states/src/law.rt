@@ -1,5 +1,5 @@
 ghost use Rattle.std.specs.Prelude.{◌≡◌, ℕ, List, ◌++◌};
-ghost use Rattle.cc_operand_types.specs.Views.{View};
+ghost use Rattle.cc_syntax.specs.Views.{View};
 ghost use Rattle.cc_scopes.specs.State.{State, Name};
 ghost use Rattle.cc_sound_terms.specs.Behind.{Extends};
 ghost use Rattle.cc_sound_terms.specs.Typing.{Knows};

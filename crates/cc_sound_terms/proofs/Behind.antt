@@ -1,7 +1,7 @@
 -- What stands behind a construct, and what is known behind it: from a state to itself, through states between, and by each thing that is declared.
 use Rattle.std.proofs.Common.{◌≡◌, ◌⊎◌, inl, inr, ℕ, zero, suc, List, [], ◌∷◌, ◌++◌, length, Some, None, refl, ap, sym, ◌∙◌, subst}
 use Rattle.std.specs.Prelude.{slice_get, take}
-use Rattle.cc_operand_types.specs.Views.{View}
+use Rattle.cc_syntax.specs.Views.{View}
 use Rattle.cc_program.specs.declared.types.CType.{CType}
 use Rattle.cc_scopes.specs.State.{State, Name, Scope, KnownStructure, empty, in_innermost, with_name, designated, tagged, entered, left, outer_scopes, bind, bind_tag, with_declared, with_structures, with_names}
 use Rattle.cc_scopes.specs.declared.designated.Designated.{Designated}

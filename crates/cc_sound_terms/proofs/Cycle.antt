@@ -1,6 +1,6 @@
 -- What expressions, type names, specifiers and declarators mean is typed and stands, by induction over them.
 use Rattle.std.proofs.Common.{◌≡◌, ℕ, ◌^◌, Bool, true, ◌&&◌, List, [], ◌∷◌, map, Option, Some, None, sym, ◌∙◌, subst, ltb-true}
-use Rattle.cc_operand_types.specs.Views.{View}
+use Rattle.cc_syntax.specs.Views.{View}
 use Rattle.cc_program.proofs.Each.{Each}
 use Rattle.cc_program.specs.declared.program.Roles.{Roles}
 use Rattle.cc_syntax.specs.Types.{Named}

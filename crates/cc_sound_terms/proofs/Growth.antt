@@ -12,7 +12,7 @@ use Rattle.cc_scopes.specs.declared.unit.Declared.{Declared}
 use Rattle.cc_program.specs.declared.types.CType.{CType}
 use Rattle.cc_syntax.specs.declared.sizes.Layout.{Layout}
 use Rattle.cc_syntax.specs.Types.{Named}
-use Rattle.cc_operand_types.specs.Views.{View}
+use Rattle.cc_syntax.specs.Views.{View}
 use Rattle.cc_sound_terms.specs.Growing.{Kept, IsTag, StructureKept, StructuresKept, Grows, IsConstant, IsParameter}
 use Rattle.cc_sound_terms.specs.Knowing.{Stands, KnowsStructure, KnowsStructures, KnowsNames, TypesStand, IsObject, ObjectsStand, IsThere, TagsStand}
 

@@ -2,7 +2,7 @@
 use Rattle.std.proofs.Common.{◌≡◌, ℕ, true, List, [], length, Option, Some, None, refl, ap, sym, ◌∙◌}
 use Rattle.std.specs.Prelude.{nat_lt, slice_get, option_map}
 use Rattle.std.proofs.lemmas.Option.{slice_get-map}
-use Rattle.cc_operand_types.specs.Views.{View}
+use Rattle.cc_syntax.specs.Views.{View}
 use Rattle.cc_program.specs.declared.types.Structure.{Structure}
 use Rattle.cc_scopes.specs.State.{State, KnownStructure, members_or_none, as_structure, structures_of}
 use Rattle.cc_scopes.specs.declared.designated.Designated.{Designated}

@@ -13,7 +13,7 @@ use Rattle.cc_num.specs.declared.int_type.IntType.TheVariants as int
 use Rattle.cc_operands.specs.Operands.{Operand, number_type, character_value}
 use Rattle.cc_operands.specs.declared.rule.Rule.TheVariants as rule
 use Rattle.cc_operand_types.specs.Typed.{is_pointed_kind, IsNullType, IsTypedOperand, IsTypedExpr, IsTypedPlace}
-use Rattle.cc_operand_types.specs.Views.{View, kind_in}
+use Rattle.cc_syntax.specs.Views.{View, kind_in}
 use Rattle.cc_operand_types.proofs.Leaves.{local_typed, static_typed, device_typed, function_typed}
 use Rattle.cc_operand_types.proofs.Literals.{number_fits, character_fits}
 use Rattle.cc_operand_types.proofs.Nulls.{null_operand}

@@ -3,7 +3,7 @@ use Rattle.std.proofs.Common.{◌≡◌, ℕ, ℤ, Bool, List, Ok, sym, subst}
 use Rattle.cc_designators.specs.Designators.{TypedExpr, IsPlace, IsValue, IsFunction, IsIntrinsic, IsAddress, value_at}
 use Rattle.cc_operands.specs.Operands.{Operand, operand}
 use Rattle.cc_operand_types.specs.Typed.{IsTypedExpr}
-use Rattle.cc_operand_types.specs.Views.{View}
+use Rattle.cc_syntax.specs.Views.{View}
 use Rattle.cc_primary.specs.Values.{null_judged, valued, value_found}
 use Rattle.cc_program.proofs.Each.{Each}
 use Rattle.cc_program.specs.declared.expr.Expr.{FuncAddr}

@@ -7,7 +7,8 @@ use Rattle.cc_operands.specs.Verdicts.{Judged}
 use Rattle.cc_operands.specs.declared.rule.Rule.{Rule}
 use Rattle.cc_operands.specs.declared.rule.Rule.TheVariants as rule
 use Rattle.cc_operand_types.specs.Typed.{is_pointed_kind, IsNullType, stands}
-use Rattle.cc_operand_types.specs.Views.{View, qualified_kind, shape_kind, kind_of, kind_in, null_type}
+use Rattle.cc_syntax.specs.Views.{View, kind_in}
+use Rattle.cc_syntax.specs.Expressions.{null_type}
 use Rattle.cc_operand_types.proofs.Requalified.{kind_at, pointer_plain}
 use Rattle.cc_operand_types.proofs.Standing.{object_type, element_stands, pointer_stands}
 use Rattle.cc_program.proofs.Each.{Each}
@@ -28,7 +29,7 @@ use Rattle.cc_specifiers.specs.Places.{JudgedAt}
 use Rattle.cc_specifiers.specs.declared.derivation.Derivation.{Derivation}
 use Rattle.cc_specifiers.specs.declared.derivation.Derivation.TheVariants as to
 use Rattle.cc_specifiers.specs.declared.derivation.Parameter.{Parameter}
-use Rattle.cc_syntax.specs.Kinds.{Kind, IsVoid, IsScalar, IsStructure, IsArray, IsIncomplete, IsFunction, bytes_in, is_small, array_kind, pointer_kind, is_plain_scalar}
+use Rattle.cc_syntax.specs.Kinds.{Kind, IsVoid, IsScalar, IsStructure, IsArray, IsIncomplete, IsFunction, bytes_in, is_small, array_kind, pointer_kind, is_plain_scalar, qualified_kind, shape_kind, kind_of}
 use Rattle.cc_syntax.specs.Layout.{nothing}
 use Rattle.cc_syntax.specs.Operators.{when, pointer_in, void_pointer_in, first_of, is_unqualified}
 use Rattle.cc_syntax.specs.SameTypes.{is_void_shape}

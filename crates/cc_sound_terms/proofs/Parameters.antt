@@ -6,7 +6,7 @@ use Rattle.cc_num.specs.declared.int_type.IntType.TheVariants as int
 use Rattle.cc_operands.specs.Qualified.{plain}
 use Rattle.cc_operands.specs.Verdicts.{must}
 use Rattle.cc_operands.specs.declared.rule.Rule.TheVariants as rule
-use Rattle.cc_operand_types.specs.Views.{View}
+use Rattle.cc_syntax.specs.Views.{View}
 use Rattle.cc_operand_types.proofs.Operands.{given, ok_is, must_ok}
 use Rattle.cc_program.proofs.Each.{Each}
 use Rattle.cc_program.specs.declared.program.Roles.{Roles}

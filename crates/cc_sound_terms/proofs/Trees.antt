@@ -17,7 +17,7 @@ use Rattle.cc_operands.specs.declared.operator.Operator.{Operator}
 use Rattle.cc_operands.specs.declared.operator.UnaryOperator.{UnaryOperator}
 use Rattle.cc_operands.specs.declared.rule.Rule.TheVariants as rule
 use Rattle.cc_operand_types.specs.Typed.{IsNullType, IsTypedOperand, IsTypedExpr}
-use Rattle.cc_operand_types.specs.Views.{View}
+use Rattle.cc_syntax.specs.Views.{View}
 use Rattle.cc_operand_types.proofs.Calls.{called_typed}
 use Rattle.cc_operand_types.proofs.Casts.{cast_of_typed, size_typed}
 use Rattle.cc_operand_types.proofs.Choices.{choose_typed, comma_typed}

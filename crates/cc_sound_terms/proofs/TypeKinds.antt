@@ -16,7 +16,7 @@ use Rattle.cc_operands.specs.Qualified.{plain, is_function_type, at_element, fur
 use Rattle.cc_scopes.specs.State.{State, KnownStructure, members_or_none, as_structure, structures_of, layouts_of}
 use Rattle.cc_specifiers.specs.Bounds.{is_bound}
 use Rattle.cc_specifiers.specs.Objects.{size_of, is_object}
-use Rattle.cc_syntax.specs.Kinds.{Kind, IsVoid, IsScalar, IsStructure, IsArray, IsIncomplete, IsFunction, bytes_in, is_small, pointer_kind, array_kind, is_result, is_plain_scalar, is_object_kind, is_object_type}
+use Rattle.cc_syntax.specs.Kinds.{Kind, IsVoid, IsScalar, IsStructure, IsArray, IsIncomplete, IsFunction, bytes_in, is_small, pointer_kind, array_kind, is_result, is_plain_scalar, is_object_kind, is_object_type, extent_kind, qualified_kind, shape_kind, kind_of, is_sig}
 use Rattle.cc_syntax.specs.Layout.{nothing, shape_layout, type_layout}
 use Rattle.cc_syntax.specs.SameTypes.{is_func_shape}
 use Rattle.cc_syntax.specs.Types.{Named, has_members, complete_shape, is_complete}
@@ -24,7 +24,7 @@ use Rattle.cc_syntax.specs.Values.{is_void}
 use Rattle.cc_syntax.specs.declared.sizes.Layout.{Layout}
 use Rattle.cc_syntax.proofs.Prefixes.{both_true}
 use Rattle.cc_syntax.proofs.TypeLayouts.{parts_layout, layout-roll, parts_complete, complete-roll}
-use Rattle.cc_operand_types.specs.Views.{View, extent_kind, qualified_kind, shape_kind, kind_of, kind_in, is_sig}
+use Rattle.cc_syntax.specs.Views.{View, kind_in}
 use Rattle.cc_operand_types.proofs.Requalified.{opens_as, shaped, kind_at, void_kind}
 use Rattle.cc_operand_types.proofs.Standing.{sig-opens}
 use Rattle.cc_sound_terms.specs.Knowing.{Stands, KnowsStructures}

@@ -14,7 +14,7 @@ use Rattle.cc_operands.specs.Operands.{Operand, constancy}
 use Rattle.cc_operands.specs.Qualified.{plain, qualified_by}
 use Rattle.cc_operands.specs.Verdicts.{Judged, must}
 use Rattle.cc_operands.specs.declared.rule.Rule.TheVariants as rule
-use Rattle.cc_operand_types.specs.Views.{View, kind_in}
+use Rattle.cc_syntax.specs.Views.{View, kind_in}
 use Rattle.cc_operand_types.proofs.Operands.{given, ok_is, must_ok}
 use Rattle.cc_primary.specs.Values.{value_found}
 use Rattle.cc_program.proofs.Each.{Each}

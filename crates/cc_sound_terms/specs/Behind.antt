@@ -3,7 +3,7 @@ use Rattle.std.specs.Prelude.{◌≡◌, ◌⊎◌, ◌+◌, ℕ, ℤ, Bool, tru
 use Rattle.cc_designators.specs.Casts.{fits_pointer}
 use Rattle.cc_num.specs.declared.int_type.IntType.{IntType}
 use Rattle.cc_num.specs.declared.target.Target.{Target}
-use Rattle.cc_operand_types.specs.Views.{View, kind_in, is_sig}
+use Rattle.cc_syntax.specs.Views.{View, kind_in}
 use Rattle.cc_primary.specs.Devices.{device_of, declared_device}
 use Rattle.cc_primary.specs.Primary.{string_object}
 use Rattle.cc_program.specs.declared.types.CType.{CType}
@@ -18,7 +18,7 @@ use Rattle.cc_scopes.specs.State.{State}
 use Rattle.cc_scopes.specs.declared.designated.Designated.{Designated}
 use Rattle.cc_scopes.specs.declared.unit.Declared.{Declared}
 use Rattle.cc_specifiers.specs.Bounds.{is_bound}
-use Rattle.cc_syntax.specs.Kinds.{is_object_type}
+use Rattle.cc_syntax.specs.Kinds.{is_object_type, is_sig}
 use Rattle.cc_syntax.specs.Types.{Named}
 use Rattle.cc_unit.specs.declared.unit.UnitKind.{UnitKind}
 use Rattle.cc_unit.specs.declared.unit.UnitKind.TheVariants as kind

@@ -1,6 +1,6 @@
-//! Units, statements and first values that are sound, whatever their expressions are typed over; over a program they are what its are.
+//! Types of values, places and objects that are one but for qualifiers.
 #![tactic(auto)]
 
 mod law;
 
-pub use law::{object_laws, program_laws};
+pub use law::object_laws;

@@ -26,7 +26,8 @@ use Rattle.cc_program.specs.declared.program.Program.{Program}
 use Rattle.cc_program.specs.declared.types.CType.{CType}
 use Rattle.cc_program.specs.declared.types.Sig.{out-Sig}
 use Rattle.cc_syntax.specs.Effects.{no_one, is_soft, effects_of, place_effects_of}
-use Rattle.cc_syntax.specs.Expressions.{of_one, of_two, expr_step, type_of, place_type}
+use Rattle.cc_syntax.specs.Expressions.{of_one, of_two}
+use Rattle.cc_syntax.specs.Programs.{expr_step, type_of, place_type}
 use Rattle.cc_syntax.specs.Folding.{is_folded, is_folded_place}
 use Rattle.cc_syntax.specs.Forms.{CallForm, form_at, form_of}
 use Rattle.cc_syntax.specs.Normal.{is_operand, is_optional_operand, is_register_place, is_other_place, is_callee, is_call, is_place_read, is_assignment, is_expression_statement}

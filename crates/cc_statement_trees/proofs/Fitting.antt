@@ -34,10 +34,10 @@ use Rattle.cc_program.specs.declared.stmt.Stmt.TheOpen as is
 use Rattle.cc_program.proofs.Each.{Each}
 use Rattle.cc_program.proofs.StmtInduction.{StmtParts, CaseParts, by_stmts}
 use Rattle.cc_syntax.specs.Effects.{no_one, place_effects_of}
-use Rattle.cc_syntax.specs.Expressions.{type_of, place_type}
+use Rattle.cc_syntax.specs.Programs.{type_of, place_type, is_sound_stmt}
 use Rattle.cc_syntax.specs.Forms.{form_at, form_of, CallForm}
 use Rattle.cc_syntax.specs.Normal.{is_one, is_operand, is_optional_operand, is_callee, is_call, is_place_read, is_other_place, is_expression_statement, is_normal_stmt}
-use Rattle.cc_syntax.specs.Statements.{labels_fit, label_fits, is_condition, is_sound_stmt}
+use Rattle.cc_syntax.specs.Statements.{labels_fit, label_fits, is_condition}
 use Rattle.cc_syntax.specs.Values.{ValueType, NoValue, Integer, ToObject, ToFunction, scalar_value}
 use Rattle.cc_type_trees.specs.Soft.{IsSoft}
 use Rattle.cc_type_trees.proofs.Fitting.{open-apart, close-apart, name-apart}

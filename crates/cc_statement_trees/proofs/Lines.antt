@@ -25,11 +25,11 @@ use Rattle.cc_program.specs.declared.types.Sig.{out-Sig}
 use Rattle.cc_program.proofs.Each.{Each}
 use Rattle.cc_program.proofs.StmtInduction.{StmtParts, CaseParts, by_stmts}
 use Rattle.cc_syntax.specs.Effects.{Effects, PlaceEffects, no_one, effect_step, place_effect_step, effects_of, place_effects_of}
-use Rattle.cc_syntax.specs.Expressions.{type_of}
+use Rattle.cc_syntax.specs.Programs.{type_of, sound_step, is_sound_stmt}
 use Rattle.cc_syntax.specs.Folding.{is_folded}
 use Rattle.cc_syntax.specs.Forms.{form_at, form_of}
 use Rattle.cc_syntax.specs.Normal.{is_one, is_operand, normal_step, is_normal_stmt}
-use Rattle.cc_syntax.specs.Statements.{SoundWhere, Labelled as SoundCase, labels_fit, is_condition, sound_case, sound_step, is_sound_stmt}
+use Rattle.cc_syntax.specs.Statements.{SoundWhere, Labelled as SoundCase, labels_fit, is_condition, sound_case}
 use Rattle.cc_syntax.specs.Values.{ValueType, is_assignable_some, scalar_value}
 use Rattle.cc_tree.specs.declared.unit.Line as line
 use Rattle.cc_tree.specs.declared.unit.Line.{Line}

@@ -16,7 +16,7 @@ ghost use Rattle.cc_program.specs.declared.stmt.Stmt.{Stmt};
 ghost use Rattle.cc_statement_trees.specs.Lines.{ShowsStmts};
 ghost use Rattle.cc_statement_trees.specs.Read.{ReadsLines};
 ghost use Rattle.cc_syntax.specs.Normal.{is_normal_stmt};
-ghost use Rattle.cc_syntax.specs.Statements.{is_sound_stmt};
+ghost use Rattle.cc_syntax.specs.Programs.{is_sound_stmt};
 ghost use Rattle.cc_tree.specs.declared.at.At.{At};
 ghost use Rattle.cc_tree.specs.declared.unit.Line.{Line};
 ghost use Rattle.cc_tree.specs.Statements.{IsLines};

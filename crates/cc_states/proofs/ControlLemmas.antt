@@ -15,7 +15,8 @@ use Rattle.cc_control.specs.Control.{Level, Control, level, counted, is_loop, is
 use Rattle.cc_control.proofs.Begun.{begun_stands, begun_enters}
 use Rattle.cc_steps.specs.State.{Active}
 use Rattle.cc_steps.specs.Step.{in_case, looped, is_passed, next_place, number_in}
-use Rattle.cc_syntax.specs.Statements.{SoundWhere, Labelled, sound_case, sound_step, is_sound_stmt, is_typed, is_condition, is_optional_condition, labels_fit, are_apart, has_label, is_sound_body}
+use Rattle.cc_syntax.specs.Statements.{SoundWhere, Labelled, sound_case, is_condition, labels_fit, are_apart, has_label}
+use Rattle.cc_syntax.specs.Programs.{sound_step, is_sound_stmt, is_typed, is_optional_condition, is_sound_body}
 use Rattle.cc_syntax.proofs.Prefixes.{both_true}
 use Rattle.cc_values.specs.Values.{is_true}
 use Rattle.cc_states.specs.States.{may_break, may_continue, is_sound_in, AreSound}

@@ -32,7 +32,8 @@ use Rattle.cc_eval.proofs.Links.{level, place_level}
 use Rattle.cc_syntax.specs.Effects.{Registers, also}
 use Rattle.cc_syntax.specs.Expressions.{of_one, of_two}
 use Rattle.cc_syntax.specs.Operators as rule
-use Rattle.cc_syntax.specs.Operators.{when, constant_type, null_type, function_type, common_type, change_type, after_type, call_type, is_promoted, is_integer, is_of}
+use Rattle.cc_syntax.specs.Operators.{when, constant_type, function_type, common_type, change_type, after_type, call_type, is_promoted, is_integer, is_of}
+use Rattle.cc_syntax.specs.Programs.{null_type}
 use Rattle.cc_syntax.specs.Values.{ValueType, NoValue, Integer, ToObject, ToFunction, PlaceType, DevicePlace, pointer_shape, pointer_to, member_of, scalar_value, result_value, object_place, read_from, written_to, address_of, pointed_to, element_of, is_assignable, is_assignable_some, are_assignable}
 use Rattle.cc_syntax.proofs.Prefixes.{both_true}
 use Rattle.cc_values.specs.Values.{address_in, truth, of_truth, unary, binary, conversion, movement, gap, comparison}

@@ -30,7 +30,7 @@ use Rattle.cc_eval.specs.Progress.{given}
 use Rattle.cc_syntax.specs.Expressions.{of_one}
 use Rattle.cc_syntax.specs.Initial.{leads_to_element, names, names_element, names_whole}
 use Rattle.cc_syntax.specs.Operators as rule
-use Rattle.cc_syntax.specs.Operators.{when, constant_type, null_type, function_type, common_type, change_type, after_type, call_type, is_promoted, is_integer, is_of}
+use Rattle.cc_syntax.specs.Operators.{when, constant_type, function_type, common_type, change_type, after_type, call_type, is_promoted, is_integer, is_of}
 use Rattle.cc_syntax.specs.SameTypes.{same_int, same_sig, alike}
 use Rattle.cc_syntax.specs.Values.{ValueType, NoValue, Integer, ToObject, ToFunction, PlaceType, DevicePlace, ObjectPlace, FunctionPlace, scalar_value, result_value, object_place, is_void, read_from, written_to, address_of, pointed_to, implies, is_assignable, is_assignable_some}
 use Rattle.cc_syntax.proofs.Prefixes.{both_true}

@@ -14,8 +14,8 @@ use Rattle.cc_control.specs.declared.phase.Phase.{Phase}
 use Rattle.cc_control.specs.declared.phase.Phase.TheVariants.{First, Test, Again}
 use Rattle.cc_control.specs.Control.{Level}
 use Rattle.cc_steps.specs.Step.{worked}
-use Rattle.cc_syntax.specs.Expressions.{type_of}
-use Rattle.cc_syntax.specs.Statements.{SoundWhere, Labelled, sound_case, sound_step, is_sound_stmt, is_typed, is_condition, is_optional_condition, labels_fit, are_apart, has_label, returns}
+use Rattle.cc_syntax.specs.Programs.{type_of, sound_step, is_sound_stmt, is_typed, is_optional_condition, returns}
+use Rattle.cc_syntax.specs.Statements.{SoundWhere, Labelled, sound_case, is_condition, labels_fit, are_apart, has_label}
 use Rattle.cc_syntax.specs.Values.{ValueType, scalar_value, is_assignable_some}
 use Rattle.cc_syntax.proofs.Prefixes.{both_true}
 use Rattle.cc_states.specs.States.{may_break, may_continue, AreSound, worked_at}

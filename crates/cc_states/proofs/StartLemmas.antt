@@ -26,7 +26,8 @@ use Rattle.cc_steps.specs.Runs.{Arrivals, run}
 use Rattle.cc_steps.specs.State.{State, first_value, values_or, first_values}
 use Rattle.cc_steps.specs.Step.{activation}
 use Rattle.cc_steps.specs.Turn.{start, turn, first_of_stack}
-use Rattle.cc_syntax.specs.Initial.{is_address, AreLeaves, OfInteger, OfPointer, OfArray, OfStructure, AreElements, NoElement, Element, AreMembers, NoMember, Member, IsInitial}
+use Rattle.cc_syntax.specs.Initial.{OfInteger, OfPointer, OfArray, OfStructure, NoElement, Element, NoMember, Member}
+use Rattle.cc_syntax.specs.Programs.{is_address, AreLeaves, AreElements, AreMembers, IsInitial}
 use Rattle.cc_syntax.specs.Operators.{is_handler}
 use Rattle.cc_syntax.specs.Sound.{IsSound, IsFunc, is_main, is_main_there, is_plain_int, is_plain_void, takes_nothing}
 use Rattle.cc_syntax.specs.Types.{Named, IsInOrder}

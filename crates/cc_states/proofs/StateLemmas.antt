@@ -31,7 +31,8 @@ use Rattle.cc_steps.specs.Access.{is_open}
 use Rattle.cc_steps.specs.State.{Active, State}
 use Rattle.cc_steps.specs.Step.{progress_in, progress_of, cell_position}
 use Rattle.cc_syntax.specs.Effects.{no_one}
-use Rattle.cc_syntax.specs.Expressions.{of_one, type_of}
+use Rattle.cc_syntax.specs.Expressions.{of_one}
+use Rattle.cc_syntax.specs.Programs.{type_of}
 use Rattle.cc_syntax.specs.Initial.{place_at}
 use Rattle.cc_syntax.specs.Sound.{IsSound, IsFunc}
 use Rattle.cc_syntax.specs.Types.{Named}

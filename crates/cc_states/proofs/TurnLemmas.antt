@@ -33,10 +33,10 @@ use Rattle.cc_steps.specs.State.{Active, State}
 use Rattle.cc_steps.specs.Step.{stopped, with_stack, with_flag, with_event, worked, next_place, is_return, number_in, gives_nothing, progress_in, progress_of, goes_to, marked, activation, opened, opened_if, call, return_mark, returned, fallen, perform, stepped, active_step, proceed}
 use Rattle.cc_steps.specs.Turn.{is_going, only_handler, may_enter, entering, entered, turn_by, turn}
 use Rattle.cc_syntax.specs.Effects.{no_one}
-use Rattle.cc_syntax.specs.Expressions.{type_of}
+use Rattle.cc_syntax.specs.Programs.{type_of, is_sound_stmt, returns, sound_step}
 use Rattle.cc_syntax.specs.Operators.{is_handler}
 use Rattle.cc_syntax.specs.Sound.{IsSound, IsFunc, is_main, is_main_there, is_plain_int, is_plain_void, takes_nothing}
-use Rattle.cc_syntax.specs.Statements.{is_sound_stmt, returns, sound_step, Labelled, labels_fit, are_apart, has_label}
+use Rattle.cc_syntax.specs.Statements.{Labelled, labels_fit, are_apart, has_label}
 use Rattle.cc_syntax.specs.Types.{IsInOrder}
 use Rattle.cc_syntax.specs.Values.{ValueType, NoValue, Integer, scalar_value, is_void, is_assignable_some, ToObject, ToFunction}
 use Rattle.cc_syntax.proofs.Parts.{all_at}

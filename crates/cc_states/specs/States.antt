@@ -31,7 +31,7 @@ use Rattle.cc_steps.specs.Step.{worked, progress_of, cell_position}
 use Rattle.cc_steps.specs.Turn.{is_going}
 use Rattle.cc_syntax.specs.Expressions.{of_one}
 use Rattle.cc_syntax.specs.Initial.{place_at}
-use Rattle.cc_syntax.specs.Statements.{is_sound_stmt}
+use Rattle.cc_syntax.specs.Programs.{is_sound_stmt}
 use Rattle.cc_syntax.specs.Types.{Named}
 use Rattle.cc_syntax.specs.Values.{ValueType, object_place, read_from}
 use Rattle.cc_states.specs.Answers.{AreItsMarks}

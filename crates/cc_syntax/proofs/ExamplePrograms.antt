@@ -13,7 +13,7 @@ use Rattle.cc_program.specs.declared.value.Part.TheVariants as part
 use Rattle.cc_syntax.specs.Examples.{wide, plain, array, struct}
 use Rattle.cc_syntax.specs.Folding.{Value, Traps, binary_constant, both_constant}
 use Rattle.cc_syntax.specs.Initial.{names_whole}
-use Rattle.cc_syntax.specs.Kinds.{Kind, IsScalar, IsIncomplete, shape_kind, qualified_kind, kind_of, is_object_type}
+use Rattle.cc_syntax.specs.Kinds.{Kind, IsScalar, IsIncomplete, shape_kind, qualified_kind, kind_of, is_object_type, extent_with}
 use Rattle.cc_syntax.specs.Normal.{next_of}
 use Rattle.cc_syntax.specs.Operators.{choice_type, changes_by}
 use Rattle.cc_syntax.specs.SameTypes.{same_int}
@@ -26,21 +26,21 @@ element_by_path to a = refl
 
 -- types
 abbrev kind_at : shape.Shape-F Shape CType Sig → Option Kind
-kind_at x = qualified_kind [] 1 wide false (shape_kind [] 1 wide (parts_kind [] 1 wide x))
+kind_at x = qualified_kind false (shape_kind wide (extent_with [] 1 wide) (parts_kind wide (extent_with [] 1 wide) x))
 
-struct-kind : kind_of [] 1 wide (struct 0) ≡ Some IsIncomplete
-struct-kind = kind-opens [] 1 wide (struct 0) ∙ ap kind_at (outs-Struct 0)
+struct-kind : kind_of wide (extent_with [] 1 wide) (struct 0) ≡ Some IsIncomplete
+struct-kind = kind-opens wide (extent_with [] 1 wide) (struct 0) ∙ ap kind_at (outs-Struct 0)
 
-pointer-kind : kind_of [] 1 wide (plain (Pointer (struct 0))) ≡ Some (IsScalar false 2)
-pointer-kind = kind-opens [] 1 wide (plain (Pointer (struct 0))) ∙ ap kind_at (outs-Pointer (struct 0)) ∙ ap (λ k. qualified_kind [] 1 wide false (shape_kind [] 1 wide (shape.Pointer k))) struct-kind
+pointer-kind : kind_of wide (extent_with [] 1 wide) (plain (Pointer (struct 0))) ≡ Some (IsScalar false 2)
+pointer-kind = kind-opens wide (extent_with [] 1 wide) (plain (Pointer (struct 0))) ∙ ap kind_at (outs-Pointer (struct 0)) ∙ ap (λ k. qualified_kind false (shape_kind wide (extent_with [] 1 wide) (shape.Pointer k))) struct-kind
 
-array-kind : kind_of [] 1 wide (array (struct 0) 2) ≡ None
-array-kind = kind-opens [] 1 wide (array (struct 0) 2) ∙ ap kind_at (outs-Array (struct 0) 2) ∙ ap (λ k. qualified_kind [] 1 wide false (shape_kind [] 1 wide (shape.Array k 2))) struct-kind
+array-kind : kind_of wide (extent_with [] 1 wide) (array (struct 0) 2) ≡ None
+array-kind = kind-opens wide (extent_with [] 1 wide) (array (struct 0) 2) ∙ ap kind_at (outs-Array (struct 0) 2) ∙ ap (λ k. qualified_kind false (shape_kind wide (extent_with [] 1 wide) (shape.Array k 2))) struct-kind
 
-pub pointer_to_own_structure : is_object_type (kind_of [] 1 wide (plain (Pointer (struct 0)))) ≡ true
+pub pointer_to_own_structure : is_object_type (kind_of wide (extent_with [] 1 wide) (plain (Pointer (struct 0)))) ≡ true
 pointer_to_own_structure = ap is_object_type pointer-kind
 
-pub array_of_own_structure : is_object_type (kind_of [] 1 wide (array (struct 0) 2)) ≡ false
+pub array_of_own_structure : is_object_type (kind_of wide (extent_with [] 1 wide) (array (struct 0) 2)) ≡ false
 array_of_own_structure = ap is_object_type array-kind
 
 -- expressions

@@ -10,7 +10,7 @@ use Rattle.cc_program.specs.declared.types.Shape.TheVariants.{outs-Struct}
 use Rattle.cc_program.specs.declared.types.Sig.{Sig}
 use Rattle.cc_program.specs.declared.types.Structure.{Structure}
 use Rattle.cc_program.proofs.TypeInduction.{with_shape, TypeParts, by_type}
-use Rattle.cc_syntax.specs.Kinds.{Kind, IsVoid, IsScalar, IsStructure, IsArray, IsIncomplete, IsFunction, bytes_in, is_small, pointer_kind, array_kind, with_qualifiers, struct_kind, shape_kind, qualified_kind, kind_of, is_sig}
+use Rattle.cc_syntax.specs.Kinds.{Kind, IsVoid, IsScalar, IsStructure, IsArray, IsIncomplete, IsFunction, bytes_in, is_small, pointer_kind, array_kind, with_qualifiers, extent_kind, struct_kind, shape_kind, qualified_kind, kind_of, is_sig, extent_with}
 use Rattle.cc_syntax.specs.Layout.{nothing, shape_layout, layouts, layout_of, size_of, HasSmallParts, HasSize}
 use Rattle.cc_syntax.specs.Types.{has_members, complete_shape, is_complete, IsPart}
 use Rattle.cc_syntax.specs.declared.sizes.Layout.{Layout}
@@ -51,7 +51,7 @@ module _ (structures : List Structure) (count : ℕ) (target : Target) (sized : 
     pub small : HasSmallParts t structures target
 
   abbrev Claim : CType → Type 0
-  Claim t = (k : Kind) (n : ℕ) → kind_of structures count target t ≡ Some k → bytes_in k ≡ Some n → HasBytes t n
+  Claim t = (k : Kind) (n : ℕ) → kind_of target (extent_with structures count target) t ≡ Some k → bytes_in k ≡ Some n → HasBytes t n
 
   module _ (constant volatile : Bool) (x : shape.Shape-F Shape CType Sig) where
     abbrev whole : CType
@@ -69,7 +69,7 @@ module _ (structures : List Structure) (count : ℕ) (target : Target) (sized : 
     }
 
   -- the kind without its qualifiers
-  unqualified : (q : Bool) (o : Option Kind) (k : Kind) (n : ℕ) → qualified_kind structures count target q o ≡ Some k → bytes_in k ≡ Some n → (l : Kind) × (o ≡ Some l) × (bytes_in l ≡ Some n)
+  unqualified : (q : Bool) (o : Option Kind) (k : Kind) (n : ℕ) → qualified_kind q o ≡ Some k → bytes_in k ≡ Some n → (l : Kind) × (o ≡ Some l) × (bytes_in l ≡ Some n)
   unqualified q None k n h b = absurd (cc)
   unqualified q (Some l) k n h b = (l, refl, qualified_bytes q l k n h b)
 
@@ -81,7 +81,7 @@ module _ (structures : List Structure) (count : ℕ) (target : Target) (sized : 
   pointer_bytes_of m IsIncomplete l n h b = some_of (ap bytes_in (some_of h) ∙ b)
   pointer_bytes_of m IsFunction l n h b = some_of (ap bytes_in (some_of h) ∙ b)
 
-  pointer_bytes : (o : Option Kind) (l : Kind) (n : ℕ) → shape_kind structures count target (shape.Pointer o) ≡ Some l → bytes_in l ≡ Some n → target.pointer_bytes ≡ n
+  pointer_bytes : (o : Option Kind) (l : Kind) (n : ℕ) → shape_kind target (extent_with structures count target) (shape.Pointer o) ≡ Some l → bytes_in l ≡ Some n → target.pointer_bytes ≡ n
   pointer_bytes None l n h b = absurd (cc)
   pointer_bytes (Some k) l n h b = pointer_bytes_of target.pointer_bytes k l n h b
 
@@ -108,12 +108,12 @@ module _ (structures : List Structure) (count : ℕ) (target : Target) (sized : 
     ];
   }
 
-  array_of_bytes : (constant volatile : Bool) (of : CType) (m n : ℕ) (k l : Kind) (size : Option ℕ) → bytes_in k ≡ size → kind_of structures count target of ≡ Some k → Claim of → array_kind m size ≡ Some l → bytes_in l ≡ Some n → HasBytes (whole constant volatile (shape.Array of m)) n
+  array_of_bytes : (constant volatile : Bool) (of : CType) (m n : ℕ) (k l : Kind) (size : Option ℕ) → bytes_in k ≡ size → kind_of target (extent_with structures count target) of ≡ Some k → Claim of → array_kind m size ≡ Some l → bytes_in l ≡ Some n → HasBytes (whole constant volatile (shape.Array of m)) n
   array_of_bytes constant volatile of m n k l None e f claim h b = absurd (cc)
   array_of_bytes constant volatile of m n k l (Some size) e f claim h b =
       array_bytes constant volatile of m n size (claim k size f e) (array_tested m size l n (nat_le 1 m && (nat_le m 65535 && is_small size)) refl h b)
 
-  array_parts : (constant volatile : Bool) (of : CType) (m n : ℕ) (o : Option Kind) (l : Kind) → kind_of structures count target of ≡ o → Claim of → shape_kind structures count target (shape.Array o m) ≡ Some l → bytes_in l ≡ Some n → HasBytes (whole constant volatile (shape.Array of m)) n
+  array_parts : (constant volatile : Bool) (of : CType) (m n : ℕ) (o : Option Kind) (l : Kind) → kind_of target (extent_with structures count target) of ≡ o → Claim of → shape_kind target (extent_with structures count target) (shape.Array o m) ≡ Some l → bytes_in l ≡ Some n → HasBytes (whole constant volatile (shape.Array of m)) n
   array_parts constant volatile of m n None l e claim h b = absurd (cc)
   array_parts constant volatile of m n (Some k) l e claim h b = array_of_bytes constant volatile of m n k l (bytes_in k) refl e claim h b
 
@@ -131,11 +131,11 @@ module _ (structures : List Structure) (count : ℕ) (target : Target) (sized : 
   structure_small i None t g h o = absurd (cc)
   structure_small i (Some s) t g h o = members_small i s t o g
 
-  incomplete : (b : Bool) (l : Kind) (n : ℕ) → (if b then Some IsIncomplete else None) ≡ Some l → bytes_in l ≡ Some n → ⊥
+  incomplete : (b : Bool) (l : Kind) (n : ℕ) → extent_kind (if b then Some None else None) ≡ Some l → bytes_in l ≡ Some n → ⊥
   incomplete true l n h b = let e : bytes_in IsIncomplete ≡ Some n = ap bytes_in (some_of h) ∙ b in absurd (cc)
   incomplete false l n h b = absurd (cc)
 
-  struct_tested : (size i : ℕ) (t : Bool) (l : Kind) (n : ℕ) → (if t then Some (IsStructure size) else (if nat_lt i count then Some IsIncomplete else None)) ≡ Some l → bytes_in l ≡ Some n → (t ≡ true) × (size ≡ n)
+  struct_tested : (size i : ℕ) (t : Bool) (l : Kind) (n : ℕ) → extent_kind (if t then Some (Some size) else (if nat_lt i count then Some None else None)) ≡ Some l → bytes_in l ≡ Some n → (t ≡ true) × (size ≡ n)
   struct_tested size i true l n h b = (refl, some_of (ap bytes_in (some_of h) ∙ b))
   struct_tested size i false l n h b = absurd (incomplete (nat_lt i count) l n h b)
 
@@ -152,21 +152,21 @@ module _ (structures : List Structure) (count : ℕ) (target : Target) (sized : 
   function_bytes true l n h b = let e : bytes_in IsFunction ≡ Some n = ap bytes_in (some_of h) ∙ b in absurd (cc)
   function_bytes false l n h b = absurd (cc)
 
-  shape_bytes : (constant volatile : Bool) (x : shape.Shape-F Shape CType Sig) → TypeParts Claim (λ s. Unit {0}) x → (l : Kind) (n : ℕ) → shape_kind structures count target (parts_kind structures count target x) ≡ Some l → bytes_in l ≡ Some n → HasBytes (whole constant volatile x) n
+  shape_bytes : (constant volatile : Bool) (x : shape.Shape-F Shape CType Sig) → TypeParts Claim (λ s. Unit {0}) x → (l : Kind) (n : ℕ) → shape_kind target (extent_with structures count target) (parts_kind target (extent_with structures count target) x) ≡ Some l → bytes_in l ≡ Some n → HasBytes (whole constant volatile x) n
   shape_bytes constant volatile shape.Void h l n k b = let e : bytes_in IsVoid ≡ Some n = ap bytes_in (some_of k) ∙ b in absurd (cc)
   shape_bytes constant volatile (shape.Int t) h l n k b =
       let e : bytes_in (IsScalar false (bytes_of t target)) ≡ Some n = ap bytes_in (some_of k) ∙ b in
       leaf_bytes constant volatile (shape.Int t) n refl (some_of e) (λ q p. no_parts structures (shape.Int t) q (whole constant volatile (shape.Int t)) tt (shape_of constant volatile (shape.Int t)) p)
   shape_bytes constant volatile (shape.Pointer to) h l n k b =
-      leaf_bytes constant volatile (shape.Pointer to) n refl (pointer_bytes (kind_of structures count target to) l n k b) (λ q p. no_parts structures (shape.Pointer to) q (whole constant volatile (shape.Pointer to)) tt (shape_of constant volatile (shape.Pointer to)) p)
-  shape_bytes constant volatile (shape.Array of m) h l n k b = array_parts constant volatile of m n (kind_of structures count target of) l refl h k b
+      leaf_bytes constant volatile (shape.Pointer to) n refl (pointer_bytes (kind_of target (extent_with structures count target) to) l n k b) (λ q p. no_parts structures (shape.Pointer to) q (whole constant volatile (shape.Pointer to)) tt (shape_of constant volatile (shape.Pointer to)) p)
+  shape_bytes constant volatile (shape.Array of m) h l n k b = array_parts constant volatile of m n (kind_of target (extent_with structures count target) of) l refl h k b
   shape_bytes constant volatile (shape.Struct i) h l n k b = struct_bytes constant volatile i n l k b
-  shape_bytes constant volatile (shape.Func s) h l n k b = absurd (function_bytes (is_sig structures count target s) l n k b)
+  shape_bytes constant volatile (shape.Func s) h l n k b = absurd (function_bytes (is_sig target (extent_with structures count target) s) l n k b)
 
   pub has_bytes : (t : CType) → Claim t
   has_bytes = by_type Claim (λ s. Unit {0})
       (λ constant volatile x h k n e b.
-      let u = unqualified (constant || volatile) (shape_kind structures count target (parts_kind structures count target x)) k n (sym (kind-roll structures count target constant volatile x) ∙ e) b in
+      let u = unqualified (constant || volatile) (shape_kind target (extent_with structures count target) (parts_kind target (extent_with structures count target) x)) k n (sym (kind-roll target (extent_with structures count target) constant volatile x) ∙ e) b in
       shape_bytes constant volatile x h u.0 n u.1 u.2)
       (λ x h. tt)
 

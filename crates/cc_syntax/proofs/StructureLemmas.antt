@@ -6,7 +6,7 @@ use Rattle.std.proofs.lemmas.Option.{slice_get_within, get_or_from_slice_get}
 use Rattle.cc_num.specs.declared.target.Target.{Target}
 use Rattle.cc_program.specs.declared.types.CType.{CType}
 use Rattle.cc_program.specs.declared.types.Structure.{Structure}
-use Rattle.cc_syntax.specs.Kinds.{Kind, bytes_in, is_small, is_object_kind, is_object_type, kind_of}
+use Rattle.cc_syntax.specs.Kinds.{Kind, bytes_in, is_small, is_object_kind, is_object_type, kind_of, extent_with}
 use Rattle.cc_program.specs.declared.program.Program.{Program}
 use Rattle.cc_syntax.specs.Layout.{size_of, HasSmallParts, IsSmall, HasSizes}
 use Rattle.cc_syntax.specs.Names.{are_names, local_names}
@@ -80,18 +80,18 @@ taken (y ∷ xs) zero x h e = ap (λ z. z ∷ []) e
 taken (y ∷ xs) (suc i) x h e = ap (λ zs. y ∷ zs) (taken xs i x (omega (arith, h)) e)
 
 module _ (structures : List Structure) (count : ℕ) (target : Target) (sized : AreSized structures target) where
-  object_of : (t : CType) (k : Kind) (b : Option ℕ) → kind_of structures count target t ≡ Some k → bytes_in k ≡ b → is_object_kind b ≡ true → IsObject structures target t
+  object_of : (t : CType) (k : Kind) (b : Option ℕ) → kind_of target (extent_with structures count target) t ≡ Some k → bytes_in k ≡ b → is_object_kind b ≡ true → IsObject structures target t
   object_of t k None e f h = absurd (cc)
   object_of t k (Some n) e f h =
       let b : HasBytes structures count target sized t n = has_bytes structures count target sized t k n e f in
       record { complete = b.complete; bytes = subst (λ m. m ≤ 4294967295) (sym b.size) (small_of n h); small = b.small }
 
-  object_from : (t : CType) (o : Option Kind) → kind_of structures count target t ≡ o → is_object_type o ≡ true → IsObject structures target t
+  object_from : (t : CType) (o : Option Kind) → kind_of target (extent_with structures count target) t ≡ o → is_object_type o ≡ true → IsObject structures target t
   object_from t None e h = absurd (cc)
   object_from t (Some k) e h = object_of t k (bytes_in k) e refl h
 
-  pub object_tested : (t : CType) → is_object_type (kind_of structures count target t) ≡ true → IsObject structures target t
-  object_tested t h = object_from t (kind_of structures count target t) refl h
+  pub object_tested : (t : CType) → is_object_type (kind_of target (extent_with structures count target) t) ≡ true → IsObject structures target t
+  object_tested t h = object_from t (kind_of target (extent_with structures count target) t) refl h
 
 module _ (structures : List Structure) (i : ℕ) (s : Structure) (count : ℕ) (target : Target) (sized : AreSized (take i structures) target)
     (last : slice_get structures i ≡ Some s) (long : length structures ≡ i + 1) (good : is_structure (take i structures) count target s ≡ true) where
@@ -186,7 +186,7 @@ module _ (count : ℕ) (target : Target) where
   sized_more structures i s h e sized good = rw add-one (subst (λ ss. AreSized ss target) (taken structures i s h e) (one_more (take i structures) s sized good))
 
   -- an object of a type that has passed the test has a complete type
-  pub object_complete : (structures : List Structure) (t : CType) → AreSized structures target → is_object_type (kind_of structures count target t) ≡ true → is_complete structures t ≡ true
+  pub object_complete : (structures : List Structure) (t : CType) → AreSized structures target → is_object_type (kind_of target (extent_with structures count target) t) ≡ true → is_complete structures t ≡ true
   object_complete structures t sized h = (object_tested structures count target sized t h).complete
 
 -- what has a size

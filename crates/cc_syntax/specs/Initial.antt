@@ -1,10 +1,9 @@
--- The first values of static objects (C99 6.7.8, 6.6).
-use Rattle.std.specs.Prelude.{◌≡◌, ℕ, suc, ℤ, pos, Bool, true, false, ◌&&◌, ◌||◌, ◌⊎◌, nat_eq, nat_le, nat_lt, List, [], ◌∷◌, Option, Some, None, option_map, slice_get, if◌then◌else◌, not}
+-- The first values of static objects, over a view (C99 6.7.8, 6.6).
+use Rattle.std.specs.Prelude.{◌≡◌, ℕ, suc, ℤ, pos, Bool, true, false, ◌&&◌, ◌||◌, ◌⊎◌, nat_eq, nat_le, nat_lt, List, [], ◌∷◌, Option, Some, None, slice_get, if◌then◌else◌, not}
 use Rattle.std.specs.List.{list_all}
 use Rattle.std.specs.Ordering.{int_eq}
 use Rattle.cc_num.specs.declared.int_type.IntType.{IntType}
 use Rattle.cc_num.specs.Integers.{is_value_of}
-use Rattle.cc_program.specs.declared.program.Program.{Program}
 use Rattle.cc_program.specs.declared.types.CType.{CType}
 use Rattle.cc_program.specs.declared.types.Shape.{Shape, out-Shape}
 use Rattle.cc_program.specs.declared.types.Shape.TheOpen as shape
@@ -20,9 +19,9 @@ use Rattle.cc_program.specs.declared.value.Root.{Root}
 use Rattle.cc_program.specs.declared.value.Root.TheVariants as root
 use Rattle.cc_syntax.specs.Expressions.{of_one}
 use Rattle.cc_syntax.specs.Lists.{is_count}
-use Rattle.cc_syntax.specs.Operators.{function_type}
 use Rattle.cc_syntax.specs.Types.{Named}
-use Rattle.cc_syntax.specs.Values.{ValueType, PlaceType, DevicePlace, ObjectPlace, FunctionPlace, object_place, pointer_to, address_of, element_of, member_of, is_assignable_some}
+use Rattle.cc_syntax.specs.Values.{ValueType, PlaceType, DevicePlace, ObjectPlace, FunctionPlace, pointer_to, address_of, element_of, member_of, is_assignable_some}
+use Rattle.cc_syntax.specs.Views.{View}
 
 -- how many elements an array has
 abbrev pub bound_shape : shape.Shape-F Shape CType Sig → Option ℕ
@@ -76,24 +75,24 @@ is_zero (leaf.Place address.Null) = true
 is_zero (leaf.Place (address.Func f)) = false
 is_zero (leaf.Place (address.At object path index count)) = false
 
-module _ (p : Program) where
+module _ (v : View) where
   abbrev pub static_place : Root → Option PlaceType
-  static_place (root.Static i) = option_map (λ o. object_place o.ctype) (slice_get p.objects i)
+  static_place (root.Static i) = v.statics i
   static_place (root.Auto activation func local) = None
 
   -- an address constant of a pointer type (6.6, 9): null, a function that is no handler, or an address in a static object
   abbrev pub is_address : ValueType → Address → Bool
   is_address to address.Null = true
-  is_address to (address.Func f) = is_assignable_some (Some to) (function_type (slice_get p.funcs f))
-  is_address to (address.At object path index count) = names to path index count (of_one (static_place object) (place_at p.structures path))
+  is_address to (address.Func f) = is_assignable_some (Some to) (v.functions f)
+  is_address to (address.At object path index count) = names to path index count (of_one (static_place object) (place_at v.structures path))
 
   mutual
     -- leaves for the scalars of a type, in order of path, in front of further ones
     pub data AreLeaves : CType → List Leaf → List Leaf → Type 0 where
-      OfInteger : (t : CType) (i : IntType) (n : ℤ) (rest : List Leaf) → out-Shape t.shape ≡ shape.Int i → is_value_of i p.target n ≡ true → AreLeaves t (leaf.Int n ∷ rest) rest
+      OfInteger : (t : CType) (i : IntType) (n : ℤ) (rest : List Leaf) → out-Shape t.shape ≡ shape.Int i → is_value_of i v.target n ≡ true → AreLeaves t (leaf.Int n ∷ rest) rest
       OfPointer : (t to : CType) (a : Address) (rest : List Leaf) → out-Shape t.shape ≡ shape.Pointer to → is_address (pointer_to to) a ≡ true → AreLeaves t (leaf.Place a ∷ rest) rest
       OfArray : (t of : CType) (n : ℕ) (leaves rest : List Leaf) → out-Shape t.shape ≡ shape.Array of n → AreElements of n leaves rest → AreLeaves t leaves rest
-      OfStructure : (t : CType) (i : ℕ) (s : Structure) (leaves rest : List Leaf) → out-Shape t.shape ≡ shape.Struct i → slice_get p.structures i ≡ Some s → AreMembers s.members leaves rest → AreLeaves t leaves rest
+      OfStructure : (t : CType) (i : ℕ) (s : Structure) (leaves rest : List Leaf) → out-Shape t.shape ≡ shape.Struct i → slice_get v.structures i ≡ Some s → AreMembers s.members leaves rest → AreLeaves t leaves rest
 
     -- for so many elements of a type
     pub data AreElements : CType → ℕ → List Leaf → List Leaf → Type 0 where

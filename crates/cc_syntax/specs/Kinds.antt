@@ -3,7 +3,6 @@ use Rattle.std.specs.Prelude.{ℕ, ◌*◌, Bool, true, false, not, ◌&&◌, �
 use Rattle.std.specs.List.{list_all}
 use Rattle.cc_num.specs.declared.target.Target.{Target}
 use Rattle.cc_num.specs.Integers.{bytes_of}
-use Rattle.cc_program.specs.declared.program.Program.{Program}
 use Rattle.cc_program.specs.declared.types.CType.{CType, fold-CType}
 use Rattle.cc_program.specs.declared.types.Shape.TheOpen as shape
 use Rattle.cc_program.specs.declared.types.Sig.{Sig, fold-Sig}
@@ -80,12 +79,23 @@ is_plain_scalar (Some (IsArray n)) = false
 is_plain_scalar (Some IsIncomplete) = false
 is_plain_scalar (Some IsFunction) = false
 
--- over the structures that are complete by then, of `count` structures in all
-module _ (structures : List Structure) (count : ℕ) (target : Target) where
-  abbrev pub struct_kind : ℕ → Option Kind
-  struct_kind i = if has_members (slice_get structures i) then Some (IsStructure (unwrap_or (slice_get (layouts target structures) i) nothing).size)
-      else (if nat_lt i count then Some IsIncomplete else None)
+-- ---- by how large the structures are: of each that there is, its bytes where it is complete
+abbrev pub extent_kind : Option (Option ℕ) → Option Kind
+extent_kind None = None
+extent_kind (Some None) = Some IsIncomplete
+extent_kind (Some (Some n)) = Some (IsStructure n)
 
+abbrev pub qualified_kind : Bool → Option Kind → Option Kind
+qualified_kind q None = None
+qualified_kind q (Some kind) = with_qualifiers q kind
+
+abbrev pub type_kind : shape.CType-F (Option Kind) (Option Kind) Bool → Option Kind
+type_kind t = qualified_kind (t.constant || t.volatile) t.shape
+
+abbrev pub is_signature : shape.Sig-F (Option Kind) (Option Kind) Bool → Bool
+is_signature s = is_result s.result && list_all is_plain_scalar s.params
+
+module _ (target : Target) (extents : ℕ → Option (Option ℕ)) where
   abbrev pub shape_kind : shape.Shape-F (Option Kind) (Option Kind) Bool → Option Kind
   shape_kind shape.Void = Some IsVoid
   shape_kind (shape.Int t) = Some (IsScalar false (bytes_of t target))
@@ -93,18 +103,8 @@ module _ (structures : List Structure) (count : ℕ) (target : Target) where
   shape_kind (shape.Pointer (Some to)) = pointer_kind target.pointer_bytes to
   shape_kind (shape.Array None n) = None
   shape_kind (shape.Array (Some of) n) = array_kind n (bytes_in of)
-  shape_kind (shape.Struct i) = struct_kind i
+  shape_kind (shape.Struct i) = extent_kind (extents i)
   shape_kind (shape.Func good) = if good then Some IsFunction else None
-
-  abbrev pub qualified_kind : Bool → Option Kind → Option Kind
-  qualified_kind q None = None
-  qualified_kind q (Some kind) = with_qualifiers q kind
-
-  abbrev pub type_kind : shape.CType-F (Option Kind) (Option Kind) Bool → Option Kind
-  type_kind t = qualified_kind (t.constant || t.volatile) t.shape
-
-  abbrev pub is_signature : shape.Sig-F (Option Kind) (Option Kind) Bool → Bool
-  is_signature s = is_result s.result && list_all is_plain_scalar s.params
 
   -- the kind of a type, where it may stand in a program
   unfoldable pub kind_of : CType → Option Kind
@@ -113,8 +113,17 @@ module _ (structures : List Structure) (count : ℕ) (target : Target) where
   unfoldable pub is_sig : Sig → Bool
   is_sig s = fold-Sig (Option Kind) (Option Kind) Bool shape_kind type_kind is_signature s
 
-abbrev pub kind_in : Program → CType → Option Kind
-kind_in p t = kind_of p.structures (length p.structures) p.target t
+-- over the structures that are complete by then, of `count` structures in all
+abbrev pub extent_with : List Structure → ℕ → Target → ℕ → Option (Option ℕ)
+extent_with structures count target i =
+    if has_members (slice_get structures i) then Some (Some (unwrap_or (slice_get (layouts target structures) i) nothing).size)
+    else (if nat_lt i count then Some None else None)
+
+abbrev pub extent_in : List Structure → Target → ℕ → Option (Option ℕ)
+extent_in structures target i = extent_with structures (length structures) target i
+
+abbrev pub struct_kind : List Structure → ℕ → Target → ℕ → Option Kind
+struct_kind structures count target i = extent_kind (extent_with structures count target i)
 
 -- the type of an object, a member or an element: complete, and small enough
 abbrev pub is_object_kind : Option ℕ → Bool

@@ -7,9 +7,11 @@ pub mod SameTypes
 pub mod Kinds
 pub mod Values
 pub mod Operators
+pub mod Views
 pub mod Expressions
 pub mod Statements
 pub mod Initial
+pub mod Programs
 pub mod Names
 pub mod Sound
 pub mod Folding

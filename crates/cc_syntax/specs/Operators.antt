@@ -15,13 +15,11 @@ use Rattle.cc_num.specs.Results.{is_shift}
 use Rattle.cc_program.specs.declared.expr.Intr.{Intr}
 use Rattle.cc_program.specs.declared.expr.Intr.TheVariants as intr
 use Rattle.cc_program.specs.declared.func.Func.{Func}
-use Rattle.cc_program.specs.declared.program.Program.{Program}
 use Rattle.cc_program.specs.declared.types.CType.{CType}
-use Rattle.cc_program.specs.declared.types.Shape.{Shape, out-Shape}
+use Rattle.cc_program.specs.declared.types.Shape.{Shape}
 use Rattle.cc_program.specs.declared.types.Shape.TheOpen as shape
 use Rattle.cc_program.specs.declared.types.Sig.{Sig, out-Sig}
 use Rattle.cc_program.specs.declared.types.Structure.{Structure}
-use Rattle.cc_syntax.specs.Kinds.{kind_in, is_plain_scalar}
 use Rattle.cc_syntax.specs.SameTypes.{same_int, same_sig, alike}
 use Rattle.cc_syntax.specs.Types.{is_complete}
 use Rattle.cc_syntax.specs.Values.{ValueType, NoValue, Integer, ToObject, ToFunction, PlaceType, pointer_to, result_value, is_scalar, is_void, point_alike, is_assignable, are_assignable, element_of}
@@ -86,10 +84,6 @@ pointer_in good (shape.Array of n) = None
 pointer_in good (shape.Struct s) = None
 pointer_in good (shape.Func sig) = None
 
--- a pointer type without qualifiers of its own
-abbrev pub pointer_type : Program → CType → Option ValueType
-pointer_type p t = pointer_in (is_plain_scalar (kind_in p t)) (out-Shape t.shape)
-
 abbrev pub is_unqualified : CType → Bool
 is_unqualified t = not (t.constant || t.volatile)
 
@@ -104,10 +98,6 @@ void_pointer_in plain (shape.Func sig) = None
 abbrev pub first_of : {A : Type 0} → Option A → Option A → Option A
 first_of None b = b
 first_of (Some a) b = Some a
-
--- a null has a pointer type, or `void *` (6.3.2.3, 3)
-abbrev pub null_type : Program → CType → Option ValueType
-null_type p t = first_of (void_pointer_in (is_unqualified t) (out-Shape t.shape)) (pointer_type p t)
 
 abbrev pub is_handler : Func → Bool
 is_handler f = is_some f.entry
@@ -161,9 +151,6 @@ conversion_type t a = when (is_integer a) (Integer t)
 abbrev pub when_assignable : Option ValueType → ValueType → Option ValueType
 when_assignable None a = None
 when_assignable (Some to) a = when (is_assignable to a) to
-
-abbrev pub qualified_type : Program → CType → ValueType → Option ValueType
-qualified_type p t a = when_assignable (pointer_type p t) a
 
 abbrev pub points_to_object : List Structure → ValueType → Bool
 points_to_object structures NoValue = false

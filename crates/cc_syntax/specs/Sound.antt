@@ -16,13 +16,12 @@ use Rattle.cc_program.specs.declared.types.CType.{CType}
 use Rattle.cc_program.specs.declared.types.Shape.{out-Shape}
 use Rattle.cc_program.specs.declared.types.Sig.{out-Sig}
 use Rattle.cc_program.specs.declared.types.Structure.{Structure}
-use Rattle.cc_syntax.specs.Initial.{IsInitial}
-use Rattle.cc_syntax.specs.Kinds.{kind_of, kind_in, is_result, is_plain_scalar, is_object_type}
+use Rattle.cc_syntax.specs.Programs.{IsInitial, kind_in, is_sound_body}
+use Rattle.cc_syntax.specs.Kinds.{kind_of, is_result, is_plain_scalar, is_object_type, extent_with}
 use Rattle.cc_syntax.specs.Lists.{come_first}
 use Rattle.cc_syntax.specs.Names.{are_names, file_names, tags, local_names}
 use Rattle.cc_syntax.specs.Operators.{is_unqualified, is_handler}
 use Rattle.cc_syntax.specs.SameTypes.{same_int, same_flag, same_shape, is_int_shape}
-use Rattle.cc_syntax.specs.Statements.{is_sound_body}
 use Rattle.cc_syntax.specs.Types.{Named}
 use Rattle.cc_syntax.specs.Values.{is_void}
 
@@ -36,7 +35,7 @@ abbrev pub is_only_named : Structure → Bool
 is_only_named s = nat_eq (length s.members) 0
 
 abbrev pub is_member : List Structure → ℕ → Target → Named → Bool
-is_member before count target m = is_object_type (kind_of before count target m.1)
+is_member before count target m = is_object_type (kind_of target (extent_with before count target) m.1)
 
 abbrev pub is_structure : List Structure → ℕ → Target → Structure → Bool
 is_structure before count target s = have_ids (length s.members) && (are_names (local_names s.members) && list_all (is_member before count target) s.members)

@@ -1,4 +1,4 @@
--- Statements of a sound program (C99 6.8).
+-- Sound statements, whatever their expressions are typed over (C99 6.8).
 use Rattle.std.specs.Prelude.{ℤ, Bool, true, false, not, ◌&&◌, List, [], ◌∷◌, Option, Some, None, is_some, map}
 use Rattle.std.specs.List.{list_all, list_any, flat_map}
 use Rattle.std.specs.Ordering.{int_eq}
@@ -6,13 +6,10 @@ use Rattle.cc_num.specs.declared.int_type.IntType.{IntType}
 use Rattle.cc_num.specs.declared.target.Target.{Target}
 use Rattle.cc_num.specs.Integers.{is_value_of}
 use Rattle.cc_program.specs.declared.expr.Expr.{Expr}
-use Rattle.cc_program.specs.declared.func.Func.{Func}
-use Rattle.cc_program.specs.declared.program.Program.{Program}
 use Rattle.cc_program.specs.declared.stmt.Case.{Case, out-Case}
 use Rattle.cc_program.specs.declared.stmt.Stmt.{Stmt, fold-Stmt}
 use Rattle.cc_program.specs.declared.stmt.Stmt.TheOpen as is
-use Rattle.cc_program.specs.declared.types.Sig.{out-Sig}
-use Rattle.cc_syntax.specs.Expressions.{type_of}
+use Rattle.cc_program.specs.declared.types.CType.{CType}
 use Rattle.cc_syntax.specs.Operators.{is_promoted}
 use Rattle.cc_syntax.specs.Values.{ValueType, NoValue, Integer, ToObject, ToFunction, is_scalar, is_void, scalar_value, is_assignable_some}
 
@@ -62,10 +59,8 @@ has_label (l ∷ ls) = true
 abbrev pub sound_case : is.Case-F SoundWhere Labelled → Labelled
 sound_case c = record { labels = c.labels; body = λ breaks continues. list_all (λ s. s breaks continues) c.body }
 
-module _ (p : Program) (f : Func) where
-  abbrev pub typed : Expr → Option ValueType
-  typed e = type_of p f.locals e
-
+-- in a function that gives such a result
+module _ (target : Target) (typed : Expr → Option ValueType) (result : CType) where
   abbrev pub is_typed : Option Expr → Bool
   is_typed None = true
   is_typed (Some e) = is_some (typed e)
@@ -76,8 +71,8 @@ module _ (p : Program) (f : Func) where
 
   -- a value exactly where the function has a result, and of its type (6.8.6.4, 1 and 3)
   abbrev pub returns : Option Expr → Bool
-  returns None = is_void (out-Sig f.sig).result
-  returns (Some e) = is_assignable_some (scalar_value (out-Sig f.sig).result) (typed e)
+  returns None = is_void result
+  returns (Some e) = is_assignable_some (scalar_value result) (typed e)
 
   abbrev pub sound_step : is.Stmt-F SoundWhere Labelled → SoundWhere
   sound_step (is.Do e) = λ breaks continues. is_some (typed e)
@@ -86,7 +81,7 @@ module _ (p : Program) (f : Func) where
   sound_step (is.DoWhile a e) = λ breaks continues. is_condition (typed e) && list_all (λ s. s true true) a
   sound_step (is.For first test step a) = λ breaks continues. is_typed first && (is_optional_condition test && (is_typed step && list_all (λ s. s true true) a))
   sound_step (is.Switch e cases) = λ breaks continues.
-      labels_fit p.target (flat_map (λ c. c.labels) cases) (typed e)
+      labels_fit target (flat_map (λ c. c.labels) cases) (typed e)
       && (are_apart (flat_map (λ c. c.labels) cases) && (list_all (λ c. has_label c.labels) cases && list_all (λ c. c.body true continues) cases))
   sound_step is.Break = λ breaks continues. breaks
   sound_step is.Continue = λ breaks continues. continues
@@ -94,7 +89,7 @@ module _ (p : Program) (f : Func) where
   sound_step is.Empty = λ breaks continues. true
   sound_step (is.Block a) = λ breaks continues. list_all (λ s. s breaks continues) a
 
-  -- a statement of the function
+  -- a statement, by whether `break` and `continue` may stand there
   abbrev pub is_sound_stmt : Stmt → SoundWhere
   is_sound_stmt s = fold-Stmt SoundWhere Labelled sound_step sound_case s
 

@@ -13,7 +13,7 @@ ghost use Rattle.cc_program.specs.declared.program.Program.{Program};
 ghost use Rattle.cc_program.specs.declared.value.Part.TheVariants as part;
 ghost use Rattle.cc_syntax.specs.Folding.{Value, Traps, binary_constant, both_constant};
 ghost use Rattle.cc_syntax.specs.Initial.{names_whole};
-ghost use Rattle.cc_syntax.specs.Kinds.{kind_of, is_object_type};
+ghost use Rattle.cc_syntax.specs.Kinds.{kind_of, is_object_type, extent_with};
 ghost use Rattle.cc_syntax.specs.Normal.{IsNormal, next_of};
 ghost use Rattle.cc_syntax.specs.Operators.{choice_type, changes_by};
 ghost use Rattle.cc_syntax.specs.Values.{ValueType, PlaceType, NoValue, Integer};
@@ -53,8 +53,8 @@ pub fn laws()
     // An element is named by its array and its index alone, and not as an array of one.
     ensures element_by_path { (to : ValueType) (a : PlaceType) → names_whole to (part.Index 3 ∷ []) 0 1 a ≡ false }
     // `struct s { struct s *m; }` stands, and `struct s { struct s m[2]; }` does not.
-    ensures pointer_to_own_structure { is_object_type (kind_of [] 1 wide (plain (Pointer (struct 0)))) ≡ true }
-    ensures array_of_own_structure { is_object_type (kind_of [] 1 wide (array (struct 0) 2)) ≡ false }
+    ensures pointer_to_own_structure { is_object_type (kind_of wide (extent_with [] 1 wide) (plain (Pointer (struct 0)))) ≡ true }
+    ensures array_of_own_structure { is_object_type (kind_of wide (extent_with [] 1 wide) (array (struct 0) 2)) ≡ false }
     // `c ? i : l` has no value that may be used; the sum in `c += l` is taken in long.
     ensures arms_of_two_types { choice_type wide (Integer int.Int) (Integer int.Int) (Integer int.Long) ≡ Some NoValue }
     ensures sum_in_long { changes_by wide int.SChar op.Add int.Long (Integer int.Long) ≡ true }

@@ -26,7 +26,7 @@ use Rattle.cc_pieces.specs.Pieces.{Pieces, punct, keyword, ident, space, flat}
 use Rattle.cc_piece_tokens.specs.Laid.{laid}
 use Rattle.cc_piece_tokens.specs.Parts.{Fits}
 use Rattle.cc_piece_tokens.proofs.Spelling.{name-parts}
-use Rattle.cc_syntax.specs.Kinds.{kind_of, is_plain_scalar}
+use Rattle.cc_syntax.specs.Kinds.{kind_of, is_plain_scalar, extent_with}
 use Rattle.cc_syntax.specs.Types.{has_members}
 use Rattle.cc_type_trees.specs.Soft.{IsSoft}
 use Rattle.cc_type_trees.specs.Types.{Plain, unnamed, ShowsParams}
@@ -109,11 +109,11 @@ module _ (structures : List Structure) where
     abbrev ReadsSignature : Sig → Type 0
     ReadsSignature s = IsSignature known (length structures) target s → ReadsSig (signature structures s) (out-Sig s)
 
-    each-bare : (ts : List CType) → Each ReadsType ts → list_all is_plain_scalar (map (kind_of known (length structures) target) ts) ≡ true → EachReads structures (map bare ts)
+    each-bare : (ts : List CType) → Each ReadsType ts → list_all is_plain_scalar (map (kind_of target (extent_with known (length structures) target)) ts) ≡ true → EachReads structures (map bare ts)
     each-bare [] h k = tt
     each-bare (t ∷ ts) h k =
-        let e = and-true (is_plain_scalar (kind_of known (length structures) target t)) (list_all is_plain_scalar (map (kind_of known (length structures) target) ts)) k in
-        let r = h.0 (scalar-some known (length structures) target (kind_of known (length structures) target t) e.0) in
+        let e = and-true (is_plain_scalar (kind_of target (extent_with known (length structures) target) t)) (list_all is_plain_scalar (map (kind_of target (extent_with known (length structures) target)) ts)) k in
+        let r = h.0 (scalar-some known (length structures) target (kind_of target (extent_with known (length structures) target) t) e.0) in
         ((λ all at ps i. r (Plain None) t Nothing (λ qs. qs) (nothing-reads structures t) [] all at ps i, not-void known (length structures) target t e.0), each-bare ts h.1 e.1)
 
     abbrev IsParamsAt : Params → ℕ → Pieces → ℕ → Pieces → Type 0
@@ -178,11 +178,11 @@ module _ (structures : List Structure) where
       pub pointer-fitting : (c v : Bool) (t : CType) → FitsDeclarator (declarator structures t) → FitsDeclarator (declarator structures (stands c v (shape.Pointer t)))
       pointer-fitting c v t r = fits-level c v (shape.Pointer t) (λ inside inner h ps f s. r Pointer (pointer_inner c v inside inner) (pointer-fits c v inside inner h) ps f s)
 
-      each-fits : (ts : List CType) → Each FitsType ts → list_all is_plain_scalar (map (kind_of known (length structures) target) ts) ≡ true → EachFits structures (map bare ts)
+      each-fits : (ts : List CType) → Each FitsType ts → list_all is_plain_scalar (map (kind_of target (extent_with known (length structures) target)) ts) ≡ true → EachFits structures (map bare ts)
       each-fits [] h k = tt
       each-fits (t ∷ ts) h k =
-          let e = and-true (is_plain_scalar (kind_of known (length structures) target t)) (list_all is_plain_scalar (map (kind_of known (length structures) target) ts)) k in
-          let r = h.0 (scalar-some known (length structures) target (kind_of known (length structures) target t) e.0) in
+          let e = and-true (is_plain_scalar (kind_of target (extent_with known (length structures) target) t)) (list_all is_plain_scalar (map (kind_of target (extent_with known (length structures) target)) ts)) k in
+          let r = h.0 (scalar-some known (length structures) target (kind_of target (extent_with known (length structures) target) t) e.0) in
           (λ ps f s. r Nothing (λ qs. qs) nothing-fits ps f s, each-fits ts h.1 e.1)
 
       abbrev FitsTag : Bool → Bool → Option Structure → Pieces → Type 0

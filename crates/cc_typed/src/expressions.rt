@@ -3,8 +3,9 @@
 ghost use Rattle.std.specs.Prelude.{◌≡◌, option_map, map, slice_get, length};
 ghost use Rattle.std.specs.Option.{option_copied};
 ghost use Rattle.cc_program.specs.declared.expr.Expr.{out-Expr};
-ghost use Rattle.cc_syntax.specs.Expressions.{type_of as type_of_of, place_type as place_type_of, of_one, of_two};
-ghost use Rattle.cc_syntax.specs.Operators.{null_type as null_type_of, pointer_type as pointer_type_of, qualified_type as qualified_type_of, pointer_in as pointer_in_of, void_pointer_in as void_pointer_in_of, is_unqualified as is_unqualified_of, call_type as call_type_of, intrinsic_type as intrinsic_type_of, unary_type, binary_type, conversion_type, moved_type, gap_type, comparison_type, logical_type, choice_type, assignment_type, change_type, after_type, subscript_type};
+ghost use Rattle.cc_syntax.specs.Expressions.{of_one, of_two};
+ghost use Rattle.cc_syntax.specs.Programs.{type_of as type_of_of, place_type as place_type_of, null_type as null_type_of, pointer_type as pointer_type_of, qualified_type as qualified_type_of};
+ghost use Rattle.cc_syntax.specs.Operators.{pointer_in as pointer_in_of, void_pointer_in as void_pointer_in_of, is_unqualified as is_unqualified_of, call_type as call_type_of, intrinsic_type as intrinsic_type_of, unary_type, binary_type, conversion_type, moved_type, gap_type, comparison_type, logical_type, choice_type, assignment_type, change_type, after_type, subscript_type};
 ghost use Rattle.cc_syntax.specs.Values.{are_assignable, result_value as result_value_of, is_assignable_some as is_assignable_some_of, read_from, written_to, address_of, pointed_to, member_of, object_place as object_place_of};
 ghost use Rattle.cc_syntax.specs.Types.{Named};
 ghost use Rattle.cc_syntax.specs.Sizes.{AreSized};

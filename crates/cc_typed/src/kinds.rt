@@ -2,7 +2,8 @@
 
 ghost use Rattle.std.specs.Prelude.{◌≡◌, ◌≤◌, ◌<◌, ◌^◌, ◌*◌, option_map, length};
 ghost use Rattle.std.specs.List.{list_all};
-ghost use Rattle.cc_syntax.specs.Kinds.{bytes_in, pointer_kind, array_of as array_of_kind, array_kind as array_kind_of, with_qualifiers as with_qualifiers_of, is_result as is_result_of, is_plain_scalar as is_plain_scalar_of, kind_of as kind_of_of, struct_kind as struct_kind_of, kind_in as kind_in_of, is_object_type as is_object_type_of, is_object_kind, is_sig as is_sig_of, is_small as is_small_of};
+ghost use Rattle.cc_syntax.specs.Kinds.{bytes_in, pointer_kind, array_of as array_of_kind, array_kind as array_kind_of, with_qualifiers as with_qualifiers_of, is_result as is_result_of, is_plain_scalar as is_plain_scalar_of, kind_of as kind_of_of, struct_kind as struct_kind_of, is_object_type as is_object_type_of, is_object_kind, is_sig as is_sig_of, is_small as is_small_of, extent_with};
+ghost use Rattle.cc_syntax.specs.Programs.{kind_in as kind_in_of};
 ghost use Rattle.cc_program.specs.declared.types.Shape.{Struct as StructOf};
 ghost use Rattle.cc_syntax.specs.Sizes.{AreSized};
 ghost use Rattle.cc_typed.specs.View.{kind_view};
@@ -121,7 +122,7 @@ pub fn is_plain_scalar(kind: Option<Kind>) -> bool
 #[tactic(auto, unfolding(cc_syntax::specs::Kinds::kind_of, cc_syntax::specs::Kinds::is_sig))]
 pub fn kind_of(t: &CType, structures: &[Structure], count: usize, target: &Target) -> Option<Kind>
     requires { AreSized structures.now target.now }
-    ensures { option_map kind_view result ≡ kind_of_of structures.now count target.now t.now }
+    ensures { option_map kind_view result ≡ kind_of_of target.now (extent_with structures.now count target.now) t.now }
 {
     let kind = match &t.shape {
         Shape::Void => Kind::Void,
@@ -149,7 +150,7 @@ pub fn kind_of(t: &CType, structures: &[Structure], count: usize, target: &Targe
 #[tactic(auto, using(crate::proofs::ListLemmas::of_mapped), unfolding(cc_syntax::specs::Kinds::is_sig, cc_syntax::specs::Kinds::kind_of))]
 fn is_sig(sig: &Sig, structures: &[Structure], count: usize, target: &Target) -> bool
     requires { AreSized structures.now target.now }
-    ensures { result ≡ is_sig_of structures.now count target.now sig.now }
+    ensures { result ≡ is_sig_of target.now (extent_with structures.now count target.now) sig.now }
 {
     if !is_result(kind_of(&sig.result, structures, count, target)) {
         return false;

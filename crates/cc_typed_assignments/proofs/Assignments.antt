@@ -5,7 +5,6 @@ use Rattle.std.specs.List.{list_all}
 use Rattle.cc_given_scalars.specs.Scalars.{OneScalar}
 use Rattle.cc_given_values.specs.Values.{IsGiven, AreGiven}
 use Rattle.cc_objects.specs.Values.{assignments}
-use Rattle.cc_operand_types.specs.Views.{View, type_of}
 use Rattle.cc_operand_types.proofs.Rolls.{type-Assign}
 use Rattle.cc_program.specs.declared.expr.Expr.{Expr, Assign}
 use Rattle.cc_program.specs.declared.expr.Place.{Place}
@@ -16,6 +15,8 @@ use Rattle.cc_sound_units.specs.Reduced.{ReducedLocals}
 use Rattle.cc_syntax.specs.Operators.{assignment_type, when}
 use Rattle.cc_syntax.specs.Types.{Named}
 use Rattle.cc_syntax.specs.Values.{ValueType, ObjectPlace, scalar_value}
+use Rattle.cc_syntax.specs.Views.{View}
+use Rattle.cc_syntax.specs.Expressions.{type_of}
 
 module _ (v : View) (locals declared : List Named) (reduced : ReducedLocals locals declared) where
   abbrev HasType : Expr → Bool

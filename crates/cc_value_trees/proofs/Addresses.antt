@@ -24,7 +24,8 @@ use Rattle.cc_program.specs.declared.value.Part.TheVariants as part
 use Rattle.cc_program.specs.declared.value.Root.{Root}
 use Rattle.cc_program.specs.declared.value.Root.TheVariants as root
 use Rattle.cc_syntax.specs.Expressions.{of_one}
-use Rattle.cc_syntax.specs.Initial.{bound_of, step_into, place_at, leads_to_element, names_element, names_whole, names, is_address}
+use Rattle.cc_syntax.specs.Initial.{bound_of, step_into, place_at, leads_to_element, names_element, names_whole, names}
+use Rattle.cc_syntax.specs.Programs.{is_address}
 use Rattle.cc_syntax.specs.Lists.{is_count}
 use Rattle.cc_syntax.specs.Operators.{function_type}
 use Rattle.cc_syntax.specs.Values.{ValueType, PlaceType, object_place, pointer_to, element_of, address_of, is_assignable_some}

@@ -21,7 +21,8 @@ use Rattle.cc_program.specs.declared.value.Part.{Part}
 use Rattle.cc_program.specs.declared.value.Part.TheVariants as part
 use Rattle.cc_program.specs.declared.value.Root.{Root}
 use Rattle.cc_program.specs.declared.value.Root.TheVariants as root
-use Rattle.cc_syntax.specs.Initial.{step_into, place_at, is_address}
+use Rattle.cc_syntax.specs.Initial.{step_into, place_at}
+use Rattle.cc_syntax.specs.Programs.{is_address}
 use Rattle.cc_syntax.specs.Sound.{are_structures, is_object}
 use Rattle.cc_syntax.specs.Values.{PlaceType, object_place, pointer_to}
 use Rattle.cc_type_trees.specs.Soft.{IsSoft}

@@ -27,7 +27,8 @@ use Rattle.cc_program.specs.declared.types.Structure.{Structure}
 use Rattle.cc_program.specs.declared.value.Address.{Address}
 use Rattle.cc_program.specs.declared.value.Leaf.{Leaf}
 use Rattle.cc_program.specs.declared.value.Leaf.TheVariants as leaf
-use Rattle.cc_syntax.specs.Initial.{AreLeaves, OfInteger, OfPointer, OfArray, OfStructure, AreElements, NoElement, Element, AreMembers, NoMember, Member, is_address}
+use Rattle.cc_syntax.specs.Initial.{OfInteger, OfPointer, OfArray, OfStructure, NoElement, Element, NoMember, Member}
+use Rattle.cc_syntax.specs.Programs.{AreLeaves, AreElements, AreMembers, is_address}
 use Rattle.cc_syntax.specs.Sound.{IsSound}
 use Rattle.cc_syntax.specs.Types.{Named, has_members, is_complete}
 use Rattle.cc_syntax.specs.Values.{pointer_to}

@@ -17,7 +17,7 @@ use Rattle.cc_program.specs.declared.types.Sig.{Sig}
 use Rattle.cc_program.specs.declared.types.Structure.{Structure}
 use Rattle.cc_program.specs.declared.value.Part.TheVariants as part
 use Rattle.cc_syntax.specs.Initial.{bound_shape, bound_of, is_below, step_into}
-use Rattle.cc_syntax.specs.Kinds.{Kind, kind_of, shape_kind, qualified_kind, is_object_type}
+use Rattle.cc_syntax.specs.Kinds.{Kind, kind_of, shape_kind, qualified_kind, is_object_type, extent_with}
 use Rattle.cc_syntax.specs.Names.{are_names, local_names}
 use Rattle.cc_syntax.specs.Sound.{have_ids, is_member, is_structure, are_structures, is_object, IsSound}
 use Rattle.cc_syntax.specs.Types.{Named, has_members, complete_shape, is_complete, IsInOrder}
@@ -131,7 +131,7 @@ module _ (structures : List Structure) where
 
 module _ (p : Program) (good : are_structures [] (length p.structures) p.target p.structures ≡ true) where
   abbrev pub HasKind : CType → Type 0
-  HasKind t = (known : List Structure) × (is_some (kind_of known (length p.structures) p.target t) ≡ true)
+  HasKind t = (known : List Structure) × (is_some (kind_of p.target (extent_with known (length p.structures) p.target) t) ≡ true)
 
   abbrev pub IsKnown : PlaceType → Type 0
   IsKnown (DevicePlace c i) = Unit {0}
@@ -141,8 +141,8 @@ module _ (p : Program) (good : are_structures [] (length p.structures) p.target 
   array-known : (t of : CType) (n : ℕ) → out-Shape t.shape ≡ shape.Array of n → HasKind t → HasKind of × (n ≤ 65535)
   array-known t of n e h =
       let count = length p.structures in
-      let r = elements h.0 count p.target (t.constant || t.volatile) n (kind_of h.0 count p.target of) (subst (λ k. is_some k ≡ true)
-      (kind-opens h.0 count p.target t ∙ ap (λ x. qualified_kind h.0 count p.target (t.constant || t.volatile) (shape_kind h.0 count p.target (parts_kind h.0 count p.target x))) e) h.1) in
+      let r = elements h.0 count p.target (t.constant || t.volatile) n (kind_of p.target (extent_with h.0 count p.target) of) (subst (λ k. is_some k ≡ true)
+      (kind-opens p.target (extent_with h.0 count p.target) t ∙ ap (λ x. qualified_kind (t.constant || t.volatile) (shape_kind p.target (extent_with h.0 count p.target) (parts_kind p.target (extent_with h.0 count p.target) x))) e) h.1) in
       ((h.0, r.0), r.1.1)
 
   element-known : (c v : Bool) (t : CType) (b : PlaceType) (x : shape.Shape-F Shape CType Sig) → out-Shape t.shape ≡ x → element_shape c v x ≡ Some b → HasKind t → IsKnown b
@@ -161,7 +161,7 @@ module _ (p : Program) (good : are_structures [] (length p.structures) p.target 
   pub member-known : (i : ℕ) (a b : PlaceType) → MemberStep p.structures i a b → IsKnown b
   member-known i a b s =
       let m = all-at (is_member (take s.structure p.structures) (length p.structures) p.target) s.found.members i s.member (members-of (length p.structures) p.target p.structures good s.structure s.found s.there) s.among in
-      subst IsKnown (sym s.typed) (take s.structure p.structures, some-kind (kind_of (take s.structure p.structures) (length p.structures) p.target s.member.1) m)
+      subst IsKnown (sym s.typed) (take s.structure p.structures, some-kind (kind_of p.target (extent_with (take s.structure p.structures) (length p.structures) p.target) s.member.1) m)
 
   bound-known : (t : CType) (n : ℕ) (x : shape.Shape-F Shape CType Sig) → out-Shape t.shape ≡ x → bound_shape x ≡ Some n → HasKind t → n ≤ 65535
   bound-known t n (shape.Array of k) e h g = let same : k ≡ n = cc in subst (λ m. m ≤ 65535) same (array-known t of k e g).1

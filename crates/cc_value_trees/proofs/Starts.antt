@@ -27,7 +27,8 @@ use Rattle.cc_program.specs.declared.value.Address.TheVariants as address
 use Rattle.cc_program.specs.declared.value.Leaf.{Leaf}
 use Rattle.cc_program.specs.declared.value.Leaf.TheVariants as leaf
 use Rattle.cc_program.proofs.TypeInduction.{with_shape, TypeParts, SigParts, by_type}
-use Rattle.cc_syntax.specs.Initial.{IsInitial, AreLeaves, OfInteger, OfPointer, OfArray, OfStructure, AreElements, NoElement, Element, AreMembers, NoMember, Member, is_zero}
+use Rattle.cc_syntax.specs.Initial.{OfInteger, OfPointer, OfArray, OfStructure, NoElement, Element, NoMember, Member, is_zero}
+use Rattle.cc_syntax.specs.Programs.{IsInitial, AreLeaves, AreElements, AreMembers}
 use Rattle.cc_syntax.specs.Sound.{is_object, IsSound}
 use Rattle.cc_syntax.specs.Types.{Named, has_members, is_complete}
 use Rattle.cc_syntax.proofs.Parts.{all_at}

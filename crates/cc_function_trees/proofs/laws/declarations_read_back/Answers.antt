@@ -1,7 +1,7 @@
 use Rattle.std.proofs.Common.{false, ◌∷◌, [], refl}
 use Rattle.cc_program.specs.declared.types.Sig.{out-Sig}
 use Rattle.cc_statement_trees.proofs.Lines.{body-reads}
-use Rattle.cc_syntax.specs.Kinds.{kind_in}
+use Rattle.cc_syntax.specs.Programs.{kind_in}
 use Rattle.cc_words.specs.declared.word.Word.TheVariants as w
 use Rattle.cc_function_trees.proofs.Declarations.{name-decl-read}
 use Rattle.cc_function_trees.proofs.Fitting.{decl-fits, function-fits}

@@ -1,5 +1,5 @@
 use Rattle.std.proofs.Common.{rules, ◌≡◌, option_map, Some}
-use Rattle.cc_syntax.specs.Expressions.{type_of}
+use Rattle.cc_syntax.specs.Programs.{type_of}
 use Rattle.cc_typed.specs.View.{value_view}
 use Rattle.cc_typed.proofs.CallLemmas.{call_typed}
 use Rattle.cc_typed.proofs.expressions.Scope.+types.Goals as goal

@@ -1,5 +1,5 @@
 use Rattle.std.proofs.Common.{◌≡◌, length, take, map, true}
-use Rattle.cc_syntax.specs.Expressions.{type_of}
+use Rattle.cc_syntax.specs.Programs.{type_of}
 use Rattle.cc_syntax.specs.Values.{are_assignable}
 use Rattle.cc_typed.proofs.expressions.Scope.+types.Given as goal
 
