@@ -14,11 +14,10 @@ use Rattle.cc_program.specs.declared.types.Shape.TheVariants.{outs-Struct}
 use Rattle.cc_program.specs.declared.types.Structure.{Structure}
 use Rattle.cc_relocation.specs.Relocated.{member_with}
 use Rattle.cc_relocated_types.specs.Renumbering.{MemberTypes}
-use Rattle.cc_sound_sources.proofs.UnitKinds.{kind_same, unit_kind}
+use Rattle.cc_sound_sources.proofs.UnitKinds.{unit_kind}
 use Rattle.cc_structures.specs.Structures.{Known, Numbering, numbers_of, AreNumbered}
 use Rattle.cc_structures.proofs.WordLaws.{number_by, level-renumbered, constant-kept, volatile-kept}
 use Rattle.cc_syntax.specs.Kinds.{Kind, IsStructure, IsIncomplete, extent_in, extent_kind, kind_of, shape_kind, qualified_kind}
-use Rattle.cc_syntax.specs.Kinds as kinds
 use Rattle.cc_syntax.specs.Types.{Named}
 use Rattle.cc_syntax.proofs.KindRolls.{parts_kind, kind-opens}
 use Rattle.cc_unit.specs.Renumbered.{type_renumbered}
@@ -78,5 +77,5 @@ module _ (units : List TypedUnit) (numbering : Numbering) (firsts : List Known) 
       let flags : (d.constant || d.volatile) ≡ false = ap (λ (b : Bool). b || d.volatile) (constant-kept numbers c) ∙ volatile-kept numbers c in
       let before : kind_of target (extent_in (structures_of u) target) c ≡ Some k.0 =
       struct_at target (extent_in (structures_of u) target) c i refl (outs-Struct i) ∙ (ap (λ (o : Option (Option ℕ)). qualified_kind false (extent_kind o)) f ∙ k.1) in
-      let after : kinds.kind_of program (length program) target d ≡ Some k.0 = kind-same units numbering firsts tags target are as_many standing t u e c k.0 (sym (unit_kind target u c) ∙ before) in
-      extent_found x (extent_in program target (number_by numbers i)) k.0 k.1 (sym (struct_at target (extent_in program target) d (number_by numbers i) flags shaped) ∙ (kind_same program target d ∙ after))
+      let after : kind_of target (extent_in program target) d ≡ Some k.0 = kind-same units numbering firsts tags target are as_many standing t u e c k.0 (sym (unit_kind target u c) ∙ before) in
+      extent_found x (extent_in program target (number_by numbers i)) k.0 k.1 (sym (struct_at target (extent_in program target) d (number_by numbers i) flags shaped) ∙ after)

@@ -5,6 +5,7 @@ mod devices;
 mod folding;
 mod normal;
 mod pure;
+mod registers;
 mod statements;
 
-pub use normal::is_normal;
+pub use normal::{has_normal_form, is_normal};

@@ -3,6 +3,7 @@
 ghost use Rattle.std.specs.Prelude.{◌≡◌, map};
 ghost use Rattle.std.specs.List.{list_all};
 ghost use Rattle.cc_program.specs.declared.stmt.Case.{out-Case};
+ghost use Rattle.cc_normal.specs.Kept.{AreKept};
 ghost use Rattle.cc_syntax.specs.Forms.{form_of};
 ghost use Rattle.cc_syntax.specs.Normal.{is_operand as is_operand_of, is_callee as is_callee_of, is_call as is_call_of, is_place_read as is_place_read_of, is_assignment as is_assignment_of, is_expression_statement as is_expression_statement_of, is_one as is_one_of, is_normal_stmt as is_normal_stmt_of};
 
@@ -23,6 +24,7 @@ fn is_one(e: &Expr) -> bool
 
 impl<'p> Body<'p> {
     fn are_operands(self, args: &[Expr]) -> bool
+        requires { AreKept self.func.now self.kept.now }
         ensures { result ≡ list_all (is_operand_of self.entry.target.now self.entry.func.now) args.now }
     {
         args.iter().all(|arg| self.is_operand(arg))
@@ -30,6 +32,7 @@ impl<'p> Body<'p> {
 
     /// Whether what is called is a function or a register.
     fn is_callee(self, f: &Expr) -> bool
+        requires { AreKept self.func.now self.kept.now }
         ensures { result ≡ is_callee_of self.entry.target.now self.entry.func.now (form_of f.now) }
     {
         match f {
@@ -41,6 +44,7 @@ impl<'p> Body<'p> {
 
     /// Whether it is a call whose arguments are operands, or an intrinsic.
     fn is_call(self, e: &Expr) -> bool
+        requires { AreKept self.func.now self.kept.now }
         ensures { result ≡ is_call_of self.entry.target.now self.entry.func.now (form_of e.now) }
     {
         match e {
@@ -53,6 +57,7 @@ impl<'p> Body<'p> {
 
     /// Whether it reads a place that is no register.
     fn is_place_read(self, e: &Expr) -> bool
+        requires { AreKept self.func.now self.kept.now }
         ensures { result ≡ is_place_read_of self.entry.target.now self.entry.func.now (form_of e.now) }
     {
         match e {
@@ -63,6 +68,7 @@ impl<'p> Body<'p> {
 
     /// Whether `a = e` is `register = operand`, `register = place`, `register = call` or `place = operand`.
     fn is_assignment(self, a: &Place, e: &Expr) -> bool
+        requires { AreKept self.func.now self.kept.now }
         ensures { result ≡ is_assignment_of self.entry.target.now self.entry.func.now a.now e.now }
     {
         if self.is_register_place(a) {
@@ -74,6 +80,7 @@ impl<'p> Body<'p> {
 
     /// Whether it is such an assignment, or a call.
     fn is_expression_statement(self, e: &Expr) -> bool
+        requires { AreKept self.func.now self.kept.now }
         ensures { result ≡ is_expression_statement_of self.entry.target.now self.entry.func.now (form_of e.now) }
     {
         match e {
@@ -85,6 +92,7 @@ impl<'p> Body<'p> {
     /// Whether a statement is in normal form.
     #[cycle(normal)]
     fn is_normal(self, s: &Stmt) -> bool
+        requires { AreKept self.func.now self.kept.now }
         ensures { result ≡ is_normal_stmt_of self.entry.target.now self.entry.func.now s.now }
     {
         match s {
@@ -107,6 +115,7 @@ impl<'p> Body<'p> {
     #[cycle(normal)]
     #[tactic(auto, using(cc_typed::proofs::ListLemmas::of_all))]
     pub fn are_normal(self, list: &List<Stmt>) -> bool
+        requires { AreKept self.func.now self.kept.now }
         ensures { result ≡ list_all (λ b. b) (map (is_normal_stmt_of self.entry.target.now self.entry.func.now) list.now) }
     {
         for s in list.all() {
@@ -119,6 +128,7 @@ impl<'p> Body<'p> {
 
     #[cycle(normal)]
     fn are_normal_cases(self, cases: &List<Case>) -> bool
+        requires { AreKept self.func.now self.kept.now }
         ensures { result ≡ list_all (λ c. list_all (λ b. b) (map (is_normal_stmt_of self.entry.target.now self.entry.func.now) (out-Case c).body)) cases.now }
     {
         for case in cases.all() {

@@ -3,7 +3,8 @@ use Rattle.std.proofs.Common.{◌≡◌, ◌∙◌, ◌⊎◌, inl, inr, ◌<◌
 use Rattle.std.specs.Prelude.{option_and_then, find}
 use Rattle.std.proofs.lemmas.Bool.{cases_lt}
 use Rattle.std.proofs.Math.ListN.{get_or-eq_default}
-use Rattle.cc_causes.specs.Causes.{handler_name, option_or, bad_handler}
+use Rattle.std.specs.Option.{option_or}
+use Rattle.cc_causes.specs.Causes.{handler_name, bad_handler}
 use Rattle.cc_causes.specs.Entries.{entry_at, entry_by, is_bad_handler, is_listed, is_in_roles, is_nowhere}
 use Rattle.cc_definitions.specs.Definitions.{thing_at, definition, func_in, function_of, numbers_below}
 use Rattle.cc_definitions.specs.Handlers.{entry_given, entry_in, has_handler_type, is_named_main, may_be_handler}

@@ -33,7 +33,7 @@ use Rattle.cc_syntax.specs.Effects.{Registers, also}
 use Rattle.cc_syntax.specs.Expressions.{of_one, of_two}
 use Rattle.cc_syntax.specs.Operators as rule
 use Rattle.cc_syntax.specs.Operators.{when, constant_type, function_type, common_type, change_type, after_type, call_type, is_promoted, is_integer, is_of}
-use Rattle.cc_syntax.specs.Programs.{null_type}
+use Rattle.cc_syntax.specs.Programs.{null_type, pointer_type, qualified_type}
 use Rattle.cc_syntax.specs.Values.{ValueType, NoValue, Integer, ToObject, ToFunction, PlaceType, DevicePlace, pointer_shape, pointer_to, member_of, scalar_value, result_value, object_place, read_from, written_to, address_of, pointed_to, element_of, is_assignable, is_assignable_some, are_assignable}
 use Rattle.cc_syntax.proofs.Prefixes.{both_true}
 use Rattle.cc_values.specs.Values.{address_in, truth, of_truth, unary, binary, conversion, movement, gap, comparison}
@@ -394,7 +394,7 @@ module _ (c : Context) (openings : List ℕ) (here : IsActivation c openings) wh
   first_null (Some a) b t e h k = h e
 
   null_has : (u : CType) (t : ValueType) → null_type c.program u ≡ Some t → Value-of t (Some (Place address.Null))
-  null_has u t e = first_null (rule.void_pointer_in (rule.is_unqualified u) (out-Shape u.shape)) (rule.pointer_type c.program u) t e
+  null_has u t e = first_null (rule.void_pointer_in (rule.is_unqualified u) (out-Shape u.shape)) (pointer_type c.program u) t e
       (λ h. void_null (rule.is_unqualified u) (out-Shape u.shape) t h) (λ h. pointer_null _ (out-Shape u.shape) t h)
 
   function_at : (f : ℕ) (t : ValueType) (x : Option Func) → slice_get c.program.funcs f ≡ x → function_type x ≡ Some t → Value-of t (Some (Place (address.Func f)))
@@ -424,7 +424,7 @@ module _ (c : Context) (openings : List ℕ) (here : IsActivation c openings) wh
       typed_unary t t (conversion i c.program.target) (meaning c a) (rule.conversion_type i) h e
       (λ u f v m. value_as (Integer i) t (conversion i c.program.target v) (when_is _ (Integer i) t f) (has_conversion c.program openings i v)) later
   typed_level (one.Qualify to a) h t e later =
-      typed_unary t t (λ v. v) (meaning c a) (rule.qualified_type c.program to) h e (λ u f v m. assignable_as (rule.pointer_type c.program to) u t v f m) later
+      typed_unary t t (λ v. v) (meaning c a) (qualified_type c.program to) h e (λ u f v m. assignable_as (pointer_type c.program to) u t v f m) later
   typed_level (one.Move a b back) h t e later =
       typed_binary t (movement back) (meaning c a) (meaning c b) (rule.moved_type c.program.structures) h.0 h.1 e (λ u w f v y m n. moved_has c.program.structures u w t back v y f m) later
   typed_level (one.Gap a b) h t e later =
