@@ -14,7 +14,7 @@ use Rattle.cc_program.specs.declared.program.Program.{Program}
 use Rattle.cc_program.specs.declared.types.CType.{CType}
 use Rattle.cc_scopes.specs.State.{State}
 use Rattle.cc_syntax.specs.Effects.{Effects, no_one, effects_of}
-use Rattle.cc_syntax.specs.Expressions.{type_of, place_type}
+use Rattle.cc_syntax.specs.Programs.{type_of, place_type}
 use Rattle.cc_syntax.specs.Folding.{NoConstant, is_folded}
 use Rattle.cc_syntax.specs.Forms.{form_at, form_of}
 use Rattle.cc_syntax.specs.Normal.{is_operand, is_callee, is_call, is_place_read, is_assignment, is_expression_statement}

@@ -10,7 +10,8 @@ use Rattle.cc_program.specs.declared.func.Func.{Func}
 use Rattle.cc_program.specs.declared.program.Program.{Program}
 use Rattle.cc_program.specs.declared.types.CType.{CType}
 use Rattle.cc_syntax.specs.Effects.{PlaceEffects, no_one, is_soft, place_effects_of}
-use Rattle.cc_syntax.specs.Expressions.{of_one, type_of, place_type}
+use Rattle.cc_syntax.specs.Expressions.{of_one}
+use Rattle.cc_syntax.specs.Programs.{type_of, place_type}
 use Rattle.cc_syntax.specs.Folding.{is_folded_place}
 use Rattle.cc_syntax.specs.Forms.{form_of}
 use Rattle.cc_syntax.specs.Normal.{is_operand, is_call, is_place_read, is_register_place, is_other_place, is_assignment}

@@ -28,7 +28,7 @@ use Rattle.cc_program.specs.declared.types.Shape.TheVariants.{outs-Void, outs-In
 use Rattle.cc_program.specs.declared.types.Sig.{Sig, out-roll-Sig}
 use Rattle.cc_scopes.specs.State.{State}
 use Rattle.cc_scopes.specs.Verdicts.{Found, whole, and_then}
-use Rattle.cc_syntax.specs.Expressions.{type_of}
+use Rattle.cc_syntax.specs.Programs.{type_of}
 use Rattle.cc_syntax.specs.Names.{device_names, intrinsic_names, file_names}
 use Rattle.cc_syntax.specs.Normal.{is_operand}
 use Rattle.cc_syntax.specs.Operators.{intrinsic_type, is_of}
