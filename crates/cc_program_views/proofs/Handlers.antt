@@ -158,7 +158,7 @@ module _ (texts : List Text) (target : Target) (sound : (t : ℕ) (x : Text) →
             ap (λ (o : Option (List ℕ)). is_some (option_or o (own_name (thing_at ts j)))) q
             ∙ has (given (entry_given (thing_at ts j)) (is_listed ts roles name_of j) (unlisted (not (is_device (thing_at ts j))) (name_of j) q) e)
 
-    not_bad : (k : ℕ) → k < length ts → is_bad_handler ts roles name_of k ≡ false
+    pub not_bad : (k : ℕ) → k < length ts → is_bad_handler ts roles name_of k ≡ false
     not_bad k h = by (find (is_bad_handler ts roles name_of) (numbers_below (length ts))) refl (first_none (option_and_then (handler_name ts name_of) (find (is_bad_handler ts roles name_of) (numbers_below (length ts)))) (find (is_nowhere ts name_of) roles.handlers) none_bad)
       where
         first : (a b : Bool) → a && b ≡ true → a ≡ true
