@@ -1,0 +1,4 @@
+pub mod Definitions
+pub mod Functions
+pub mod Used
+pub mod Units
