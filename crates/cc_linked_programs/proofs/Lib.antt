@@ -1,0 +1,9 @@
+pub mod Places
+pub mod Entries
+pub mod Main
+pub mod Externals
+pub mod Forms
+pub mod MainName
+pub mod Own
+pub mod Handlers
+pub mod Program
