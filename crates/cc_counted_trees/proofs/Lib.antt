@@ -1,0 +1,4 @@
+pub mod Rolled
+pub mod Terms
+pub mod Statements
+pub mod Texts
