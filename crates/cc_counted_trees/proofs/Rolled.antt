@@ -62,7 +62,7 @@ pub tree-Character : (c : ℕ) → tree_count (tree.Character c) ≡ 0
 unfolding tree_count declr_count params_count spec_count enumr_count members_count param_count type_name_count
 tree-Character c = ap tree_count (sym (tree_rolls.rolls-Character c)) ∙ fold-roll-Tree ℕ ℕ ℕ ℕ ℕ ℕ ℕ ℕ declr_counts params_counts spec_counts tree_counts enumr_counts members_counts param_counts type_name_counts (one.Character c)
 
-pub tree-Text : (b : List ℕ) → tree_count (tree.Text b) ≡ 0
+pub tree-Text : (b : List ℕ) → tree_count (tree.Text b) ≡ 1
 unfolding tree_count declr_count params_count spec_count enumr_count members_count param_count type_name_count
 tree-Text b = ap tree_count (sym (tree_rolls.rolls-Text b)) ∙ fold-roll-Tree ℕ ℕ ℕ ℕ ℕ ℕ ℕ ℕ declr_counts params_counts spec_counts tree_counts enumr_counts members_counts param_counts type_name_counts (one.Text b)
 
@@ -86,7 +86,7 @@ pub tree-Binary : (o : Mark) → (a : At Tree) → (b : At Tree) → tree_count 
 unfolding tree_count declr_count params_count spec_count enumr_count members_count param_count type_name_count
 tree-Binary o a b = ap tree_count (sym (tree_rolls.rolls-Binary o a b)) ∙ fold-roll-Tree ℕ ℕ ℕ ℕ ℕ ℕ ℕ ℕ declr_counts params_counts spec_counts tree_counts enumr_counts members_counts param_counts type_name_counts (one.Binary o a b)
 
-pub tree-Prefix : (o : Mark) → (e : At Tree) → tree_count (tree.Prefix o e) ≡ tree_count e.node
+pub tree-Prefix : (o : Mark) → (e : At Tree) → tree_count (tree.Prefix o e) ≡ suc (tree_count e.node)
 unfolding tree_count declr_count params_count spec_count enumr_count members_count param_count type_name_count
 tree-Prefix o e = ap tree_count (sym (tree_rolls.rolls-Prefix o e)) ∙ fold-roll-Tree ℕ ℕ ℕ ℕ ℕ ℕ ℕ ℕ declr_counts params_counts spec_counts tree_counts enumr_counts members_counts param_counts type_name_counts (one.Prefix o e)
 
@@ -178,11 +178,11 @@ pub params-Many : (ps : List (At Param)) → params_count (params.Many ps) ≡ e
 unfolding tree_count declr_count params_count spec_count enumr_count members_count param_count type_name_count
 params-Many ps = ap params_count (sym (params_rolls.rolls-Many ps)) ∙ fold-roll-Params ℕ ℕ ℕ ℕ ℕ ℕ ℕ ℕ declr_counts params_counts spec_counts tree_counts enumr_counts members_counts param_counts type_name_counts (one.Many ps) ∙ each-mapped param_count ps
 
-pub spec-Struct : (x : Option Name) (ms : List (At MemberDecl)) (a b : List (At Attr)) → spec_count (spec.Struct x (Some ms) a b) ≡ each_count members_count ms
+pub spec-Struct : (x : Option Name) (ms : List (At MemberDecl)) (a b : List (At Attr)) → spec_count (spec.Struct x (Some ms) a b) ≡ suc (each_count members_count ms)
 unfolding tree_count declr_count params_count spec_count enumr_count members_count param_count type_name_count
-spec-Struct x ms a b = ap spec_count (sym (spec_rolls.rolls-Struct x (Some ms) a b)) ∙ fold-roll-Spec ℕ ℕ ℕ ℕ ℕ ℕ ℕ ℕ declr_counts params_counts spec_counts tree_counts enumr_counts members_counts param_counts type_name_counts (one.Struct x (Some ms) a b) ∙ each-mapped members_count ms
+spec-Struct x ms a b = ap spec_count (sym (spec_rolls.rolls-Struct x (Some ms) a b)) ∙ fold-roll-Spec ℕ ℕ ℕ ℕ ℕ ℕ ℕ ℕ declr_counts params_counts spec_counts tree_counts enumr_counts members_counts param_counts type_name_counts (one.Struct x (Some ms) a b) ∙ ap suc (each-mapped members_count ms)
 
-pub spec-NamedStruct : (x : Option Name) (a b : List (At Attr)) → spec_count (spec.Struct x None a b) ≡ 0
+pub spec-NamedStruct : (x : Option Name) (a b : List (At Attr)) → spec_count (spec.Struct x None a b) ≡ 1
 unfolding tree_count declr_count params_count spec_count enumr_count members_count param_count type_name_count
 spec-NamedStruct x a b = ap spec_count (sym (spec_rolls.rolls-Struct x None a b)) ∙ fold-roll-Spec ℕ ℕ ℕ ℕ ℕ ℕ ℕ ℕ declr_counts params_counts spec_counts tree_counts enumr_counts members_counts param_counts type_name_counts (one.Struct x None a b)
 

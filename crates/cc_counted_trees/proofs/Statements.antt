@@ -1,4 +1,4 @@
--- What declarators declare in declarations, statements and units is no more than the tokens by which these are spelled.
+-- What declarations, statements and units count is no more than the tokens by which these are spelled.
 use Rattle.std.proofs.Common.{◌≤◌, ◌+◌, Bool, List, length, Option, arith}
 use Rattle.cc_tree.specs.Scopes.{Scope}
 use Rattle.cc_tree.specs.Sentences.{IsItem, ADeclItem, AFunc, IsItems, NoItem, MoreItems, IsSentence}

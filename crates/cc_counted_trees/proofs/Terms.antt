@@ -1,4 +1,4 @@
--- What declarators declare in expressions, types and declarators is no more than the tokens by which these are spelled. By induction over how they are spelled.
+-- What expressions, types and declarators count is no more than the tokens by which these are spelled. By induction over how they are spelled.
 use Rattle.std.proofs.Common.{◌≡◌, ◌≤◌, ◌+◌, ℕ, suc, Bool, true, List, [], ◌∷◌, length, Option, Some, length-append, arith}
 use Rattle.cc_words.specs.declared.word.Word.{Word}
 use Rattle.cc_tree.specs.Scopes.{Scope}
@@ -24,7 +24,7 @@ use Rattle.cc_counted_trees.proofs.Rolled.{each_more, each_one}
 
 -- ---- what declares nothing
 
-pub texts_read : {b : List ℕ} {ts us : Tokens} → IsTexts b ts us → length us ≤ length ts
+pub texts_read : {b : List ℕ} {ts us : Tokens} → IsTexts b ts us → suc (length us) ≤ length ts
 texts_read (LastText b s us) = omega arith
 texts_read (MoreText b c s ts us d) = let h = texts_read d in omega arith
 

@@ -1,4 +1,4 @@
--- How many names the declarators of a tree declare, and how many parameters it has (C99 6.7.5, 6.7.5.3).
+-- How much a tree can add to what is known: the names that its declarators declare, its parameters, specifiers of structures, strings and prefixes, and its declarations (C99 6.4.5, 6.5.3, 6.7, 6.7.2.1, 6.7.5).
 use Rattle.std.specs.Prelude.{ℕ, suc, ◌+◌, List, [], ◌∷◌, Option, Some, None}
 use Rattle.cc_tree.specs.declared.at.At.{At}
 use Rattle.cc_tree.specs.declared.tree.Declr.{Declr, fold-Declr}
@@ -55,17 +55,18 @@ declr_counts (one.Pointer words d) = d.node
 declr_counts (one.Array d n) = d.node + part_total n
 declr_counts (one.Func d ps) = d.node + ps
 
+-- a string is an object of its own, and a prefix may name a device
 abbrev pub tree_counts : one.Tree-F ℕ ℕ ℕ ℕ ℕ ℕ ℕ ℕ → ℕ
 tree_counts (one.Number n suffix) = 0
 tree_counts (one.Tree::Named x) = 0
 tree_counts (one.Character byte) = 0
-tree_counts (one.Text bytes) = 0
+tree_counts (one.Text bytes) = 1
 tree_counts (one.Tree::Paren e) = e.node
 tree_counts (one.Comma a b) = a.node + b.node
 tree_counts (one.Assign o a b) = a.node + b.node
 tree_counts (one.Choose c a b) = c.node + (a.node + b.node)
 tree_counts (one.Binary o a b) = a.node + b.node
-tree_counts (one.Prefix o e) = e.node
+tree_counts (one.Prefix o e) = suc e.node
 tree_counts (one.Postfix e o) = e.node
 tree_counts (one.SizeOf e) = e.node
 tree_counts (one.SizeOfType t) = t
@@ -84,7 +85,7 @@ params_counts (one.Many ps) = total ps
 abbrev pub spec_counts : one.Spec-F ℕ ℕ ℕ ℕ ℕ ℕ ℕ ℕ → ℕ
 spec_counts (one.Word x) = 0
 spec_counts (one.Spec::Named x) = 0
-spec_counts (one.Struct tag members front behind) = lists_total members
+spec_counts (one.Struct tag members front behind) = suc (lists_total members)
 spec_counts (one.Enum tag constants) = lists_total constants
 spec_counts (one.Attr a) = 0
 
@@ -138,8 +139,9 @@ given_count g = fold-Given ℕ given_counts g
 abbrev pub init_count : Init → ℕ
 init_count i = declr_count i.declr.node + maybe_count given_count i.value
 
+-- its tag may be one more, where it stands alone
 abbrev pub decl_count : Decl → ℕ
-decl_count d = each_count spec_count d.specs + each_count init_count d.inits
+decl_count d = suc (each_count spec_count d.specs + each_count init_count d.inits)
 
 -- ---- statements (6.8)
 

@@ -1,4 +1,4 @@
-//! A text has no fewer bytes than tokens, and no fewer tokens than what its declarators and parameters declare.
+//! A text has no fewer bytes than tokens, and no fewer tokens than what it can add to what is known.
 #![tactic(auto)]
 
 mod law;
