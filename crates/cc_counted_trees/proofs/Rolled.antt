@@ -178,9 +178,9 @@ pub params-Many : (ps : List (At Param)) → params_count (params.Many ps) ≡ e
 unfolding tree_count declr_count params_count spec_count enumr_count members_count param_count type_name_count
 params-Many ps = ap params_count (sym (params_rolls.rolls-Many ps)) ∙ fold-roll-Params ℕ ℕ ℕ ℕ ℕ ℕ ℕ ℕ declr_counts params_counts spec_counts tree_counts enumr_counts members_counts param_counts type_name_counts (one.Many ps) ∙ each-mapped param_count ps
 
-pub spec-Struct : (x : Option Name) (ms : List (At MemberDecl)) (a b : List (At Attr)) → spec_count (spec.Struct x (Some ms) a b) ≡ suc (each_count members_count ms)
+pub spec-Struct : (x : Option Name) (ms : List (At MemberDecl)) (a b : List (At Attr)) → spec_count (spec.Struct x (Some ms) a b) ≡ suc (suc (each_count members_count ms))
 unfolding tree_count declr_count params_count spec_count enumr_count members_count param_count type_name_count
-spec-Struct x ms a b = ap spec_count (sym (spec_rolls.rolls-Struct x (Some ms) a b)) ∙ fold-roll-Spec ℕ ℕ ℕ ℕ ℕ ℕ ℕ ℕ declr_counts params_counts spec_counts tree_counts enumr_counts members_counts param_counts type_name_counts (one.Struct x (Some ms) a b) ∙ ap suc (each-mapped members_count ms)
+spec-Struct x ms a b = ap spec_count (sym (spec_rolls.rolls-Struct x (Some ms) a b)) ∙ fold-roll-Spec ℕ ℕ ℕ ℕ ℕ ℕ ℕ ℕ declr_counts params_counts spec_counts tree_counts enumr_counts members_counts param_counts type_name_counts (one.Struct x (Some ms) a b) ∙ ap (λ n. suc (suc n)) (each-mapped members_count ms)
 
 pub spec-NamedStruct : (x : Option Name) (a b : List (At Attr)) → spec_count (spec.Struct x None a b) ≡ 1
 unfolding tree_count declr_count params_count spec_count enumr_count members_count param_count type_name_count

@@ -36,6 +36,11 @@ abbrev pub part_total : Option (At ℕ) → ℕ
 part_total None = 0
 part_total (Some x) = x.node
 
+-- a structure, which is completed where its members are there
+abbrev pub structure_total : Option (List (At ℕ)) → ℕ
+structure_total None = 1
+structure_total (Some xs) = suc (suc (total xs))
+
 abbrev pub lists_total : Option (List (At ℕ)) → ℕ
 lists_total None = 0
 lists_total (Some xs) = total xs
@@ -85,7 +90,7 @@ params_counts (one.Many ps) = total ps
 abbrev pub spec_counts : one.Spec-F ℕ ℕ ℕ ℕ ℕ ℕ ℕ ℕ → ℕ
 spec_counts (one.Word x) = 0
 spec_counts (one.Spec::Named x) = 0
-spec_counts (one.Struct tag members front behind) = suc (lists_total members)
+spec_counts (one.Struct tag members front behind) = structure_total members
 spec_counts (one.Enum tag constants) = lists_total constants
 spec_counts (one.Attr a) = 0
 
