@@ -72,25 +72,25 @@ function_array : (of : CType) → is_function_type (plain (Array of 0)) ≡ fals
 function_array of = ap (is_func_shape (λ sig. true)) (outs-Array of 0)
 
 module _ (v : View) (roles : Roles) (defined : List Name) (k : ℕ) where
-  sig_derived : (unbounded : Bool) (t : CType) → is_function_type t ≡ true → IsDerived v false unbounded t → SigStands v (out-Shape t.shape)
+  pub sig_derived : (unbounded : Bool) (t : CType) → is_function_type t ≡ true → IsDerived v false unbounded t → SigStands v (out-Shape t.shape)
   sig_derived unbounded t f (Standing s) = function_stands v t s f
   sig_derived unbounded t f (VoidPointer to h e g i) = absurd (cc)
   sig_derived unbounded t f (Unbounded of h e g) = let c : true ≡ false = sym f ∙ ap is_function_type e ∙ function_array of in absurd (cc)
 
   -- ---- what is left, by the category of a name
 
-  abbrev Derived : Option (At Given) → CType → Type 0
+  abbrev pub Derived : Option (At Given) → CType → Type 0
   Derived value t = IsDerived v false (is_some value) t
 
-  record IsAllowed (c : Category) (t : CType) (value : Option (At Given)) : Type 0 where
-    typedefs : c ≡ declares.Typedef → value ≡ None
-    linked : (asked : DeclaredAs) → c ≡ declares.Linked asked → value ≡ None
-    functions : (asked : DeclaredAs) → c ≡ declares.Function asked → is_function_type t ≡ true
+  pub record IsAllowed (c : Category) (t : CType) (value : Option (At Given)) : Type 0 where
+    pub typedefs : c ≡ declares.Typedef → value ≡ None
+    pub linked : (asked : DeclaredAs) → c ≡ declares.Linked asked → value ≡ None
+    pub functions : (asked : DeclaredAs) → c ≡ declares.Function asked → is_function_type t ≡ true
 
   some_none : {A : Type 0} (x : A) → Some x ≡ None → ⊥
   some_none x h = cc
 
-  category_leaves : (at : ℕ) (c : Category) (x : Name) (t : CType) (marks : List (At (List Attribute))) (value : Option (At Given)) (D : List Named) (s : State) (r : List Expr × State) → AreDeclared k D s → IsAllowed c t value → value_fits value ≡ true →
+  pub category_leaves : (at : ℕ) (c : Category) (x : Name) (t : CType) (marks : List (At (List Attribute))) (value : Option (At Given)) (D : List Named) (s : State) (r : List Expr × State) → AreDeclared k D s → IsAllowed c t value → value_fits value ≡ true →
       (IsOfObject c → is_complete_or_unbounded v.target s t ≡ true) → declared_left v.target roles defined at c x t marks value s ≡ Ok r → Leaves v defined (Derived value t) D s r.1
   category_leaves at declares.Typedef x t marks None D s r d a f o h = typedef_leaves v roles defined x t marks D s r h
   category_leaves at declares.Typedef x t marks (Some g) D s r d a f o h = absurd (some_none g (a.typedefs refl))
@@ -106,7 +106,7 @@ module _ (v : View) (roles : Roles) (defined : List Name) (k : ℕ) where
 
   -- ---- a declarator
 
-  declared_leaves : (at : ℕ) (c : Category) (x : Name) (t : CType) (marks : List (At (List Attribute))) (value : Option (At Given)) (D : List Named) (s : State) (r : List Expr × State) → AreDeclared k D s → IsAllowed c t value → value_fits value ≡ true →
+  pub declared_leaves : (at : ℕ) (c : Category) (x : Name) (t : CType) (marks : List (At (List Attribute))) (value : Option (At Given)) (D : List Named) (s : State) (r : List Expr × State) → AreDeclared k D s → IsAllowed c t value → value_fits value ≡ true →
       declared_with v.target roles defined at c x t marks value s ≡ Ok r → Leaves v defined (Derived value t) D s r.1
   declared_leaves at c x t marks value D s r d a f h =
       let b = then_found (whole at s (name_judged v.target roles c x t (entry_by marks) s)) (λ t s. declared_left v.target roles defined at c x t marks value s) r h in
@@ -126,10 +126,10 @@ module _ (v : View) (roles : Roles) (defined : List Name) (k : ℕ) where
       declared_leaves at c x t b.0.0 i.value D s r d a f
       (ap (λ (z : State). declared_with v.target roles defined at c x t b.0.0 i.value z) (sym (n.1 ∙ e.1)) ∙ b.2)
 
-  abbrev Category_of : Where → Specified → At Init → Category
+  abbrev pub Category_of : Where → Specified → At Init → Category
   Category_of place base i = category_of place base.specs.storage (is_function_type base.ctype) i.node.declr.node
 
-  function_is : (place : Where) (storage : Option Word) (b : Bool) (asked : DeclaredAs) → IsInside place → category_by place storage b ≡ declares.Function asked → b ≡ true
+  pub function_is : (place : Where) (storage : Option Word) (b : Bool) (asked : DeclaredAs) → IsInside place → category_by place storage b ≡ declares.Function asked → b ≡ true
   function_is place storage true asked i h = refl
   function_is _ storage false asked Block h = absurd (no_block storage asked h)
     where
@@ -148,7 +148,7 @@ module _ (v : View) (roles : Roles) (defined : List Name) (k : ℕ) where
       no_for (Some w.Extern) asked h = absurd (cc)
       no_for (Some x) asked h = absurd (cc)
 
-  init_leaves : (place : Where) (base : Specified) (i : At Init) (D : List Named) (s : State) (r : List Expr × State) → AreDeclared k D s → IsInside place → IsPlain place base.specs.storage i → init_fits i ≡ true →
+  pub init_leaves : (place : Where) (base : Specified) (i : At Init) (D : List Named) (s : State) (r : List Expr × State) → AreDeclared k D s → IsInside place → IsPlain place base.specs.storage i → init_fits i ≡ true →
       init_found v.target roles defined place base i s ≡ Ok r → Leaves v defined (Stands v base.ctype) D s r.1
   init_leaves place base i D s r d inside plain f h =
       let allowed = init_allowed i.node in
@@ -175,7 +175,7 @@ module _ (v : View) (roles : Roles) (defined : List Name) (k : ℕ) where
             (function_is place base.specs.storage (declares_function (is_function_type base.ctype) i.node.declr.node) asked inside e) l.0;
       }) fit.1 b.2)))
 
-  inits_leave : (place : Where) (base : Specified) (is : List (At Init)) (before : List Expr) (D : List Named) (s : State) (r : List Expr × State) → AreDeclared k D s → IsInside place → Each (IsPlain place base.specs.storage) is → list_all init_fits is ≡ true →
+  pub inits_leave : (place : Where) (base : Specified) (is : List (At Init)) (before : List Expr) (D : List Named) (s : State) (r : List Expr × State) → AreDeclared k D s → IsInside place → Each (IsPlain place base.specs.storage) is → list_all init_fits is ≡ true →
       in_turn (init_next v.target roles defined place base) is before s ≡ Ok r → Leaves v defined (Stands v base.ctype) D s r.1
   inits_leave place base [] before D s r d inside plain f h = left_as v defined (Stands v base.ctype) D s s r.1 (answer_is before s r h).1 (nothing_left v defined (Stands v base.ctype) D s)
   inits_leave place base (i ∷ is) before D s r d inside plain f h =
@@ -201,7 +201,7 @@ module _ (v : View) (roles : Roles) (defined : List Name) (k : ℕ) where
   sole_goes None D s = declares_itself v defined (Unit {0}) s D
   sole_goes (Some x) D s = declared_goes (sole_tag (out-Spec x)) D s
 
-  front_if : (b : Bool) (d : Decl) (D : List Named) (s : State) → Declares v defined s D (if b then sole_declared (sole_spec d.specs) s else s) D
+  pub front_if : (b : Bool) (d : Decl) (D : List Named) (s : State) → Declares v defined s D (if b then sole_declared (sole_spec d.specs) s else s) D
   front_if true d D s = sole_goes (sole_spec d.specs) D s
   front_if false d D s = declares_itself v defined (Unit {0}) s D
 
@@ -213,7 +213,7 @@ module _ (v : View) (roles : Roles) (defined : List Name) (k : ℕ) where
   alias_at P x D s (shape.Array of n) = declares_itself v defined P s D
   alias_at P x D s (shape.Func sig) = declares_itself v defined P s D
 
-  alias_if : (P : Type 0) (b : Bool) (d : Decl) (base : Specified) (D : List Named) (s : State) → DeclaresGiven v defined P s D (if b then aliased_at (first_name d.inits) s (out-Shape base.ctype.shape) else s) D
+  pub alias_if : (P : Type 0) (b : Bool) (d : Decl) (base : Specified) (D : List Named) (s : State) → DeclaresGiven v defined P s D (if b then aliased_at (first_name d.inits) s (out-Shape base.ctype.shape) else s) D
   alias_if P true d base D s = alias_at P (first_name d.inits) D s (out-Shape base.ctype.shape)
   alias_if P false d base D s = declares_itself v defined P s D
 

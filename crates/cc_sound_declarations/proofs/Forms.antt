@@ -81,10 +81,10 @@ pointer_form words d f hd allowed at s r h =
     let e = answer_is (with_derivation at (pointer_derivation words) a.0.0) a.0.1 r a.2 in
     ap (λ (z : Declarator Scope). first_form z.derivations) e.0 ∙ derived_form at (pointer_derivation words) a.0.0 f (hd allowed d.at s a.0 a.1)
 
-unbounded_is : (at : ℕ) (allowed : Allowed) (d y : Declarator Scope) → without_bound at allowed d ≡ Ok y → with_derivation at (to.Array None) d ≡ y
+pub unbounded_is : (at : ℕ) (allowed : Allowed) (d y : Declarator Scope) → without_bound at allowed d ≡ Ok y → with_derivation at (to.Array None) d ≡ y
 unbounded_is at allowed d y h = ok_is (must_ok (allowed.unbounded && is_next_to_name d.derivations) rule.ArrayBound (Ok (with_derivation at (to.Array None) d)) y h).1
 
-bounded_is : (at : ℕ) (d y : Declarator Scope) (x : Operand) → with_bound at d x ≡ Ok y → (n : ℕ) × (with_derivation at (to.Array (Some n)) d ≡ y)
+pub bounded_is : (at : ℕ) (d y : Declarator Scope) (x : Operand) → with_bound at d x ≡ Ok y → (n : ℕ) × (with_derivation at (to.Array (Some n)) d ≡ y)
 bounded_is at d y x h = let a = then_judged (bound_judged x) (λ n. Ok (with_derivation at (to.Array (Some n)) d)) y h in (a.0, ok_is a.2)
 
 bounded_form : (at : ℕ) (allowed : Allowed) (d : Declarator Scope) (n : Option (At TreeMeaning)) (s : State) (r : Declarator Scope × State) (f : Option Form) → first_form d.derivations ≡ f → bounded at allowed d n s ≡ Ok r → first_form r.0.derivations ≡ nearer f form.Array

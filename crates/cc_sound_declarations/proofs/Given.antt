@@ -39,22 +39,26 @@ module _ (v : View) (defined : List Name) where
   pub same_declared : (k : ℕ) (D : List Named) (s t : State) → Extends v s t → AreDeclared k D s → AreDeclared k D t
   same_declared k D s t g d = record { enough = d.enough; locals = g.grows.locals ∙ d.locals }
 
+  pub goes_as : (P : Type 0) (D E : List Named) (s t u : State) → u ≡ t → DeclaresGiven v defined P s D t E → DeclaresGiven v defined P s D u E
+  goes_as P D E s t u e h = subst (λ (z : State). DeclaresGiven v defined P s D z E) (sym e) h
+
   -- what is found first, of types alone, is known of what stands behind it
+  pub behind_goes : (P A : Type 0) (T : A → Type 0) (D E : List Named) (s : State) (x : A × State) (t : State) → Finds A (λ y. P → T y) s x → DeclaresGiven v defined (P × T x.0) x.1 D t E → DeclaresGiven v defined P s D t E
+  behind_goes P A T D E s x t a b =
+      let first : KnowsTypes v s t → KnowsTypes v s x.1 = λ k. known_first v s x.1 t b.structures k in
+      let second : KnowsTypes v s t → KnowsTypes v x.1 t = λ k. known_second v s x.1 t b.structures a.grows.behind k in
+      let start = of_extends v defined P s x.1 D a.grows in
+      record {
+        outer = b.outer ∙ start.outer;
+        structures = structures_through s.structures x.1.structures t.structures start.structures b.structures;
+        names = names_through s.names x.1.names t.names start.names b.names;
+        entries = λ i e h. entries_through v.target defined s x.1 t i e b.names (start.entries i) h (b.entries i e h);
+        ordered = λ h. b.ordered (a.grows.ordered h);
+        behind = λ p k. behind_through v s x.1 t b.names (a.grows.behind (first k)) (b.behind (p, a.holds (first k) p) (second k));
+        front = b.front;
+        locals = λ k d. b.locals k (start.locals k d);
+        objects = λ p k h. b.objects (p, a.holds (first k) p) (second k) (start.objects p (first k) h);
+      }
+
   pub behind_types : (P A : Type 0) (T : A → Type 0) (D : List Named) (s : State) (x : A × State) (t : State) → Finds A (λ y. P → T y) s x → Leaves (P × T x.0) D x.1 t → Leaves P D s t
-  behind_types P A T D s x t a b =
-      let first : KnowsTypes v s t → KnowsTypes v s x.1 = λ k. known_first v s x.1 t b.1.structures k in
-      let second : KnowsTypes v s t → KnowsTypes v x.1 t = λ k. known_second v s x.1 t b.1.structures a.grows.behind k in
-      let start = of_extends v defined P s x.1 D a.grows in (
-        b.0,
-        record {
-          outer = b.1.outer ∙ start.outer;
-          structures = structures_through s.structures x.1.structures t.structures start.structures b.1.structures;
-          names = names_through s.names x.1.names t.names start.names b.1.names;
-          entries = λ i e h. entries_through v.target defined s x.1 t i e b.1.names (start.entries i) h (b.1.entries i e h);
-          ordered = λ h. b.1.ordered (a.grows.ordered h);
-          behind = λ p k. behind_through v s x.1 t b.1.names (a.grows.behind (first k)) (b.1.behind (p, a.holds (first k) p) (second k));
-          front = b.1.front;
-          locals = λ k d. b.1.locals k (start.locals k d);
-          objects = λ p k h. b.1.objects (p, a.holds (first k) p) (second k) (start.objects p (first k) h);
-        },
-      )
+  behind_types P A T D s x t a b = (b.0, behind_goes P A T D b.0 s x t a b.1)

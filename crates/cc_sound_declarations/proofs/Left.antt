@@ -61,7 +61,7 @@ use Rattle.cc_typed_declarations.specs.Plans.{steps_done}
 use Rattle.cc_unit.specs.Entries.{both_entries}
 use Rattle.cc_unit.specs.declared.unit.UnitKind.{UnitKind}
 use Rattle.cc_unit.specs.declared.unit.UnitKind.TheVariants as kind
-use Rattle.cc_sound_declarations.proofs.Given.{Leaves, left_as, nothing_left, one_left, then_left, less}
+use Rattle.cc_sound_declarations.proofs.Given.{Leaves, goes_as, left_as, one_left, less}
 use Rattle.cc_sound_declarations.proofs.Initialised.{StepFits, steps_extend, broken_last}
 use Rattle.cc_sound_declarations.proofs.Types.{object_pointed, complete_stands, plainly_derived, given_stands, modes_stand}
 
@@ -84,10 +84,10 @@ pub tentative_kept : (at : ℕ) (d : Declared) → EntryKept d (tentative_at at 
 tentative_kept at d = record { name = refl; ctype = refl; kind = kind_itself d.kind }
 
 -- an object stays one
-object_stays : (before : List Leaf) (k : UnitKind) → SameKind (kind.Object before) k → (after : List Leaf) × (k ≡ kind.Object after)
+pub object_stays : (before : List Leaf) (k : UnitKind) → SameKind (kind.Object before) k → (after : List Leaf) × (k ≡ kind.Object after)
 object_stays before _ (Objects _ after) = (after, refl)
 
-values_same : (leaves before : List Leaf) (k : UnitKind) → k ≡ kind.Object before → SameKind k (kind.Object leaves)
+pub values_same : (leaves before : List Leaf) (k : UnitKind) → k ≡ kind.Object before → SameKind k (kind.Object leaves)
 values_same leaves before k e = subst (λ (z : UnitKind). SameKind z (kind.Object leaves)) (sym e) (Objects before leaves)
 
 some_is : {A : Type 0} (a b : A) → Some a ≡ Some b → a ≡ b
@@ -107,15 +107,17 @@ type_named_is t u h = cc
 module _ (v : View) (roles : Roles) (defined : List Name) where
   -- ---- typedefs
 
-  pub typedef_leaves : (x : Name) (t : CType) (marks : List (At (List Attribute))) (D : List Named) (s : State) (r : List Expr × State) → typedef_left v.target x t marks s ≡ Ok r → Leaves v defined (IsDerived v false false t) D s r.1
-  typedef_leaves x t marks D s r h =
+  pub typedef_goes : (x : Name) (t : CType) (marks : List (At (List Attribute))) (D : List Named) (s : State) (r : List Expr × State) → typedef_left v.target x t marks s ≡ Ok r → DeclaresGiven v defined (IsDerived v false false t) s D r.1 D
+  typedef_goes x t marks D s r h =
       let a = then_found (located s (modes_found v.target marks t)) (λ t s. Ok ([], bind x (means.TypeNamed t) s)) r h in
       let e = located_found s (modes_found v.target marks t) a.0 a.1 in
       let b = answer_is [] (bind x (means.TypeNamed a.0.0) a.0.1) r a.2 in
-      left_as v defined (IsDerived v false false t) D s (bind x (means.TypeNamed a.0.0) s) r.1 (b.1 ∙ ap (bind x (means.TypeNamed a.0.0)) e.1)
-      (one_left v defined (IsDerived v false false t) D s (bind x (means.TypeNamed a.0.0) s)
+      goes_as v defined (IsDerived v false false t) D D s (bind x (means.TypeNamed a.0.0) s) r.1 (b.1 ∙ ap (bind x (means.TypeNamed a.0.0)) e.1)
       (bound v defined (IsDerived v false false t) x (means.TypeNamed a.0.0) s D
-      (λ p k w q. subst (Stands v) (type_named_is a.0.0 w q) (modes_stand v marks t a.0.0 e.0 (plainly_derived v t p))) tt))
+      (λ p k w q. subst (Stands v) (type_named_is a.0.0 w q) (modes_stand v marks t a.0.0 e.0 (plainly_derived v t p))) tt)
+
+  pub typedef_leaves : (x : Name) (t : CType) (marks : List (At (List Attribute))) (D : List Named) (s : State) (r : List Expr × State) → typedef_left v.target x t marks s ≡ Ok r → Leaves v defined (IsDerived v false false t) D s r.1
+  typedef_leaves x t marks D s r h = one_left v defined (IsDerived v false false t) D s r.1 (typedef_goes x t marks D s r h)
 
   -- ---- names with linkage
 
@@ -123,14 +125,14 @@ module _ (v : View) (roles : Roles) (defined : List Name) where
   linked_absurd i w h = cc
 
   module _ (P : Type 0) (D : List Named) where
-    abbrev Goes : State → State → Type 0
+    abbrev pub Goes : State → State → Type 0
     Goes s t = DeclaresGiven v defined P s D t D
 
-    bound_linked : (x : Name) (i : ℕ) (s : State) → Goes s (bind x (means.Linked i) s)
+    pub bound_linked : (x : Name) (i : ℕ) (s : State) → Goes s (bind x (means.Linked i) s)
     bound_linked x i s = bound v defined P x (means.Linked i) s D (λ p k w q. absurd (linked_absurd i w q)) tt
 
     -- a new one has a type that stands
-    declared_goes : (x : Name) (asked : DeclaredAs) (t : CType) (k : UnitKind) (s : State) (o : Option ℕ) → IsEntryOf v.target defined (Some x) t k → (o ≡ None → P → KnowsTypes v s (declared_by x asked t k s o).1 → KindStands v t k) → Goes s (declared_by x asked t k s o).1
+    pub declared_goes : (x : Name) (asked : DeclaredAs) (t : CType) (k : UnitKind) (s : State) (o : Option ℕ) → IsEntryOf v.target defined (Some x) t k → (o ≡ None → P → KnowsTypes v s (declared_by x asked t k s o).1 → KindStands v t k) → Goes s (declared_by x asked t k s o).1
     declared_goes x asked t k s (Some i) n f = bound_linked x i s
     declared_goes x asked t k s None n f =
         let d = new_declared x asked t k in
@@ -141,29 +143,33 @@ module _ (v : View) (roles : Roles) (defined : List Name) where
 
     -- ---- functions
 
-    function_goes : (entry : Option Entry) (x : Name) (asked : DeclaredAs) (t : CType) (s : State) → is_function_type t ≡ true → (P → SigStands v (out-Shape t.shape)) → Goes s (with_function entry (declared x asked t (kind.Func None None) s))
+    pub function_goes : (entry : Option Entry) (x : Name) (asked : DeclaredAs) (t : CType) (s : State) → is_function_type t ≡ true → (P → SigStands v (out-Shape t.shape)) → Goes s (with_function entry (declared x asked t (kind.Func None None) s))
     function_goes entry x asked t s n f =
         let known = declared x asked t (kind.Func None None) s in
         declares_through v defined P s known.1 (change_name known.0 (with_entry entry) known.1) D D D
         (declared_goes x asked t (kind.Func None None) s (linked_name x s) n (λ e p w. f p))
         (changed v defined P known.0 (with_entry entry) known.1 D (λ d e. entry_with entry d))
 
-    refused_leaves : (value : Option (At Given)) (s : State) (r : List Expr × State) → function_refused v.target roles value s ≡ Ok r → r.1 ≡ s
+    pub refused_leaves : (value : Option (At Given)) (s : State) (r : List Expr × State) → function_refused v.target roles value s ≡ Ok r → r.1 ≡ s
     refused_leaves None s r h = (answer_is [] s r h).1
     refused_leaves (Some g) s r h = absurd (broken_last v roles Expr (expr_given v.target) no_expr (given_here g).node.visited (given_here g).at rule.InitialiserShape [] s r h)
 
-    function_if : (b : Bool) (value : Option (At Given)) (s t : State) (r : List Expr × State) → Goes s t → (if b then function_refused v.target roles value s else function_refused v.target roles value t) ≡ Ok r → Leaves v defined P D s r.1
-    function_if true value s t r g h = left_as v defined P D s s r.1 (refused_leaves value s r h) (nothing_left v defined P D s)
-    function_if false value s t r g h = left_as v defined P D s t r.1 (refused_leaves value t r h) (one_left v defined P D s t g)
+    function_if : (b : Bool) (value : Option (At Given)) (s t : State) (r : List Expr × State) → Goes s t → (if b then function_refused v.target roles value s else function_refused v.target roles value t) ≡ Ok r → Goes s r.1
+    function_if true value s t r g h = goes_as v defined P D D s s r.1 (refused_leaves value s r h) (declares_itself v defined P s D)
+    function_if false value s t r g h = goes_as v defined P D D s t r.1 (refused_leaves value t r h) g
+
+    pub function_stays : (asked : DeclaredAs) (x : Name) (t : CType) (marks : List (At (List Attribute))) (value : Option (At Given)) (s : State) (r : List Expr × State) → is_function_type t ≡ true → (P → SigStands v (out-Shape t.shape)) →
+        function_left v.target roles asked x t marks value s ≡ Ok r → Goes s r.1
+    function_stays asked x t marks value s r n f h =
+        function_if (is_intrinsic roles x) value s (with_function (entry_by marks) (declared x asked t (kind.Func None None) s)) r (function_goes (entry_by marks) x asked t s n f) h
 
     pub function_leaves : (asked : DeclaredAs) (x : Name) (t : CType) (marks : List (At (List Attribute))) (value : Option (At Given)) (s : State) (r : List Expr × State) → is_function_type t ≡ true → (P → SigStands v (out-Shape t.shape)) →
         function_left v.target roles asked x t marks value s ≡ Ok r → Leaves v defined P D s r.1
-    function_leaves asked x t marks value s r n f h =
-        function_if (is_intrinsic roles x) value s (with_function (entry_by marks) (declared x asked t (kind.Func None None) s)) r (function_goes (entry_by marks) x asked t s n f) h
+    function_leaves asked x t marks value s r n f h = one_left v defined P D s r.1 (function_stays asked x t marks value s r n f h)
 
     -- ---- objects with linkage that are given no initialiser
 
-    device_stands : (x : Name) (t : CType) (good : Bool) (y : shape.Shape-F Shape CType Sig) → is_object_type (kind_in v t) ≡ true → KindStands v t (device_by x t good y)
+    pub device_stands : (x : Name) (t : CType) (good : Bool) (y : shape.Shape-F Shape CType Sig) → is_object_type (kind_in v t) ≡ true → KindStands v t (device_by x t good y)
     device_stands x t good (shape.Int i) h = of_test (good && t.volatile)
       where
         of_test : (b : Bool) → KindStands v t (if b then kind.Device (record { name = Some x; number = 0; int = i; constant = t.constant }) else kind.Object [])
@@ -197,46 +203,50 @@ module _ (v : View) (roles : Roles) (defined : List Name) where
     device_entry x t good (shape.Struct i) e f = tt
     device_entry x t good (shape.Func sig) e f = tt
 
-    object_entry : (asked : DeclaredAs) (x : Name) (t : CType) → IsEntryOf v.target defined (Some x) t (object_kind defined asked x t)
+    pub object_entry : (asked : DeclaredAs) (x : Name) (t : CType) → IsEntryOf v.target defined (Some x) t (object_kind defined asked x t)
     object_entry asked x t =
         device_entry x t (is_extern asked && not (list_any (bytes_eq x) defined)) (out-Shape t.shape) refl
         (λ g. not_true (list_any (bytes_eq x) defined) (both_true (is_extern asked) (not (list_any (bytes_eq x) defined)) g).1)
 
-    linked_none : (asked : DeclaredAs) (at : ℕ) (t u : CType) (n : ℕ) (s : State) (r : List Expr × State) → linked_given v.target roles at asked t u n None s ≡ Ok r → Leaves v defined P D s r.1
-    linked_none AsExtern at t u n s r h = left_as v defined P D s s r.1 (answer_is [] s r h).1 (nothing_left v defined P D s)
-    linked_none AsStatic at t u n s r h = left_as v defined P D s (change_name n (tentative_at at) s) r.1 (answer_is [] (change_name n (tentative_at at) s) r h).1
-        (one_left v defined P D s (change_name n (tentative_at at) s) (changed v defined P n (tentative_at at) s D (λ d e. tentative_kept at d)))
-    linked_none AsObject at t u n s r h = left_as v defined P D s (change_name n (tentative_at at) s) r.1 (answer_is [] (change_name n (tentative_at at) s) r h).1
-        (one_left v defined P D s (change_name n (tentative_at at) s) (changed v defined P n (tentative_at at) s D (λ d e. tentative_kept at d)))
+    linked_none : (asked : DeclaredAs) (at : ℕ) (t u : CType) (n : ℕ) (s : State) (r : List Expr × State) → linked_given v.target roles at asked t u n None s ≡ Ok r → Goes s r.1
+    linked_none AsExtern at t u n s r h = goes_as v defined P D D s s r.1 (answer_is [] s r h).1 (declares_itself v defined P s D)
+    linked_none AsStatic at t u n s r h = goes_as v defined P D D s (change_name n (tentative_at at) s) r.1 (answer_is [] (change_name n (tentative_at at) s) r h).1
+        (changed v defined P n (tentative_at at) s D (λ d e. tentative_kept at d))
+    linked_none AsObject at t u n s r h = goes_as v defined P D D s (change_name n (tentative_at at) s) r.1 (answer_is [] (change_name n (tentative_at at) s) r h).1
+        (changed v defined P n (tentative_at at) s D (λ d e. tentative_kept at d))
 
     -- the composite type is told of a name that is known alone
-    composite_new : (x : Name) (t : CType) (s : State) (o : Option ℕ) → o ≡ None → composite_by x t s o ≡ t
+    pub composite_new : (x : Name) (t : CType) (s : State) (o : Option ℕ) → o ≡ None → composite_by x t s o ≡ t
     composite_new x t s None e = refl
     composite_new x t s (Some i) e = absurd (cc)
 
-    pub linked_by_none : (at : ℕ) (asked : DeclaredAs) (x : Name) (t w : CType) (s : State) (o : Option ℕ) (r : List Expr × State) → (P → KnowsStructures v s.structures → is_object_type (kind_in v t) ≡ true) →
-        linked_known v.target roles at asked w (composite_by x t s o) None (declared_by x asked (composite_by x t s o) (object_kind defined asked x (composite_by x t s o)) s o) ≡ Ok r → Leaves v defined P D s r.1
-    linked_by_none at asked x t w s o r f h =
+    pub linked_goes : (at : ℕ) (asked : DeclaredAs) (x : Name) (t w : CType) (s : State) (o : Option ℕ) (r : List Expr × State) → (P → KnowsStructures v s.structures → is_object_type (kind_in v t) ≡ true) →
+        linked_known v.target roles at asked w (composite_by x t s o) None (declared_by x asked (composite_by x t s o) (object_kind defined asked x (composite_by x t s o)) s o) ≡ Ok r → Goes s r.1
+    linked_goes at asked x t w s o r f h =
         let u = composite_by x t s o in
         let known = declared_by x asked u (object_kind defined asked x u) s o in
-        then_left v defined P D D s known.1 r.1
+        declares_through v defined P s known.1 r.1 D D D
         (declared_goes x asked u (object_kind defined asked x u) s o (object_entry asked x u)
         (λ i p k. device_stands x u (is_extern asked && not (list_any (bytes_eq x) defined)) (out-Shape u.shape)
         (ap (λ (z : CType). is_object_type (kind_in v z)) (composite_new x t s o i)
         ∙ f p (subst (λ (c : Option ℕ). KnowsStructures v (declared_by x asked (composite_by x t s c) (object_kind defined asked x (composite_by x t s c)) s c).1.structures) i k.structures))))
         (linked_none asked at w u known.0 known.1 r h)
 
+    pub linked_by_none : (at : ℕ) (asked : DeclaredAs) (x : Name) (t w : CType) (s : State) (o : Option ℕ) (r : List Expr × State) → (P → KnowsStructures v s.structures → is_object_type (kind_in v t) ≡ true) →
+        linked_known v.target roles at asked w (composite_by x t s o) None (declared_by x asked (composite_by x t s o) (object_kind defined asked x (composite_by x t s o)) s o) ≡ Ok r → Leaves v defined P D s r.1
+    linked_by_none at asked x t w s o r f h = one_left v defined P D s r.1 (linked_goes at asked x t w s o r f h)
+
   -- ---- what an initialiser gives
 
-  record IsInitialised (X : Type 0) (t u : CType) (a : Place) (s : State) (r : X × State) : Type 0 where
-    middle : State
-    grown : Extends v (given_incomplete t a s) middle
-    type : CType
-    completed : completed_type v.target t u middle ≡ Ok type
-    last : r.1 ≡ with_unfinished None middle
+  pub record IsInitialised (X : Type 0) (t u : CType) (a : Place) (s : State) (r : X × State) : Type 0 where
+    pub middle : State
+    pub grown : Extends v (given_incomplete t a s) middle
+    pub type : CType
+    pub completed : completed_type v.target t u middle ≡ Ok type
+    pub last : r.1 ≡ with_unfinished None middle
 
   module _ (X : Type 0) (given : Bool → ValueType → Operand → State → Judged X) (zero_of : Bool → ValueType → Judged X) where
-    initial_is : (at : ℕ) (a : Place) (t u own : CType) (g : At Given) (s : State) (r : List X × State) → Each StepFits (initialised (contents_in own s) (given_here g)) → initial_values v.target roles X given zero_of at a t u own g s ≡ Ok r →
+    pub initial_is : (at : ℕ) (a : Place) (t u own : CType) (g : At Given) (s : State) (r : List X × State) → Each StepFits (initialised (contents_in own s) (given_here g)) → initial_values v.target roles X given zero_of at a t u own g s ≡ Ok r →
         IsInitialised (List X) t u a s r
     initial_is at a t u own g s r f h =
         let steps = initialised (contents_in own s) (given_here g) in
@@ -252,11 +262,11 @@ module _ (v : View) (roles : Roles) (defined : List Name) where
           last = e.1 ∙ ap (with_unfinished None) d.1;
         }
 
-  begun : (P : Type 0) (b : Bool) (a : Place) (s : State) (D : List Named) → DeclaresGiven v defined P s D (if b then with_unfinished (Some a) s else s) D
+  pub begun : (P : Type 0) (b : Bool) (a : Place) (s : State) (D : List Named) → DeclaresGiven v defined P s D (if b then with_unfinished (Some a) s else s) D
   begun P true a s D = unfinished v defined P (Some a) s D
   begun P false a s D = declares_itself v defined P s D
 
-  initialised_goes : (P X : Type 0) (t u : CType) (a : Place) (s : State) (r : X × State) (D : List Named) → IsInitialised X t u a s r → DeclaresGiven v defined P s D r.1 D
+  pub initialised_goes : (P X : Type 0) (t u : CType) (a : Place) (s : State) (r : X × State) (D : List Named) → IsInitialised X t u a s r → DeclaresGiven v defined P s D r.1 D
   initialised_goes P X t u a s r D i =
       subst (λ (z : State). DeclaresGiven v defined P s D z D) (sym i.last)
       (declares_through v defined P s i.middle (with_unfinished None i.middle) D D D
@@ -264,7 +274,7 @@ module _ (v : View) (roles : Roles) (defined : List Name) where
       (unfinished v defined P None i.middle D))
 
   -- its type stands, by what is judged at the end
-  initialised_stands : (X : Type 0) (t : CType) (g : At Given) (a : Place) (s before : State) (r : X × State) → IsInitialised X t (type_given t (Some g) before) a s r → IsDerived v false true t → KnowsStructures v r.1.structures →
+  pub initialised_stands : (X : Type 0) (t : CType) (g : At Given) (a : Place) (s before : State) (r : X × State) → IsInitialised X t (type_given t (Some g) before) a s r → IsDerived v false true t → KnowsStructures v r.1.structures →
       is_object_type (kind_in v (type_given t (Some g) before)) ≡ true
   initialised_stands X t g a s before r i d k =
       given_stands v t g before i.middle i.type d (subst (λ (z : State). KnowsStructures v z.structures) i.last k) i.completed
@@ -272,7 +282,7 @@ module _ (v : View) (roles : Roles) (defined : List Name) where
   -- ---- static objects of a block
 
   module _ (D : List Named) where
-    static_goes : (P : Type 0) (at : ℕ) (x : Name) (u : CType) (s : State) → (P → is_object_type (kind_in v u) ≡ true) → DeclaresGiven v defined P s D (with_static at x u s) D
+    pub static_goes : (P : Type 0) (at : ℕ) (x : Name) (u : CType) (s : State) → (P → is_object_type (kind_in v u) ≡ true) → DeclaresGiven v defined P s D (with_static at x u s) D
     static_goes P at x u s f =
         let d = static_object at x u in
         let t = with_declared d s in

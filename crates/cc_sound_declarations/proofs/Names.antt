@@ -35,7 +35,7 @@ pub record IsJudged (target : Target) (c : Category) (t u : CType) (s : State) :
   pub object : IsOfObject c → is_complete_or_unbounded target s t ≡ true
 
 module _ (target : Target) (roles : Roles) where
-  object_is : (x : Name) (t u : CType) (s : State) → object_judged target roles x t s ≡ Ok u → (t ≡ u) × (is_complete_or_unbounded target s t ≡ true)
+  pub object_is : (x : Name) (t u : CType) (s : State) → object_judged target roles x t s ≡ Ok u → (t ≡ u) × (is_complete_or_unbounded target s t ≡ true)
   object_is x t u s h = by_name (is_intrinsic roles x) h
     where
       by_name : (b : Bool) → (if b then Err rule.MainOrIntrinsic else must (is_complete_or_unbounded target s t) rule.NoObjectType (Ok t)) ≡ Ok u → (t ≡ u) × (is_complete_or_unbounded target s t ≡ true)

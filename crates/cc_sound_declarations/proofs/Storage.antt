@@ -31,13 +31,13 @@ use Rattle.cc_tree.specs.declared.unit.Init.{Init}
 use Rattle.cc_words.specs.declared.word.Word.{Word}
 use Rattle.cc_words.specs.declared.word.Word.TheVariants as w
 
-same_specs : (a b : Specs) → given a ≡ Ok b → a ≡ b
+pub same_specs : (a b : Specs) → given a ≡ Ok b → a ≡ b
 same_specs a b h = ok_is h
 
-same_specified : (a b : Specified) → given a ≡ Ok b → a ≡ b
+pub same_specified : (a b : Specified) → given a ≡ Ok b → a ≡ b
 same_specified a b h = ok_is h
 
-word_is : (a b : Word) → Some a ≡ Some b → a ≡ b
+pub word_is : (a b : Word) → Some a ≡ Some b → a ≡ b
 word_is a b h = cc
 
 module _ (setting : Setting) where
@@ -86,7 +86,7 @@ module _ (setting : Setting) where
   nothing_stored : IsFit no_specifier
   nothing_stored = λ x h. absurd (cc)
 
-  specified_same : (s : Specs) (x : Specified) → specified s ≡ Ok x → s ≡ x.specs
+  pub specified_same : (s : Specs) (x : Specified) → specified s ≡ Ok x → s ≡ x.specs
   specified_same s x h =
       let a = then_judged (named_type s) (λ t. Ok (record { specs = s; ctype = t })) x h in
       ap (λ (y : Specified). y.specs) (same_specified (record { specs = s; ctype = a.0 }) x a.2)
@@ -99,7 +99,7 @@ module _ (setting : Setting) where
 
 -- ---- which storage class goes with an initialiser
 
-typedef_plain : (place : Where) (function given : Bool) → storage_fits place function given w.Typedef ≡ true → given ≡ false
+pub typedef_plain : (place : Where) (function given : Bool) → storage_fits place function given w.Typedef ≡ true → given ≡ false
 typedef_plain stands.AtFile function false h = refl
 typedef_plain stands.AtFile function true h = absurd (cc)
 typedef_plain stands.InBlock function false h = refl
@@ -122,13 +122,13 @@ extern_plain _ function given For h = absurd (cc)
 
 -- ---- which category has which storage class
 
-function_typedef : (x : Option Word) → function_category x ≡ declares.Typedef → x ≡ Some w.Typedef
+pub function_typedef : (x : Option Word) → function_category x ≡ declares.Typedef → x ≡ Some w.Typedef
 function_typedef None h = absurd (cc)
 function_typedef (Some w.Typedef) h = refl
 function_typedef (Some w.Static) h = absurd (cc)
 function_typedef (Some x) h = absurd (cc)
 
-function_linked : (x : Option Word) (asked : DeclaredAs) → function_category x ≡ declares.Linked asked → ⊥
+pub function_linked : (x : Option Word) (asked : DeclaredAs) → function_category x ≡ declares.Linked asked → ⊥
 function_linked None asked h = absurd (cc)
 function_linked (Some w.Typedef) asked h = absurd (cc)
 function_linked (Some w.Static) asked h = absurd (cc)
@@ -164,7 +164,7 @@ pub record IsPlain (place : Where) (storage : Option Word) (i : At Init) : Type 
   pub typedefs : (function : Bool) → category_by place storage function ≡ declares.Typedef → i.node.value ≡ None
   pub linked : (function : Bool) (asked : DeclaredAs) → category_by place storage function ≡ declares.Linked asked → i.node.value ≡ None
 
-not_given : {A : Type 0} (o : Option A) → is_some o ≡ false → o ≡ None
+pub not_given : {A : Type 0} (o : Option A) → is_some o ≡ false → o ≡ None
 not_given None h = refl
 not_given (Some x) h = absurd (cc)
 
@@ -172,7 +172,7 @@ or_false : (a b : Bool) → a || b ≡ false → (a ≡ false) × (b ≡ false)
 or_false false b h = (refl, h)
 or_false true b h = absurd (cc)
 
-none_given : (is : List (At Init)) → list_any is_given is ≡ false → Each (λ (i : At Init). i.node.value ≡ None) is
+pub none_given : (is : List (At Init)) → list_any is_given is ≡ false → Each (λ (i : At Init). i.node.value ≡ None) is
 none_given [] h = tt
 none_given (i ∷ is) h = let b = or_false (is_given i) (list_any is_given is) h in (not_given i.node.value b.0, none_given is b.1)
 

@@ -24,7 +24,7 @@ append_nothing (x ∷ xs) = ap (λ ys. x ∷ ys) (append_nothing xs)
 
 -- ---- lists of numbers without repetition
 
-among_parts : (front : List ℕ) (i j : ℕ) → is_among (front ++ i ∷ []) j ≡ true → (is_among front j ≡ true) ⊎ (j ≡ i)
+pub among_parts : (front : List ℕ) (i j : ℕ) → is_among (front ++ i ∷ []) j ≡ true → (is_among front j ≡ true) ⊎ (j ≡ i)
 among_parts [] i j h = of_test (nat_eq j i) refl h
   where
     of_test : (b : Bool) → nat_eq j i ≡ b → b || false ≡ true → (false ≡ true) ⊎ (j ≡ i)
@@ -37,11 +37,11 @@ among_parts (x ∷ front) i j h = of_first (nat_eq j x) h (among_parts front i j
     of_first false g f = f g
 
 -- those below n that are not among them
-abbrev one_free : Bool → ℕ
+abbrev pub one_free : Bool → ℕ
 one_free true = 0
 one_free false = 1
 
-abbrev free : List ℕ → ℕ → ℕ
+abbrev pub free : List ℕ → ℕ → ℕ
 free front zero = 0
 free front (suc n) = one_free (is_among front n) + free front n
 
@@ -98,7 +98,7 @@ one_fewer front i (suc n) l h = of_place (nat_eq i n) refl (one_fewer front i n)
         let b = f q h in
         omega (arith, a, b)
 
-all_free : (n : ℕ) → free [] n ≡ n
+pub all_free : (n : ℕ) → free [] n ≡ n
 all_free zero = refl
 all_free (suc n) = let e = all_free n in omega (arith, e)
 
@@ -107,7 +107,7 @@ get_below [] i x h = absurd (cc)
 get_below (y ∷ xs) zero x h = omega arith
 get_below (y ∷ xs) (suc i) x h = let l = get_below xs i x h in omega (arith, l)
 
-few_listed : (xs : List KnownStructure) (front rest : List ℕ) → AreOrdered xs front rest → length rest ≤ free front (length xs)
+pub few_listed : (xs : List KnownStructure) (front rest : List ℕ) → AreOrdered xs front rest → length rest ≤ free front (length xs)
 few_listed xs front [] h = omega arith
 few_listed xs front (i ∷ rest) h =
     let a = one_fewer front i (length xs) (get_below xs i h.0.there.0 h.0.there.1) h.0.new in
@@ -117,7 +117,7 @@ few_listed xs front (i ∷ rest) h =
 -- ---- contents
 
 module _ (front : List ℕ) where
-  abbrev parts_over : shape.Shape-F Shape CType Sig → shape.Shape-F Bool Bool (Unit {0})
+  abbrev pub parts_over : shape.Shape-F Shape CType Sig → shape.Shape-F Bool Bool (Unit {0})
   parts_over x = map-Shape Shape CType Sig Bool Bool (Unit {0})
       (fold-Shape Bool Bool (Unit {0}) (complete_over front) (λ t. t.shape) (λ s. tt))
       (is_complete_over front)
@@ -129,7 +129,7 @@ module _ (front : List ℕ) where
       fold_out-CType Bool Bool (Unit {0}) (complete_over front) (λ t. t.shape) (λ s. tt) t
       ∙ fold_out-Shape Bool Bool (Unit {0}) (complete_over front) (λ t. t.shape) (λ s. tt) t.shape
 
-  over-roll : (c w : Bool) (x : shape.Shape-F Shape CType Sig) → is_complete_over front (with_shape c w (roll-Shape x)) ≡ complete_over front (parts_over x)
+  pub over-roll : (c w : Bool) (x : shape.Shape-F Shape CType Sig) → is_complete_over front (with_shape c w (roll-Shape x)) ≡ complete_over front (parts_over x)
   over-roll c w x = over-opens (with_shape c w (roll-Shape x)) ∙ ap (λ y. complete_over front (parts_over y)) (out-roll-Shape x)
 
 both_members : (a b c d : Contents) → a ≡ b → c ≡ d → Members a c ≡ Members b d
@@ -194,7 +194,7 @@ module _ (some all : List Structure) where
 
 -- ---- states
 
-members_found : (xs : List KnownStructure) (i : ℕ) (ms : List Named) → HasMembers xs i ms → members_at (slice_get (map as_structure xs) i) ≡ ms
+pub members_found : (xs : List KnownStructure) (i : ℕ) (ms : List Named) → HasMembers xs i ms → members_at (slice_get (map as_structure xs) i) ≡ ms
 members_found xs i ms h = ap members_at (slice_get-map as_structure xs i ∙ ap (option_map as_structure) h.1) ∙ ap members_or_none h.2
 
 ordered_same : (xs ys : List KnownStructure) → StructuresKept xs ys → (front rest : List ℕ) (n : ℕ) → Same (map as_structure xs) (map as_structure ys) front n → AreOrdered xs front rest →
@@ -210,7 +210,7 @@ ordered_same xs ys kept front (i ∷ rest) n s h =
     (subst (λ (f : List ℕ). Same (map as_structure xs) (map as_structure ys) f (suc n + length rest)) (append_assoc front (i ∷ []) rest)
     (ordered_same xs ys kept (front ++ i ∷ []) rest (suc n) more h.1))
 
-map_length : (xs : List KnownStructure) → length (map as_structure xs) ≡ length xs
+pub map_length : (xs : List KnownStructure) → length (map as_structure xs) ≡ length xs
 map_length [] = refl
 map_length (x ∷ xs) = ap suc (map_length xs)
 
