@@ -109,14 +109,19 @@ module _ (Goes : State → List Named → State → List Named → Type 0) (Know
           chained Goes Knows Has on TypedExprs (SoundList j) (effect_found v.target roles e s) (λ e s. done (Do e) s) D s r d (λ x i. effect_reached roles e (he e refl) D s x d i)
           (λ x E i k l. one_done j (λ L. TypedExprs L x.0) (Do x.0) E x.1 r (λ L t F low. do_sound v.target (type_of v F) result x.0 j.breaks j.continues (t F low)) l) h
 
-      pub return_reached : (roles : Roles) (e : Option (At Tree)) → ((x : At Tree) → e ≡ Some x → ValueHolds roles x) → ((to : ValueType) → scalar_value result ≡ Some to → stands v to ≡ true) →
+      -- what is returned has a type that may stand
+      abbrev ResultStands : Type 0
+      ResultStands = (to : ValueType) → scalar_value result ≡ Some to → stands v to ≡ true
+
+      pub return_reached : (roles : Roles) (e : Option (At Tree)) → ((x : At Tree) → e ≡ Some x → ValueHolds roles x) → ((D : List Named) (s t : State) → Knows D s t → ResultStands) →
           (j : Jumps) (at : ℕ) (D : List Named) (s : State) (r : List Stmt × State) → Has D s → return_found v.target roles result e at s ≡ Ok r → To (List Stmt) (SoundList j) D s r
       unfolding return_found
       return_reached roles e he there j at D s r d h =
-          chained Goes Knows Has on (λ L o. (y : Operand) → o ≡ Some y → TypedHere L y) (SoundList j) (maybe_found (value_here v.target roles) e s) (λ x s. whole at s (returned v.target result x)) D s r d
+          let o = chained Goes Knows Has on (λ L o. (y : Operand) → o ≡ Some y → TypedHere L y) (λ L ss. ResultStands → SoundList j L ss) (maybe_found (value_here v.target roles) e s) (λ x s. whole at s (returned v.target result x)) D s r d
           (λ x i. maybe_reached Goes Knows Has on TypedHere (value_here v.target roles) (ValueHolds roles) (λ y hy. hy) e he D s x d i)
-          (λ x E i k l. judged Goes Knows Has on (λ L ss. ((y : Operand) → x.0 ≡ Some y → TypedHere L y) → SoundList j L ss) at (returned v.target result x.0) E x.1 r
-          (λ ss f L hx F low. returned_sound v L (type_of v F) (keeps L F low) result x.0 j ss hx there f) l) h
+          (λ x E i k l. judged Goes Knows Has on (λ L ss. ((y : Operand) → x.0 ≡ Some y → TypedHere L y) → ResultStands → SoundList j L ss) at (returned v.target result x.0) E x.1 r
+          (λ ss f L hx stands F low. returned_sound v L (type_of v F) (keeps L F low) result x.0 j ss hx stands f) l) h in
+          record { objects = o.objects; goes = o.goes; holds = λ L more g w. o.holds L more g w (there D s r.1 w) }
 
       -- ---- declarations
 

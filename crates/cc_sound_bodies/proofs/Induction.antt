@@ -45,7 +45,7 @@ expr_is a b h = cc
 
 module _ (Goes : State → List Named → State → List Named → Type 0) (Knows : List Named → State → State → Type 0) (Has : List Named → State → Type 0) (on : GoesOn Goes Knows Has)
     (v : View) (Lowered : List Named → List Named → Type 0) (keeps : (L F : List Named) → Lowered L F → Keeps v L (type_of v F)) (roles : Roles) (defined : List Name) (result : CType)
-    (there : (to : ValueType) → scalar_value result ≡ Some to → stands v to ≡ true) (values : (e : At Tree) → fits e.node ≡ true → ValueHolds Goes Knows Has on v Lowered roles e)
+    (there : (D : List Named) (s t : State) → Knows D s t → (to : ValueType) → scalar_value result ≡ Some to → stands v to ≡ true) (values : (e : At Tree) → fits e.node ≡ true → ValueHolds Goes Knows Has on v Lowered roles e)
     (declares : (d : Decl) → decl_fits d ≡ true → DeclHolds Goes Knows Has on v Lowered roles defined d) where
   abbrev Holds : LineMeaning → Type 0
   Holds m = LineHolds Goes Knows Has on v Lowered keeps result m

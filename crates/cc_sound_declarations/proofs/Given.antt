@@ -58,6 +58,7 @@ module _ (v : View) (defined : List Name) where
         front = b.front;
         locals = λ k d. b.locals k (start.locals k d);
         objects = λ p k h. b.objects (p, a.holds (first k) p) (second k) (start.objects p (first k) h);
+        complete = λ p k h. b.complete (p, a.holds (first k) p) (second k) (start.complete p (first k) h);
       }
 
   pub behind_types : (P A : Type 0) (T : A → Type 0) (D : List Named) (s : State) (x : A × State) (t : State) → Finds A (λ y. P → T y) s x → Leaves (P × T x.0) D x.1 t → Leaves P D s t

@@ -63,7 +63,7 @@ use Rattle.cc_unit.specs.declared.unit.UnitKind.{UnitKind}
 use Rattle.cc_unit.specs.declared.unit.UnitKind.TheVariants as kind
 use Rattle.cc_sound_declarations.proofs.Given.{Leaves, goes_as, left_as, one_left, less}
 use Rattle.cc_sound_declarations.proofs.Initialised.{StepFits, steps_extend, broken_last}
-use Rattle.cc_sound_declarations.proofs.Types.{object_pointed, complete_stands, plainly_derived, given_stands, modes_stand}
+use Rattle.cc_sound_declarations.proofs.Types.{complete_stands, plainly_derived, given_stands, modes_stand}
 
 -- ---- entries
 
@@ -323,7 +323,7 @@ module _ (v : View) (roles : Roles) (defined : List Name) where
         less v defined (IsDerived v false false t) (is_object_type (kind_in v t) ≡ true) D s r.1
         (λ p w. complete_stands v t s (subst (λ (z : State). KnowsStructures v z.structures) e.1 w.structures) (plainly_derived v t p) c)
         (left_as v defined (is_object_type (kind_in v t) ≡ true) D s (with_automatic x t s) r.1 e.1
-        (D ++ (x, t) ∷ [], automatic v defined (is_object_type (kind_in v t) ≡ true) x t s D k d (λ p w. object_pointed (kind_in v t) p)))
+        (D ++ (x, t) ∷ [], automatic v defined (is_object_type (kind_in v t) ≡ true) x t s D k d (λ p w. p)))
 
     pub automatic_some : (k : ℕ) → (at : ℕ) (x : Name) (t : CType) (g : At Given) (s : State) (r : List Expr × State) → AreDeclared k D s → ((c : Contents) → Each StepFits (initialised c (given_here g))) → automatic_left v.target roles at x t (Some g) s ≡ Ok r →
         Leaves v defined (IsDerived v false true t) D s r.1
@@ -339,4 +339,4 @@ module _ (v : View) (roles : Roles) (defined : List Name) where
         less v defined (IsDerived v false true t) Q D s r.1
         (λ p w. initialised_stands (List Expr) t g (Local n) start s a.0 i p (subst (λ (z : State). KnowsStructures v z.structures) e.1 w.structures))
         (left_as v defined Q D s a.0.1 r.1 e.1
-        (E, declares_through v defined Q s start a.0.1 D E E (automatic v defined Q x u s D k d (λ p w. object_pointed (kind_in v u) p)) (initialised_goes Q (List Expr) t u (Local n) start a.0 E i)))
+        (E, declares_through v defined Q s start a.0.1 D E E (automatic v defined Q x u s D k d (λ p w. p)) (initialised_goes Q (List Expr) t u (Local n) start a.0 E i)))

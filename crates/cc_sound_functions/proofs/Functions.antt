@@ -1,7 +1,7 @@
 -- The body of a function definition, in the scope of its parameters.
 use Rattle.std.proofs.Common.{arith, ◌≡◌, ℕ, zero, suc, true, false, List, [], ◌∷◌, map, length, Option, Some, None, Ok, refl, ap, sym, ◌∙◌, subst}
 use Rattle.std.specs.Prelude.{slice_get}
-use Rattle.cc_operand_types.specs.Typed.{MembersStand, is_pointed_kind, stands}
+use Rattle.cc_operand_types.specs.Typed.{MembersStand, is_pointed_kind}
 use Rattle.cc_syntax.specs.Views.{View, kind_in}
 use Rattle.cc_syntax.specs.Expressions.{type_of}
 use Rattle.cc_program.proofs.Each.{Each}
@@ -9,27 +9,26 @@ use Rattle.cc_program.specs.declared.program.Roles.{Roles}
 use Rattle.cc_program.specs.declared.stmt.Stmt.{Stmt}
 use Rattle.cc_program.specs.declared.types.CType.{CType}
 use Rattle.cc_ranged_trees.specs.Ranges.{each_fits, line_in_range}
-use Rattle.cc_sound_declarations.specs.Ranges.{decl_fits}
 use Rattle.cc_scopes.specs.State.{State, Name, Scope, find_name, or_else, designated, tagged, entered, with_locals}
 use Rattle.cc_scopes.specs.declared.designated.Designated.{Designated}
 use Rattle.cc_scopes.specs.declared.designated.Designated.TheVariants as means
 use Rattle.cc_scopes.specs.declared.designated.Tagged.{Tagged}
 use Rattle.cc_scopes.specs.declared.designated.Tagged.TheVariants as tag
 use Rattle.cc_sound_bodies.proofs.Bodies.{body_holds}
-use Rattle.cc_sound_bodies.specs.Bodies.{DeclarationHolds}
+use Rattle.cc_sound_functions.specs.Bodies.{IsFunctionBody}
+use Rattle.cc_sound_functions.proofs.ParameterTypes.{parameter_complete}
 use Rattle.cc_sound_parameters.specs.Scopes.{IsParameterIn, IsParameterScope}
 use Rattle.cc_sound_states.proofs.Declaring.{append_nothing, object_wider}
-use Rattle.cc_sound_states.specs.Declaring.{Declares, AreDeclared, lowered}
+use Rattle.cc_sound_states.specs.Declaring.{AreDeclared, AreObjects, lowered}
 use Rattle.cc_sound_terms.specs.Growing.{IsTag, StructuresKept}
 use Rattle.cc_sound_terms.specs.Knowing.{Stands, KnowsNames, IsObject, IsThere, ObjectsStand}
+use Rattle.cc_sound_terms.specs.Ordered.{IsOrdered}
 use Rattle.cc_sound_terms.specs.Standing.{ParameterStands}
 use Rattle.cc_sound_terms.specs.Typing.{KnowsTypes, Knows}
 use Rattle.cc_syntax.specs.Statements.{is_sound_body}
 use Rattle.cc_specifiers.specs.declared.derivation.Parameter.{Parameter}
 use Rattle.cc_syntax.specs.Types.{Named}
-use Rattle.cc_syntax.specs.Values.{ValueType, scalar_value}
 use Rattle.cc_tree.specs.declared.at.At.{At}
-use Rattle.cc_tree.specs.declared.unit.Decl.{Decl}
 use Rattle.cc_tree.specs.declared.unit.Line.{Line}
 use Rattle.cc_type.specs.Functions.{local_of, locals_of}
 use Rattle.cc_typed_bodies.specs.Lines.{line_here}
@@ -38,7 +37,7 @@ use Rattle.cc_typed_statements.specs.Jumps.{no_jumps}
 
 -- ---- parameters as locals
 
-parameters_count : (ps : List Parameter) → length (locals_of ps) ≡ length ps
+pub parameters_count : (ps : List Parameter) → length (locals_of ps) ≡ length ps
 parameters_count [] = refl
 parameters_count (p ∷ ps) = ap suc (parameters_count ps)
 
@@ -74,21 +73,24 @@ module _ (v : View) where
   parameter_object ps e (means.Linked i) h = elim h [ ]
   parameter_object ps e (means.TypeNamed t) h = elim h [ ]
 
-  module _ (ps : List Parameter) (scope : Scope) (s t : State) (is : IsParameterScope v.target ps scope s) (each : Each (ParameterStands v) ps) where
+  module _ (ps : List Parameter) (scope : Scope) (s t : State) (is : IsParameterScope v.target ps scope s) where
     abbrev begun : State
     begun = entered scope (with_locals (locals_of ps) s)
 
     tag_there : (d : Tagged) → IsTag s.structures d → KnowsTypes v s t → StructuresKept s.structures t.structures → (i : ℕ) → d ≡ tag.StructureTag i → IsThere v i
     tag_there d h k kept i e = let c = h i e in let l = kept i c.0 c.1 in let w = k.structures i l.0 l.1 in (w.extent, w.there)
 
-    known_begun : StructuresKept s.structures t.structures → KnowsTypes v s t → KnowsNames v t.names → MembersStand v → ObjectsStand v [] s → Knows v (locals_of ps) begun t
-    known_begun kept k n m o = record {
-      types = record {
-        structures = k.structures;
-        types = λ x u h. designated_by (λ (d : Designated). d ≡ means.TypeNamed u → Stands v u) (find_name x scope.names) (designated x s.scopes)
-            (λ d f e. absurd (no_type ps u (subst (IsParameterIn v.target ps) e (is.names x d f)))) (λ d f e. k.types x u (f ∙ ap Some e)) (means.TypeNamed u) h refl;
-        tags = λ x u h. designated_by (λ (d : Tagged). (i : ℕ) → d ≡ tag.StructureTag i → IsThere v i) (find_name x scope.tags) (tagged x s.scopes) (λ d f. tag_there d (is.tags x d f) k kept) (k.tags x) u h;
-      };
+    types_begun : StructuresKept s.structures t.structures → KnowsTypes v s t → KnowsTypes v begun t
+    types_begun kept k = record {
+      structures = k.structures;
+      types = λ x u h. designated_by (λ (d : Designated). d ≡ means.TypeNamed u → Stands v u) (find_name x scope.names) (designated x s.scopes)
+          (λ d f e. absurd (no_type ps u (subst (IsParameterIn v.target ps) e (is.names x d f)))) (λ d f e. k.types x u (f ∙ ap Some e)) (means.TypeNamed u) h refl;
+      tags = λ x u h. designated_by (λ (d : Tagged). (i : ℕ) → d ≡ tag.StructureTag i → IsThere v i) (find_name x scope.tags) (tagged x s.scopes) (λ d f. tag_there d (is.tags x d f) k kept) (k.tags x) u h;
+    }
+
+    known_begun : StructuresKept s.structures t.structures → Each (ParameterStands v) ps → KnowsTypes v s t → KnowsNames v t.names → MembersStand v → ObjectsStand v [] s → Knows v (locals_of ps) begun t
+    known_begun kept each k n m o = record {
+      types = types_begun kept k;
       names = n;
       objects = λ x d h. designated_by (IsObject v (locals_of ps)) (find_name x scope.names) (designated x s.scopes)
           (λ d f. parameter_object ps each d (is.names x d f)) (λ d f. object_wider v [] (locals_of ps) (locals_of ps) d refl (o x d f)) d h;
@@ -101,18 +103,30 @@ module _ (v : View) where
     locals = sym (lowered_none (locals_of ps)) ∙ ap (λ (k : ℕ). lowered k (locals_of ps)) (parameters_count ps);
   }
 
-  pub function_body : (roles : Roles) (defined : List Name) (result : CType) → ((to : ValueType) → scalar_value result ≡ Some to → stands v to ≡ true) →
-      (ps : List Parameter) → ((d : Decl) → decl_fits d ≡ true → DeclarationHolds v (length ps) roles defined d) → (scope : Scope) (s : State) → IsParameterScope v.target ps scope s → Each (ParameterStands v) ps →
+  pub ordered_begun : (ps : List Parameter) (scope : Scope) (s : State) → IsParameterScope v.target ps scope s → IsOrdered s → IsOrdered (entered scope (with_locals (locals_of ps) s))
+  ordered_begun ps scope s is o = record {
+    listed = o.listed;
+    order = o.order;
+    tags = λ x u h. designated_by (IsTag s.structures) (find_name x scope.tags) (tagged x s.scopes) (is.tags x) (o.tags x) u h;
+  }
+
+  objects_of : (ps : List Parameter) → Each (ParameterStands v) ps → AreObjects v (locals_of ps)
+  objects_of [] h = tt
+  objects_of (p ∷ ps) h = (parameter_complete v p h.0, objects_of ps h.1)
+
+  pub function_body : (roles : Roles) (defined : List Name) (result : CType) (ps : List Parameter) (scope : Scope) (s : State) → IsOrdered s → IsParameterScope v.target ps scope s →
       (ls : List (At Line)) → each_fits line_in_range ls ≡ true → (r : List Stmt × State) → lines_found no_jumps (map (line_here v.target roles defined result) ls) (entered scope (with_locals (locals_of ps) s)) ≡ Ok r →
-      (E : List Named) × Declares v defined (entered scope (with_locals (locals_of ps) s)) (locals_of ps) r.1 E × (r.1.locals ≡ lowered (length ps) E)
-      × (KnowsTypes v s r.1 → KnowsNames v r.1.names → MembersStand v → ObjectsStand v [] s → is_sound_body v.target (type_of v r.1.locals) result r.0 ≡ true)
-  function_body roles defined result there ps decls scope s is each ls q r h =
+      IsFunctionBody v defined result ps scope s r
+  function_body roles defined result ps scope s ordered is ls q r h =
       let begun = entered scope (with_locals (locals_of ps) s) in
-      let o = body_holds v (length ps) roles defined result there decls ls q no_jumps (locals_of ps) begun r (declared_begun ps scope s) h in
-      let a = o.goes.locals (length ps) (declared_begun ps scope s) in (
-        o.objects,
-        o.goes,
-        a.locals,
-        λ k n m w. subst (λ (locals : List Named). is_sound_body v.target (type_of v locals) result r.0 ≡ true) (sym a.locals)
-            (o.holds o.objects [] (sym (append_nothing o.objects)) (known_begun ps scope s r.1 is each o.goes.structures k n m w)),
-      )
+      let o = body_holds v (length ps) result roles defined ls q no_jumps (locals_of ps) begun r (record { declared = declared_begun ps scope s; ordered = ordered_begun ps scope s is ordered }) h in
+      let a = o.goes.locals (length ps) (declared_begun ps scope s) in
+      record {
+        objects = o.objects;
+        goes = o.goes;
+        locals = a.locals;
+        types = λ k. types_begun ps scope s r.1 is o.goes.structures k;
+        complete = λ each k. o.goes.complete tt (types_begun ps scope s r.1 is o.goes.structures k) (objects_of ps each);
+        sound = λ there each k n m w. subst (λ (locals : List Named). is_sound_body v.target (type_of v locals) result r.0 ≡ true) (sym a.locals)
+            (o.holds o.objects [] (sym (append_nothing o.objects)) (known_begun ps scope s r.1 is o.goes.structures each k n m w) there);
+      }

@@ -1,1 +1,2 @@
+pub mod ParameterTypes
 pub mod Functions

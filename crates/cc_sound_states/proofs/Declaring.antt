@@ -85,6 +85,7 @@ module _ (v : View) where
       front = ([], sym (append_nothing D));
       locals = λ k h. h;
       objects = λ p k h. h;
+      complete = λ p k h. h;
     }
 
     pub declares_through : (s t u : State) (D E F : List Named) → Goes s D t E → Goes t E u F → Goes s D u F
@@ -98,6 +99,7 @@ module _ (v : View) where
       front = (a.front.0 ++ b.front.0, b.front.1 ∙ ap (λ (xs : List Named). xs ++ b.front.0) a.front.1 ∙ append_assoc D a.front.0 b.front.0);
       locals = λ k h. b.locals k (a.locals k h);
       objects = λ p k h. b.objects p (known_second v s t u b.structures (a.behind p) k) (a.objects p (known_first v s t u b.structures k) h);
+      complete = λ p k h. b.complete p (known_second v s t u b.structures (a.behind p) k) (a.complete p (known_first v s t u b.structures k) h);
     }
 
     declared_same : (k : ℕ) (D : List Named) (s t : State) → t.locals ≡ s.locals → AreDeclared k D s → AreDeclared k D t
@@ -115,6 +117,7 @@ module _ (v : View) where
       front = ([], sym (append_nothing D));
       locals = λ k h. declared_same k D s t g.grows.locals h;
       objects = λ p k h. f h;
+      complete = λ p k h. h;
     }
 
     pub of_extends : (s t : State) (D : List Named) → Extends v s t → Goes s D t D
@@ -167,6 +170,7 @@ module _ (v : View) where
       front = a.front;
       locals = λ k h. let d = a.locals k (record { enough = h.enough; locals = h.locals }) in record { enough = d.enough; locals = d.locals };
       objects = λ p k h x d e. object_wider D a.front.0 E d a.front.1 (h x d (ap (designated x) (sym a.outer) ∙ e));
+      complete = λ p k h. a.complete p (record { structures = k.structures; types = k.types; tags = k.tags }) h;
     }
 
     pub goes_on_given : (k : ℕ) → GoesOn Goes Known (AreDeclared k)
@@ -207,4 +211,5 @@ module _ (v : View) where
     front = a.front;
     locals = a.locals;
     objects = λ p k h. a.objects (f p k) k h;
+    complete = λ p k h. a.complete (f p k) k h;
   }

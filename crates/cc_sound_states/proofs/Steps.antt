@@ -1,7 +1,7 @@
 -- What is declared step by step: something that has a place in memory, a name, an automatic object; and an entry or a structure that is told more of.
 use Rattle.std.proofs.Common.{◌≡◌, ◌≤◌, ◌⊎◌, inl, inr, ℕ, zero, suc, true, false, List, [], ◌∷◌, ◌++◌, length, Option, Some, refl, ap, sym, ◌∙◌, subst, arith}
 use Rattle.std.specs.Prelude.{slice_get}
-use Rattle.cc_operand_types.specs.Typed.{is_pointed_kind}
+use Rattle.cc_operand_types.proofs.Standing.{object_type}
 use Rattle.cc_syntax.specs.Views.{View, kind_in}
 use Rattle.cc_operands.specs.Qualified.{without_const}
 use Rattle.cc_program.specs.declared.expr.Place.{Place}
@@ -18,9 +18,10 @@ use Rattle.cc_sound_terms.specs.Typing.{KnowsTypes}
 use Rattle.cc_sound_terms.proofs.Behind.{entry_itself, names_itself, names_more, entry_of_one, last_or_front, bind_adds}
 use Rattle.cc_sound_terms.proofs.Completeness.{order_kept, ordered_same}
 use Rattle.cc_sound_terms.proofs.Growth.{get_last, all_kept, bind_grows, designated_kept, structures_changed, changed_or_not, tag_through}
+use Rattle.cc_syntax.specs.Kinds.{is_object_type}
 use Rattle.cc_syntax.specs.Types.{Named}
 use Rattle.cc_sound_states.specs.Entries.{IsEntry}
-use Rattle.cc_sound_states.specs.Declaring.{AreDeclared, DeclaresGiven}
+use Rattle.cc_sound_states.specs.Declaring.{AreDeclared, AreObjects, DeclaresGiven}
 use Rattle.cc_sound_states.proofs.Entries.{entry_of_two}
 use Rattle.cc_sound_states.proofs.Declaring.{append_nothing, lowered_more, lowered_length, object_wider}
 
@@ -54,6 +55,7 @@ module _ (v : View) (defined : List Name) (Given : Type 0) where
     front = ([], sym (append_nothing D));
     locals = λ k h. record { enough = h.enough; locals = h.locals };
     objects = λ p k h. h;
+    complete = λ p k h. h;
   }
 
   changed_entry : (s : State) (i : ℕ) (change : Declared → Declared) (j : ℕ) (e : Declared) → (slice_get s.names j ≡ Some e) ⊎ ((d : Declared) × (slice_get s.names j ≡ Some d) × (e ≡ change d)) → HasEntry s.names j
@@ -72,6 +74,7 @@ module _ (v : View) (defined : List Name) (Given : Type 0) where
     front = ([], sym (append_nothing D));
     locals = λ k h. record { enough = h.enough; locals = h.locals };
     objects = λ p k h. h;
+    complete = λ p k h. h;
   }
 
   -- the array whose initialiser is read says nothing of what is declared
@@ -86,6 +89,7 @@ module _ (v : View) (defined : List Name) (Given : Type 0) where
     front = ([], sym (append_nothing D));
     locals = λ k h. record { enough = h.enough; locals = h.locals };
     objects = λ p k h. h;
+    complete = λ p k h. h;
   }
 
   -- ---- names
@@ -112,6 +116,7 @@ module _ (v : View) (defined : List Name) (Given : Type 0) where
     front = ([], sym (append_nothing D));
     locals = λ k h. record { enough = h.enough; locals = h.locals };
     objects = λ p k h. objects_bound x d s D [] D (sym (append_nothing D)) o h;
+    complete = λ p k h. h;
   }
 
   -- ---- an automatic object, with its declared type
@@ -128,7 +133,11 @@ module _ (v : View) (defined : List Name) (Given : Type 0) where
     locals = e ∙ ap (λ (ls : List Named). ls ++ (x, without_const t) ∷ []) h.locals ∙ sym (lowered_more k D (x, t) h.enough);
   }
 
-  pub automatic : (x : Name) (t : CType) (s : State) (D : List Named) (k : ℕ) → AreDeclared k D s → (Given → KnowsTypes v s (with_object x t s) → is_pointed_kind false (kind_in v t) ≡ true) → Goes s D (with_object x t s) (D ++ (x, t) ∷ [])
+  objects_more : (D : List Named) (l : Named) → AreObjects v D → is_object_type (kind_in v l.1) ≡ true → AreObjects v (D ++ l ∷ [])
+  objects_more [] l h k = (k, tt)
+  objects_more (x ∷ D) l h k = (h.0, objects_more D l h.1 k)
+
+  pub automatic : (x : Name) (t : CType) (s : State) (D : List Named) (k : ℕ) → AreDeclared k D s → (Given → KnowsTypes v s (with_object x t s) → is_object_type (kind_in v t) ≡ true) → Goes s D (with_object x t s) (D ++ (x, t) ∷ [])
   automatic x t s D k d f =
       let inner = with_locals (s.locals ++ (x, without_const t) ∷ []) s in
       let object : Designated = means.Automatic (length s.locals) t in
@@ -143,7 +152,8 @@ module _ (v : View) (defined : List Name) (Given : Type 0) where
             record { types = b.types; tags = b.tags; names = b.names; structures = b.structures };
         front = ((x, t) ∷ [], refl);
         locals = λ j h. more_declared x t s (with_object x t s) D j refl h;
-        objects = λ p w h. objects_bound x object inner D ((x, t) ∷ []) (D ++ (x, t) ∷ []) refl ((x, t), object_at x t s D k d, refl, f p w) h;
+        objects = λ p w h. objects_bound x object inner D ((x, t) ∷ []) (D ++ (x, t) ∷ []) refl ((x, t), object_at x t s D k d, refl, object_type (kind_in v t) (f p w)) h;
+        complete = λ p w h. objects_more D (x, t) h (f p w);
       }
 
   -- ---- a structure of which more is told: its members and its layout stay
@@ -179,4 +189,5 @@ module _ (v : View) (defined : List Name) (Given : Type 0) where
         front = ([], sym (append_nothing D));
         locals = λ k h. record { enough = h.enough; locals = h.locals };
         objects = λ p k h. h;
+        complete = λ p k h. h;
       }
