@@ -1,0 +1,7 @@
+pub mod Consts
+pub mod Locals
+pub mod Signatures
+pub mod Entries
+pub mod Parts
+pub mod Defined
+pub mod Functions

@@ -1,0 +1,10 @@
+pub mod Lists
+pub mod Kept
+pub mod Declared
+pub mod Objects
+pub mod Categories
+pub mod Declarations
+pub mod Places
+pub mod Bodies
+pub mod Definitions
+pub mod First
