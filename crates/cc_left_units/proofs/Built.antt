@@ -11,7 +11,7 @@ module _ (numbers : List ℕ) (all : List KnownStructure) where
   abbrev pub AllThere : List ℕ → Type 0
   AllThere order = (j : ℕ) → In j order → (k : KnownStructure) × (slice_get all j ≡ Some k)
 
-  one-at : (j : ℕ) (k : KnownStructure) → slice_get all j ≡ Some k → structure_at numbers all j ≡ structure_in numbers k ∷ []
+  pub one-at : (j : ℕ) (k : KnownStructure) → slice_get all j ≡ Some k → structure_at numbers all j ≡ structure_in numbers k ∷ []
   one-at j k e = ap (λ (o : Option KnownStructure). option_to_list (option_map (structure_in numbers) o)) e
 
   pub built-at : (order : List ℕ) → AllThere order → (p i : ℕ) (k : KnownStructure) → slice_get order p ≡ Some i → slice_get all i ≡ Some k → slice_get (structures_in numbers all order) p ≡ Some (structure_in numbers k)

@@ -28,7 +28,7 @@ use Rattle.cc_left_units.specs.Laid.{AreLaid}
 
 -- ---- lists
 
-take_get : {X : Type 0} (xs : List X) (p q : ℕ) (x : X) → q < p → slice_get xs q ≡ Some x → slice_get (take p xs) q ≡ Some x
+pub take_get : {X : Type 0} (xs : List X) (p q : ℕ) (x : X) → q < p → slice_get xs q ≡ Some x → slice_get (take p xs) q ≡ Some x
 take_get [] p q x low e = absurd (cc)
 take_get (y ∷ ys) zero q x low e = absurd (omega (arith, low))
 take_get (y ∷ ys) (suc p) zero x low e = e
@@ -44,7 +44,7 @@ take_take (y ∷ ys) zero (suc q) low = absurd (omega (arith, low))
 take_take (y ∷ ys) (suc p) zero low = refl
 take_take {X} (y ∷ ys) (suc p) (suc q) low = ap (λ (l : List X). y ∷ l) (take_take ys p q (omega (arith, low)))
 
-at_middle : (xs ys zs : List ℕ) (i : ℕ) → slice_get (xs ++ (ys ++ i ∷ zs)) (length xs + length ys) ≡ Some i
+pub at_middle : (xs ys zs : List ℕ) (i : ℕ) → slice_get (xs ++ (ys ++ i ∷ zs)) (length xs + length ys) ≡ Some i
 at_middle [] [] zs i = refl
 at_middle [] (y ∷ ys) zs i = ap (slice_get (y ∷ (ys ++ i ∷ zs))) (plus (length ys)) ∙ (at_middle [] ys zs i)
   where
@@ -55,7 +55,7 @@ at_middle (x ∷ xs) ys zs i = ap (slice_get (x ∷ (xs ++ (ys ++ i ∷ zs)))) (
     plus : (n m : ℕ) → suc n + m ≡ suc (n + m)
     plus n m = omega arith
 
-before_middle : (xs ys zs : List ℕ) (i j q : ℕ) → q < length xs + length ys → slice_get (xs ++ (ys ++ i ∷ zs)) q ≡ Some j → In j xs ⊎ In j ys
+pub before_middle : (xs ys zs : List ℕ) (i j q : ℕ) → q < length xs + length ys → slice_get (xs ++ (ys ++ i ∷ zs)) q ≡ Some j → In j xs ⊎ In j ys
 before_middle [] [] zs i j q low e = absurd (omega (arith, low))
 before_middle [] (y ∷ ys) zs i j zero low e = inr (inl (cc e))
 before_middle [] (y ∷ ys) zs i j (suc q) low e = by (before_middle [] ys zs i j q (omega (arith, low)) e)
@@ -72,7 +72,7 @@ before_middle (x ∷ xs) ys zs i j (suc q) low e = by (before_middle xs ys zs i 
 
 -- ---- layouts of the first structures
 
-layouts_first : (target : Target) (structures : List Structure) (p q : ℕ) (s : Structure) → q < p → slice_get structures q ≡ Some s → slice_get (layouts target (take p structures)) q ≡ slice_get (layouts target structures) q
+pub layouts_first : (target : Target) (structures : List Structure) (p q : ℕ) (s : Structure) → q < p → slice_get structures q ≡ Some s → slice_get (layouts target (take p structures)) q ≡ slice_get (layouts target structures) q
 layouts_first target structures p q s low e =
     layouts-at target (take p structures) q s (take_get structures p q s low e)
     ∙ (ap (λ (l : List Structure). Some (structure (map (λ (m : Named). type_layout target (layouts target l) m.1) s.members))) (take_take structures p q (omega (arith, low)))
@@ -97,12 +97,12 @@ module _ (target : Target) (s : State) (ordered : IsOrdered s) (laid : AreLaid t
   abbrev pub unit : List Structure
   unit = unit_structures (unit_left s)
 
-  ordered_in : (front rest : List ℕ) → AreOrdered all front rest → (j : ℕ) → In j rest → (ms : List Named) × HasMembers all j ms
+  pub ordered_in : (front rest : List ℕ) → AreOrdered all front rest → (j : ℕ) → In j rest → (ms : List Named) × HasMembers all j ms
   ordered_in front [] h j g = absurd g
   ordered_in front (i ∷ rest) h j (inl e) = (h.0.members, subst (λ (n : ℕ). HasMembers all n h.0.members) e h.0.there)
   ordered_in front (i ∷ rest) h j (inr g) = ordered_in (front ++ i ∷ []) rest h.1 j g
 
-  zero_plus : (n : ℕ) → 0 + n ≡ n
+  pub zero_plus : (n : ℕ) → 0 + n ≡ n
   zero_plus n = omega arith
 
   pub all_there : AllThere numbers all order
@@ -119,10 +119,10 @@ module _ (target : Target) (s : State) (ordered : IsOrdered s) (laid : AreLaid t
       by None n = in-left named s.completed i (subst (λ (j : ℕ). In j named) (zero_plus i) (in-only 0 all i k e n))
       by (Some ms) n = in-right named s.completed i (among-in s.completed i (ordered.listed i ms (k, e, n)))
 
-  place : (i : ℕ) (k : KnownStructure) → slice_get all i ≡ Some k → Placed 0 order i
+  pub place : (i : ℕ) (k : KnownStructure) → slice_get all i ≡ Some k → Placed 0 order i
   place i k e = placed 0 order i (in_order i k e)
 
-  place_is : (i : ℕ) (k : KnownStructure) (e : slice_get all i ≡ Some k) → number_by numbers i ≡ (place i k e).at
+  pub place_is : (i : ℕ) (k : KnownStructure) (e : slice_get all i ≡ Some k) → number_by numbers i ≡ (place i k e).at
   place_is i k e =
       ap structure_by (places-at 0 (length all) order i (slice_get_within all i k e))
       ∙ (ap (place_from 0 order) (zero_plus i) ∙ ((place i k e).is ∙ zero_plus (place i k e).at))
@@ -143,10 +143,10 @@ module _ (target : Target) (s : State) (ordered : IsOrdered s) (laid : AreLaid t
     pub low : number_by numbers j < n
     pub lies : slice_get (layouts target unit) (number_by numbers j) ≡ Some structure.layout
 
-  wider : (n m j : ℕ) → n ≤ m → Known n j → Known m j
+  pub wider : (n m j : ℕ) → n ≤ m → Known n j → Known m j
   wider n m j h r = let low = r.low in record { structure = r.structure; there = r.there; low = omega (arith, low, h); lies = r.lies }
 
-  same_known : (a b : KnownStructure) → Some a ≡ Some b → a ≡ b
+  pub same_known : (a b : KnownStructure) → Some a ≡ Some b → a ≡ b
   same_known a b e = cc e
 
   module _ (front : List ℕ) (known : (j : ℕ) → is_among front j ≡ true → Known (length named + length front) j) where
@@ -163,53 +163,57 @@ module _ (target : Target) (s : State) (ordered : IsOrdered s) (laid : AreLaid t
         (layouts_first target unit here (number_by numbers j) (content r.structure) r.low (unit_at j r.structure r.there)
         ∙ (r.lies ∙ sym (slice_get-map (λ (k : KnownStructure). k.layout) all j ∙ ap (option_map (λ (k : KnownStructure). k.layout)) r.there)))
 
-    members_lie : (ms : List Named) → Each (λ m. is_complete_over front m.1 ≡ true) ms →
+    pub members_lie : (ms : List Named) → Each (λ m. is_complete_over front m.1 ≡ true) ms →
         map (λ (m : Named). type_layout target before m.1) (all_named_in numbers ms) ≡ map (λ (m : Named). type_layout target (layouts_of s) m.1) ms
     members_lie [] h = refl
     members_lie (m ∷ ms) h = rw (laid_there front numbers target (layouts_of s) before agrees m.1 h.0, members_lie ms h.1) refl
 
-    step : (rest : List ℕ) (i : ℕ) → s.completed ≡ front ++ i ∷ rest → StandsBehind all front i → Known (suc here) i
-    step rest i e h =
-        let k = h.there.0 in
-        let there = h.there.1 in
-        let place_here : number_by numbers i ≡ here = place_is i k there ∙ at_here (place i k there) in
-        let low : number_by numbers i < suc here = omega (arith, place_here) in
-        record {
-          structure = k;
-          there = there;
-          low = low;
-          lies =
-              ap (slice_get (layouts target unit)) place_here
-              ∙ (layouts-at target unit here (content k) (ap (slice_get unit) (sym place_here) ∙ unit_at i k there)
-              ∙ (ap (λ (o : Option (List Named)). Some (structure (map (λ (m : Named). type_layout target before m.1) (unwrap_or (option_map (all_named_in numbers) o) [])))) h.there.2
-              ∙ (ap (λ (l : List Layout). Some (structure l)) (members_lie h.members h.complete)
-              ∙ ap (λ (l : Layout). Some l) (sym (laid i k h.members there h.there.2)))));
-        }
-      where
-        order_is : order ≡ named ++ (front ++ i ∷ rest)
-        order_is = ap (λ (l : List ℕ). named ++ l) e
+    module _ (rest : List ℕ) (i : ℕ) (e : s.completed ≡ front ++ i ∷ rest) (h : StandsBehind all front i) where
+      order_is : order ≡ named ++ (front ++ i ∷ rest)
+      order_is = ap (λ (l : List ℕ). named ++ l) e
 
-        stands : slice_get order here ≡ Some i
-        stands = ap (λ (l : List ℕ). slice_get l here) order_is ∙ at_middle named front rest i
+      stands : slice_get order here ≡ Some i
+      stands = ap (λ (l : List ℕ). slice_get l here) order_is ∙ at_middle named front rest i
 
-        not_before : (q : ℕ) → q < here → slice_get order q ≡ Some i → ⊥
-        not_before q low g = by (before_middle named front rest i i q low (sym (ap (λ (l : List ℕ). slice_get l q) order_is) ∙ g))
-          where
-            by : In i named ⊎ In i front → ⊥
-            by (inr f) = true≢false (sym (in-among front i f) ∙ h.new)
-            by (inl f) =
-                let r = only-in 0 all i f in
-                let one : r.structure ≡ h.there.0 = same_known r.structure h.there.0 (sym (ap (slice_get all) (r.is ∙ zero_plus r.at) ∙ r.there) ∙ h.there.1) in
-                absurd (cc (sym r.none ∙ (ap (λ (k : KnownStructure). k.members) one ∙ h.there.2)))
+      not_before : (q : ℕ) → q < here → slice_get order q ≡ Some i → ⊥
+      not_before q low g = by (before_middle named front rest i i q low (sym (ap (λ (l : List ℕ). slice_get l q) order_is) ∙ g))
+        where
+          by : In i named ⊎ In i front → ⊥
+          by (inr f) = true≢false (sym (in-among front i f) ∙ h.new)
+          by (inl f) =
+              let r = only-in 0 all i f in
+              let one : r.structure ≡ h.there.0 = same_known r.structure h.there.0 (sym (ap (slice_get all) (r.is ∙ zero_plus r.at) ∙ r.there) ∙ h.there.1) in
+              absurd (cc (sym r.none ∙ (ap (λ (k : KnownStructure). k.members) one ∙ h.there.2)))
 
-        at_here : (r : Placed 0 order i) → r.at ≡ here
-        at_here r = by (cases_lt r.at here)
-          where
-            by : (r.at < here) ⊎ (here ≤ r.at) → r.at ≡ here
-            by (inl low) = absurd (not_before r.at low r.there)
-            by (inr high) = let first = r.first here stands in omega (arith, first, high)
+      at_here : (r : Placed 0 order i) → r.at ≡ here
+      at_here r = by (cases_lt r.at here)
+        where
+          by : (r.at < here) ⊎ (here ≤ r.at) → r.at ≡ here
+          by (inl low) = absurd (not_before r.at low r.there)
+          by (inr high) = let first = r.first here stands in omega (arith, first, high)
 
-  all_known : (front rest : List ℕ) → s.completed ≡ front ++ rest → AreOrdered all front rest → ((j : ℕ) → is_among front j ≡ true → Known (length named + length front) j) → (j : ℕ) → is_among s.completed j ≡ true → (n : ℕ) × Known n j
+      pub place_here : number_by numbers i ≡ here
+      place_here = place_is i h.there.0 h.there.1 ∙ at_here (place i h.there.0 h.there.1)
+
+      pub step : Known (suc here) i
+      step =
+          let k = h.there.0 in
+          let there = h.there.1 in
+          let at = place_here in
+          let low : number_by numbers i < suc here = omega (arith, at) in
+          record {
+            structure = k;
+            there = there;
+            low = low;
+            lies =
+                ap (slice_get (layouts target unit)) place_here
+                ∙ (layouts-at target unit here (content k) (ap (slice_get unit) (sym place_here) ∙ unit_at i k there)
+                ∙ (ap (λ (o : Option (List Named)). Some (structure (map (λ (m : Named). type_layout target before m.1) (unwrap_or (option_map (all_named_in numbers) o) [])))) h.there.2
+                ∙ (ap (λ (l : List Layout). Some (structure l)) (members_lie h.members h.complete)
+                ∙ ap (λ (l : Layout). Some l) (sym (laid i k h.members there h.there.2)))));
+          }
+
+  pub all_known : (front rest : List ℕ) → s.completed ≡ front ++ rest → AreOrdered all front rest → ((j : ℕ) → is_among front j ≡ true → Known (length named + length front) j) → (j : ℕ) → is_among s.completed j ≡ true → (n : ℕ) × Known n j
   all_known front [] e h known j g = (length named + length front, known j (sym (ap (λ (l : List ℕ). is_among l j) (e ∙ append-nil front)) ∙ g))
   all_known front (i ∷ rest) e h known j g = all_known (front ++ i ∷ []) rest (e ∙ sym (append_assoc front (i ∷ []) rest)) h.1 more j g
     where

@@ -88,7 +88,7 @@ module _ (target : Target) (s : State) (ordered : IsOrdered s) (laid : AreLaid t
       same : (a b : Structure) → Some a ≡ Some b → a ≡ b
       same a b e = cc e
 
-  content_length : (o : Option (List Named)) → length (unwrap_or (option_map (all_named_in ns) o) []) ≡ length (members_or_none o)
+  pub content_length : (o : Option (List Named)) → length (unwrap_or (option_map (all_named_in ns) o) []) ≡ length (members_or_none o)
   content_length None = refl
   content_length (Some ms) = length-map ms (λ (m : Named). (m.0, type_renumbered ns m.1))
 
