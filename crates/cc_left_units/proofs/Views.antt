@@ -127,7 +127,7 @@ module _ (target : Target) (s : State) (ordered : IsOrdered s) (laid : AreLaid t
   name-at : (i : ℕ) (d : Declared) → slice_get s.names i ≡ Some d → slice_get (unit_left s).names i ≡ Some (name_in (ids_of s) d)
   name-at i d e = slice_get-map (name_in (ids_of s)) s.names i ∙ ap (option_map (name_in (ids_of s))) e
 
-  id-at : (i : ℕ) (d : Declared) → slice_get s.names i ≡ Some d → slice_get names i ≡ Some (own_id i d.kind)
+  pub id-at : (i : ℕ) (d : Declared) → slice_get s.names i ≡ Some d → slice_get names i ≡ Some (own_id i d.kind)
   id-at i d e = ids-at 0 s.names i d e ∙ ap (λ (k : ℕ). Some (own_id k d.kind)) (plus i)
     where
       plus : (n : ℕ) → 0 + n ≡ n
