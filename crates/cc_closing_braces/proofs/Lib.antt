@@ -1,2 +1,3 @@
 pub mod Layouts
 pub mod Closed
+pub mod Steps

@@ -17,6 +17,7 @@ module _ (v : View) (s t : State) where
     pub before : State
     pub more : List ℕ
     pub order : t.completed ≡ before.completed ++ i ∷ more
+    pub first : StructuresKept s.structures before.structures
     pub kept : StructuresKept before.structures t.structures
     pub ordered : IsOrdered s → IsOrdered before
     pub some : nat_lt 0 (length ms) ≡ true

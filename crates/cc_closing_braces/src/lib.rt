@@ -3,4 +3,4 @@
 
 mod law;
 
-pub use law::closing_laws;
+pub use law::{closing_laws, closing_steps};
