@@ -1,0 +1,4 @@
+pub mod Steps
+pub mod Declarations
+pub mod Bodies
+pub mod Units
