@@ -1,0 +1,3 @@
+pub mod Functions
+pub mod Units
+pub mod Texts

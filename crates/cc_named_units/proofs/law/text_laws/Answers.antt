@@ -1,0 +1,8 @@
+use Rattle.cc_named_units.proofs.Texts.{of_text, few_there}
+use Rattle.cc_named_units.proofs.law.text_laws.Goals as goal
+
+pub returns : goal.returns
+returns c = record {
+  texts = λ text ts u target roles t small d s h. of_text text ts u target roles t small d s h;
+  few = λ text ts u target roles t d s h. few_there text ts u target roles t d s h;
+}
