@@ -1,0 +1,4 @@
+pub mod Names
+pub mod Parameters
+pub mod Functions
+pub mod Forms
