@@ -35,7 +35,7 @@ fn write_expr(page: &mut Page, p: &Program, e: &Expr) {
             write_function_name(page, p, *function);
         }
         Expr::Load(place) | Expr::AddrOf(place) | Expr::After(place, _) => {
-            write_place(page, p, place);
+            write_place(page, p, place.get());
         }
         Expr::Un(_, _, a) | Expr::Conv(_, a) | Expr::Qualify(_, a) | Expr::Intr(_, Some(a)) =>
             write_expr(page, p, a.get()),
@@ -55,7 +55,7 @@ fn write_expr(page: &mut Page, p: &Program, e: &Expr) {
             write_expr(page, p, b.get());
         }
         Expr::Assign(place, value) | Expr::Change(place, _, _, value) => {
-            write_place(page, p, place);
+            write_place(page, p, place.get());
             write_expr(page, p, value.get());
         }
         Expr::Call(function, args) => {
