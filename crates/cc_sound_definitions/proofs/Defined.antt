@@ -20,7 +20,7 @@ use Rattle.cc_scopes.specs.declared.unit.Declared.{Declared}
 use Rattle.cc_sound_definitions.proofs.Entries.{IsFunctionAt, functions_stay}
 use Rattle.cc_sound_definitions.proofs.Locals.{parameters_first, parameters_lowered, parameters_behind, lowered_locals, plain_automatic, objects_behind}
 use Rattle.cc_sound_definitions.proofs.Signatures.{function_params, parameter_kinds, result_kind, result_may_stand, signature_is}
-use Rattle.cc_sound_functions.proofs.Functions.{function_body, ordered_begun}
+use Rattle.cc_sound_functions.proofs.Functions.{function_body, known_begun, ordered_begun}
 use Rattle.cc_sound_functions.specs.Bodies.{IsFunctionBody, begun}
 use Rattle.cc_sound_parameters.specs.Scopes.{IsParameterScope}
 use Rattle.cc_sound_sources.specs.Units.{IsSoundFunction}
@@ -96,6 +96,11 @@ module _ (v : View) (roles : Roles) (defined : List Name) (at : ℕ) (x : Name) 
 
   names_kept : NamesKept s.names last.names
   names_kept = names_through s.names r.1.names last.names body_is.goes.names tells.names
+
+  -- what is known in its body
+  pub made_knows : Each (ParameterStands v) ps → Knows v [] s last → Knows v (locals_of ps) (begun ps scope s) r.1
+  made_knows each w =
+      known_begun v ps scope s r.1 is body_is.goes.structures each (record { structures = w.types.structures; types = w.types.types; tags = w.types.tags }) (knows_back v r.1.names last.names tells.names w.names) w.members w.objects
 
   -- an entry behind it was there in front, or stands
   name_at : (b : Behind v (begun ps scope s) r.1) (j : ℕ) (d : Declared) → slice_get last.names j ≡ Some d → HasEntry r.1.names j → HasEntry s.names j ⊎ NameStands v d

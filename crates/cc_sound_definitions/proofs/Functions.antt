@@ -27,11 +27,13 @@ use Rattle.cc_sound_assignments.proofs.Complete.{derived_is}
 use Rattle.cc_sound_declarations.proofs.Blocks.{sig_derived}
 use Rattle.cc_sound_declarations.proofs.Given.{behind_goes, goes_as}
 use Rattle.cc_sound_declarations.proofs.Left.{function_goes}
-use Rattle.cc_sound_definitions.proofs.Defined.{defined_goes, made_sound, told_is}
+use Rattle.cc_sound_definitions.proofs.Defined.{defined_goes, made_knows, made_sound, told_is}
 use Rattle.cc_sound_definitions.proofs.Entries.{IsFunctionAt, entered_is}
 use Rattle.cc_sound_definitions.proofs.Parts.{IsFound, IsNamed, named_is}
 use Rattle.cc_sound_definitions.proofs.Signatures.{HasParameters, parameters_are, parameters_stand}
 use Rattle.cc_sound_definitions.specs.Definitions.{AreApart, IsSoundAt}
+use Rattle.cc_sound_functions.proofs.Functions.{ordered_begun}
+use Rattle.cc_sound_functions.specs.Bodies.{begun as body_begun}
 use Rattle.cc_sound_parameters.proofs.Declarators.{parameters_listed}
 use Rattle.cc_sound_parameters.specs.Scopes.{IsParameterScope}
 use Rattle.cc_sound_states.proofs.Declaring.{declares_itself, declares_through, given_less, known_behind, of_extends}
@@ -140,6 +142,16 @@ module _ (v : View) (roles : Roles) (defined : List Name) where
     -- the signature stands where its type does
     sig_good : (sig : Sig) → out-Shape t.shape ≡ shape.Func sig → P → is_sig v.target v.extents sig ≡ true
     sig_good sig e p = subst (SigStands v) e p
+
+    pub named_knows : P → Each (ParameterStands v) parts.ps → Knows v [] s r → Knows v (locals_of parts.ps) (body_begun parts.ps parts.scope start.1) parts.inside.1
+    named_knows p each w =
+        let last = function_defined at start.0 x t (signature_of t) (length (locals_of parts.ps)) parts.inside.0 parts.inside.1 in
+        made_knows v roles defined at x t start.0 parts.ps parts.scope start.1 scope_there start_ordered entry body fit parts.inside parts.read each
+        (known_behind v defined P s start.1 last [] [] [] begins (given_less v defined P (Unit {0}) start.1 last [] [] (λ p k. tt) ends) (p, subst (λ (z : State). Knows v [] s z) parts.last w)).1
+
+    -- where its body begins
+    pub body_ordered : IsOrdered (body_begun parts.ps parts.scope start.1)
+    body_ordered = ordered_begun v parts.ps parts.scope start.1 scope_there start_ordered
 
     -- its entry behind the body
     pub named_told : (e : Declared) → slice_get parts.inside.1.names start.0 ≡ Some e →
@@ -256,17 +268,32 @@ module _ (v : View) (roles : Roles) (defined : List Name) where
           (Some (function_of x (signature_of type.0) (length (locals_of parts.ps)) parts.inside.1.locals parts.inside.0))) e)
       definition_told = named_told d.at asked x type.0 base.0.ctype declarator.0.derivations body type.1 r.1 parts inner_fits.1 type_derived scopes there_ordered there_entries there_apart
 
-      -- its body is sound where what there is behind it is known
-      pub definition_sound : Knows v [] s r.1 → IsSoundAt v type.0 (function_of x (signature_of type.0) (length (locals_of parts.ps)) parts.inside.1.locals parts.inside.0)
-      definition_sound w0 =
+      -- where what there is behind it is known, its types stand, and so is what there is behind its declarator
+      stands_in : Knows v [] s r.1 → P3 × Knows v [] type.1 r.1
+      stands_in w0 =
           let p1 = specified.holds (known_first v s base.1 r.1 level1.structures w0.types) in
           let w1 = (known_behind v defined P1 s base.1 r.1 [] [] [] (of_extends v defined P1 s base.1 [] specified.grows) level1 (p1, w0)).1 in
           let p2 : P2 = (p1, declared_in.holds (known_first v base.1 declarator.1 r.1 level2.structures w1.types)) in
           let w2 = (known_behind v defined P2 base.1 declarator.1 r.1 [] [] [] (of_extends v defined P2 base.1 declarator.1 [] declared_in.grows) level2 (p2, w1)).1 in
           let p3 : P3 = (p2, derived_in.holds (known_first v declarator.1 type.1 r.1 level3.structures w2.types) p2.1 p1) in
-          let w3 = (known_behind v defined P3 declarator.1 type.1 r.1 [] [] [] (of_extends v defined P3 declarator.1 type.1 [] derived_in.grows) level3 (p3, w2)).1 in
-          named_sound d.at asked x type.0 base.0.ctype declarator.0.derivations body type.1 r.1 parts inner_fits.1 type_derived scopes there_ordered there_entries there_apart (stands_there p3)
-          (parameters_stand v declarator.0.derivations parts.ps parts.scope (parameters_are declarator.0.derivations (parts.ps, parts.scope) parts.parameters) p2.1) w3
+          (p3, (known_behind v defined P3 declarator.1 type.1 r.1 [] [] [] (of_extends v defined P3 declarator.1 type.1 [] derived_in.grows) level3 (p3, w2)).1)
+
+      parameters_in_place : P3 → Each (ParameterStands v) parts.ps
+      parameters_in_place p = parameters_stand v declarator.0.derivations parts.ps parts.scope (parameters_are declarator.0.derivations (parts.ps, parts.scope) parts.parameters) p.0.1
+
+      -- its body is sound
+      pub definition_sound : Knows v [] s r.1 → IsSoundAt v type.0 (function_of x (signature_of type.0) (length (locals_of parts.ps)) parts.inside.1.locals parts.inside.0)
+      definition_sound w =
+          let c = stands_in w in
+          named_sound d.at asked x type.0 base.0.ctype declarator.0.derivations body type.1 r.1 parts inner_fits.1 type_derived scopes there_ordered there_entries there_apart (stands_there c.0) (parameters_in_place c.0) c.1
+
+      pub definition_knows : Knows v [] s r.1 → Knows v (locals_of parts.ps) (body_begun parts.ps parts.scope (entered_function (entry_by parts.marks) (declared x asked type.0 (kind.Func None None) type.1)).1) parts.inside.1
+      definition_knows w =
+          let c = stands_in w in
+          named_knows d.at asked x type.0 base.0.ctype declarator.0.derivations body type.1 r.1 parts inner_fits.1 type_derived scopes there_ordered there_entries there_apart (stands_there c.0) (parameters_in_place c.0) c.1
+
+      pub definition_begins : IsOrdered (body_begun parts.ps parts.scope (entered_function (entry_by parts.marks) (declared x asked type.0 (kind.Func None None) type.1)).1)
+      definition_begins = body_ordered d.at asked x type.0 base.0.ctype declarator.0.derivations body type.1 r.1 parts inner_fits.1 type_derived scopes there_ordered there_entries there_apart
 
     -- without a name nothing is defined
     goes_by : (o : Option Name) → o ≡ declarator.0.name → named_function v.target roles defined d.at base.0 type.0 declarator.0.derivations attrs body o type.1 ≡ Ok r → Declares v defined s [] r.1 []

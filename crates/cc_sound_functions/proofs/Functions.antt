@@ -88,7 +88,7 @@ module _ (v : View) where
       tags = λ x u h. designated_by (λ (d : Tagged). (i : ℕ) → d ≡ tag.StructureTag i → IsThere v i) (find_name x scope.tags) (tagged x s.scopes) (λ d f. tag_there d (is.tags x d f) k kept) (k.tags x) u h;
     }
 
-    known_begun : StructuresKept s.structures t.structures → Each (ParameterStands v) ps → KnowsTypes v s t → KnowsNames v t.names → MembersStand v → ObjectsStand v [] s → Knows v (locals_of ps) begun t
+    pub known_begun : StructuresKept s.structures t.structures → Each (ParameterStands v) ps → KnowsTypes v s t → KnowsNames v t.names → MembersStand v → ObjectsStand v [] s → Knows v (locals_of ps) begun t
     known_begun kept each k n m o = record {
       types = types_begun kept k;
       names = n;
@@ -97,7 +97,7 @@ module _ (v : View) where
       members = m;
     }
 
-  declared_begun : (ps : List Parameter) (scope : Scope) (s : State) → AreDeclared (length ps) (locals_of ps) (entered scope (with_locals (locals_of ps) s))
+  pub declared_begun : (ps : List Parameter) (scope : Scope) (s : State) → AreDeclared (length ps) (locals_of ps) (entered scope (with_locals (locals_of ps) s))
   declared_begun ps scope s = record {
     enough = let e = parameters_count ps in omega (arith, e);
     locals = sym (lowered_none (locals_of ps)) ∙ ap (λ (k : ℕ). lowered k (locals_of ps)) (parameters_count ps);

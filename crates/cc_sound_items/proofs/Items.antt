@@ -48,22 +48,22 @@ append_nothing (x ∷ xs) = ap (λ ys. x ∷ ys) (append_nothing xs)
 
 module _ (v : View) (roles : Roles) (defined : List Name) where
   -- of bodies nothing is asked
-  abbrev Any : CType → Func → Type 0
+  abbrev pub Any : CType → Func → Type 0
   Any t f = Unit {0}
 
-  abbrev Well : List Name → State → Type 0
+  abbrev pub Well : List Name → State → Type 0
   Well done s = AreWell v.target roles defined Any done s
 
-  abbrev Sound : List Name → State → Type 0
+  abbrev pub Sound : List Name → State → Type 0
   Sound done s = AreWell v.target roles defined (IsSoundAt v) done s
 
   -- what an item leaves, which defines such names
-  record IsItem (names : List Name) (s t : State) : Type 0 where
-    goes : Declares v defined s [] t []
-    well : (done : List Name) → Well done s → Well (done ++ names) t
-    sound : Knows v [] s t → (done : List Name) → Sound done s → Sound (done ++ names) t
+  pub record IsItem (names : List Name) (s t : State) : Type 0 where
+    pub goes : Declares v defined s [] t []
+    pub well : (done : List Name) → Well done s → Well (done ++ names) t
+    pub sound : Knows v [] s t → (done : List Name) → Sound done s → Sound (done ++ names) t
 
-  item_is : (i : Item) (s : State) (r : Checked × State) → item_fits i ≡ true → AreAmong (defined_by i) defined → IsOrdered s → (done : List Name) → Well done s → item_found v.target roles defined i s ≡ Ok r → IsItem (defined_by i) s r.1
+  pub item_is : (i : Item) (s : State) (r : Checked × State) → item_fits i ≡ true → AreAmong (defined_by i) defined → IsOrdered s → (done : List Name) → Well done s → item_found v.target roles defined i s ≡ Ok r → IsItem (defined_by i) s r.1
   item_is (item.Decl d) s r f a o done w h =
       let b = then_found (declaration v.target roles defined stands.AtFile d s) (λ es s. Ok (checked, s)) r h in
       let e = (answer_is checked b.0.1 r b.2).1 in

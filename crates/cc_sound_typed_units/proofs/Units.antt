@@ -1,0 +1,43 @@
+-- The unit of a tree is left by its last state.
+use Rattle.std.proofs.Common.{◌≡◌, true, List, Ok, Err, refl, sym, subst}
+use Rattle.std.specs.Prelude.{Result}
+use Rattle.cc_num.specs.declared.target.Target.{Target}
+use Rattle.cc_numbering.specs.Units.{unit_left}
+use Rattle.cc_program.specs.declared.program.Roles.{Roles}
+use Rattle.cc_ranged_trees.specs.Ranges.{unit_fits}
+use Rattle.cc_scopes.specs.State.{State, at_first}
+use Rattle.cc_scopes.specs.Verdicts.{Checked, Found}
+use Rattle.cc_scopes.specs.declared.verdict.Fault.{Fault}
+use Rattle.cc_sound_items.proofs.Items.{unit_sound}
+use Rattle.cc_sound_items.specs.Items.{IsSoundState}
+use Rattle.cc_sound_sources.specs.Units.{IsSoundUnit}
+use Rattle.cc_sound_typed_units.proofs.Names.{names_named, names_sound}
+use Rattle.cc_sound_typed_units.specs.Left.{IsLeft}
+use Rattle.cc_tree.specs.declared.unit.Unit.{Unit as UnitTree}
+use Rattle.cc_type.specs.Defined.{defined_names}
+use Rattle.cc_type.specs.Typed.{IsTyped}
+use Rattle.cc_type.specs.Units.{items_found, unit_found, unit_of}
+use Rattle.cc_unit.specs.declared.unit.TypedUnit.{TypedUnit}
+
+unit_is : (found : Found Checked) (t : TypedUnit) → unit_found found ≡ Ok t → (r : Checked × State) × (found ≡ Ok r) × (unit_left r.1 ≡ t)
+unit_is (Ok r) t h = (r, refl, (let e : unit_left r.1 ≡ t = cc in e))
+unit_is (Err fault) t h = absurd (cc)
+
+-- items that were found leave it
+pub typed_is : (target : Target) (roles : Roles) (u : UnitTree) (t : TypedUnit) → IsTyped u target roles t → (r : Checked × State) × (items_found target roles (defined_names u) u.items at_first ≡ Ok r) × (unit_left r.1 ≡ t)
+unfolding unit_of
+typed_is target roles u t h = unit_is (items_found target roles (defined_names u) u.items at_first) t h
+
+pub state_sound : (target : Target) (roles : Roles) (u : UnitTree) (s : State) → IsSoundState target roles (defined_names u) s → IsLeft target s → IsSoundUnit target (unit_left s)
+state_sound target roles u s sound left = record {
+  structures = left.standing;
+  names = names_sound target roles (defined_names u) s sound left;
+  named = names_named target roles (defined_names u) s sound left;
+}
+
+pub typed_sound : (target : Target) (roles : Roles) (u : UnitTree) (t : TypedUnit) → unit_fits u ≡ true → IsTyped u target roles t →
+    ((r : Checked × State) → items_found target roles (defined_names u) u.items at_first ≡ Ok r → IsSoundState target roles (defined_names u) r.1 → IsLeft target r.1) → IsSoundUnit target t
+typed_sound target roles u t f h left =
+    let c = typed_is target roles u t h in
+    let s = unit_sound target roles u c.0 f c.1 in
+    subst (IsSoundUnit target) c.2 (state_sound target roles u c.0.1 s (left c.0 c.1 s))
