@@ -18,9 +18,11 @@ use Rattle.cc_sound_terms.specs.Ordered.{AreOrdered, HasMembers, IsOrdered, is_a
 use Rattle.cc_sound_terms.specs.Typing.{KnowsTypes}
 use Rattle.cc_standing_units.specs.Closed.{AreClosed, AreOver, MembersOver, extents_over}
 use Rattle.cc_syntax.specs.Layout.{structure}
+use Rattle.cc_syntax.specs.Names.{local_names}
 use Rattle.cc_syntax.specs.Types.{Named}
 use Rattle.cc_syntax.specs.Views.{View}
 use Rattle.cc_syntax.specs.declared.sizes.Layout.{Layout}
+use Rattle.cc_words.specs.Names.{are_distinct}
 
 -- ---- a number that stands once splits a list once
 
@@ -46,7 +48,8 @@ new_there all front [] more i h = ap (λ (l : List ℕ). is_among l i) (append_n
     append_nothing (x ∷ l) = ap (λ (r : List ℕ). x ∷ r) (append_nothing l)
 new_there all front (j ∷ rest) more i h = ap (λ (l : List ℕ). is_among l i) (sym (append_assoc front (j ∷ []) rest)) ∙ new_there all (front ++ j ∷ []) rest more i h.1
 
-module _ (target : Target) (t : State) (ordered : IsOrdered t) (closings : (v : View) → v.target ≡ target → Closings v at_first t) where
+module _ (target : Target) (t : State) (ordered : IsOrdered t) (some : (i : ℕ) (ms : List Named) → HasMembers t.structures i ms → nat_lt 0 (length ms) ≡ true)
+    (apart : (i : ℕ) (ms : List Named) → HasMembers t.structures i ms → are_distinct (local_names ms) ≡ true) (closings : (v : View) → v.target ≡ target → Closings v at_first t) where
   no_members : (i : ℕ) (ms : List Named) → HasMembers at_first.structures i ms → ⊥
   no_members i ms h = by h.0 h.1
     where
@@ -77,12 +80,12 @@ module _ (target : Target) (t : State) (ordered : IsOrdered t) (closings : (v : 
     extent_is j l e = ap (option_map (λ (k : KnownStructure). cond (is_among front j && has_content k) (Some k.layout.size) None)) e
 
     content_there : (j : ℕ) (k : KnownStructure) (ms : List Named) → slice_get before.structures j ≡ Some k → k.members ≡ Some ms → nat_lt 0 (length ms) ≡ true → HasContent (front_view front) j k ms
-    content_there j k ms e n some =
+    content_there j k ms e n has_some =
         let l = kept j k e in
         let members : l.0.members ≡ Some ms = l.2.members ms n in
         let layout : l.0.layout ≡ k.layout = l.2.layout ms n in
         let among : is_among front j ≡ true = sym (ap (λ (r : List ℕ). is_among r j) same) ∙ order.listed j ms (k, e, n) in
-        let has : has_content l.0 ≡ true = ap (λ (o : Option (List Named)). nat_lt 0 (length (members_or_none o))) members ∙ some in
+        let has : has_content l.0 ≡ true = ap (λ (o : Option (List Named)). nat_lt 0 (length (members_or_none o))) members ∙ has_some in
         record {
           bytes =
               extent_is j l.0 l.1
@@ -96,7 +99,7 @@ module _ (target : Target) (t : State) (ordered : IsOrdered t) (closings : (v : 
     knows : KnowsStructures (front_view front) before.structures
     knows j k e =
         let l = kept j k e in
-        record { extent = cond (is_among front j && has_content l.0) (Some l.0.layout.size) None; there = extent_is j l.0 l.1; complete = λ ms n some. content_there j k ms e n some }
+        record { extent = cond (is_among front j && has_content l.0) (Some l.0.layout.size) None; there = extent_is j l.0 l.1; complete = λ ms n has_some. content_there j k ms e n has_some }
 
     types_known : KnowsTypes (front_view front) at_first before
     types_known = record { structures = knows; types = λ x u h. absurd (nothing_named x u h); tags = λ x u h i e. absurd (nothing_tagged x u h) }
@@ -126,8 +129,8 @@ module _ (target : Target) (t : State) (ordered : IsOrdered t) (closings : (v : 
 
   pub are_closed : AreClosed target t
   are_closed = record {
-    some = λ i ms h. (closed_by (view_of target t) refl i ms h).some;
-    apart = λ i ms h. (closed_by (view_of target t) refl i ms h).apart;
+    some = some;
+    apart = apart;
     laid = λ i k ms e n. (laid_at i k ms e n).laid k e ∙ ap structure (layouts_stay target (laid_at i k ms e n).before t (laid_at i k ms e n).kept ms (laid_at i k ms e n).complete);
     over = over_from [] t.completed refl;
   }

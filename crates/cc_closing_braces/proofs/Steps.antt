@@ -1,6 +1,5 @@
 -- What is known of closing braces goes on behind each construct.
-use Rattle.std.proofs.Common.{◌≡◌, ◌∙◌, ◌⊎◌, inl, inr, ℕ, true, false, true≢false, List, [], ◌∷◌, ◌++◌, length, Option, Some, is_some, slice_get, refl, ap, sym, subst, append_assoc}
-use Rattle.std.specs.Prelude.{nat_lt}
+use Rattle.std.proofs.Common.{◌≡◌, ◌∙◌, ◌⊎◌, inl, inr, ℕ, false, true≢false, List, [], ◌∷◌, ◌++◌, Option, Some, is_some, slice_get, refl, ap, sym, subst, append_assoc}
 use Rattle.cc_closing_braces.specs.Closings.{ClosedBy, Closings}
 use Rattle.cc_scopes.specs.State.{KnownStructure, State}
 use Rattle.cc_scopes.specs.Structures.{completed, has_content, with_members}
@@ -11,10 +10,8 @@ use Rattle.cc_sound_terms.specs.Growing.{StructuresKept}
 use Rattle.cc_sound_terms.specs.Ordered.{AreComplete, HasMembers, IsOrdered}
 use Rattle.cc_sound_terms.specs.Standing.{MembersKnown}
 use Rattle.cc_sound_terms.specs.Typing.{KnowsTypes}
-use Rattle.cc_syntax.specs.Names.{local_names}
 use Rattle.cc_syntax.specs.Types.{Named}
 use Rattle.cc_syntax.specs.Views.{View}
-use Rattle.cc_words.specs.Names.{are_distinct}
 
 same_structure : (a b : KnownStructure) → Some a ≡ Some b → a ≡ b
 same_structure a b e = cc e
@@ -34,8 +31,6 @@ later v s t u b more e i ms h c = record {
   first = c.first;
   kept = structures_through c.before.structures t.structures u.structures c.kept b;
   ordered = c.ordered;
-  some = c.some;
-  apart = c.apart;
   complete = c.complete;
   laid = λ k f.
       let l = b i h.0 h.1 in
@@ -52,8 +47,6 @@ behind_first v s t u a o k i ms c = record {
   first = structures_through s.structures t.structures c.before.structures a c.first;
   kept = c.kept;
   ordered = λ h. c.ordered (o h);
-  some = c.some;
-  apart = c.apart;
   complete = c.complete;
   laid = c.laid;
   known = λ h. c.known (known_second v s t c.before c.first k h);
@@ -74,7 +67,7 @@ closings_through v s t u a b more e o k f g i ms h = by (g i ms h)
 -- ---- a closing brace
 
 module _ (v : View) (s t : State) (i : ℕ) (ms : List Named) (a : StructuresKept s.structures t.structures) (o : IsOrdered s → IsOrdered t) (new : has_content (slice_get t.structures i) ≡ false) (k : KnownStructure) (e : slice_get t.structures i ≡ Some k)
-    (some : nat_lt 0 (length ms) ≡ true) (apart : are_distinct (local_names ms) ≡ true) (complete : AreComplete ms t) (known : KnowsTypes v s t → MembersKnown v ms) where
+    (complete : AreComplete ms t) (known : KnowsTypes v s t → MembersKnown v ms) where
   abbrev u : State
   u = completed v.target i ms t
 
@@ -95,8 +88,6 @@ module _ (v : View) (s t : State) (i : ℕ) (ms : List Named) (a : StructuresKep
     first = a;
     kept = stays;
     ordered = o;
-    some = some;
-    apart = apart;
     complete = complete;
     laid = λ x f. ap (λ (y : KnownStructure). y.layout) (same_structure x (with_members v.target ms t k) (sym f ∙ made));
     known = known;

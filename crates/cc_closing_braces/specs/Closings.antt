@@ -1,15 +1,13 @@
 -- What is known of each structure that a construct completes: the state in front of its closing brace, and its members there, over each view that knows that state (C99 6.7.2.1).
-use Rattle.std.specs.Prelude.{◌≡◌, ◌⊎◌, ℕ, true, nat_lt, List, ◌∷◌, ◌++◌, length, map, Some, slice_get}
+use Rattle.std.specs.Prelude.{◌≡◌, ◌⊎◌, ℕ, List, ◌∷◌, ◌++◌, map, Some, slice_get}
 use Rattle.cc_scopes.specs.State.{KnownStructure, State, layouts_of}
 use Rattle.cc_sound_terms.specs.Growing.{StructuresKept}
 use Rattle.cc_sound_terms.specs.Ordered.{AreComplete, HasMembers, IsOrdered}
 use Rattle.cc_sound_terms.specs.Standing.{MembersKnown}
 use Rattle.cc_sound_terms.specs.Typing.{KnowsTypes}
 use Rattle.cc_syntax.specs.Layout.{structure, type_layout}
-use Rattle.cc_syntax.specs.Names.{local_names}
 use Rattle.cc_syntax.specs.Types.{Named}
 use Rattle.cc_syntax.specs.Views.{View}
-use Rattle.cc_words.specs.Names.{are_distinct}
 
 module _ (v : View) (s t : State) where
   -- between s and t this structure was closed, with these members
@@ -20,8 +18,6 @@ module _ (v : View) (s t : State) where
     pub first : StructuresKept s.structures before.structures
     pub kept : StructuresKept before.structures t.structures
     pub ordered : IsOrdered s → IsOrdered before
-    pub some : nat_lt 0 (length ms) ≡ true
-    pub apart : are_distinct (local_names ms) ≡ true
     pub complete : AreComplete ms before
     pub laid : (k : KnownStructure) → slice_get t.structures i ≡ Some k → k.layout ≡ structure (map (λ (m : Named). type_layout v.target (layouts_of before) m.1) ms)
     pub known : KnowsTypes v s before → MembersKnown v ms
