@@ -1,11 +1,11 @@
 -- The name of a declarator may name something where those in it may; and what a declaration adds beside its declarators, tags and names of structures without one.
-use Rattle.std.proofs.Common.{◌≡◌, ℕ, Bool, true, false, ◌&&◌, List, [], ◌∷◌, Option, Some, None, refl, ap, sym, ◌∙◌, subst}
+use Rattle.std.proofs.Common.{◌≡◌, Bool, true, false, ◌&&◌, List, [], ◌∷◌, Option, Some, None, refl, ap, sym, ◌∙◌, subst}
 use Rattle.std.specs.Prelude.{if◌then◌else◌}
 use Rattle.std.specs.List.{list_all}
 use Rattle.cc_named_terms.proofs.Adding.{adds_itself, structure_changed}
 use Rattle.cc_named_terms.proofs.Cycle.{spec-names, named_spec}
 use Rattle.cc_named_terms.proofs.Specifiers.{new_structure_adds}
-use Rattle.cc_named_terms.specs.Named.{IsNamedStructure, Adds}
+use Rattle.cc_named_terms.specs.Named.{Limits, IsNamedStructure, Adds}
 use Rattle.cc_named_trees.proofs.Rolled as rolled
 use Rattle.cc_named_trees.specs.Names.{HasNames, tag_named, tree_named, declr_named, params_named, spec_named, each_named, init_named, maybe_named, member_named, given_named}
 use Rattle.cc_num.specs.declared.target.Target.{Target}
@@ -101,7 +101,7 @@ sole_tag_named (one.Struct tag (Some ds) front behind) h = refl
 sole_tag_named (one.Enum tag cs) h = refl
 sole_tag_named (one.Attr a) h = refl
 
-module _ (target : Target) (most : ℕ) where
+module _ (target : Target) (most : Limits) where
   tag_by_adds : (x : Name) (s : State) (o : Option Tagged) → is_name x ≡ true → Adds most 1 s (tag_by x s o)
   tag_by_adds x s None q = new_structure_adds target most (Some x) s q
   tag_by_adds x s (Some t) q = adds_itself most 1 s

@@ -22,7 +22,7 @@ use Rattle.cc_specifiers.specs.Places.{JudgedAt}
 use Rattle.cc_syntax.specs.Types.{Named}
 use Rattle.cc_terms.specs.InTurn.{in_turn}
 use Rattle.cc_tree.specs.declared.at.At.{At}
-use Rattle.cc_named_terms.specs.Named.{AreFewNames, IsNamedStructure, IsNamedEntry, Adds}
+use Rattle.cc_named_terms.specs.Named.{Limits, AreFewNames, IsNamedStructure, IsNamedEntry, Adds}
 
 -- ---- lists
 
@@ -51,7 +51,7 @@ abbrev pub AreCounted : {A : Type 0} → (ℕ → A → Type 0) → List (At A) 
 AreCounted Good [] c = Unit {0}
 AreCounted Good (x ∷ xs) c = (m : ℕ) × (k : ℕ) × (c ≡ m + k) × Good m x.node × AreCounted Good xs k
 
-module _ (most : ℕ) where
+module _ (most : Limits) where
   pub unmoved : (c : ℕ) (s t : State) → t ≡ s → Adds most c s t
   unmoved c s t e = subst (λ (z : State). Adds most c s z) (sym e) (record { state = λ h. h; locals = λ h. h; few_locals = omega arith; few_names = omega arith; few_structures = omega arith })
 
@@ -181,10 +181,10 @@ module _ (most : ℕ) where
         few_structures = omega arith;
       }
 
-  members_are : (target : Target) (ms : List Named) (s : State) → AreFewNames most ms → (k : KnownStructure) → IsNamedStructure most k → IsNamedStructure most (with_members target ms s k)
+  members_are : (target : Target) (ms : List Named) (s : State) → AreFewNames most.few ms → (k : KnownStructure) → IsNamedStructure most k → IsNamedStructure most (with_members target ms s k)
   members_are target ms s few k h = record { tag = h.tag; alias = h.alias; members = few }
 
-  pub structure_completed : (target : Target) (i : ℕ) (ms : List Named) (s : State) → AreFewNames most ms → Adds most 1 s (completed target i ms s)
+  pub structure_completed : (target : Target) (i : ℕ) (ms : List Named) (s : State) → AreFewNames most.few ms → Adds most 1 s (completed target i ms s)
   structure_completed target i ms s few =
       let change = with_members target ms s in
       let e = changed-length change i s.structures in
@@ -198,10 +198,10 @@ module _ (most : ℕ) where
       }
 
   pub string_more : (target : Target) (at : ℕ) (bytes : List ℕ) (s : State) → Adds most 1 s (with_declared (string_object target at bytes) s)
-  string_more target at bytes s = declared_more (string_object target at bytes) s (record { name = refl; locals = tt })
+  string_more target at bytes s = declared_more (string_object target at bytes) s (record { name = refl; own = refl; locals = tt })
 
   pub device_more : (d : Device) (s : State) → Adds most 1 s (with_declared (declared_device d) s)
-  device_more d s = declared_more (declared_device d) s (record { name = refl; locals = tt })
+  device_more d s = declared_more (declared_device d) s (record { name = refl; own = refl; locals = tt })
 
   pub names_forgotten : (count : ℕ) (s : State) → Adds most 0 s (with_names (take count s.names) s)
   names_forgotten count s =

@@ -47,7 +47,7 @@ use Rattle.cc_terms.specs.Structures.{member_behind}
 use Rattle.cc_tree.specs.declared.at.At.{At}
 use Rattle.cc_words.specs.Names.{is_name}
 use Rattle.cc_words.specs.declared.word.Word.{Word}
-use Rattle.cc_named_terms.specs.Named.{IsNamedParameter, AreNamedParameters, IsNamedDerivation, IsNamedNext, Adds, AddsDeclarator}
+use Rattle.cc_named_terms.specs.Named.{Limits, IsNamedParameter, AreNamedParameters, IsNamedDerivation, IsNamedNext, Adds, AddsDeclarator}
 use Rattle.cc_named_terms.proofs.Adding.{AreCounted, unmoved, adds_through, adds_more, adds_same, chained, before, judged, placed, bound, scopes_changed}
 use Rattle.cc_named_terms.proofs.Steps.{TreeAdds, value_adds}
 use Rattle.cc_named_terms.proofs.Specifiers.{SpecAdds, MembersAdd, AreMembers, specified_adds}
@@ -77,7 +77,7 @@ pub named_more : (ms : List Named) (x : Name) (t : CType) → list_all is_name (
 named_more [] x t h q = and_true (is_name x) true q refl
 named_more (m ∷ ms) x t h q = let c = both_true (is_name m.0) (list_all is_name (local_names ms)) h in and_true (is_name m.0) (list_all is_name (local_names (ms ++ (x, t) ∷ []))) c.0 (named_more ms x t c.1 q)
 
-module _ (target : Target) (most : ℕ) where
+module _ (target : Target) (most : Limits) where
   member_by : (b : Bool) (count : ℕ) (x : Name) (t : CType) (ms ns : List Named) → (if b then Err rule.MemberTwice else Ok (ms ++ (x, t) ∷ [])) ≡ Ok ns → list_all is_name (local_names ms) ≡ true → (is_name x ≡ true) × (1 ≤ count) → AreMembers target most count ms ns
   member_by true count x t ms ns h q k = absurd (cc)
   member_by false count x t ms ns h q k =

@@ -38,11 +38,11 @@ use Rattle.cc_tree.specs.declared.at.At.{At}
 use Rattle.cc_tree.specs.declared.tree.Attr.{Attr}
 use Rattle.cc_words.specs.Names.{is_name}
 use Rattle.cc_words.specs.declared.word.Word.{Word}
-use Rattle.cc_named_terms.specs.Named.{AreFewNames, Adds}
+use Rattle.cc_named_terms.specs.Named.{Limits, AreFewNames, Adds}
 use Rattle.cc_named_terms.proofs.Adding.{AreCounted, unmoved, adds_itself, adds_through, chained, behind, before, answered, done, judged, placed, in_turn_adds, bound, tag_bound, structure_more, structure_completed}
 use Rattle.cc_named_terms.proofs.Steps.{TreeAdds, sole_value}
 
-module _ (target : Target) (most : ℕ) where
+module _ (target : Target) (most : Limits) where
   -- a specifier that adds no more than so many, and so on
   abbrev pub SpecAdds : ℕ → SpecMeaning → Type 0
   SpecAdds c m = (at : ℕ) (s : State) (r : Specifier × State) → m at s ≡ Ok r → Adds most c s r.1
@@ -113,16 +113,16 @@ module _ (target : Target) (most : ℕ) where
       (λ y f. placed most 0 s (attributes (entity.Structure ∷ []) front) y f)
       (λ y f. answered most 1 (is_enumeration (tagged_option x y.1), (opened x y.1).0) y.1 (opened x y.1).1 r (opened_adds x y.1 (tagged_option x y.1) q) f) h
 
-  content_by : (b : Bool) (at i : ℕ) (ms : List Named) (s : State) (r : CType × State) → AreFewNames most ms →
+  content_by : (b : Bool) (at i : ℕ) (ms : List Named) (s : State) (r : CType × State) → AreFewNames most.few ms →
       (if b then whole at s (Err rule.NoObjectType) else answer (structure_type i) (completed target i ms s)) ≡ Ok r → Adds most 1 s r.1
   content_by true at i ms s r few h = absurd (cc)
   content_by false at i ms s r few h = answered most 1 (structure_type i) s (completed target i ms s) r (structure_completed most target i ms s few) h
 
-  closed_by : (clash : Bool) (at i : ℕ) (ms : List Named) (s : State) (r : CType × State) → AreFewNames most ms → closed target at clash i ms s ≡ Ok r → Adds most 1 s r.1
+  closed_by : (clash : Bool) (at i : ℕ) (ms : List Named) (s : State) (r : CType × State) → AreFewNames most.few ms → closed target at clash i ms s ≡ Ok r → Adds most 1 s r.1
   closed_by true at i ms s r few h = absurd (cc)
   closed_by false at i ms s r few h = content_by (has_content (slice_get s.structures i)) at i ms s r few h
 
-  structure_closed_adds : (at : ℕ) (back : List (At Attr)) (clash : Bool) (i : ℕ) (ms : List Named) (s : State) (r : Specifier × State) → AreFewNames most ms → structure_closed target at back clash i ms s ≡ Ok r → Adds most 1 s r.1
+  structure_closed_adds : (at : ℕ) (back : List (At Attr)) (clash : Bool) (i : ℕ) (ms : List Named) (s : State) (r : Specifier × State) → AreFewNames most.few ms → structure_closed target at back clash i ms s ≡ Ok r → Adds most 1 s r.1
   structure_closed_adds at back clash i ms s r few h =
       behind most 1 (located s (attributes (entity.Structure ∷ []) back)) (λ marks s. as_type (closed target at clash i ms s)) s r
       (λ y f. placed most 0 s (attributes (entity.Structure ∷ []) back) y f)
@@ -140,7 +140,7 @@ module _ (target : Target) (most : ℕ) where
       let m = w.1.1 in
       (adds_through most g.0 g.1 c s a.0.1 r.1 (omega arith) b.0 w.0, (w.1.0, omega arith))
 
-  pub structure_adds : (x : Option Name) (ds : List (At MembersMeaning)) (c : ℕ) → AreCounted MembersAdd ds c → suc (suc c) ≤ most → (front back : List (At Attr)) → tag_named x ≡ true →
+  pub structure_adds : (x : Option Name) (ds : List (At MembersMeaning)) (c : ℕ) → AreCounted MembersAdd ds c → suc (suc c) ≤ most.few → (front back : List (At Attr)) → tag_named x ≡ true →
       SpecAdds (suc (suc c)) (λ at s. structure_found target at x ds front back s)
   structure_adds x ds c g few front back q at s r h =
       chained most 1 (suc c) (suc (suc c)) (structure_opened x front s) (λ new s. and_then (members_found ds s) (λ ms s. structure_closed target at back new.0 new.1 ms s)) s r (omega arith) (λ y f. structure_opened_adds x front s y q f)

@@ -10,7 +10,7 @@ use Rattle.cc_sound_terms.proofs.Founds.{answer_is, whole_found}
 use Rattle.cc_sound_terms.proofs.Meant.{valued_stays}
 use Rattle.cc_terms.specs.Meanings.{TreeMeaning}
 use Rattle.cc_tree.specs.declared.at.At.{At}
-use Rattle.cc_named_terms.specs.Named.{Adds}
+use Rattle.cc_named_terms.specs.Named.{Limits, Adds}
 use Rattle.cc_named_terms.proofs.Adding.{unmoved, chained, before, judged}
 
 pub designating_stays : (x : TypedExpr) (s : State) (r : TypedExpr × State) → designating x s ≡ Ok r → r.1 ≡ s
@@ -20,7 +20,7 @@ designating_stays (IsFunction f sig) s r h = (answer_is (IsFunction f sig) s r h
 designating_stays (IsIntrinsic i place) s r h = absurd (cc)
 designating_stays (IsAddress n t place) s r h = (whole_found place s (found_value (null_judged n t)) r h).1
 
-module _ (most : ℕ) where
+module _ (most : Limits) where
   -- an expression that adds no more than so many
   abbrev pub TreeAdds : ℕ → TreeMeaning → Type 0
   TreeAdds c m = (at : ℕ) (s : State) (r : TypedExpr × State) → m at s ≡ Ok r → Adds most c s r.1

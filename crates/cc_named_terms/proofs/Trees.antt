@@ -33,11 +33,11 @@ use Rattle.cc_terms.specs.Expressions.{argument_found, arguments_found}
 use Rattle.cc_terms.specs.Meanings.{TreeMeaning, TypeNameMeaning}
 use Rattle.cc_terms.specs.Operations.{as_value, subscript_base, subscript_judged, callee_by, callee, call_judged, prefixed_by, prefixed, forgotten, sizeof_found, sizeof_type_found}
 use Rattle.cc_tree.specs.declared.at.At.{At}
-use Rattle.cc_named_terms.specs.Named.{Adds}
+use Rattle.cc_named_terms.specs.Named.{Limits, Adds}
 use Rattle.cc_named_terms.proofs.Adding.{AreCounted, unmoved, chained, behind, before, answered, done, judged, in_turn_adds, string_more, device_more, names_forgotten}
 use Rattle.cc_named_terms.proofs.Steps.{TreeAdds, designating_stays, given, value_adds, value_then, designator_then, part_then, sole_value, sole_designator}
 
-module _ (target : Target) (most : ℕ) where
+module _ (target : Target) (most : Limits) where
   -- a type name that adds no more than so many
   abbrev pub TypeNameAdds : ℕ → TypeNameMeaning → Type 0
   TypeNameAdds c m = (cast : Bool) (s : State) (r : CType × State) → m cast s ≡ Ok r → Adds most c s r.1

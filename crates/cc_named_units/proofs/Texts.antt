@@ -1,24 +1,32 @@
 -- What the typed unit of a text has.
-use Rattle.std.proofs.Common.{◌≡◌, ◌≤◌, ◌<◌, ◌^◌, ℕ, true, List, length, subst, arith}
+use Rattle.std.proofs.Common.{◌≡◌, ◌≤◌, ◌<◌, ◌^◌, ℕ, zero, suc, Bool, true, false, List, [], ◌∷◌, length, Option, Some, None, refl, subst, arith}
 use Rattle.cc_counted_trees.proofs.Statements.{sentence_read}
 use Rattle.cc_counted_trees.proofs.Texts.{text_spelled}
-use Rattle.cc_counted_trees.specs.Counts.{unit_count}
+use Rattle.std.specs.Prelude.{not, ◌||◌, is_some, nat_lt, slice_index_or, if◌then◌else◌}
+use Rattle.std.specs.List.{All, list_all, list_any}
+use Rattle.std.specs.Str.{bytes_eq}
+use Rattle.std.proofs.lemmas.Slice.Eq.{bytes_eq-Decides}
 use Rattle.cc_lex.specs.Tokens.{Tokens}
 use Rattle.cc_lex.specs.declared.token.Token.{Token}
-use Rattle.cc_named_terms.specs.Named.{IsNamedState}
+use Rattle.cc_named_terms.specs.Named.{is_own}
 use Rattle.cc_named_trees.proofs.Statements.{sentence_named}
 use Rattle.cc_named_trees.proofs.Texts.{text_named}
 use Rattle.cc_named_trees.specs.Names.{unit_named}
 use Rattle.cc_num.specs.declared.target.Target.{Target}
-use Rattle.cc_numbering.specs.Units.{unit_left}
+use Rattle.cc_numbering.specs.Units.{ids_of}
+use Rattle.cc_program.specs.declared.expr.Intr.TheVariants as intr
 use Rattle.cc_program.specs.declared.program.Roles.{Roles}
-use Rattle.cc_scopes.specs.State.{at_first}
-use Rattle.cc_sound_sources.specs.Units.{IsOfText}
+use Rattle.cc_scopes.specs.State.{Name}
+use Rattle.cc_sound_sources.specs.Units.{IsOfText, is_main_name}
+use Rattle.cc_syntax.proofs.Prefixes.{both_true}
+use Rattle.cc_syntax.specs.Names.{intrinsic_names}
+use Rattle.cc_syntax.specs.Sound.{main_name}
 use Rattle.cc_tree.specs.Sentences.{IsSentence}
 use Rattle.cc_tree.specs.declared.unit.Unit.{Unit as UnitTree}
 use Rattle.cc_type.specs.Typed.{IsTyped}
 use Rattle.cc_unit.specs.declared.unit.TypedUnit.{TypedUnit}
-use Rattle.cc_named_units.proofs.Units.{unit_adds, left_of_text, left_few}
+use Rattle.cc_unit.specs.declared.unit.UnitName.{UnitName}
+use Rattle.cc_named_units.proofs.Units.{unit_adds, left_of_text, names_own, left_few}
 
 named : (text : List ℕ) (ts : List Token) (u : UnitTree) → Tokens text ts → IsSentence ts u → unit_named u ≡ true
 named text ts u d s = sentence_named ts u s (text_named text ts d s.inside)
@@ -28,7 +36,7 @@ of_text text ts u target roles t small d s h =
     let a = unit_adds u target roles t (length ts) (named text ts u d s) (sentence_read ts u s) h in
     let l = text_spelled text ts d in
     let few : length ts < 2 ^ 32 = omega arith in
-    subst IsOfText a.1 (left_of_text (length ts) a.0 few (a.2.state (record { structures = tt; names = tt })))
+    subst IsOfText a.1 (left_of_text (record { few = length ts; roles = roles }) a.0 few (a.2.state (record { structures = tt; names = tt })))
 
 pub few_there : (text : List ℕ) (ts : List Token) (u : UnitTree) (target : Target) (roles : Roles) (t : TypedUnit) → Tokens text ts → IsSentence ts u → IsTyped u target roles t → (length t.names ≤ length ts) × (length t.structures ≤ length ts)
 few_there text ts u target roles t d s h =
@@ -37,3 +45,35 @@ few_there text ts u target roles t d s h =
     let n = a.2.few_names in
     let m = a.2.few_structures in
     subst (λ (v : TypedUnit). (length v.names ≤ length ts) × (length v.structures ≤ length ts)) a.1 (left_few a.0 (length ts) (omega arith) (omega arith))
+
+pub own_names : (text : List ℕ) (ts : List Token) (u : UnitTree) (target : Target) (roles : Roles) (t : TypedUnit) → Tokens text ts → IsSentence ts u → IsTyped u target roles t → list_all (λ (n : UnitName). is_own roles n.name) t.names ≡ true
+own_names text ts u target roles t d s h =
+    let a = unit_adds u target roles t (length ts) (named text ts u d s) (sentence_read ts u s) h in
+    let state = a.2.state (record { structures = tt; names = tt }) in
+    subst (λ (v : TypedUnit). list_all (λ (n : UnitName). is_own roles n.name) v.names ≡ true) a.1 (names_own (record { few = length ts; roles = roles }) (ids_of a.0) a.0.names state.names)
+
+-- ---- `main`
+
+by_four : (a b c d : Bool) → not (is_some (if a then Some intr.Off else (if b then Some intr.On else (if c then Some intr.Save else (if d then Some intr.Restore else None))))) ≡ true → (a || (b || (c || (d || false)))) ≡ false
+by_four true b c d h = absurd (cc)
+by_four false true c d h = absurd (cc)
+by_four false false true d h = absurd (cc)
+by_four false false false true h = absurd (cc)
+by_four false false false false h = refl
+
+no_intrinsic : (roles : Roles) (x : Name) → is_own roles (Some x) ≡ true → list_any (bytes_eq x) (intrinsic_names roles) ≡ false
+no_intrinsic roles x h = by_four (bytes_eq x roles.off) (bytes_eq x roles.on) (bytes_eq x roles.save) (bytes_eq x roles.restore) h
+
+main_own : (roles : Roles) (o : Option Name) → is_own roles o ≡ true → is_main_name o ≡ true → list_any (bytes_eq main_name) (intrinsic_names roles) ≡ false
+main_own roles None h m = absurd (cc)
+main_own roles (Some x) h m = subst (λ (y : Name). list_any (bytes_eq y) (intrinsic_names roles) ≡ false) ((bytes_eq-Decides x main_name).0 m) (no_intrinsic roles x h)
+
+each_index : (roles : Roles) (xs : List UnitName) → list_all (λ (n : UnitName). is_own roles n.name) xs ≡ true → (k : ℕ) (d : UnitName) → k < length xs → is_own roles (slice_index_or xs k d).name ≡ true
+each_index roles [] h k d l = absurd (omega arith)
+each_index roles (x ∷ xs) h zero d l = (both_true (is_own roles x.name) (list_all (λ (n : UnitName). is_own roles n.name) xs) h).0
+each_index roles (x ∷ xs) h (suc k) d l = each_index roles xs (both_true (is_own roles x.name) (list_all (λ (n : UnitName). is_own roles n.name) xs) h).1 k d (omega arith)
+
+-- where a unit defines `main`, no intrinsic has that name
+pub own_main : (text : List ℕ) (ts : List Token) (u : UnitTree) (target : Target) (roles : Roles) (t : TypedUnit) → Tokens text ts → IsSentence ts u → IsTyped u target roles t →
+    All (λ (n : UnitName). is_main_name n.name ≡ true → nat_lt 0 n.count ≡ true → list_any (bytes_eq main_name) (intrinsic_names roles) ≡ false) t.names
+own_main text ts u target roles t d s h = λ k e l m i. main_own roles (slice_index_or t.names k e).name (each_index roles t.names (own_names text ts u target roles t d s h) k e l) m

@@ -1,15 +1,15 @@
 -- What a unit adds, item by item; and what the typed unit has that is left.
-use Rattle.std.proofs.Common.{◌≡◌, ◌≤◌, ◌<◌, ◌+◌, ◌^◌, ℕ, zero, suc, Bool, true, false, ◌&&◌, List, [], ◌∷◌, ◌++◌, map, length, Option, Some, None, Result, Ok, Err, refl, ap, sym, ◌∙◌, subst, length-append, arith}
-use Rattle.std.specs.Prelude.{slice_get, option_map, option_to_list, is_some, unwrap_or, nat_lt}
-use Rattle.std.specs.List.{list_all, flat_map}
+use Rattle.std.proofs.Common.{◌≡◌, ◌≤◌, ◌<◌, ◌+◌, ◌^◌, ℕ, zero, suc, Bool, true, false, ◌&&◌, List, [], ◌∷◌, ◌++◌, map, length, Option, Some, None, Ok, Err, refl, ap, ◌∙◌, length-append, arith}
+use Rattle.std.specs.Prelude.{option_map, is_some, unwrap_or}
+use Rattle.std.specs.List.{list_all}
 use Rattle.std.proofs.lemmas.Bool.{lt-ltb}
 use Rattle.std.proofs.lemmas.List.{length-map}
 use Rattle.std.proofs.lemmas.List.Folds.{list_all-append}
 use Rattle.cc_counted_trees.specs.Counts.{each_count, decl_count, item_count, unit_count}
 use Rattle.cc_named_declarations.proofs.Declarations.{declaration_adds}
-use Rattle.cc_named_terms.proofs.Adding.{adds_itself, adds_through, before, done}
+use Rattle.cc_named_terms.proofs.Adding.{adds_through, before, done}
 use Rattle.cc_named_terms.proofs.Cycle.{front_few, rest_few}
-use Rattle.cc_named_terms.specs.Named.{AreFewNames, IsNamedStructure, HasFewLocals, IsNamedEntry, IsNamedState, Adds}
+use Rattle.cc_named_terms.specs.Named.{Limits, is_own, AreFewNames, IsNamedStructure, HasFewLocals, IsNamedEntry, IsNamedState, Adds}
 use Rattle.cc_named_trees.specs.Names.{each_named, tag_named, item_named, unit_named}
 use Rattle.cc_num.specs.declared.target.Target.{Target}
 use Rattle.cc_numbering.specs.Names.{kind_in, name_in}
@@ -19,9 +19,8 @@ use Rattle.cc_numbering.specs.Units.{ids_of, unit_left}
 use Rattle.cc_program.proofs.Each.{Each}
 use Rattle.cc_program.specs.declared.program.Roles.{Roles}
 use Rattle.cc_scopes.specs.State.{State, Name, KnownStructure, members_or_none, at_first}
-use Rattle.cc_scopes.specs.Verdicts.{Found, and_then, Checked, checked}
+use Rattle.cc_scopes.specs.Verdicts.{Found, Checked, checked}
 use Rattle.cc_scopes.specs.declared.unit.Declared.{Declared}
-use Rattle.cc_scopes.specs.declared.verdict.Fault.{Fault}
 use Rattle.cc_sound_sources.specs.Units.{may_name, are_few_names, has_few_locals, IsOfText}
 use Rattle.cc_sound_terms.proofs.Founds.{answer, then_found}
 use Rattle.cc_specifiers.specs.declared.storage.Where.TheVariants as stands
@@ -50,31 +49,31 @@ use Rattle.cc_named_units.proofs.Functions.{function_found_adds}
 
 -- ---- items
 
-module _ (target : Target) (roles : Roles) (defined : List Name) (most : ℕ) where
-  item_adds : (i : Item) → item_named i ≡ true → item_count i ≤ most → (s : State) (r : Checked × State) → item_found target roles defined i s ≡ Ok r → Adds most (item_count i) s r.1
+module _ (target : Target) (defined : List Name) (most : Limits) where
+  item_adds : (i : Item) → item_named i ≡ true → item_count i ≤ most.few → (s : State) (r : Checked × State) → item_found target most.roles defined i s ≡ Ok r → Adds most (item_count i) s r.1
   item_adds (item.Decl d) q l s r h =
-      before most (decl_count d) (declaration target roles defined stands.AtFile d s) (λ es s. answer checked s) s r (λ x f. declaration_adds target roles defined most d q l stands.AtFile s x f) (λ x f. done most 0 checked x.1 r f) h
-  item_adds (item.Func specs d attrs body) q l s r h = function_found_adds target roles defined most specs d attrs body q l s r h
+      before most (decl_count d) (declaration target most.roles defined stands.AtFile d s) (λ es s. answer checked s) s r (λ x f. declaration_adds target defined most d q l stands.AtFile s x f) (λ x f. done most 0 checked x.1 r f) h
+  item_adds (item.Func specs d attrs body) q l s r h = function_found_adds target defined most specs d attrs body q l s r h
 
-  items_add : (is : List (At Item)) → each_named item_named is ≡ true → each_count item_count is ≤ most → (b : Checked) (s : State) (r : Checked × State) → in_turn (item_next target roles defined) is b s ≡ Ok r →
+  items_add : (is : List (At Item)) → each_named item_named is ≡ true → each_count item_count is ≤ most.few → (b : Checked) (s : State) (r : Checked × State) → in_turn (item_next target most.roles defined) is b s ≡ Ok r →
       Adds most (each_count item_count is) s r.1
   items_add [] q l b s r h = done most 0 b s r h
   items_add (i ∷ is) q l b s r h =
       let c = both_true (item_named i.node) (each_named item_named is) q in
       let rest = each_count item_count is in
-      let a = then_found (item_next target roles defined i b s) (in_turn (item_next target roles defined) is) r h in
-      adds_through most (item_count i.node) rest (item_count i.node + rest) s a.0.1 r.1 (omega arith) (item_adds i.node c.0 (front_few (item_count i.node) rest most l) s a.0 a.1)
-      (items_add is c.1 (rest_few (item_count i.node) rest most l) a.0.0 a.0.1 r a.2)
+      let a = then_found (item_next target most.roles defined i b s) (in_turn (item_next target most.roles defined) is) r h in
+      adds_through most (item_count i.node) rest (item_count i.node + rest) s a.0.1 r.1 (omega arith) (item_adds i.node c.0 (front_few (item_count i.node) rest most.few l) s a.0 a.1)
+      (items_add is c.1 (rest_few (item_count i.node) rest most.few l) a.0.0 a.0.1 r a.2)
 
 left_is : (found : Found Checked) (t : TypedUnit) → unit_found found ≡ Ok t → (r : Checked × State) × (found ≡ Ok r) × (unit_left r.1 ≡ t)
 left_is (Ok r) t h = (r, refl, let e : unit_left r.1 ≡ t = cc in e)
 left_is (Err fault) t h = absurd (cc)
 
-pub unit_adds : (u : UnitTree) (target : Target) (roles : Roles) (t : TypedUnit) (most : ℕ) → unit_named u ≡ true → unit_count u ≤ most → IsTyped u target roles t → (s : State) × (unit_left s ≡ t) × Adds most (unit_count u) at_first s
+pub unit_adds : (u : UnitTree) (target : Target) (roles : Roles) (t : TypedUnit) (few : ℕ) → unit_named u ≡ true → unit_count u ≤ few → IsTyped u target roles t → (s : State) × (unit_left s ≡ t) × Adds (record { few = few; roles = roles }) (unit_count u) at_first s
 unfolding unit_of
-unit_adds u target roles t most q l h =
+unit_adds u target roles t few q l h =
     let a = left_is (items_found target roles (defined_names u) u.items at_first) t h in
-    (a.0.1, a.2, items_add target roles (defined_names u) most u.items q l checked at_first a.0 a.1)
+    (a.0.1, a.2, items_add target (defined_names u) (record { few = few; roles = roles }) u.items q l checked at_first a.0 a.1)
 
 -- ---- names of the unit that is left
 
@@ -93,20 +92,25 @@ few_kept most numbers ms small h =
     and_true (have_ids (length (all_named_in numbers ms))) (list_all is_name (local_names (all_named_in numbers ms))) (lt-ltb (length (all_named_in numbers ms)) 4294967296 (omega arith))
     (ap (list_all is_name) (names-kept numbers ms) ∙ h.names)
 
-kind_few : (most : ℕ) (ids : Ids) (k : UnitKind) → most < 2 ^ 32 → HasFewLocals most k → has_few_locals (kind_in ids k) ≡ true
+kind_few : (most : Limits) (ids : Ids) (k : UnitKind) → most.few < 2 ^ 32 → HasFewLocals most k → has_few_locals (kind_in ids k) ≡ true
 kind_few most ids (kind.Func by None) small h = refl
-kind_few most ids (kind.Func by (Some f)) small h = few_kept most ids.structures f.locals small h
+kind_few most ids (kind.Func by (Some f)) small h = few_kept most.few ids.structures f.locals small h
 kind_few most ids (kind.Object init) small h = refl
 kind_few most ids (kind.Device d) small h = refl
 
-names_may : (most : ℕ) (ids : Ids) (ds : List Declared) → Each (IsNamedEntry most) ds → list_all (λ (n : UnitName). may_name n.name) (map (name_in ids) ds) ≡ true
+names_may : (most : Limits) (ids : Ids) (ds : List Declared) → Each (IsNamedEntry most) ds → list_all (λ (n : UnitName). may_name n.name) (map (name_in ids) ds) ≡ true
 names_may most ids [] h = refl
 names_may most ids (d ∷ ds) h = and_true (may_name d.name) (list_all (λ (n : UnitName). may_name n.name) (map (name_in ids) ds)) (same_test d.name h.0.name) (names_may most ids ds h.1)
 
-locals_few : (most : ℕ) (ids : Ids) (ds : List Declared) → most < 2 ^ 32 → Each (IsNamedEntry most) ds → list_all (λ (n : UnitName). has_few_locals n.kind) (map (name_in ids) ds) ≡ true
+locals_few : (most : Limits) (ids : Ids) (ds : List Declared) → most.few < 2 ^ 32 → Each (IsNamedEntry most) ds → list_all (λ (n : UnitName). has_few_locals n.kind) (map (name_in ids) ds) ≡ true
 locals_few most ids [] small h = refl
 locals_few most ids (d ∷ ds) small h =
     and_true (has_few_locals (kind_in ids d.kind)) (list_all (λ (n : UnitName). has_few_locals n.kind) (map (name_in ids) ds)) (kind_few most ids d.kind small h.0.locals) (locals_few most ids ds small h.1)
+
+-- no name is an intrinsic's
+pub names_own : (most : Limits) (ids : Ids) (ds : List Declared) → Each (IsNamedEntry most) ds → list_all (λ (n : UnitName). is_own most.roles n.name) (map (name_in ids) ds) ≡ true
+names_own most ids [] h = refl
+names_own most ids (d ∷ ds) h = and_true (is_own most.roles d.name) (list_all (λ (n : UnitName). is_own most.roles n.name) (map (name_in ids) ds)) h.0.own (names_own most ids ds h.1)
 
 -- ---- structures of the unit that is left
 
@@ -122,14 +126,14 @@ module _ (numbers : List ℕ) (Good : KnownStructure → Type 0) (test : UnitStr
       list_all-append test (structure_at numbers xs i) (structures_in numbers xs is)
       ∙ and_true (list_all test (structure_at numbers xs i)) (list_all test (structures_in numbers xs is)) (at_passes xs h i) (all_pass xs h is)
 
-tags_may : (numbers : List ℕ) (most : ℕ) (k : KnownStructure) → IsNamedStructure most k → may_name k.tag && may_name k.alias ≡ true
+tags_may : (numbers : List ℕ) (most : Limits) (k : KnownStructure) → IsNamedStructure most k → may_name k.tag && may_name k.alias ≡ true
 tags_may numbers most k h = and_true (may_name k.tag) (may_name k.alias) (same_test k.tag h.tag) (same_test k.alias h.alias)
 
-members_few : (numbers : List ℕ) (most : ℕ) → most < 2 ^ 32 → (o : Option (List Named)) → AreFewNames most (members_or_none o) → are_few_names (unwrap_or (option_map (all_named_in numbers) o) []) ≡ true
+members_few : (numbers : List ℕ) (most : Limits) → most.few < 2 ^ 32 → (o : Option (List Named)) → AreFewNames most.few (members_or_none o) → are_few_names (unwrap_or (option_map (all_named_in numbers) o) []) ≡ true
 members_few numbers most small None h = refl
-members_few numbers most small (Some ms) h = few_kept most numbers ms small h
+members_few numbers most small (Some ms) h = few_kept most.few numbers ms small h
 
-pub left_of_text : (most : ℕ) (s : State) → most < 2 ^ 32 → IsNamedState most s → IsOfText (unit_left s)
+pub left_of_text : (most : Limits) (s : State) → most.few < 2 ^ 32 → IsNamedState most s → IsOfText (unit_left s)
 left_of_text most s small h =
     let numbers = numbers_of s in
     record {
