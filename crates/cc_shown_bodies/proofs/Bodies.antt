@@ -1,5 +1,5 @@
 -- The body of a function: its automatic objects, one line each, and its statements.
-use Rattle.std.proofs.Common.{arith, ◌≡◌, inr, ℕ, zero, suc, ◌≤◌, ◌+◌, true, List, [], ◌∷◌, ◌++◌, map, length, take, drop, Option, Some, None, Ok, refl, ap, sym, ◌∙◌, subst, slice_get, append-nil, length-append, add-one}
+use Rattle.std.proofs.Common.{arith, ◌≡◌, inr, ℕ, zero, suc, ◌≤◌, ◌+◌, true, List, [], ◌∷◌, ◌++◌, map, length, take, drop, Some, None, Ok, refl, ap, sym, ◌∙◌, subst, slice_get, append-nil, length-append, add-one}
 use Rattle.cc_function_trees.specs.Units.{ShowsLocals, NoLocal, MoreLocals}
 use Rattle.cc_objects.specs.Linked.{with_automatic}
 use Rattle.cc_operands.specs.Qualified.{without_const}

@@ -1,6 +1,6 @@
 -- What is known behind the declaration of an automatic object: its name is that of the object, and all others mean what they
 -- meant.
-use Rattle.std.proofs.Common.{arith, ◌≡◌, ◌⊎◌, inl, inr, ℕ, zero, suc, ◌<◌, Bool, false, cond, List, [], ◌∷◌, length, take, Option, Some, None, Ok, refl, ap, sym, ◌∙◌, slice_get}
+use Rattle.std.proofs.Common.{arith, ◌≡◌, inl, ℕ, zero, suc, ◌<◌, false, cond, List, [], ◌∷◌, length, take, Option, Some, None, Ok, refl, ap, sym, ◌∙◌, slice_get}
 use Rattle.std.specs.Str.{bytes_eq}
 use Rattle.cc_designators.specs.Designators.{TypedExpr, IsPlace}
 use Rattle.cc_objects.specs.Linked.{with_automatic}

@@ -1,5 +1,5 @@
 -- Lines that show automatic objects declare them, and give no statement (C99 6.7).
-use Rattle.std.proofs.Common.{arith, ◌≡◌, ℕ, suc, ◌<◌, ◌+◌, Bool, true, false, not, ◌&&◌, ◌||◌, List, [], ◌∷◌, ◌++◌, map, length, drop, Option, Some, None, Ok, Err, refl, ap, sym, ◌∙◌, subst, slice_get, append-nil}
+use Rattle.std.proofs.Common.{◌≡◌, ℕ, ◌+◌, Bool, true, false, not, ◌&&◌, ◌||◌, List, [], ◌∷◌, ◌++◌, map, Option, Some, None, Ok, Err, refl, ap, ◌∙◌}
 use Rattle.std.specs.Prelude.{if◌then◌else◌}
 use Rattle.std.specs.Option.{is_some}
 use Rattle.cc_declarators.specs.Located.{located}
@@ -15,41 +15,35 @@ use Rattle.cc_objects.specs.declared.category.Category.TheVariants as declares
 use Rattle.cc_operands.specs.Qualified.{is_function_type}
 use Rattle.cc_operands.specs.Verdicts.{Judged, must, judge_then}
 use Rattle.cc_operands.specs.declared.rule.Rule.TheVariants as rule
-use Rattle.cc_primary.specs.Primary.{intrinsic_named, is_intrinsic}
+use Rattle.cc_primary.specs.Primary.{intrinsic_named}
 use Rattle.cc_program.specs.declared.expr.Expr.{Expr}
 use Rattle.cc_program.specs.declared.program.Program.{Program}
-use Rattle.cc_program.specs.declared.stmt.Stmt.{Stmt, Do}
+use Rattle.cc_program.specs.declared.stmt.Stmt.{Do}
 use Rattle.cc_program.specs.declared.types.CType.{CType}
 use Rattle.cc_program.specs.declared.types.Shape.{out-Shape}
 use Rattle.cc_scopes.specs.State.{State, Scope, Name, named_here, structures_of, layouts_of}
 use Rattle.cc_scopes.specs.Verdicts.{Found, whole, and_then}
-use Rattle.cc_specifiers.specs.Declarators.{type_found, is_unbounded, declares_function}
-use Rattle.cc_specifiers.specs.Objects.{is_object}
+use Rattle.cc_specifiers.specs.Declarators.{type_found, is_unbounded}
 use Rattle.cc_specifiers.specs.Places.{JudgedAt}
 use Rattle.cc_specifiers.specs.declared.attribute.Attribute.{Attribute}
 use Rattle.cc_specifiers.specs.declared.derivation.Allowed.{Allowed}
 use Rattle.cc_specifiers.specs.declared.derivation.Declarator.{Declarator}
 use Rattle.cc_specifiers.specs.declared.specifier.Specified.{Specified}
-use Rattle.cc_specifiers.specs.declared.specifier.Specs.{Specs}
 use Rattle.cc_specifiers.specs.declared.storage.Where.TheVariants as stands
 use Rattle.cc_syntax.specs.Kinds.{Kind, bytes_in, is_small, is_object_kind, is_object_type}
 use Rattle.cc_syntax.specs.Programs.{kind_in}
 use Rattle.cc_syntax.specs.Sizes.{AreSized}
-use Rattle.cc_syntax.specs.Types.{Named}
-use Rattle.cc_terms.specs.Declarators.{declarator}
-use Rattle.cc_terms.specs.Terms.{declr_here}
 use Rattle.cc_tree.specs.declared.at.At.{At}
 use Rattle.cc_tree.specs.declared.tree.Declr.{Declr}
 use Rattle.cc_tree.specs.declared.tree.Spec.{Spec}
 use Rattle.cc_tree.specs.declared.unit.Decl.{Decl}
 use Rattle.cc_tree.specs.declared.unit.Init.{Init}
 use Rattle.cc_tree.specs.declared.unit.Line as line
-use Rattle.cc_tree.specs.declared.unit.Line.{Line}
 use Rattle.cc_tree.specs.declared.unit.Line.TheOpen as one_line
 use Rattle.cc_tree.specs.declared.unit.Line.TheVariants as line_rolls
 use Rattle.cc_type_trees.specs.Types.{ShowsWords, NoWord, MoreWords, ShowsBase, Declares, Plain}
 use Rattle.cc_typed_bodies.specs.Parts.{declared_found}
-use Rattle.cc_typed_declarations.specs.Declarations.{init_allowed, declared_left, declared_with, marked, named_found, init_found, inits_found, declaration}
+use Rattle.cc_typed_declarations.specs.Declarations.{declared_left, named_found, init_found, inits_found, declaration}
 use Rattle.cc_typed_statements.specs.declared.jumps.Jumps.{Jumps}
 use Rattle.cc_words.specs.declared.word.Word.{Word}
 use Rattle.cc_shown_operations.specs.Numbers.{Numbers}

@@ -1,18 +1,17 @@
 -- Automatic objects that are declared one behind another: which the function has then, and what is known outside their scope.
-use Rattle.std.proofs.Common.{◌≡◌, ℕ, Bool, true, false, not, ◌&&◌, ◌||◌, List, [], ◌∷◌, ◌++◌, map, length, refl, ap, sym, ◌∙◌, append_assoc, append-nil}
+use Rattle.std.proofs.Common.{◌≡◌, Bool, true, false, not, ◌||◌, List, [], ◌∷◌, ◌++◌, map, length, refl, ap, sym, ◌∙◌, append_assoc, append-nil}
 use Rattle.std.specs.List.{list_all}
 use Rattle.cc_objects.specs.Linked.{with_automatic}
 use Rattle.cc_operands.specs.Qualified.{at_element, no_const, without_const}
 use Rattle.cc_program.specs.Qualifiers.{of_element, is_const}
 use Rattle.cc_program.specs.declared.types.CType.{CType}
-use Rattle.cc_program.specs.declared.types.Shape.{Shape, Array, out-Shape, roll-Shape, out-roll-Shape}
+use Rattle.cc_program.specs.declared.types.Shape.{Shape, Array, roll-Shape, out-roll-Shape}
 use Rattle.cc_program.specs.declared.types.Shape.TheOpen as shape
 use Rattle.cc_program.specs.declared.types.Shape.TheVariants as shape_rolls
 use Rattle.cc_program.specs.declared.types.Sig.{Sig}
 use Rattle.cc_program.proofs.QualifierLemmas.{parts_const, const-opens}
 use Rattle.cc_program.proofs.TypeInduction.{TypeParts, with_shape, by_type}
 use Rattle.cc_scopes.specs.State.{State, Scope, with_name, in_innermost, with_scopes, with_locals, outer_scopes, left}
-use Rattle.cc_scopes.specs.declared.designated.Designated.{Designated}
 use Rattle.cc_scopes.specs.declared.designated.Designated.TheVariants as means
 use Rattle.cc_shown_operations.specs.Numbers.{Numbers}
 use Rattle.cc_shown_types.specs.Numbers.{type_numbered, named_numbered}

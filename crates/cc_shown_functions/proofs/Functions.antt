@@ -1,28 +1,26 @@
 -- The definition of a function is typed to it: its declarator, its body in the scope of its parameters, and what is known behind
 -- it.
-use Rattle.std.proofs.Common.{◌≡◌, ℕ, ◌≤◌, Bool, true, false, List, [], ◌∷◌, ◌++◌, map, length, take, drop, Option, Some, None, Ok, Err, refl, ap, sym, ◌∙◌, subst, slice_get, take-append-drop}
+use Rattle.std.proofs.Common.{◌≡◌, ℕ, ◌≤◌, true, List, [], ◌∷◌, ◌++◌, map, length, take, drop, Some, None, Ok, Err, ap, sym, ◌∙◌, slice_get, take-append-drop}
 use Rattle.std.specs.Prelude.{if◌then◌else◌}
 use Rattle.std.specs.Option.{is_some}
 use Rattle.std.proofs.lemmas.List.{map-append}
 use Rattle.cc_declarators.specs.Declarators.{derived_type}
 use Rattle.cc_declarators.specs.Located.{located}
 use Rattle.cc_function_trees.specs.Units.{ShowsLocals}
-use Rattle.cc_linkage.specs.Linkage.{declared, may_be_declared, may_be_main}
+use Rattle.cc_linkage.specs.Linkage.{declared, may_be_declared}
 use Rattle.cc_linkage.specs.declared.linkage.DeclaredAs.TheVariants.{AsExtern}
 use Rattle.cc_objects.specs.Names.{function_judged}
 use Rattle.cc_operands.specs.Verdicts.{Judged, must, judge_then}
 use Rattle.cc_operands.specs.declared.rule.Rule.TheVariants as rule
-use Rattle.cc_primary.specs.Primary.{intrinsic_named}
 use Rattle.cc_program.specs.declared.func.Func.{Func}
 use Rattle.cc_program.specs.declared.program.Program.{Program}
 use Rattle.cc_program.specs.declared.stmt.Stmt.{Stmt}
 use Rattle.cc_program.specs.declared.types.CType.{CType}
 use Rattle.cc_program.specs.declared.types.Shape.TheVariants as shape_rolls
 use Rattle.cc_program.specs.declared.types.Sig.{Sig, out-Sig}
-use Rattle.cc_scopes.specs.State.{State, Scope, left, with_locals}
-use Rattle.cc_scopes.specs.Verdicts.{Found, whole, and_then, Checked, checked}
+use Rattle.cc_scopes.specs.State.{State, Scope, with_locals}
+use Rattle.cc_scopes.specs.Verdicts.{Found, whole, and_then, checked}
 use Rattle.cc_specifiers.specs.Attributes.{entry_by}
-use Rattle.cc_specifiers.specs.Declarators.{type_found}
 use Rattle.cc_specifiers.specs.Derivations.{in_definition}
 use Rattle.cc_specifiers.specs.Places.{JudgedAt}
 use Rattle.cc_specifiers.specs.Storage.{setting}
@@ -37,14 +35,14 @@ use Rattle.cc_specifiers.specs.declared.storage.Where.TheVariants as stands
 use Rattle.cc_statement_trees.specs.Lines.{ShowsStmts}
 use Rattle.cc_syntax.specs.Normal.{devices_in, is_normal_body, next_of}
 use Rattle.cc_syntax.specs.Sizes.{AreSized}
-use Rattle.cc_syntax.specs.Sound.{IsSound, IsFunc, is_automatic}
+use Rattle.cc_syntax.specs.Sound.{IsSound, IsFunc}
 use Rattle.cc_syntax.specs.Types.{Named}
 use Rattle.cc_terms.specs.Terms.{declr_of}
 use Rattle.cc_tree.specs.declared.at.At.{At}
 use Rattle.cc_tree.specs.declared.tree.Declr.{Declr}
 use Rattle.cc_tree.specs.declared.tree.Spec.{Spec}
 use Rattle.cc_tree.specs.declared.unit.Line.{Line}
-use Rattle.cc_type.specs.Functions.{asked_by, locals_of, definition_judged, defined_as, function_of, function_defined, signature_at, signature_of, entered_function, function_body_found, function_entered, judged_function, named_function, function_found}
+use Rattle.cc_type.specs.Functions.{asked_by, locals_of, definition_judged, defined_as, function_of, function_defined, signature_at, entered_function, function_body_found, function_entered, judged_function, named_function, function_found}
 use Rattle.cc_type_trees.specs.Types.{ShowsBase}
 use Rattle.cc_typed_bodies.specs.Lines.{line_here}
 use Rattle.cc_typed_bodies.specs.Meanings.{lines_found}

@@ -1,6 +1,6 @@
 -- A function of a sound program may be defined under its name: it is no intrinsic's, and `main` has the type of one (C99
 -- 5.1.2.2.1).
-use Rattle.std.proofs.Common.{arith, ◌≡◌, ℕ, Bool, true, false, not, ◌&&◌, ◌||◌, nat_eq, List, [], ◌∷◌, ◌++◌, map, length, Option, Some, None, refl, ap, sym, ◌∙◌, slice_get, eqb-true}
+use Rattle.std.proofs.Common.{arith, ◌≡◌, ℕ, Bool, true, false, not, ◌&&◌, ◌||◌, nat_eq, List, [], ◌∷◌, ◌++◌, map, length, Some, None, refl, ap, ◌∙◌, slice_get, eqb-true}
 use Rattle.std.specs.Prelude.{if◌then◌else◌}
 use Rattle.std.specs.List.{list_any, list_all}
 use Rattle.std.specs.Str.{bytes_eq}
@@ -19,7 +19,7 @@ use Rattle.cc_scopes.specs.State.{Name}
 use Rattle.cc_syntax.specs.Names.{device_names, intrinsic_names, file_names, are_names}
 use Rattle.cc_syntax.specs.Operators.{is_unqualified, is_handler}
 use Rattle.cc_syntax.specs.SameTypes.{is_int_shape}
-use Rattle.cc_syntax.specs.Sound.{takes_nothing, is_plain_void, is_plain_int, is_main, main_name, form_fits}
+use Rattle.cc_syntax.specs.Sound.{takes_nothing, is_plain_void, is_plain_int, is_main, form_fits}
 use Rattle.cc_syntax.specs.Values.{is_void}
 use Rattle.cc_syntax.proofs.Prefixes.{both_true}
 use Rattle.cc_syntax.proofs.SameLemmas.{and_true}

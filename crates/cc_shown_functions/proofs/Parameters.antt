@@ -1,5 +1,5 @@
 -- What is known in the scope of a function's parameters.
-use Rattle.std.proofs.Common.{arith, ◌≡◌, ◌⊎◌, inl, inr, ℕ, zero, suc, ◌<◌, ◌≤◌, ◌+◌, Bool, true, false, ◌&&◌, List, [], ◌∷◌, map, length, take, drop, Option, Some, None, Ok, refl, ap, sym, ◌∙◌, slice_get, eqb-true}
+use Rattle.std.proofs.Common.{arith, ◌≡◌, inl, ℕ, zero, suc, ◌<◌, ◌≤◌, ◌+◌, true, false, List, [], ◌∷◌, map, length, take, drop, Option, Some, None, Ok, refl, ap, sym, ◌∙◌, slice_get, eqb-true}
 use Rattle.std.specs.Prelude.{if◌then◌else◌}
 use Rattle.std.specs.Str.{bytes_eq}
 use Rattle.cc_designators.specs.Designators.{TypedExpr, IsPlace}
@@ -7,13 +7,10 @@ use Rattle.cc_primary.specs.Primary.{designates, named_by, named, intrinsic_name
 use Rattle.cc_program.specs.declared.expr.Intr.{Intr}
 use Rattle.cc_program.specs.declared.expr.Place.{Local}
 use Rattle.cc_program.specs.declared.func.Func.{Func}
-use Rattle.cc_program.specs.declared.object.Device.{Device}
-use Rattle.cc_program.specs.declared.object.Object.{Object}
 use Rattle.cc_program.specs.declared.program.Program.{Program}
-use Rattle.cc_program.specs.declared.program.Roles.{Roles}
 use Rattle.cc_program.specs.declared.types.CType.{CType}
 use Rattle.cc_program.specs.declared.types.Sig.{out-Sig}
-use Rattle.cc_scopes.specs.State.{State, Scope, Name, find_name, or_else, designated, named_here, entered, with_locals}
+use Rattle.cc_scopes.specs.State.{State, Name, find_name, or_else, designated, named_here, entered, with_locals}
 use Rattle.cc_scopes.specs.declared.designated.Designated.{Designated}
 use Rattle.cc_scopes.specs.declared.designated.Designated.TheVariants as means
 use Rattle.cc_syntax.specs.SameTypes.{same_shape}
@@ -22,7 +19,7 @@ use Rattle.cc_syntax.specs.Types.{Named}
 use Rattle.cc_syntax.specs.Values.{object_place}
 use Rattle.cc_syntax.proofs.Prefixes.{both_true}
 use Rattle.cc_shown_bodies.specs.Bodies.{first_locals, parameters_alone, KnowsParameters}
-use Rattle.cc_shown_bodies.proofs.Names.{name-itself, names-turned, IsOwnName, own-name}
+use Rattle.cc_shown_bodies.proofs.Names.{name-itself, names-turned, own-name}
 use Rattle.cc_shown_functions.specs.Functions.{names_from, parameters_scope}
 use Rattle.cc_shown_operations.specs.Known.{KnowsNames}
 use Rattle.cc_shown_operations.specs.Numbers.{Numbers}

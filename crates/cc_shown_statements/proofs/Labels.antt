@@ -1,14 +1,12 @@
 -- Lines that show the cases of a `switch` are typed to them: labels stand round the first statement of a case, and others
 -- behind it.
 use Rattle.std.specs.Prelude.{ℤ}
-use Rattle.std.proofs.Common.{◌≡◌, ℕ, Bool, true, false, not, ◌&&◌, ◌||◌, List, [], ◌∷◌, ◌++◌, map, Option, Some, None, Ok, refl, ap, sym, ◌∙◌, subst, append_assoc, append-nil}
-use Rattle.std.specs.Prelude.{if◌then◌else◌, Err}
-use Rattle.std.specs.List.{list_all, list_any, flat_map}
+use Rattle.std.proofs.Common.{◌≡◌, ℕ, Bool, true, false, not, ◌&&◌, ◌||◌, List, [], ◌∷◌, ◌++◌, map, Option, Some, None, Ok, refl, ap, sym, ◌∙◌, append_assoc, append-nil}
+use Rattle.std.specs.List.{list_all, list_any}
 use Rattle.std.proofs.lemmas.Cmp.{int_eq_equiv}
 use Rattle.std.proofs.lemmas.List.Folds.{list_any-append}
 use Rattle.cc_designators.specs.Designators.{TypedExpr, IsValue}
-use Rattle.cc_expression_trees.specs.Constants.{ShowsInteger}
-use Rattle.cc_num.specs.Integers.{is_value_of, converted}
+use Rattle.cc_num.specs.Integers.{is_value_of}
 use Rattle.cc_num.specs.Promotions.{promoted}
 use Rattle.cc_num.specs.declared.int_type.IntType.{IntType}
 use Rattle.cc_num.proofs.Conversions.{converted-same}
@@ -28,11 +26,11 @@ use Rattle.cc_program.specs.declared.stmt.Stmt.TheOpen as is
 use Rattle.cc_program.specs.declared.types.CType.{CType}
 use Rattle.cc_scopes.specs.State.{State, Name}
 use Rattle.cc_scopes.specs.Verdicts.{Found, whole, and_then}
-use Rattle.cc_syntax.specs.Folding.{Constant, Value}
-use Rattle.cc_syntax.specs.Operators.{is_promoted, is_integer}
+use Rattle.cc_syntax.specs.Folding.{Constant}
+use Rattle.cc_syntax.specs.Operators.{is_promoted}
 use Rattle.cc_syntax.specs.Statements.{same_label, are_apart, label_fits}
 use Rattle.cc_syntax.specs.Statements.{has_label as has_some}
-use Rattle.cc_syntax.specs.Values.{ValueType, Integer}
+use Rattle.cc_syntax.specs.Values.{Integer}
 use Rattle.cc_syntax.proofs.Prefixes.{both_true}
 use Rattle.cc_terms.specs.InTurn.{in_turn}
 use Rattle.cc_terms.specs.Terms.{tree_of}
@@ -47,16 +45,16 @@ use Rattle.cc_typed_bodies.specs.Meanings.{LineMeaning, item_found, items_found,
 use Rattle.cc_typed_bodies.specs.Parts.{value_here}
 use Rattle.cc_typed_bodies.proofs.Equations.{item-gives}
 use Rattle.cc_typed_statements.specs.Jumps.{in_switch}
-use Rattle.cc_typed_statements.specs.Labels.{no_case, at_last, with_label, new_case, labelled, with_statements, behind, behind_empty, has_label, once, label_in, case_label, default_label, cases_behind, label_done}
+use Rattle.cc_typed_statements.specs.Labels.{at_last, with_label, labelled, with_statements, behind, behind_empty, has_label, once, label_in, case_label, label_done}
 use Rattle.cc_typed_statements.specs.Labels.{is_empty as no_cases}
-use Rattle.cc_typed_statements.specs.Switch.{switch_type, cases_of, switch_of}
+use Rattle.cc_typed_statements.specs.Switch.{switch_type, switch_of}
 use Rattle.cc_typed_statements.specs.declared.cases.Cases.{Cases}
 use Rattle.cc_typed_statements.specs.declared.jumps.Jumps.{Jumps}
 use Rattle.cc_statement_trees.specs.Lines.{block, ShowsLabels, NoLabel, ACase, ADefault}
 use Rattle.cc_shown_constants.proofs.Constants.{integer-found}
 use Rattle.cc_shown_lines.specs.Numbers.{stmt_numbered, case_numbered}
 use Rattle.cc_shown_lines.proofs.Lines.{stmt-at}
-use Rattle.cc_shown_operations.specs.Numbers.{Numbers, expr_numbered}
+use Rattle.cc_shown_operations.specs.Numbers.{Numbers}
 use Rattle.cc_shown_operations.specs.Typed.{IsTypedAs, operand_of}
 use Rattle.cc_shown_statements.proofs.Levels.{case-numbered}
 use Rattle.cc_shown_statements.proofs.Lines.{is_statement, in_scope, scoped-found, meaning, meant, meaning-at, line-at, AreTyped, NoneTyped, MoreTyped, value-is}

@@ -1,7 +1,7 @@
 -- What it says of a statement and a case at a level that they are sound and in normal form, which devices they use, and with
 -- other numbers.
 use Rattle.std.specs.Prelude.{ℤ}
-use Rattle.std.proofs.Common.{◌≡◌, ℕ, Bool, true, false, ◌&&◌, List, [], ◌∷◌, ◌++◌, map, Option, Some, None, refl, ap, sym, ◌∙◌, append-nil}
+use Rattle.std.proofs.Common.{◌≡◌, ℕ, Bool, true, List, map, Option, Some, None, refl, ap, ◌∙◌}
 use Rattle.std.specs.List.{list_all, flat_map}
 use Rattle.std.specs.Option.{is_some}
 use Rattle.cc_num.specs.declared.int_type.IntType.{IntType}
@@ -11,8 +11,8 @@ use Rattle.cc_program.specs.declared.expr.Expr.TheOpen as one
 use Rattle.cc_program.specs.declared.expr.Place.{Place}
 use Rattle.cc_program.specs.declared.func.Func.{Func}
 use Rattle.cc_program.specs.declared.program.Program.{Program}
-use Rattle.cc_program.specs.declared.stmt.Case.{Case, out-Case, roll-Case, fold-Case, fold_out-Case, map-Case}
-use Rattle.cc_program.specs.declared.stmt.Stmt.{Stmt, out-Stmt, map-Stmt, fold-Stmt, fold_out-Stmt}
+use Rattle.cc_program.specs.declared.stmt.Case.{Case, out-Case, roll-Case, fold-Case, fold_out-Case}
+use Rattle.cc_program.specs.declared.stmt.Stmt.{Stmt, out-Stmt, map-Stmt, fold_out-Stmt}
 use Rattle.cc_program.specs.declared.stmt.Stmt.TheOpen as is
 use Rattle.cc_syntax.specs.Effects.{no_one, effects_of}
 use Rattle.cc_syntax.specs.Folding.{is_folded}

@@ -1,6 +1,6 @@
 -- Lines that show choices and loops are typed to them, where their conditions and what stands in them are.
-use Rattle.std.proofs.Common.{◌≡◌, ℕ, Bool, true, false, ◌||◌, List, [], ◌∷◌, ◌++◌, map, Option, Some, None, Ok, refl, ap, sym, ◌∙◌, subst, append_assoc, append-nil}
-use Rattle.std.specs.Prelude.{if◌then◌else◌, Err}
+use Rattle.std.proofs.Common.{◌≡◌, ℕ, Bool, true, false, List, [], ◌∷◌, ◌++◌, map, Option, Some, None, Ok, refl, ap, sym, ◌∙◌, append_assoc, append-nil}
+use Rattle.std.specs.Prelude.{if◌then◌else◌}
 use Rattle.cc_designators.specs.Designators.{TypedExpr}
 use Rattle.cc_operand_rules.proofs.Rules.{with-scalar}
 use Rattle.cc_operands.specs.Operands.{Operand}

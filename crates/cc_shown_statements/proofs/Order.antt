@@ -1,5 +1,5 @@
 -- Where devices without names are used in their order, each is declared by its first use: what is known of them, use by use.
-use Rattle.std.proofs.Common.{arith, ◌≡◌, ℕ, ◌+◌, ◌-◌, ◌<◌, ◌≤◌, zero, suc, Bool, true, false, not, ◌&&◌, ◌||◌, nat_eq, nat_lt, List, [], ◌∷◌, ◌++◌, map, length, length-append, take, drop, Option, Some, None, refl, ap, sym, ◌∙◌, subst, slice_get, append_assoc, append-nil, eqb-true, ltb-true, lt-ltb, eq-eqb}
+use Rattle.std.proofs.Common.{arith, ◌≡◌, ℕ, ◌+◌, ◌-◌, ◌<◌, ◌≤◌, zero, suc, Bool, true, false, not, ◌&&◌, ◌||◌, nat_eq, nat_lt, List, [], ◌∷◌, ◌++◌, map, length, length-append, take, drop, Option, Some, None, refl, ap, sym, ◌∙◌, subst, slice_get, append_assoc, append-nil, eqb-true, ltb-true, eq-eqb}
 use Rattle.std.specs.Prelude.{if◌then◌else◌}
 use Rattle.std.specs.List.{list_any}
 use Rattle.std.specs.Option.{is_some, is_none}

@@ -3,10 +3,9 @@ use Rattle.std.specs.Prelude.{ℤ}
 use Rattle.std.proofs.Common.{◌≡◌, ℕ, Bool, true, false, not, ◌&&◌, ◌||◌, List, [], ◌∷◌, ◌++◌, map, Option, Some, None, Ok, refl, ap, sym, ◌∙◌, subst, append_assoc, append-nil}
 use Rattle.std.specs.List.{list_all, list_any, flat_map}
 use Rattle.std.specs.Option.{is_some}
-use Rattle.std.proofs.lemmas.List.Folds.{list_all-append, list_any-append}
+use Rattle.std.proofs.lemmas.List.Folds.{list_all-append}
 use Rattle.cc_bodies.specs.Stmts.{label_type}
 use Rattle.cc_num.specs.declared.int_type.IntType.{IntType}
-use Rattle.cc_num.specs.declared.target.Target.{Target}
 use Rattle.cc_program.specs.declared.expr.Expr.{Expr, out-Expr}
 use Rattle.cc_program.specs.declared.func.Func.{Func}
 use Rattle.cc_program.specs.declared.program.Program.{Program}
@@ -20,13 +19,12 @@ use Rattle.cc_scopes.specs.State.{State, Name}
 use Rattle.cc_syntax.specs.Forms.{form_of}
 use Rattle.cc_syntax.specs.Kinds.{Kind, is_result}
 use Rattle.cc_syntax.specs.Normal.{is_one, is_operand, normal_step, is_normal_stmt, devices_step, devices_of, devices_in}
-use Rattle.cc_syntax.specs.Operators.{is_promoted}
 use Rattle.cc_syntax.specs.Programs.{type_of, kind_in, sound_step, is_sound_stmt}
 use Rattle.cc_syntax.specs.Sizes.{AreSized}
 use Rattle.cc_syntax.specs.Sound.{IsSound, IsFunc}
 use Rattle.cc_syntax.specs.Statements.{SoundWhere, Labelled, same_label, labels_of, labels_fit, label_fits, are_apart, is_condition}
 use Rattle.cc_syntax.specs.Statements.{has_label as has_some}
-use Rattle.cc_syntax.specs.Values.{ValueType, Integer, is_scalar, is_assignable, is_assignable_some, is_void, scalar_value, object_place}
+use Rattle.cc_syntax.specs.Values.{ValueType, Integer, is_void, scalar_value, object_place}
 use Rattle.cc_syntax.proofs.Prefixes.{both_true}
 use Rattle.cc_syntax.proofs.SameLemmas.{and_true}
 use Rattle.cc_tree.specs.declared.at.At.{At}
@@ -54,7 +52,7 @@ use Rattle.cc_shown_operations.proofs.Fits.{read-fits}
 use Rattle.cc_shown_types.specs.Numbers.{type_numbered, value_numbered}
 use Rattle.cc_shown_types.proofs.Kept.{void-numbered, scalar-at}
 use Rattle.cc_shown_statements.specs.Devices.{DevicesFrom}
-use Rattle.cc_shown_statements.proofs.Labels.{HaveLabels, settled, made_case, labels-behind, items, empty-case, full-case, switch-line}
+use Rattle.cc_shown_statements.proofs.Labels.{HaveLabels, settled, labels-behind, items, empty-case, full-case, switch-line}
 use Rattle.cc_shown_statements.proofs.Levels.{some-is, condition-is, labels-are, assigned-is, devices_in_case, devices-at, case-devices, all_normal, all_sound, normal_in, sound_in, normal-at, sound-at, case-normal, case-labels, case-sound, operand-has, one-has, case-numbered}
 use Rattle.cc_shown_statements.proofs.Lines.{is_statement, in_scope, meaning, AreTyped, NoneTyped, MoreTyped, if-line, else-line, while-line}
 use Rattle.cc_shown_statements.proofs.Uses.{names-inside, uses-inside, uses-parted, steps-used, names-used}

@@ -1,5 +1,5 @@
 -- Uses of devices, one behind another: in parts, inside a scope, and as the accesses of a statement.
-use Rattle.std.proofs.Common.{◌≡◌, ℕ, Bool, true, false, List, [], ◌∷◌, ◌++◌, Option, Some, None, Ok, refl, ap, sym, ◌∙◌, subst, slice_get}
+use Rattle.std.proofs.Common.{◌≡◌, ℕ, false, List, [], ◌∷◌, ◌++◌, Option, Some, None, Ok, refl, ap, sym, ◌∙◌, subst, slice_get}
 use Rattle.std.specs.Option.{is_some}
 use Rattle.cc_designators.specs.Designators.{TypedExpr}
 use Rattle.cc_primary.specs.Primary.{designates, named_by, named, intrinsic_named}
