@@ -1,0 +1,4 @@
+pub mod Changes
+pub mod Known
+pub mod Declared
+pub mod Definitions
