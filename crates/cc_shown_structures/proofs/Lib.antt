@@ -1,0 +1,7 @@
+pub mod Orders
+pub mod Namings
+pub mod Announced
+pub mod Standing
+pub mod Bases
+pub mod Members
+pub mod Front
