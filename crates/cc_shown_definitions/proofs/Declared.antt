@@ -35,11 +35,11 @@ use Rattle.cc_tree.specs.declared.tree.Declr.{Declr}
 use Rattle.cc_type.specs.Functions.{local_of, locals_of}
 use Rattle.cc_type_trees.specs.Types.{Function, Declares}
 use Rattle.cc_words.specs.Names.{is_name, are_distinct}
-use Rattle.cc_shown_bodies.proofs.Names.{own-name}
+use Rattle.cc_shown_definitions.proofs.Names.{own-name}
 use Rattle.cc_shown_declarators.specs.Parameters.{Entry, entry_numbered, entry_of, entry_names, HaveNewNames, locals_from, scope_of}
 use Rattle.cc_shown_declarators.proofs.Functions.{are-scalars, is-declared}
-use Rattle.cc_shown_functions.specs.Functions.{names_from, parameters_scope, IsDefinition}
-use Rattle.cc_shown_functions.proofs.Parameters.{taken-at}
+use Rattle.cc_shown_definitions.specs.Functions.{names_from, parameters_scope, IsDefinition}
+use Rattle.cc_shown_definitions.proofs.Parameters.{taken-at}
 use Rattle.cc_shown_operations.specs.Numbers.{Numbers}
 use Rattle.cc_shown_types.specs.Known.{KnowsStructures}
 use Rattle.cc_shown_types.specs.Numbers.{type_numbered, named_numbered}

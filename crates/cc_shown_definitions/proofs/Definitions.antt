@@ -15,19 +15,19 @@ use Rattle.cc_tree.specs.declared.at.At.{At}
 use Rattle.cc_tree.specs.declared.unit.Item.{Item}
 use Rattle.cc_type.specs.Functions.{defined_as}
 use Rattle.cc_type.specs.Units.{item_found, item_next, items_found}
-use Rattle.cc_shown_bodies.specs.Bodies.{first_locals}
+use Rattle.cc_shown_definitions.specs.Bodies.{first_locals}
 use Rattle.cc_shown_definitions.specs.Definitions.{ShowsFunctions, NoFunction, MoreFunctions, KnowsFile, place_of, devices_behind, with_definitions}
 use Rattle.cc_shown_definitions.proofs.Changes.{next-parted}
 use Rattle.cc_shown_definitions.proofs.Declared.{functions-declared}
-use Rattle.cc_shown_definitions.proofs.Known.{known-is, may-be-defined, names-there, names-alone, behind, linked-still, devices-still, function-still, function-behind}
+use Rattle.cc_shown_definitions.proofs.KnownOutside.{known-is, may-be-defined, names-there, names-alone, behind, linked-still, devices-still, function-still, function-behind}
 use Rattle.cc_shown_expressions.proofs.Stand.{tested-at, types-stand}
-use Rattle.cc_shown_functions.specs.Functions.{type_of_function, func_numbered}
-use Rattle.cc_shown_functions.proofs.Functions.{definition-found}
+use Rattle.cc_shown_definitions.specs.Functions.{type_of_function, func_numbered}
+use Rattle.cc_shown_definitions.proofs.Functions.{definition-found}
 use Rattle.cc_shown_operations.specs.Known.{KnowsNames}
 use Rattle.cc_shown_operations.specs.Numbers.{Numbers}
-use Rattle.cc_shown_statements.specs.Devices.{KnowsDevices, with_devices}
-use Rattle.cc_shown_statements.proofs.Order.{next-least, uses-known}
-use Rattle.cc_shown_statements.proofs.Uses.{names-used}
+use Rattle.cc_shown_definitions.specs.Devices.{KnowsDevices, with_devices}
+use Rattle.cc_shown_definitions.proofs.Order.{next-least, uses-known}
+use Rattle.cc_shown_definitions.proofs.Uses.{names-used}
 
 -- ---- lists
 

@@ -9,11 +9,11 @@ use Rattle.cc_scopes.specs.Linked.{linked_name}
 use Rattle.cc_scopes.specs.State.{State, named_here, with_locals}
 use Rattle.cc_scopes.specs.declared.designated.Designated.TheVariants as means
 use Rattle.cc_scopes.specs.declared.unit.Declared.{Declared}
-use Rattle.cc_shown_bodies.specs.Bodies.{first_locals}
-use Rattle.cc_shown_functions.specs.Functions.{type_of_function, func_numbered}
+use Rattle.cc_shown_definitions.specs.Bodies.{first_locals}
+use Rattle.cc_shown_definitions.specs.Functions.{type_of_function, func_numbered}
 use Rattle.cc_shown_operations.specs.Known.{KnowsNames}
 use Rattle.cc_shown_operations.specs.Numbers.{Numbers}
-use Rattle.cc_shown_statements.specs.Devices.{KnowsDevices, with_devices}
+use Rattle.cc_shown_definitions.specs.Devices.{KnowsDevices, with_devices}
 use Rattle.cc_syntax.specs.Normal.{devices_in, next_of}
 use Rattle.cc_tree.specs.declared.at.At.{At}
 use Rattle.cc_tree.specs.declared.unit.Item.{Item}

@@ -1,1 +1,4 @@
+pub mod Bodies
 pub mod Definitions
+pub mod Devices
+pub mod Functions

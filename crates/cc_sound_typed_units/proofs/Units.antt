@@ -8,8 +8,8 @@ use Rattle.cc_ranged_trees.specs.Ranges.{unit_fits}
 use Rattle.cc_scopes.specs.State.{State, at_first}
 use Rattle.cc_scopes.specs.Verdicts.{Checked, Found}
 use Rattle.cc_scopes.specs.declared.verdict.Fault.{Fault}
-use Rattle.cc_sound_items.proofs.Items.{unit_sound}
-use Rattle.cc_sound_items.specs.Items.{IsSoundState}
+use Rattle.cc_sound_typed_units.proofs.Items.{unit_sound}
+use Rattle.cc_sound_typed_units.specs.Items.{IsSoundState}
 use Rattle.cc_sound_sources.specs.Units.{IsSoundUnit}
 use Rattle.cc_sound_typed_units.proofs.Names.{names_named, names_sound}
 use Rattle.cc_sound_typed_units.specs.Left.{IsLeft}

@@ -1,1 +1,4 @@
+pub mod Definitions
+pub mod Entries
+pub mod Items
 pub mod Left
