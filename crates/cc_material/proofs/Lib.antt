@@ -1,1 +1,3 @@
+pub mod LimitLaws
+pub mod Since
 pub mod Told

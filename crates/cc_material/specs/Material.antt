@@ -9,7 +9,7 @@ use Rattle.cc_files.specs.Unread.{IsUnread}
 use Rattle.cc_files.specs.declared.unread.Unread.{Unread}
 use Rattle.cc_read.specs.declared.refusal.ReadRefusal.TheVariants as why
 use Rattle.cc_rows.specs.Rows.{Row, rows_of}
-use Rattle.cc_status.specs.Statuses.{for_unread, is_of_files}
+use Rattle.cc_status.specs.Statuses.{for_unread}
 use Rattle.cc_status.specs.declared.status.Status.{Status}
 use Rattle.cc_status.specs.declared.status.Status.TheVariants as status
 
@@ -39,9 +39,14 @@ TellsFile unread long (status.ReadFault name) = unread name
 TellsFile unread long (status.TooLong name) = long name
 TellsFile unread long _ = ⊤
 
--- an answer whose cause is in the files that a command reads, or want of memory, which no other answer tells
+-- an answer whose cause is in what is read: a file, the rows of the profile, or the sources; or want of memory, which no other
+-- answer tells
 abbrev pub is_refusal : Status → Bool
 is_refusal status.NoMemory = true
+is_refusal (status.ReadFault name) = true
+is_refusal (status.TooLong name) = true
 is_refusal (status.Refused name why.NoMemory) = false
+is_refusal (status.Refused name w) = true
 is_refusal (status.Profile fault.NoMemory) = false
-is_refusal s = is_of_files s
+is_refusal (status.Profile w) = true
+is_refusal s = false

@@ -1,26 +1,16 @@
 //! The status of sources that are refused.
 
-ghost use Rattle.std.specs.Prelude.{◌≡◌, ◌≢◌, [], true, slice_index_or, IfOk};
+ghost use Rattle.std.specs.Prelude.{◌≡◌, ◌≢◌, [], true, slice_index_or};
 ghost use Rattle.cc_files.specs.Unread.{names_of};
 ghost use Rattle.cc_material.specs.Material.{TellsFile, is_refusal};
 ghost use Rattle.cc_read.specs.declared.refusal.ReadRefusal.TheVariants.{NoMemory as NoRoom};
 ghost use Rattle.cc_status.specs.declared.status.Status.TheVariants as status;
 
-use cc_num::{List, Name, NoMemory, at};
+use crate::names::name_at;
+use cc_num::NoMemory;
 use cc_read::Refusal;
 use cc_status::{Status, for_refusal};
 use std::alloc::Global;
-
-/// The name of the source of a number; nothing where there is none.
-#[tactic(auto, using(crate::proofs::Told::name_none))]
-pub fn name_at(alloc: Global, names: &[String], file: u32) -> Result<Name, NoMemory>
-    ensures { IfOk result (λ name. name ≡ slice_index_or (names_of names.now) file []) }
-{
-    match at(names, file as usize) {
-        Some(name) => Ok(List::of(Vec::from_slice(alloc, name.as_bytes())?)),
-        None => Ok(List::of(Vec::new(alloc))),
-    }
-}
 
 /// The status where sources are refused, with the name of the one at fault.
 #[tactic(auto, using(crate::proofs::Told::of_refusals))]

@@ -1,6 +1,5 @@
 -- What a run of packing leaves, from what its parts say: all was read, and then the outputs were written.
-use Rattle.std.proofs.Common.{◌≡◌, ◌≤◌, ℕ, Bool, IsTrue, List, [], Option, Some, None, unwrap_or, refl, sym, ap, ◌∙◌, subst, ◌⊎◌, inl, inr, IfSome, IsSomeAnd, arith}
-use Rattle.cc_edge.specs.Faults.{Rose}
+use Rattle.std.proofs.Common.{◌≡◌, ℕ, Bool, IsTrue, List, [], Option, Some, None, unwrap_or, refl, sym, ap, ◌∙◌, subst, ◌⊎◌, inl, inr, IfSome, IsSomeAnd}
 use Rattle.cc_edge.specs.Files.{Files, KeepsFiles, KeepsOthers, HoldsPrefix}
 use Rattle.cc_packing.specs.Asked.{Asked}
 use Rattle.cc_packing.specs.Headline.{AreAsked, Packs, Leaves, LeavesTable, IsAtFault}
@@ -54,7 +53,3 @@ module _ (name : List ℕ) (a : Asked) (bytes rows : List ℕ) (told told_then :
       ((t : List ℕ) → (IsTrue told_then → IsTableLeft a.out t bytes rows mid new) → IsTrue told → LeavesTable a t old new) → IsAtFault name a told old new
   unfolding at_fault
   table_at_fault e w leaves = at_fault a.table refl e w leaves
-
--- what has risen since later has risen since earlier
-pub Rose-earlier : (a b c : ℕ) → a ≤ b → Rose b c → Rose a c
-Rose-earlier a b c h k = omega arith

@@ -6,9 +6,12 @@ use Rattle.std.specs.List.{All}
 use Rattle.std.specs.declared.alloc.Global.{Global}
 use Rattle.cc_cost.specs.declared.profile.Profile.{Profile}
 use Rattle.cc_layout.specs.Seats.{ram}
+use Rattle.cc_material.proofs.LimitLaws.{lt-true, above-over}
+use Rattle.cc_material.specs.Material.{is_refusal}
+use Rattle.cc_material.specs.Programs.{IsAbove, IsProgram, IsWithin}
 use Rattle.cc_num.specs.declared.target.Target.{Target}
-use Rattle.cc_packing.specs.Ends.{ProgramEnds, TextsEnd, AreRefused, NotPacked, ManyFunctions, MuchRam, LongText, OtherText}
-use Rattle.cc_packing.specs.Headline.{AreMade, IsPackable, IsPacked, IsPackedText, IsProgram, ReadsAlone}
+use Rattle.cc_packing.specs.Ends.{ProgramEnds, TextsEnd, AreRefused, NotPacked, AboveLimit, LongText, OtherText, is_pack_refusal}
+use Rattle.cc_packing.specs.Headline.{AreMade, IsPackable, IsPacked, IsPackedText, ReadsAlone}
 use Rattle.cc_packing.specs.declared.outputs.Texts.{Texts}
 use Rattle.cc_print.specs.Printed.{text}
 use Rattle.cc_program.specs.declared.program.Program.{Program}
@@ -20,6 +23,7 @@ use Rattle.cc_read.specs.declared.refusal.ReadRefusal.TheVariants as why
 use Rattle.cc_read.specs.declared.refusal.Refusal.{Refusal}
 use Rattle.cc_status.specs.declared.status.Status.{Status}
 use Rattle.cc_status.specs.declared.status.Status.TheVariants as status
+use Rattle.cc_status.specs.declared.status.What.{What}
 use Rattle.cc_status.specs.declared.status.What.TheVariants as what
 use Rattle.cc_steps.proofs.RunLaws.{Follows-refl, Answers-refl}
 use Rattle.cc_syntax.proofs.StructureLemmas.{sound_sizes}
@@ -42,8 +46,8 @@ module _ (target : Target) (roles : Roles) (p : Program) where
 
   -- ---- the texts that are written
 
-  pub packable : IsNormal p → length p.funcs ≤ 4096 → ram p ≤ 65536 → (bytes : List ℕ) → bytes ≡ text p → length bytes ≤ 16777216 → ReadsAlone target roles bytes p → IsPackable target roles p
-  packable n f r bytes e l b = record { normal = n; few = f; small = r; short = subst (λ t. length t ≤ 16777216) e l; reads_back = subst (λ t. ReadsAlone target roles t p) e b }
+  pub packable : IsNormal p → IsWithin p → (bytes : List ℕ) → bytes ≡ text p → length bytes ≤ 16777216 → ReadsAlone target roles bytes p → IsPackable target roles p
+  packable n w bytes e l b = record { normal = n; within = w; short = subst (λ t. length t ≤ 16777216) e l; reads_back = subst (λ t. ReadsAlone target roles t p) e b }
 
   pub packed-text : IsNormal p → (bytes rows : List ℕ) (taken : ℕ) → bytes ≡ text p → ReadsAlone target roles bytes p → taken ≡ ram p → rows ≡ table_text taken taken → IsPackedText target roles p bytes rows
   packed-text n bytes rows taken e b r t = record { packed = p; normal = n; printed = e; reads_back = b; is_packed = is-packed-self p; tabled = t ∙ ap (λ k. table_text k k) r }
@@ -54,22 +58,42 @@ pub sizes : (p : Program) → IsNormal p → HasSizes p
 sizes p h = sound_sizes p h.sound
 
 module _ (target : Target) (roles : Roles) (first : List ℕ) (p : Program) (n : ℕ) where
-  pub many_functions : n ≡ length p.funcs → IsNormal p → 4096 < n → ProgramEnds target roles first p (status.Limit what.Functions n)
-  many_functions e k h = subst (λ m. ProgramEnds target roles first p (status.Limit what.Functions m)) (sym e) (ManyFunctions k (subst (λ m. 4096 < m) e h))
+  pub above_limit : (w : What) → IsNormal p → IsAbove p w n → ProgramEnds target roles first p (status.Limit w n)
+  above_limit w k h = AboveLimit k w n h
 
-  pub much_ram : n ≡ ram p → IsNormal p → length p.funcs ≤ 4096 → 65536 < n → ProgramEnds target roles first p (status.Limit what.Ram n)
-  much_ram e k few h = subst (λ m. ProgramEnds target roles first p (status.Limit what.Ram m)) (sym e) (MuchRam k few (subst (λ m. 65536 < m) e h))
-
-  pub long_text : (bytes : List ℕ) → n ≡ length bytes → bytes ≡ text p → IsNormal p → length p.funcs ≤ 4096 → ram p ≤ 65536 → 16777216 < n → ProgramEnds target roles first p (status.Limit what.Out n)
-  long_text bytes e t k few small h =
+  pub long_text : (bytes : List ℕ) → n ≡ length bytes → bytes ≡ text p → IsNormal p → IsWithin p → 16777216 < n → ProgramEnds target roles first p (status.Limit what.Out n)
+  long_text bytes e t k within h =
       let same : n ≡ length (text p) = e ∙ ap length t in
-      subst (λ m. ProgramEnds target roles first p (status.Limit what.Out m)) (sym same) (LongText k few small (subst (λ m. 16777216 < m) same h))
+      subst (λ m. ProgramEnds target roles first p (status.Limit what.Out m)) (sym same) (LongText k within (subst (λ m. 16777216 < m) same h))
 
-pub other_text : (target : Target) (roles : Roles) (first : List ℕ) (p : Program) (bytes : List ℕ) → bytes ≡ text p → IsNormal p → length p.funcs ≤ 4096 → ram p ≤ 65536 → length bytes ≤ 16777216 → (ReadsAlone target roles bytes p → ⊥) →
+pub other_text : (target : Target) (roles : Roles) (first : List ℕ) (p : Program) (bytes : List ℕ) → bytes ≡ text p → IsNormal p → IsWithin p → length bytes ≤ 16777216 → (ReadsAlone target roles bytes p → ⊥) →
     ProgramEnds target roles first p (status.Later first)
-other_text target roles first p bytes t k few small h fails = OtherText k few small (subst (λ b. length b ≤ 16777216) t h) (λ r. fails (subst (λ b. ReadsAlone target roles b p) (sym t) r))
+other_text target roles first p bytes t k within h fails = OtherText k within (subst (λ b. length b ≤ 16777216) t h) (λ r. fails (subst (λ b. ReadsAlone target roles b p) (sym t) r))
 
-pub ruleset of_programs = (sizes, many_functions, much_ram, long_text, other_text, packable, packed-text)
+pub over-out : (n : ℕ) → 16777216 < n → is_pack_refusal (status.Limit what.Out n) ≡ true
+over-out n h = lt-true 16777216 n h
+
+pub over-limit : (p : Program) (w : What) (n : ℕ) → IsAbove p w n → is_pack_refusal (status.Limit w n) ≡ true
+over-limit p w n h = above-over p w n h
+
+-- what refuses before a program is read refuses packing
+pub pack-refusal : (s : Status) → is_refusal s ≡ true → is_pack_refusal s ≡ true
+pack-refusal status.Done h = h
+pack-refusal (status.Usage word) h = h
+pack-refusal (status.ReadFault name) h = h
+pack-refusal (status.TooLong name) h = h
+pack-refusal (status.Refused name w) h = h
+pack-refusal (status.Profile e) h = h
+pack-refusal (status.Inputs row) h = h
+pack-refusal (status.Arrivals row) h = h
+pack-refusal (status.Limit w n) h = absurd (cc)
+pack-refusal (status.WriteFault name) h = h
+pack-refusal status.NoMemory h = h
+pack-refusal (status.Later name) h = refl
+
+pub ruleset of_programs = (sizes, above_limit, long_text, other_text, packable, packed-text, over-out, over-limit)
+
+pub ruleset of_refusals = (pack-refusal)
 
 -- ---- a text that is read alone
 

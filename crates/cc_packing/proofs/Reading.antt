@@ -1,51 +1,24 @@
 -- From what reading the profile and the sources answers to what is asked for, or to how packing ends.
-use Rattle.std.proofs.Common.{◌≡◌, ◌∙◌, ◌≤◌, ◌⊎◌, inl, inr, ℕ, List, [], ◌∷◌, Some, Result, Ok, Err, IfOk, IfErr, sym, arith}
+use Rattle.std.proofs.Common.{◌≡◌, ◌≤◌, ◌⊎◌, inl, inr, ℕ, List, Some, Result, Ok, Err, IfOk, IfErr, arith}
 use Rattle.std.specs.Prelude.{◌≢◌}
-use Rattle.std.specs.List.{AllZip, Contains}
+use Rattle.std.specs.List.{Contains}
 use Rattle.cc_cost.specs.declared.profile.Profile.{Profile}
 use Rattle.cc_edge.specs.Faults.{raised}
-use Rattle.cc_edge.specs.Files.{Files, KeepsFiles}
-use Rattle.cc_files.proofs.Within.{unread-since}
-use Rattle.cc_files.specs.Unread.{AreWithin, AreSources, IsFirstSourceUnread, IsOneOf}
+use Rattle.cc_edge.specs.Files.{Files}
+use Rattle.cc_files.specs.Unread.{AreSources, IsOneOf}
 use Rattle.cc_files.specs.declared.unread.Unread.{Unread}
 use Rattle.cc_files.specs.declared.unread.Unread.TheVariants as unread
 use Rattle.cc_material.proofs.Told.{tells-more, tells-none}
 use Rattle.cc_material.specs.Material.{IsProfile, TellsFile}
 use Rattle.cc_packing.specs.Asked.{Asked, IsRead, IsOver, IsUntold}
-use Rattle.cc_packing.specs.Ends.{FilesEnd, TextsEnd, PackEnds, AtTexts}
+use Rattle.cc_packing.specs.Ends.{TextsEnd, PackEnds, AtTexts}
 use Rattle.cc_packing.specs.Headline.{AreMade, AreAsked}
 use Rattle.cc_packing.specs.declared.outputs.Texts.{Texts}
 use Rattle.cc_status.specs.Statuses.{for_unread}
 use Rattle.cc_status.specs.declared.status.Status.{Status}
 use Rattle.cc_status.specs.declared.status.Status.TheVariants as status
 
--- ---- files that are as in the beginning
-
-there-since : (old mid : Files) (names texts : List (List ℕ)) → KeepsFiles old mid → AllZip (λ name text. mid name ≡ Some text) names texts → AllZip (λ name text. old name ≡ Some text) names texts
-there-since old mid [] [] keeps h = tt
-there-since old mid [] (y ∷ ys) keeps h = absurd h
-there-since old mid (x ∷ xs) [] keeps h = absurd h
-there-since old mid (x ∷ xs) (y ∷ ys) keeps h = (sym (keeps x) ∙ h.0, there-since old mid xs ys keeps h.1)
-
-pub within-since : (old mid : Files) (most total : ℕ) (names texts : List (List ℕ)) → KeepsFiles old mid → AreWithin mid most total names texts → AreWithin old most total names texts
-within-since old mid most total names texts keeps h = record { there = there-since old mid names texts keeps h.there; short = h.short; few = h.few }
-
-pub first-since : (old mid : Files) (rose since : Type 0) (names : List (List ℕ)) (u : Unread) → KeepsFiles old mid → (rose → since) → IsFirstSourceUnread mid rose names u → IsFirstSourceUnread old since names u
-first-since old mid rose since names u keeps risen h = record {
-  before = h.before;
-  name = h.name;
-  behind = h.behind;
-  all = h.all;
-  texts = h.texts;
-  read = within-since old mid 1048576 4194304 h.before h.texts keeps h.read;
-  unread = unread-since old mid rose since _ h.name u keeps risen h.unread;
-}
-
 -- ---- files that are not told
-
-pub raised-since : (n a b c : ℕ) → a ≤ b → raised n b ≤ c → raised n a ≤ c
-unfolding raised
-raised-since n a b c h k = omega arith
 
 module _ (a : Asked) (before now : ℕ) where
   pub profile-untold : (rose since : Type 0) (s : Status) → (rose → since) → TellsFile (λ file. (a.profile ≡ Some file) × rose) (λ file. (a.profile ≡ Some file) × (now ≡ raised 65537 before)) s → IsUntold a since before now s

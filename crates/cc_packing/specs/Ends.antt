@@ -1,14 +1,14 @@
 -- How packing ends where nothing is written: the first cause, in the order in which they are looked for.
-use Rattle.std.specs.Prelude.{◌≤◌, ◌<◌, ℕ, List, [], length, slice_index_or}
+use Rattle.std.specs.Prelude.{◌≤◌, ◌<◌, ℕ, Bool, true, List, [], length, slice_index_or}
 use Rattle.cc_cost.specs.declared.profile.Profile.{Profile}
 use Rattle.cc_edge.specs.Files.{Files}
 use Rattle.cc_files.specs.Unread.{IsFirstSourceUnread}
 use Rattle.cc_files.specs.declared.unread.Unread.{Unread}
-use Rattle.cc_layout.specs.Seats.{ram}
-use Rattle.cc_material.specs.Material.{IsProfile, ProfileEnds}
+use Rattle.cc_material.specs.Material.{IsProfile, ProfileEnds, is_refusal}
+use Rattle.cc_material.specs.Programs.{IsAbove, IsProgram, IsWithin, is_over}
 use Rattle.cc_num.specs.declared.target.Target.{Target}
 use Rattle.cc_packing.specs.Asked.{Asked}
-use Rattle.cc_packing.specs.Headline.{AreRead, IsProgram, ReadsAlone}
+use Rattle.cc_packing.specs.Headline.{AreRead, ReadsAlone}
 use Rattle.cc_print.specs.Printed.{text}
 use Rattle.cc_program.specs.declared.program.Program.{Program}
 use Rattle.cc_program.specs.declared.program.Roles.{Roles}
@@ -17,6 +17,7 @@ use Rattle.cc_read.specs.declared.refusal.Refusal.{Refusal}
 use Rattle.cc_status.specs.Statuses.{for_unread}
 use Rattle.cc_status.specs.declared.status.Status.{Status}
 use Rattle.cc_status.specs.declared.status.Status.TheVariants as status
+use Rattle.cc_status.specs.declared.status.What.{What}
 use Rattle.cc_status.specs.declared.status.What.TheVariants as what
 use Rattle.cc_syntax.specs.Normal.{IsNormal}
 
@@ -29,10 +30,9 @@ pub data FilesEnd (files : Files) (rose : Type 0) (a : Asked) : Status → Type 
 -- limit, or its printed text does not read as it.
 pub data ProgramEnds (target : Target) (roles : Roles) (first : List ℕ) (p : Program) : Status → Type 0 where
   NotNormal : (IsNormal p → ⊥) → ProgramEnds target roles first p (status.Later first)
-  ManyFunctions : IsNormal p → 4096 < length p.funcs → ProgramEnds target roles first p (status.Limit what.Functions (length p.funcs))
-  MuchRam : IsNormal p → length p.funcs ≤ 4096 → 65536 < ram p → ProgramEnds target roles first p (status.Limit what.Ram (ram p))
-  LongText : IsNormal p → length p.funcs ≤ 4096 → ram p ≤ 65536 → 16777216 < length (text p) → ProgramEnds target roles first p (status.Limit what.Out (length (text p)))
-  OtherText : IsNormal p → length p.funcs ≤ 4096 → ram p ≤ 65536 → length (text p) ≤ 16777216 → (ReadsAlone target roles (text p) p → ⊥) → ProgramEnds target roles first p (status.Later first)
+  AboveLimit : IsNormal p → (w : What) (n : ℕ) → IsAbove p w n → ProgramEnds target roles first p (status.Limit w n)
+  LongText : IsNormal p → IsWithin p → 16777216 < length (text p) → ProgramEnds target roles first p (status.Limit what.Out (length (text p)))
+  OtherText : IsNormal p → IsWithin p → length (text p) ≤ 16777216 → (ReadsAlone target roles (text p) p → ⊥) → ProgramEnds target roles first p (status.Later first)
 
 -- sources of these names are refused, with the name of the one at fault, or their program is not packed
 pub data TextsEnd (names : List (List ℕ)) (profile : Profile) (texts : List (List ℕ)) : Status → Type 0 where
@@ -43,3 +43,9 @@ pub data TextsEnd (names : List (List ℕ)) (profile : Profile) (texts : List (L
 pub data PackEnds (files : Files) (rose : Type 0) (a : Asked) : Status → Type 0 where
   AtFiles : (s : Status) → FilesEnd files rose a s → PackEnds files rose a s
   AtTexts : (profile : Profile) (texts : List (List ℕ)) (s : Status) → AreRead files a profile texts → TextsEnd a.sources profile texts s → PackEnds files rose a s
+
+-- an answer of packing before anything is written: a number that is told is above its limit
+abbrev pub is_pack_refusal : Status → Bool
+is_pack_refusal (status.Limit w n) = is_over w n
+is_pack_refusal (status.Later name) = true
+is_pack_refusal s = is_refusal s

@@ -1,11 +1,11 @@
 -- What packing promises of the files, where they are told.
 use Rattle.std.specs.Prelude.{◌≡◌, ◌≤◌, ◌⊎◌, ⊤, ℕ, Bool, List, [], ◌∷◌, length, Option, Some, IsTrue}
-use Rattle.std.specs.List.{All}
 use Rattle.cc_cost.specs.declared.profile.Profile.{Profile}
 use Rattle.cc_edge.specs.Files.{Files}
 use Rattle.cc_files.specs.Unread.{AreSources}
 use Rattle.cc_layout.specs.Seats.{ram}
 use Rattle.cc_material.specs.Material.{IsProfile}
+use Rattle.cc_material.specs.Programs.{IsProgram, IsWithin}
 use Rattle.cc_num.specs.declared.target.Target.{Target}
 use Rattle.cc_packing.specs.Asked.{Asked}
 use Rattle.cc_packing.specs.Outputs.{AreWritten, IsOutLeft, IsTableLeft}
@@ -31,8 +31,7 @@ pub record ReadsAlone (target : Target) (roles : Roles) (bytes : List ℕ) (p : 
 -- the program is one that is packed today: it is in normal form, within the limits, and its printed text reads as it
 pub record IsPackable (target : Target) (roles : Roles) (p : Program) : Type 0 where
   pub normal : IsNormal p
-  pub few : length p.funcs ≤ 4096
-  pub small : ram p ≤ 65536
+  pub within : IsWithin p
   pub short : length (text p) ≤ 16777216
   pub reads_back : ReadsAlone target roles (text p) p
 
@@ -44,11 +43,6 @@ pub record IsPackedText (target : Target) (roles : Roles) (p : Program) (bytes r
   pub reads_back : ReadsAlone target roles bytes packed
   pub is_packed : IsPacked packed p
   pub tabled : rows ≡ table_text (ram p) (ram packed)
-
--- the texts are the program, with the profile's target and roles
-pub record IsProgram (profile : Profile) (texts : List (List ℕ)) (p : Program) : Type 0 where
-  pub reads : Reads texts profile.target profile.roles p
-  pub low : All IsLow texts
 
 -- the output and the table of the program that texts are
 pub record AreMade (profile : Profile) (texts : List (List ℕ)) (bytes rows : List ℕ) : Type 0 where

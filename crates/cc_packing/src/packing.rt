@@ -3,9 +3,8 @@
 ghost use Rattle.std.specs.Prelude.{◌≡◌, ◌≢◌, ◌≤◌, ◌<◌, ◌^◌, ℕ, List as ListOf, [], false, true, IsTrue, length, option_map, unwrap_or, IfOk, IfErr};
 ghost use Rattle.cc_edge.specs.Faults.{Rose};
 ghost use Rattle.cc_edge.specs.Files.{KeepsFiles};
-ghost use Rattle.cc_material.specs.Material.{is_refusal};
 ghost use Rattle.cc_packing.specs.Asked.{asked_of, IsApart, IsUntold};
-ghost use Rattle.cc_packing.specs.Ends.{PackEnds};
+ghost use Rattle.cc_packing.specs.Ends.{PackEnds, is_pack_refusal};
 ghost use Rattle.cc_packing.specs.Headline.{AreAsked, IsAtFault, Packs};
 ghost use Rattle.cc_status.specs.Statuses.{may_write};
 ghost use Rattle.cc_status.specs.declared.status.Status.TheVariants as status;
@@ -53,7 +52,7 @@ fn texts_asked<F: Store>(alloc: Global, asked: &Packing<'_>, store: &mut F) -> R
     ensures stay { IsTrue (F.told store.old) → KeepsFiles (F.files store.old) (F.files store.new) }
     ensures asked { IfOk result (λ t. IsTrue (F.told store.old) → AreAsked (F.files store.old) (asked_of asked.now) t.out.items t.table.items) }
     ensures ends { IfErr result (λ s. s ≢ status.NoMemory → IsTrue (F.told store.old) → PackEnds (F.files store.old) (Rose (F.faults store.old) (F.faults store.new)) (asked_of asked.now) s) }
-    ensures refusal { IfErr result (λ s. is_refusal s ≡ true) }
+    ensures refusal { IfErr result (λ s. is_pack_refusal s ≡ true) }
     ensures untold { IfErr result (λ s. F.told store.old ≡ false → IsUntold (asked_of asked.now) (Rose (F.faults store.old) (F.faults store.new)) (F.taken store.old) (F.taken store.new) s) }
 {
     let material = read_material(alloc, store, asked)?;
@@ -86,7 +85,7 @@ pub fn pack<F: Store>(alloc: Global, asked: &Packing<'_>, store: &mut F) -> Stat
     // looked for. Want of memory is an answer of its own.
     ensures unchanged { may_write result ≡ false → IsTrue (F.told store.old) → KeepsFiles (F.files store.old) (F.files store.new) }
     ensures ends { may_write result ≡ false → result ≢ status.NoMemory → IsTrue (F.told store.old) → PackEnds (F.files store.old) (Rose (F.faults store.old) (F.faults store.new)) (asked_of asked.now) result }
-    ensures refusal { may_write result ≡ false → is_refusal result ≡ true }
+    ensures refusal { may_write result ≡ false → is_pack_refusal result ≡ true }
 
     // Over a store that does not tell its files, a fault names one that is read, and it comes where the store's faults rose,
     // or where more bytes were taken than a file of its kind may have.

@@ -1,12 +1,10 @@
 //! The texts of one program.
 
 ghost use Rattle.std.specs.Prelude.{◌≡◌, ◌≢◌, ◌≤◌, ◌<◌, ◌^◌, ◌↔◌, ℕ, List as ListOf, None, false, true, IsTrue, length, IfOk, IfErr, IfSome};
-ghost use Rattle.cc_layout.specs.Seats.{ram as ram_of};
-ghost use Rattle.cc_material.specs.Material.{TellsFile, is_refusal};
-ghost use Rattle.cc_num.specs.declared.target.Target.{Target as TargetOf};
-ghost use Rattle.cc_packing.specs.Ends.{ProgramEnds};
+ghost use Rattle.cc_material.specs.Material.{TellsFile};
+ghost use Rattle.cc_material.specs.Programs.{IsWithin};
+ghost use Rattle.cc_packing.specs.Ends.{ProgramEnds, is_pack_refusal};
 ghost use Rattle.cc_packing.specs.Headline.{IsPackable, IsPackedText, ReadsAlone};
-ghost use Rattle.cc_program.specs.declared.program.Roles.{Roles as RolesOf};
 ghost use Rattle.cc_status.specs.declared.status.Status.TheVariants as status;
 ghost use Rattle.cc_syntax.specs.Normal.{IsNormal};
 
@@ -14,6 +12,7 @@ use crate::outputs::Texts;
 use cc_cost::Profile;
 use cc_discard::discard_program;
 use cc_layout::ram;
+use cc_material::above;
 use cc_normal::is_normal;
 use cc_num::{Name, NoMemory};
 use cc_print::print;
@@ -24,33 +23,8 @@ use cc_status::{Status, What};
 use cc_table::table;
 use std::alloc::Global;
 
-/// The most functions of a program.
-const FUNCTION_LIMIT: u64 = 4096;
-
-/// The most bytes of RAM of a program.
-const RAM_LIMIT: u64 = 65536;
-
 /// The most bytes of a printed text.
 const OUT_LIMIT: u64 = 16 << 20;
-
-/// The limit that a program is above, with the number, if there is one.
-#[tactic(auto, using(crate::proofs::ProgramTexts::of_programs))]
-fn above(p: &Program) -> Option<(What, u64)>
-    requires { IsNormal p.now }
-    ensures within { result ≡ None → (length p.now.funcs ≤ 4096) × (ram_of p.now ≤ 65536) }
-    ensures limit { IfSome result (λ l. (target : TargetOf) (roles : RolesOf) (first : ListOf ℕ) → ProgramEnds target roles first p.now (status.Limit l.0 l.1)) }
-    ensures refusal { IfSome result (λ l. is_refusal (status.Limit l.0 l.1) ≡ true) }
-{
-    let functions = p.funcs.all().len() as u64;
-    if functions > FUNCTION_LIMIT {
-        return Some((What::Functions, functions));
-    }
-    let bytes = ram(p);
-    if bytes > RAM_LIMIT {
-        return Some((What::Ram, bytes));
-    }
-    None
-}
 
 /// Whether a program is this one; it is let go.
 fn is_program(q: Program, p: &Program) -> bool
@@ -85,12 +59,11 @@ fn reads_as(alloc: Global, text: &Vec<u8>, profile: &Profile, p: &Program) -> Re
 #[tactic(auto, using(crate::proofs::ProgramTexts::of_programs))]
 fn texts_within(alloc: Global, first: Name, profile: &Profile, p: &Program) -> Result<Texts, Status>
     requires normal { IsNormal p.now }
-    requires few { length p.now.funcs ≤ 4096 }
-    requires small { ram_of p.now ≤ 65536 }
+    requires within { IsWithin p.now }
     ensures packable { IfOk result (λ _. IsPackable profile.now.target profile.now.roles p.now) }
     ensures packed { IfOk result (λ t. IsPackedText profile.now.target profile.now.roles p.now t.out.items t.table.items) }
     ensures ends { IfErr result (λ s. s ≢ status.NoMemory → ProgramEnds profile.now.target profile.now.roles first p.now s) }
-    ensures refusal { IfErr result (λ s. is_refusal s ≡ true) }
+    ensures refusal { IfErr result (λ s. is_pack_refusal s ≡ true) }
     ensures no_file { IfErr result (λ s. TellsFile (λ _. ⊥) (λ _. ⊥) s) }
 {
     let out = print(alloc, p)?;
@@ -107,11 +80,12 @@ fn texts_within(alloc: Global, first: Name, profile: &Profile, p: &Program) -> R
 }
 
 /// The texts that are written of a program, or why none are; `first` is the name of the first of its sources.
+#[tactic(auto, using(crate::proofs::ProgramTexts::of_programs))]
 pub fn texts_of(alloc: Global, first: Name, profile: &Profile, p: &Program) -> Result<Texts, Status>
     ensures packable { IfOk result (λ _. IsPackable profile.now.target profile.now.roles p.now) }
     ensures packed { IfOk result (λ t. IsPackedText profile.now.target profile.now.roles p.now t.out.items t.table.items) }
     ensures ends { IfErr result (λ s. s ≢ status.NoMemory → ProgramEnds profile.now.target profile.now.roles first p.now s) }
-    ensures refusal { IfErr result (λ s. is_refusal s ≡ true) }
+    ensures refusal { IfErr result (λ s. is_pack_refusal s ≡ true) }
     ensures no_file { IfErr result (λ s. TellsFile (λ _. ⊥) (λ _. ⊥) s) }
 {
     if !is_normal(p) {

@@ -2,8 +2,8 @@
 
 ghost use Rattle.std.specs.Prelude.{◌≡◌, ◌≢◌, ◌<◌, ◌^◌, [], true, length, map, sum, slice_index_or, IfOk, IfErr};
 ghost use Rattle.cc_files.specs.Unread.{names_of, texts_of as bytes_of};
-ghost use Rattle.cc_material.specs.Material.{TellsFile, is_refusal};
-ghost use Rattle.cc_packing.specs.Ends.{ProgramEnds, TextsEnd};
+ghost use Rattle.cc_material.specs.Material.{TellsFile};
+ghost use Rattle.cc_packing.specs.Ends.{ProgramEnds, TextsEnd, is_pack_refusal};
 ghost use Rattle.cc_packing.specs.Headline.{AreMade, IsPackable, IsPackedText};
 ghost use Rattle.cc_status.specs.declared.status.Status.TheVariants as status;
 
@@ -27,7 +27,7 @@ fn texts_of_named(
     ensures packable { IfOk result (λ _. IsPackable profile.now.target profile.now.roles p.now) }
     ensures packed { IfOk result (λ t. IsPackedText profile.now.target profile.now.roles p.now t.out.items t.table.items) }
     ensures ends { IfErr result (λ s. s ≢ status.NoMemory → ProgramEnds profile.now.target profile.now.roles (slice_index_or (names_of names.now) 0 []) p.now s) }
-    ensures refusal { IfErr result (λ s. is_refusal s ≡ true) }
+    ensures refusal { IfErr result (λ s. is_pack_refusal s ≡ true) }
     ensures no_file { IfErr result (λ s. TellsFile (λ _. ⊥) (λ _. ⊥) s) }
 {
     let first = name_at(alloc, names, 0)?;
@@ -44,7 +44,7 @@ fn texts_of_program(
     ensures packable { IfOk result (λ _. IsPackable profile.now.target profile.now.roles p) }
     ensures packed { IfOk result (λ t. IsPackedText profile.now.target profile.now.roles p t.out.items t.table.items) }
     ensures ends { IfErr result (λ s. s ≢ status.NoMemory → ProgramEnds profile.now.target profile.now.roles (slice_index_or (names_of names.now) 0 []) p s) }
-    ensures refusal { IfErr result (λ s. is_refusal s ≡ true) }
+    ensures refusal { IfErr result (λ s. is_pack_refusal s ≡ true) }
     ensures no_file { IfErr result (λ s. TellsFile (λ _. ⊥) (λ _. ⊥) s) }
 {
     let texts = texts_of_named(alloc, names, profile, &p);
@@ -53,6 +53,7 @@ fn texts_of_program(
 }
 
 /// The texts that are written of the program that sources are, or why none are.
+#[tactic(auto, using(crate::proofs::ProgramTexts::of_refusals))]
 pub fn texts_of_sources(
     alloc: Global,
     names: &[String],
@@ -63,7 +64,7 @@ pub fn texts_of_sources(
     requires small { sum (map length (bytes_of sources.now)) < 2 ^ 32 }
     ensures made { IfOk result (λ t. AreMade profile.now (bytes_of sources.now) t.out.items t.table.items) }
     ensures ends { IfErr result (λ s. s ≢ status.NoMemory → TextsEnd (names_of names.now) profile.now (bytes_of sources.now) s) }
-    ensures refusal { IfErr result (λ s. is_refusal s ≡ true) }
+    ensures refusal { IfErr result (λ s. is_pack_refusal s ≡ true) }
     ensures no_file { IfErr result (λ s. TellsFile (λ _. ⊥) (λ _. ⊥) s) }
 {
     match read(alloc, sources, &profile.target, &profile.roles) {

@@ -10,8 +10,8 @@ use Rattle.cc_read.specs.declared.refusal.ReadRefusal.TheVariants as why
 use Rattle.cc_status.specs.Causes.{cause_of}
 use Rattle.cc_status.specs.declared.status.Status.{Status}
 use Rattle.cc_status.specs.declared.status.What.{What}
-use Rattle.cc_status.specs.declared.status.What.TheVariants.{Count, Functions, Ram, Out}
-use Rattle.cc_status.specs.declared.status.Status.TheVariants.{Done, Usage, ReadFault, TooLong, Refused, Profile, Limit, WriteFault, NoMemory, Later}
+use Rattle.cc_status.specs.declared.status.What.TheVariants.{Count, Steps, Functions, Ram, Out}
+use Rattle.cc_status.specs.declared.status.Status.TheVariants.{Done, Usage, ReadFault, TooLong, Refused, Profile, Inputs, Arrivals, Limit, WriteFault, NoMemory, Later}
 
 abbrev pub number_of : Status → ℕ
 number_of Done = 0
@@ -20,6 +20,8 @@ number_of (ReadFault name) = 3
 number_of (TooLong name) = 4
 number_of (Refused name why) = 5
 number_of (Profile fault) = 6
+number_of (Inputs row) = 8
+number_of (Arrivals row) = 9
 number_of (Limit what number) = 10
 number_of (WriteFault name) = 11
 number_of NoMemory = 12
@@ -28,6 +30,7 @@ number_of (Later name) = 13
 -- what stands in front of the number that is above a limit
 abbrev pub limit_text : What → List ℕ
 limit_text Count = codes "limit count "
+limit_text Steps = codes "limit steps "
 limit_text Functions = codes "limit functions "
 limit_text Ram = codes "limit ram "
 limit_text Out = codes "limit out "
@@ -43,6 +46,8 @@ text_of (ReadFault name) = codes "cannot read " ++ name
 text_of (TooLong name) = name ++ codes " is too long"
 text_of (Refused name why) = name ++ (codes ": " ++ cause_of why)
 text_of (Profile fault) = profile_text fault
+text_of (Inputs row) = codes "inputs row " ++ decimal row
+text_of (Arrivals row) = codes "arrivals row " ++ decimal row
 text_of (Limit what number) = limit_text what ++ decimal number
 text_of (WriteFault name) = codes "cannot write " ++ name
 text_of NoMemory = codes "out of memory"
@@ -62,6 +67,8 @@ may_write (ReadFault name) = false
 may_write (TooLong name) = false
 may_write (Refused name why) = false
 may_write (Profile fault) = false
+may_write (Inputs row) = false
+may_write (Arrivals row) = false
 may_write (Limit what number) = false
 may_write NoMemory = false
 may_write (Later name) = false
@@ -69,6 +76,7 @@ may_write (Later name) = false
 -- whether a limit is one of programs
 abbrev pub is_of_programs : What → Bool
 is_of_programs Count = false
+is_of_programs Steps = false
 is_of_programs Functions = true
 is_of_programs Ram = true
 is_of_programs Out = true
@@ -82,6 +90,8 @@ is_of_files (ReadFault name) = true
 is_of_files (TooLong name) = true
 is_of_files (Refused name why) = true
 is_of_files (Profile fault) = true
+is_of_files (Inputs row) = true
+is_of_files (Arrivals row) = true
 is_of_files (Limit what number) = is_of_programs what
 is_of_files NoMemory = false
 is_of_files (Later name) = true

@@ -39,6 +39,7 @@ fn limit_front(what: What) -> &'static [u8]
 {
     match what {
         What::Count => b"limit count ",
+        What::Steps => b"limit steps ",
         What::Functions => b"limit functions ",
         What::Ram => b"limit ram ",
         What::Out => b"limit out ",
@@ -85,6 +86,8 @@ pub fn explain(alloc: Global, status: &Status) -> Result<Vec<u8>, NoMemory>
         Status::TooLong(name) => line(alloc, b"", name.all(), b" is too long"),
         Status::Refused(name, why) => refused_line(alloc, name.all(), why),
         Status::Profile(fault) => profile_line(alloc, *fault),
+        Status::Inputs(row) => number_line(alloc, b"inputs row ", u64::from(*row)),
+        Status::Arrivals(row) => number_line(alloc, b"arrivals row ", u64::from(*row)),
         Status::Limit(what, number) => number_line(alloc, limit_front(*what), *number),
         Status::WriteFault(name) => line(alloc, b"cannot write ", name.all(), b""),
         Status::NoMemory => line(alloc, b"out of memory", b"", b""),

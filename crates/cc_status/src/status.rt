@@ -12,6 +12,8 @@ use cc_read::ReadRefusal;
 pub enum What {
     /// That of the counters of a made source.
     Count,
+    /// That of the steps of a run.
+    Steps,
     /// That of the functions of a program.
     Functions,
     /// That of the bytes of RAM of a program.
@@ -35,13 +37,17 @@ pub enum Status {
     Refused(Name, ReadRefusal),
     /// A row of the profile breaks a rule.
     Profile(ProfileFault),
+    /// The row of this number, from 1, gives no input.
+    Inputs(u32),
+    /// The row of this number, from 1, gives no arrival.
+    Arrivals(u32),
     /// A number is above the limit of this: the number.
     Limit(What, u64),
     /// The file of this name was not written whole; `-` is the standard output.
     WriteFault(Name),
     /// Memory ran out.
     NoMemory,
-    /// The sources, of which this is the name of the first, are a program that cannot be packed yet.
+    /// The sources, of which this is the name of the first, are a program that the command does not take yet.
     Later(Name),
 }
 
@@ -56,6 +62,8 @@ pub fn number(status: &Status) -> u8
         Status::TooLong(_) => 4,
         Status::Refused(_, _) => 5,
         Status::Profile(_) => 6,
+        Status::Inputs(_) => 8,
+        Status::Arrivals(_) => 9,
         Status::Limit(_, _) => 10,
         Status::WriteFault(_) => 11,
         Status::NoMemory => 12,

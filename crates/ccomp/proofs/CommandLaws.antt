@@ -1,4 +1,4 @@
--- No words ask for a table of the output's name, or for no counters.
+-- No words ask for a table of the output's name, for no counters, or for no sources or too many.
 use Rattle.std.proofs.Common.{◌≡◌, ◌≢◌, ◌≤◌, ◌<◌, ◌&&◌, ◌∙◌, sym, subst, refl, Bool, true, false, not, ℕ, nat_le, ◌-◌, ◌^◌, List, [], ◌∷◌, length, Option, Some, None, IfSome, if◌then◌else◌, nat_eq, arith}
 use Rattle.std.specs.Cmp.Lexicographic.{pointwise}
 use Rattle.std.proofs.lemmas.Bool.Decides.{nat_tests}
@@ -7,8 +7,10 @@ use Rattle.std.proofs.lemmas.Slice.Eq.{bytes_eq-Decides}
 use Rattle.std.specs.Prelude.{string_bytes}
 use Rattle.cc_packing.specs.Asked.{Asked as Packed, asked_of as packed_of}
 use Rattle.cc_packing.specs.declared.packing.Packing.{Packing}
-use Rattle.ccomp.specs.Command.{Command, Pack, Wrong, is_dash, is_pack, is_make, named, pack_asked, make_with, pack_of, make_of, command_of, ForEither, IsPacking, IsMeant}
-use Rattle.ccomp.specs.Make.{number_of, bounded, seed_of, count_of}
+use Rattle.cc_simulation.specs.Asked.{Asked as Simulated, asked_of as simulated_of}
+use Rattle.cc_simulation.specs.declared.simulation.Simulation.{Simulation}
+use Rattle.ccomp.specs.Command.{Command, Pack, Run, Wrong, is_dash, is_pack, is_run, is_make, named, pack_asked, run_with, make_with, pack_of, run_of, make_of, command_of, ForEach, IsPacking, IsRun, IsMeant}
+use Rattle.ccomp.specs.Make.{number_of, bounded, seed_of, count_of, steps_of}
 
 either : (b : Bool) (x y : Command) → IsMeant x → IsMeant y → IsMeant (if b then x else y)
 either true x y h k = h
@@ -44,6 +46,17 @@ words-of-pack x (a ∷ b ∷ []) = tt
 words-of-pack x (a ∷ b ∷ c ∷ []) = tt
 words-of-pack x (a ∷ b ∷ c ∷ d ∷ rest) = within (nat_le 1 (length rest)) (nat_le (length rest) 64) (length rest) refl refl (pack_asked a b c d rest) (pack-meant a b c d rest) x
 
+steps-meant : (profile inputs arrivals steps : List ℕ) (sources : List (List ℕ)) (n : Option ℕ) → 1 ≤ length sources → length sources ≤ 64 → IsMeant (run_with profile inputs arrivals steps sources n)
+steps-meant profile inputs arrivals steps sources None some few = tt
+steps-meant profile inputs arrivals steps sources (Some n) some few = record { some = some; few = few }
+
+words-of-run : (command : List ℕ) (rest : List (List ℕ)) → IsMeant (run_of command rest)
+words-of-run x [] = tt
+words-of-run x (a ∷ []) = tt
+words-of-run x (a ∷ b ∷ []) = tt
+words-of-run x (a ∷ b ∷ c ∷ []) = tt
+words-of-run x (a ∷ b ∷ c ∷ d ∷ rest) = within (nat_le 1 (length rest)) (nat_le (length rest) 64) (length rest) refl refl (run_with a b c d rest (steps_of d)) (steps-meant a b c d rest (steps_of d)) x
+
 -- a number within bounds is no less than the least
 low : (a b : Bool) (n : ℕ) → nat_le 1 n ≡ a → IfSome (if a && b then Some n else None) (λ m. 1 ≤ m)
 low true true n h = grind (arith, nat_tests)
@@ -67,14 +80,20 @@ words-of-make x (a ∷ b ∷ c ∷ rest) = tt
 
 pub command-meant : (words : List (List ℕ)) → IsMeant (command_of words)
 command-meant [] = tt
-command-meant (a ∷ rest) = either (is_pack a) (pack_of a rest) _ (words-of-pack a rest) (either (is_make a) (make_of a rest) (Wrong a) (words-of-make a rest) tt)
+command-meant (a ∷ rest) = either (is_pack a) (pack_of a rest) _ (words-of-pack a rest) (either (is_run a) (run_of a rest) _ (words-of-run a rest) (either (is_make a) (make_of a rest) (Wrong a) (words-of-make a rest) tt))
 
 -- the sources of what may be packed are few enough to be counted
 pub few-sources : (p : Packing) → IsPacking (packed_of p) → length p.sources.now < 2 ^ 32
 few-sources p h = let n = length-map p.sources.now string_bytes in let k = h.few in omega (arith, n, k)
 
--- what holds of what `pack` asks for
-pub for-pack : (k : Command) (a : Packed) (P : Packed → Type 0) (Q : ℕ → ℕ → Type 0) → Pack a ≡ k → P a → ForEither k P Q
-for-pack k a P Q e h = subst (λ c. ForEither c P Q) e h
+pub few-run : (s : Simulation) → IsRun (simulated_of s) → length s.sources.now < 2 ^ 32
+few-run s h = let n = length-map s.sources.now string_bytes in let k = h.few in omega (arith, n, k)
+
+-- what holds of what `pack`, or `run`, asks for
+pub for-pack : (k : Command) (a : Packed) (P : Packed → Type 0) (Q : Simulated → Type 0) (R : ℕ → ℕ → Type 0) → Pack a ≡ k → P a → ForEach k P Q R
+for-pack k a P Q R e h = subst (λ c. ForEach c P Q R) e h
+
+pub for-run : (k : Command) (a : Simulated) (P : Packed → Type 0) (Q : Simulated → Type 0) (R : ℕ → ℕ → Type 0) → Run a ≡ k → Q a → ForEach k P Q R
+for-run k a P Q R e h = subst (λ c. ForEach c P Q R) e h
 
 pub ruleset of_commands = (command-meant)

@@ -1,4 +1,4 @@
--- The numbers that the words of `make SEED COUNT` write.
+-- The numbers that words write: SEED and COUNT of `make`, and STEPS of `run`.
 use Rattle.std.specs.Prelude.{ℕ, ◌+◌, ◌-◌, ◌*◌, ◌^◌, ◌&&◌, List, length, fold, nat_le, Option, Some, None, if◌then◌else◌}
 use Rattle.std.specs.Char.{is_ascii_digit}
 use Rattle.std.specs.List.{list_all}
@@ -16,9 +16,12 @@ abbrev pub bounded : ℕ → ℕ → Option ℕ → Option ℕ
 bounded least most None = None
 bounded least most (Some number) = if nat_le least number && nat_le number most then Some number else None
 
--- a seed has at most 64 bits, and a count at most 32 and is not 0
+-- a seed has at most 64 bits, a count at most 32 and is not 0, and steps have at most 32
 abbrev pub seed_of : List ℕ → Option ℕ
 seed_of word = bounded 0 (2 ^ 64 - 1) (number_of word)
 
 abbrev pub count_of : List ℕ → Option ℕ
 count_of word = bounded 1 (2 ^ 32 - 1) (number_of word)
+
+abbrev pub steps_of : List ℕ → Option ℕ
+steps_of word = bounded 0 (2 ^ 32 - 1) (number_of word)

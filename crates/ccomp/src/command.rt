@@ -2,10 +2,11 @@
 
 ghost use Rattle.std.specs.Prelude.{◌≡◌, option_map, nat_eq};
 ghost use Rattle.std.specs.Cmp.Lexicographic.{pointwise};
-ghost use Rattle.ccomp.specs.Command.{command_of, asked_of, texts, is_dash as is_dash_of, is_pack as is_pack_of, is_make as is_make_of, named as named_of, may_be_sources as may_be_sources_of, pack_asked, pack_of, make_of, IsMeant};
+ghost use Rattle.ccomp.specs.Command.{command_of, asked_of, texts, is_dash as is_dash_of, is_pack as is_pack_of, is_make as is_make_of, is_run as is_run_of, named as named_of, may_be_sources as may_be_sources_of, pack_asked, run_asked, pack_of, make_of, run_of, IsMeant};
 
 use crate::make;
 use cc_packing::Packing;
+use cc_simulation::Simulation;
 
 /// The most sources of a program.
 const SOURCE_LIMIT: usize = 64;
@@ -17,6 +18,8 @@ pub enum Asked<'w> {
     Pack(Packing<'w>),
     /// To say the source of so many counters, drawn from a seed.
     Make { seed: u64, count: u32 },
+    /// To say the trace of a run.
+    Run(Simulation<'w>),
     /// Nothing: they are no command, for this word.
     Wrong(&'w str),
 }
@@ -37,6 +40,12 @@ fn is_make(word: &str) -> bool
     ensures { result ≡ is_make_of word.now }
 {
     word.as_bytes() == b"make".as_slice()
+}
+
+fn is_run(word: &str) -> bool
+    ensures { result ≡ is_run_of word.now }
+{
+    word.as_bytes() == b"run".as_slice()
 }
 
 fn is_same(word: &str, other: &str) -> bool
@@ -100,6 +109,45 @@ fn pack_words<'w>(command: &'w str, rest: &'w [String]) -> Asked<'w>
     }
 }
 
+/// What `run` asks for with these words, or the one that writes no number of steps.
+fn run<'w>(
+    profile: &'w str,
+    inputs: &'w str,
+    arrivals: &'w str,
+    steps: &'w str,
+    sources: &'w [String],
+) -> Asked<'w>
+    ensures { asked_of result ≡ run_asked profile.now inputs.now arrivals.now steps.now (texts sources.now) }
+{
+    let profile = named(profile);
+    match make::steps_in(steps) {
+        None => Asked::Wrong(steps),
+        Some(steps) => Asked::Run(Simulation {
+            profile,
+            inputs,
+            arrivals,
+            steps,
+            sources,
+        }),
+    }
+}
+
+/// What `run` asks for with the words behind it.
+fn run_words<'w>(command: &'w str, rest: &'w [String]) -> Asked<'w>
+    ensures { asked_of result ≡ run_of command.now (texts rest.now) }
+{
+    match rest {
+        [profile, inputs, arrivals, steps, sources @ ..] => {
+            if may_be_sources(sources) {
+                run(profile, inputs, arrivals, steps, sources)
+            } else {
+                Asked::Wrong(command)
+            }
+        }
+        _ => Asked::Wrong(command),
+    }
+}
+
 /// What `make` asks for with the words behind it.
 fn make_words<'w>(command: &'w str, rest: &'w [String]) -> Asked<'w>
     ensures { asked_of result ≡ make_of command.now (texts rest.now) }
@@ -110,8 +158,8 @@ fn make_words<'w>(command: &'w str, rest: &'w [String]) -> Asked<'w>
     }
 }
 
-/// What the words ask for: the commands are `pack PROFILE OUT TABLE - SOURCE..`, where PROFILE and TABLE may be `-`, and
-/// `make SEED COUNT`.
+/// What the words ask for: the commands are `pack PROFILE OUT TABLE - SOURCE..`, where PROFILE and TABLE may be `-`,
+/// `run PROFILE INPUTS ARRIVALS STEPS SOURCE..`, where PROFILE may be `-`, and `make SEED COUNT`.
 #[tactic(auto, using(crate::proofs::CommandLaws::of_commands))]
 pub fn command(words: &[String]) -> Asked<'_>
     ensures asked { asked_of result ≡ command_of (texts words.now) }
@@ -122,6 +170,8 @@ pub fn command(words: &[String]) -> Asked<'_>
         [command, rest @ ..] => {
             if is_pack(command) {
                 pack_words(command, rest)
+            } else if is_run(command) {
+                run_words(command, rest)
             } else if is_make(command) {
                 make_words(command, rest)
             } else {

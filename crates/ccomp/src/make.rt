@@ -1,16 +1,16 @@
 //! The command that says a made source.
 
-ghost use Rattle.std.specs.Prelude.{◌≡◌, ◌≤◌, ◌<◌, ◌⊎◌, ◌++◌, ℕ, false, IfOk, IfSome, IsTrue, List as ListOf, take, codes};
+ghost use Rattle.std.specs.Prelude.{◌≡◌, ◌≤◌, ◌<◌, ◌⊎◌, ◌++◌, ℕ, false, IfSome, IsTrue, List as ListOf, take, codes};
 ghost use Rattle.cc_edge.specs.Faults.{Rose};
 ghost use Rattle.cc_make.specs.Source.{made};
 ghost use Rattle.cc_status.specs.Statuses.{may_write, is_of_files};
 ghost use Rattle.cc_status.specs.declared.status.What.{What as WhatOf};
 ghost use Rattle.ccomp.specs.Command.{asked_of, make_asked};
-ghost use Rattle.ccomp.specs.Make.{number_of, bounded, seed_of, count_of};
+ghost use Rattle.ccomp.specs.Make.{number_of, bounded, seed_of, count_of, steps_of};
 
 use crate::command::Asked;
 use cc_edge::{Sink, say_whole};
-use cc_num::{List, Name, NoMemory};
+use cc_material::output_name;
 use cc_status::{Status, What};
 use std::alloc::Global;
 
@@ -65,6 +65,14 @@ fn count_in(word: &str) -> Option<u32>
     Some(count as u32)
 }
 
+/// How many steps a word writes.
+pub fn steps_in(word: &str) -> Option<u32>
+    ensures { result ≡ steps_of word.now }
+{
+    let steps = within(0, u128::from(u32::MAX), number(word.as_bytes()))?;
+    Some(steps as u32)
+}
+
 /// What `make` asks for with these words, or the first that is wrong.
 pub fn asked<'w>(seed: &'w str, count: &'w str) -> Asked<'w>
     ensures { asked_of result ≡ make_asked seed.now count.now }
@@ -79,13 +87,6 @@ pub fn asked<'w>(seed: &'w str, count: &'w str) -> Asked<'w>
         seed: first,
         count: second,
     }
-}
-
-/// The name of the standard output.
-fn output_name(alloc: Global) -> Result<Name, NoMemory>
-    ensures { IfOk result (λ name. name ≡ codes "-") }
-{
-    Ok(List::of(Vec::from_slice(alloc, b"-")?))
 }
 
 /// Says the source of so many counters, drawn from a seed.

@@ -2,11 +2,11 @@ use Rattle.std.proofs.Common.{◌≡◌, ◌∙◌, ◌≤◌, IsTrue, ap, sym, 
 use Rattle.std.proofs.lemmas.Result.{err_from_is_err_and}
 use Rattle.cc_edge.specs.Faults.{Rose, raised}
 use Rattle.cc_files.specs.Unread.{names_of, texts_of}
+use Rattle.cc_material.proofs.Since.{first-since, within-since, raised-since, Rose-earlier}
 use Rattle.cc_material.proofs.Told.{refusal-unread}
 use Rattle.cc_packing.specs.Asked.{asked_of}
 use Rattle.cc_packing.specs.Ends.{AtProfile, AtSources}
-use Rattle.cc_packing.proofs.Reading.{first-since, within-since, raised-since, profile-untold, source-untold}
-use Rattle.cc_packing.proofs.PackLaws.{Rose-earlier}
+use Rattle.cc_packing.proofs.Reading.{profile-untold, source-untold}
 use Rattle.cc_status.specs.Statuses.{for_unread}
 use Rattle.cc_packing.proofs.material.read_material.Goals as goal
 

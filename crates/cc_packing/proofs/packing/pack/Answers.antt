@@ -1,7 +1,8 @@
 use Rattle.std.proofs.Common.{◌≡◌, sym, ap, subst, inl, IsTrue, List, [], ℕ, Err, option_map, unwrap_or}
 use Rattle.cc_status.specs.declared.status.Status.TheVariants.{WriteFault}
 use Rattle.cc_packing.specs.Asked.{asked_of}
-use Rattle.cc_packing.proofs.PackLaws.{packs, leaves, leaves_table, table_at_fault, Rose-earlier}
+use Rattle.cc_material.proofs.Since.{Rose-earlier}
+use Rattle.cc_packing.proofs.PackLaws.{packs, leaves, leaves_table, table_at_fault}
 use Rattle.cc_packing.proofs.packing.pack.Goals as goal
 
 pub returns-in-Err-Out-clause-write_fault : goal.returns-in-Err-Out-clause-write_fault

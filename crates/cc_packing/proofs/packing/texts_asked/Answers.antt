@@ -6,6 +6,7 @@ use Rattle.cc_edge.specs.Faults.{Rose}
 use Rattle.cc_files.specs.Unread.{texts_of}
 use Rattle.cc_packing.specs.Asked.{asked_of}
 use Rattle.cc_packing.specs.Ends.{AtFiles}
+use Rattle.cc_packing.proofs.ProgramTexts.{pack-refusal}
 use Rattle.cc_packing.proofs.Reading.{asked-made, texts-end, no-file}
 use Rattle.cc_packing.proofs.packing.texts_asked.Goals as goal
 
@@ -17,7 +18,7 @@ returns-in_err-material-clause-ends g c =
 pub returns-in_err-material-clause-refusal : goal.returns-in_err-material-clause-refusal
 returns-in_err-material-clause-refusal g c =
     let p = err_from_is_err_and c.from_residual.result c.from_residual.ensures.1 in
-    rw (p.1, p.2) c.in_err-material.ensures.refusal
+    rw (p.1, p.2) (pack-refusal c.in_err-material.field-0.0 c.in_err-material.ensures.refusal)
 
 pub returns-in_err-material-clause-untold : goal.returns-in_err-material-clause-untold
 returns-in_err-material-clause-untold g c =

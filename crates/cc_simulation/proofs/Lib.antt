@@ -1,0 +1,3 @@
+pub mod ProgramTraces
+pub mod Reading
+pub mod RunLaws

@@ -1,0 +1,9 @@
+//! Simulation: the program that sources are runs over inputs and arrivals, and its trace is said.
+#![tactic(auto)]
+
+mod material;
+mod program;
+mod simulation;
+mod sources;
+
+pub use simulation::{Simulation, simulate};
