@@ -1,3 +1,4 @@
 pub mod LimitLaws
+pub mod OneCause
 pub mod Since
 pub mod Told

@@ -1,6 +1,6 @@
 -- From what the parts answer to the profile of a command, or to how it ends.
-use Rattle.std.proofs.Common.{◌≡◌, ◌∙◌, ◌≤◌, ◌<◌, ℕ, zero, suc, List, [], ◌∷◌, length, Option, Some, None, Result, Ok, Err, IfOk, IfErr, refl, ap, sym, subst, arith}
-use Rattle.std.specs.Prelude.{◌≢◌, ⊤, true, String, slice_get, slice_index_or}
+use Rattle.std.proofs.Common.{◌≡◌, ◌≤◌, ◌<◌, ℕ, zero, suc, List, [], ◌∷◌, length, Some, None, Result, Ok, Err, IfOk, IfErr, refl, ap, sym, arith}
+use Rattle.std.specs.Prelude.{◌≢◌, true, String, slice_get, slice_index_or}
 use Rattle.std.specs.List.{Contains}
 use Rattle.std.specs.declared.alloc.Global.{Global}
 use Rattle.cc_cost.specs.Given.{Gives}
@@ -14,7 +14,7 @@ use Rattle.cc_edge.specs.Files.{Files}
 use Rattle.cc_files.specs.Unread.{IsUnread, IsOneOf, names_of}
 use Rattle.cc_files.specs.declared.unread.Unread.{Unread}
 use Rattle.cc_files.specs.declared.unread.Unread.TheVariants as unread
-use Rattle.cc_material.specs.Material.{IsThere, IsProfile, ByDefault, ByFile, IsWrongRow, ProfileEnds, ProfileUnread, ProfileWrong, TellsFile, is_refusal}
+use Rattle.cc_material.specs.Material.{IsProfile, ByDefault, ByFile, IsWrongRow, ProfileEnds, ProfileUnread, ProfileWrong, TellsFile, is_refusal}
 use Rattle.cc_read.specs.declared.refusal.ReadRefusal.{ReadRefusal}
 use Rattle.cc_read.specs.declared.refusal.ReadRefusal.TheVariants as why
 use Rattle.cc_rows.specs.Rows.{Row, rows_of}

@@ -1,5 +1,5 @@
 -- What a run of packing leaves, from what its parts say: all was read, and then the outputs were written.
-use Rattle.std.proofs.Common.{◌≡◌, ℕ, Bool, IsTrue, List, [], Option, Some, None, unwrap_or, refl, sym, ap, ◌∙◌, subst, ◌⊎◌, inl, inr, IfSome, IsSomeAnd}
+use Rattle.std.proofs.Common.{◌≡◌, ℕ, Bool, IsTrue, List, [], Option, Some, None, unwrap_or, refl, sym, ap, ◌∙◌, subst, ◌⊎◌, inl, inr, IsSomeAnd}
 use Rattle.cc_edge.specs.Files.{Files, KeepsFiles, KeepsOthers, HoldsPrefix}
 use Rattle.cc_packing.specs.Asked.{Asked}
 use Rattle.cc_packing.specs.Headline.{AreAsked, Packs, Leaves, LeavesTable, IsAtFault}

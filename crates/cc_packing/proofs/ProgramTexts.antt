@@ -8,7 +8,7 @@ use Rattle.cc_cost.specs.declared.profile.Profile.{Profile}
 use Rattle.cc_layout.specs.Seats.{ram}
 use Rattle.cc_material.proofs.LimitLaws.{lt-true, above-over}
 use Rattle.cc_material.specs.Material.{is_refusal}
-use Rattle.cc_material.specs.Programs.{IsAbove, IsProgram, IsWithin}
+use Rattle.cc_material.specs.Programs.{IsAbove, IsWithin}
 use Rattle.cc_num.specs.declared.target.Target.{Target}
 use Rattle.cc_packing.specs.Ends.{ProgramEnds, TextsEnd, AreRefused, NotPacked, AboveLimit, LongText, OtherText, is_pack_refusal}
 use Rattle.cc_packing.specs.Headline.{AreMade, IsPackable, IsPacked, IsPackedText, ReadsAlone}

@@ -1,7 +1,6 @@
 -- From what reading the profile and the sources answers to what is asked for, or to how packing ends.
-use Rattle.std.proofs.Common.{◌≡◌, ◌≤◌, ◌⊎◌, inl, inr, ℕ, List, Some, Result, Ok, Err, IfOk, IfErr, arith}
+use Rattle.std.proofs.Common.{◌≡◌, ◌≤◌, inl, inr, ℕ, List, Some, Result, Ok, Err, IfOk, IfErr, arith}
 use Rattle.std.specs.Prelude.{◌≢◌}
-use Rattle.std.specs.List.{Contains}
 use Rattle.cc_cost.specs.declared.profile.Profile.{Profile}
 use Rattle.cc_edge.specs.Faults.{raised}
 use Rattle.cc_edge.specs.Files.{Files}

@@ -1,5 +1,5 @@
 -- What packing promises of the files, where they are told.
-use Rattle.std.specs.Prelude.{◌≡◌, ◌≤◌, ◌⊎◌, ⊤, ℕ, Bool, List, [], ◌∷◌, length, Option, Some, IsTrue}
+use Rattle.std.specs.Prelude.{◌≡◌, ◌≤◌, ◌⊎◌, ℕ, Bool, List, [], ◌∷◌, length, Some, IsTrue}
 use Rattle.cc_cost.specs.declared.profile.Profile.{Profile}
 use Rattle.cc_edge.specs.Files.{Files}
 use Rattle.cc_files.specs.Unread.{AreSources}

@@ -1,3 +1,4 @@
+pub mod OneAnswer
 pub mod ProgramTraces
 pub mod Reading
 pub mod RunLaws

@@ -1,7 +1,6 @@
 -- From what reading the files answers to what is asked for, or to how a simulation ends.
-use Rattle.std.proofs.Common.{◌≡◌, ◌≤◌, ◌⊎◌, inl, inr, ℕ, zero, suc, List, [], ◌∷◌, length, Some, Result, Ok, Err, IfOk, IfErr, sym, arith}
-use Rattle.std.specs.Prelude.{◌≢◌, Vec, slice_index_or}
-use Rattle.std.specs.List.{Contains}
+use Rattle.std.proofs.Common.{◌≡◌, ◌≤◌, inl, inr, ℕ, List, [], ◌∷◌, Some, Result, Ok, Err, IfOk, IfErr, arith}
+use Rattle.std.specs.Prelude.{◌≢◌, Vec}
 use Rattle.std.specs.declared.alloc.Global.{Global}
 use Rattle.cc_cost.specs.declared.profile.Profile.{Profile}
 use Rattle.cc_edge.specs.Faults.{raised}

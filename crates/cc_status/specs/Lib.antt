@@ -1,2 +1,3 @@
 pub mod Causes
+pub mod Settled
 pub mod Statuses

@@ -1,4 +1,4 @@
-use Rattle.std.proofs.Common.{◌≡◌, ◌≤◌, ℕ, List, length, IsTrue, false, sym, subst}
+use Rattle.std.proofs.Common.{◌≡◌, ◌≤◌, ℕ, length, IsTrue, false, sym, subst}
 use Rattle.std.proofs.lemmas.Result.{err_from_is_err_and}
 use Rattle.cc_edge.specs.Faults.{Rose, raised}
 use Rattle.cc_material.proofs.Told.{profile-unread, refusal-unread, tells-one, by-file, by-row, names-none, if-ok, raised-up}

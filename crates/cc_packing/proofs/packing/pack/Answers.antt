@@ -1,4 +1,4 @@
-use Rattle.std.proofs.Common.{◌≡◌, sym, ap, subst, inl, IsTrue, List, [], ℕ, Err, option_map, unwrap_or}
+use Rattle.std.proofs.Common.{◌≡◌, sym, ap, subst, inl, IsTrue, [], Err, option_map, unwrap_or}
 use Rattle.cc_status.specs.declared.status.Status.TheVariants.{WriteFault}
 use Rattle.cc_packing.specs.Asked.{asked_of}
 use Rattle.cc_material.proofs.Since.{Rose-earlier}

@@ -1,7 +1,5 @@
-use Rattle.std.proofs.Common.{◌≡◌, ◌∙◌, ◌≤◌, ◌<◌, ◌^◌, List, length, map, sum, IsTrue, false, ap, sym, subst, arith}
+use Rattle.std.proofs.Common.{◌≡◌, IsTrue, false}
 use Rattle.std.proofs.lemmas.Result.{err_from_is_err_and}
-use Rattle.std.specs.Prelude.{Vec}
-use Rattle.std.specs.declared.alloc.Global.{Global}
 use Rattle.cc_edge.specs.Faults.{Rose}
 use Rattle.cc_files.specs.Unread.{texts_of}
 use Rattle.cc_packing.specs.Asked.{asked_of}

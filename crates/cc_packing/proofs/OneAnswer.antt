@@ -1,0 +1,107 @@
+-- Why packing has one answer: each cause is looked for where no cause in front of it is there.
+use Rattle.std.proofs.Common.{◌≡◌, ◌∙◌, ℕ, List, [], refl, ap, sym, subst, arith}
+use Rattle.std.specs.Prelude.{slice_index_or}
+use Rattle.cc_cost.specs.declared.profile.Profile.{Profile}
+use Rattle.cc_edge.specs.Files.{Files}
+use Rattle.cc_material.proofs.OneCause.{same_texts, sources_read, one_first, profile_read, one_profile_end, SaySame, one_profile, same_program, not_above, one_limit, program_as, refused_as}
+use Rattle.cc_material.specs.Programs.{IsProgram}
+use Rattle.cc_num.specs.declared.target.Target.{Target}
+use Rattle.cc_packing.specs.Asked.{Asked}
+use Rattle.cc_packing.specs.Ends.{FilesEnd, AtProfile, AtSources, ProgramEnds, NotNormal, AboveLimit, LongText, OtherText, TextsEnd, AreRefused, NotPacked, PackEnds, AtFiles, AtTexts}
+use Rattle.cc_packing.specs.Headline.{AreRead, AreAsked, IsPackable}
+use Rattle.cc_program.specs.declared.program.Program.{Program}
+use Rattle.cc_program.specs.declared.program.Roles.{Roles}
+use Rattle.cc_read.proofs.Refused.{not_refused, one_cause}
+use Rattle.cc_read.specs.Refusals.{AreForOneCause, settled}
+use Rattle.cc_read.specs.declared.refusal.Refusal.{Refusal}
+use Rattle.cc_status.specs.Settled.{settled_status}
+use Rattle.cc_status.specs.Statuses.{for_unread}
+use Rattle.cc_status.specs.declared.status.Status.{Status}
+use Rattle.cc_status.specs.declared.status.Status.TheVariants as status
+
+-- ---- the files
+
+module _ (files : Files) where
+  files_read : (a : Asked) (profile : Profile) (texts : List (List ℕ)) (s : Status) → AreRead files a profile texts → FilesEnd files ⊥ a s → ⊥
+  files_read a profile texts s h (AtProfile _ k) = profile_read files a.profile profile s h.profile_is k
+  files_read a profile texts _ h (AtSources other u p k) = sources_read files 1048576 4194304 a.sources texts u h.sources_are k
+
+  one_files_end : (a : Asked) (s t : Status) → FilesEnd files ⊥ a s → FilesEnd files ⊥ a t → s ≡ t
+  one_files_end a s t (AtProfile _ h) (AtProfile _ k) = one_profile_end files a.profile s t h k
+  one_files_end a s _ (AtProfile _ h) (AtSources profile u p k) = absurd (profile_read files a.profile profile s p h)
+  one_files_end a _ t (AtSources profile u p k) (AtProfile _ h) = absurd (profile_read files a.profile profile t p h)
+  one_files_end a _ _ (AtSources profile u p h) (AtSources other v q k) = ap for_unread (one_first files 1048576 4194304 a.sources u v h k)
+
+-- ---- the program
+
+module _ (target : Target) (roles : Roles) (first : List ℕ) (p : Program) where
+  no_end : (s : Status) → IsPackable target roles p → ProgramEnds target roles first p s → ⊥
+  no_end _ h (NotNormal k) = k h.normal
+  no_end _ h (AboveLimit n w m k) = not_above p w m h.within k
+  no_end _ h (LongText n within k) = omega (arith, h.short, k)
+  no_end _ h (OtherText n within short k) = k h.reads_back
+
+  one_program_end : (s t : Status) → ProgramEnds target roles first p s → ProgramEnds target roles first p t → s ≡ t
+  one_program_end _ _ (NotNormal h) (NotNormal k) = refl
+  one_program_end _ _ (NotNormal h) (AboveLimit n w m k) = absurd (h n)
+  one_program_end _ _ (NotNormal h) (LongText n within k) = absurd (h n)
+  one_program_end _ _ (NotNormal h) (OtherText n within short k) = refl
+  one_program_end _ _ (AboveLimit n w m k) (NotNormal h) = absurd (h n)
+  one_program_end _ _ (AboveLimit n v l h) (AboveLimit o w m k) = one_limit p v w l m h k
+  one_program_end _ _ (AboveLimit n w m h) (LongText o within k) = absurd (not_above p w m within h)
+  one_program_end _ _ (AboveLimit n w m h) (OtherText o within short k) = absurd (not_above p w m within h)
+  one_program_end _ _ (LongText n within k) (NotNormal h) = absurd (h n)
+  one_program_end _ _ (LongText n within k) (AboveLimit o w m h) = absurd (not_above p w m within h)
+  one_program_end _ _ (LongText n within h) (LongText o other k) = refl
+  one_program_end _ _ (LongText n within h) (OtherText o other short k) = absurd (omega (arith, h, short))
+  one_program_end _ _ (OtherText n within short k) (NotNormal h) = refl
+  one_program_end _ _ (OtherText n within short k) (AboveLimit o w m h) = absurd (not_above p w m within h)
+  one_program_end _ _ (OtherText n within short h) (LongText o other k) = absurd (omega (arith, k, short))
+  one_program_end _ _ (OtherText n within short h) (OtherText o other brief k) = refl
+
+-- ---- the texts
+
+module _ (names : List (List ℕ)) (profile : Profile) (texts : List (List ℕ)) where
+  ends_of : (p q : Program) (s : Status) → p ≡ q → ProgramEnds profile.target profile.roles (slice_index_or names 0 []) q s → ProgramEnds profile.target profile.roles (slice_index_or names 0 []) p s
+  ends_of p q s e h = subst (λ r. ProgramEnds profile.target profile.roles (slice_index_or names 0 []) r s) (sym e) h
+
+  no_texts_end : (p : Program) (s : Status) → IsProgram profile texts p → IsPackable profile.target profile.roles p → TextsEnd names profile texts s → ⊥
+  no_texts_end p _ h k (AreRefused e r) = not_refused profile.target profile.roles texts p e h.reads h.low r
+  no_texts_end p _ h k (NotPacked q s i r) = no_end profile.target profile.roles (slice_index_or names 0 []) p s k (ends_of p q s (same_program profile texts p q h i) r)
+
+  refused_alike : (e f : Refusal) → AreForOneCause e f → settled_status (status.Refused (slice_index_or names e.file []) e.why) ≡ settled_status (status.Refused (slice_index_or names f.file []) f.why)
+  refused_alike e f h = ap (λ n. status.Refused (slice_index_or names n []) (settled e.why)) h.file ∙ ap (λ w. status.Refused (slice_index_or names f.file []) w) h.cause
+
+  one_texts_end : (s t : Status) → TextsEnd names profile texts s → TextsEnd names profile texts t → settled_status s ≡ settled_status t
+  one_texts_end _ _ (AreRefused e h) (AreRefused f k) = refused_alike e f (one_cause profile.target profile.roles texts e f h k)
+  one_texts_end _ _ (AreRefused e h) (NotPacked q t i r) = absurd (not_refused profile.target profile.roles texts q e i.reads i.low h)
+  one_texts_end _ _ (NotPacked p s h r) (AreRefused e k) = absurd (not_refused profile.target profile.roles texts p e h.reads h.low k)
+  one_texts_end _ _ (NotPacked p s h r) (NotPacked q t i o) =
+      ap settled_status (one_program_end profile.target profile.roles (slice_index_or names 0 []) p s t r (ends_of p q t (same_program profile texts p q h i) o))
+
+module _ (names : List (List ℕ)) (p q : Profile) (same : SaySame p q) (texts : List (List ℕ)) where
+  program_ends_as : (first : List ℕ) (r : Program) (s : Status) → ProgramEnds q.target q.roles first r s → ProgramEnds p.target p.roles first r s
+  program_ends_as first r s h = subst (λ t. ProgramEnds t p.roles first r s) (sym same.0) (subst (λ o. ProgramEnds q.target o first r s) (sym same.1) h)
+
+  texts_end_as : (s : Status) → TextsEnd names q texts s → TextsEnd names p texts s
+  texts_end_as _ (AreRefused e h) = AreRefused e (refused_as p q same texts e h)
+  texts_end_as _ (NotPacked r s h k) = NotPacked r s (program_as p q same texts r h) (program_ends_as (slice_index_or names 0 []) r s k)
+
+-- ---- all
+
+module _ (files : Files) (a : Asked) where
+  texts_end_for : (p q : Profile) (ts us : List (List ℕ)) (s : Status) → AreRead files a p ts → AreRead files a q us → TextsEnd a.sources q us s → TextsEnd a.sources p ts s
+  texts_end_for p q ts us s h k e =
+      texts_end_as a.sources p q (one_profile files a.profile p q h.profile_is k.profile_is) ts s
+      (subst (λ x. TextsEnd a.sources q x s) (sym (same_texts files a.sources ts us h.sources_are.there k.sources_are.there)) e)
+
+  pub asked_or_ends : (bytes rows : List ℕ) (s : Status) → AreAsked files a bytes rows → PackEnds files ⊥ a s → ⊥
+  asked_or_ends bytes rows s h (AtFiles _ k) = files_read files a h.profile h.texts s h.are_read k
+  asked_or_ends bytes rows s h (AtTexts q us _ k e) =
+      no_texts_end a.sources h.profile h.texts h.made.read s h.made.is_program h.made.packable (texts_end_for h.profile q h.texts us s h.are_read k e)
+
+  pub one_end : (s t : Status) → PackEnds files ⊥ a s → PackEnds files ⊥ a t → settled_status s ≡ settled_status t
+  one_end s t (AtFiles _ h) (AtFiles _ k) = ap settled_status (one_files_end files a s t h k)
+  one_end s t (AtFiles _ h) (AtTexts q us _ k e) = absurd (files_read files a q us s k h)
+  one_end s t (AtTexts p ts _ h e) (AtFiles _ k) = absurd (files_read files a p ts t h k)
+  one_end s t (AtTexts p ts _ h e) (AtTexts q us _ k d) = one_texts_end a.sources p ts s t e (texts_end_for p q ts us t h k d)
