@@ -12,6 +12,7 @@ pub mod InitialDefinitions
 pub mod InitialItems
 pub mod Items
 pub mod Kept
+pub mod Left
 pub mod Lists
 pub mod Locals
 pub mod Names

@@ -34,7 +34,7 @@ use Rattle.cc_sound_typed_units.specs.Items.{IsSoundState}
 use Rattle.cc_sound_sources.specs.Units.{HasSoundBody, IsSoundDevice, IsSoundFunctionName, IsSoundKind, IsSoundName, IsSoundObject, IsWellNamed, is_main_name, is_main_sig, is_register_type, unit_view}
 use Rattle.cc_sound_states.specs.Entries.{IsDeviceEntry, IsEntryOf}
 use Rattle.cc_sound_terms.specs.Behind.{HasEntry, KindStands, NameStands}
-use Rattle.cc_sound_typed_units.specs.Left.{IsLeft}
+use Rattle.cc_sound_typed_units.proofs.Left.{IsLeft}
 use Rattle.cc_structures.proofs.WordLaws.{constant-kept, level-renumbered, renumbered_level, volatile-kept}
 use Rattle.cc_syntax.proofs.Prefixes.{both_true}
 use Rattle.cc_syntax.specs.Kinds.{is_object_type}

@@ -1,18 +1,25 @@
 -- The unit of a tree is left by its last state.
-use Rattle.std.proofs.Common.{◌≡◌, true, List, Ok, Err, refl, sym, subst}
+use Rattle.std.proofs.Common.{◌≡◌, ◌<◌, ◌^◌, ℕ, List, length, Ok, Err, refl, sym, subst}
 use Rattle.std.specs.Prelude.{Result}
+use Rattle.cc_lex.specs.Tokens.{Tokens}
+use Rattle.cc_lex.specs.declared.token.Token.{Token}
+use Rattle.cc_named_units.proofs.Texts.{of_text}
 use Rattle.cc_num.specs.declared.target.Target.{Target}
 use Rattle.cc_numbering.specs.Units.{unit_left}
 use Rattle.cc_program.specs.declared.program.Roles.{Roles}
-use Rattle.cc_ranged_trees.specs.Ranges.{unit_fits}
+use Rattle.cc_ranged_trees.proofs.Statements.{sentence_fits}
+use Rattle.cc_ranged_trees.proofs.Texts.{text_fits}
 use Rattle.cc_scopes.specs.State.{State, at_first}
 use Rattle.cc_scopes.specs.Verdicts.{Checked, Found}
 use Rattle.cc_scopes.specs.declared.verdict.Fault.{Fault}
 use Rattle.cc_sound_typed_units.proofs.Items.{unit_sound}
 use Rattle.cc_sound_typed_units.specs.Items.{IsSoundState}
-use Rattle.cc_sound_sources.specs.Units.{IsSoundUnit}
+use Rattle.cc_sound_sources.specs.Units.{IsOfText, IsSoundUnit}
+use Rattle.cc_sound_typed_units.proofs.InitialItems.{unit_initial}
+use Rattle.cc_sound_typed_units.proofs.Left.{IsLeft, is_left}
 use Rattle.cc_sound_typed_units.proofs.Names.{names_named, names_sound}
-use Rattle.cc_sound_typed_units.specs.Left.{IsLeft}
+use Rattle.cc_standing_units.specs.Closed.{AreClosed}
+use Rattle.cc_tree.specs.Sentences.{IsSentence}
 use Rattle.cc_tree.specs.declared.unit.Unit.{Unit as UnitTree}
 use Rattle.cc_type.specs.Defined.{defined_names}
 use Rattle.cc_type.specs.Typed.{IsTyped}
@@ -35,9 +42,13 @@ state_sound target roles u s sound left = record {
   named = names_named target roles (defined_names u) s sound left;
 }
 
-pub typed_sound : (target : Target) (roles : Roles) (u : UnitTree) (t : TypedUnit) → unit_fits u ≡ true → IsTyped u target roles t →
-    ((r : Checked × State) → items_found target roles (defined_names u) u.items at_first ≡ Ok r → IsSoundState target roles (defined_names u) r.1 → IsLeft target r.1) → IsSoundUnit target t
-typed_sound target roles u t f h left =
+-- the unit of a text's tree is sound, where structures are as their closing braces left them
+pub text_sound : (text : List ℕ) (ts : List Token) (u : UnitTree) (target : Target) (roles : Roles) (t : TypedUnit) → length text < 2 ^ 32 → Tokens text ts → IsSentence ts u → IsTyped u target roles t →
+    ((r : Checked × State) → items_found target roles (defined_names u) u.items at_first ≡ Ok r → AreClosed target r.1) → IsSoundUnit target t
+text_sound text ts u target roles t small spelled sentence h closed =
+    let fits = sentence_fits ts u sentence (text_fits text ts spelled) in
     let c = typed_is target roles u t h in
-    let s = unit_sound target roles u c.0 f c.1 in
-    subst (IsSoundUnit target) c.2 (state_sound target roles u c.0.1 s (left c.0 c.1 s))
+    let s = unit_sound target roles u c.0 fits c.1 in
+    let of = subst IsOfText (sym c.2) (of_text text ts u target roles t small spelled sentence h) in
+    let left = is_left target c.0.1 s.ordered (closed c.0 c.1) of (unit_initial target roles u c.0 fits c.1) in
+    subst (IsSoundUnit target) c.2 (state_sound target roles u c.0.1 s left)

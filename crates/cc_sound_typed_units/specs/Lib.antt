@@ -1,4 +1,3 @@
 pub mod Definitions
 pub mod Entries
 pub mod Items
-pub mod Left

@@ -1,5 +1,8 @@
 -- What the unit that is left has of its last state: its structures stand, and what is sound over the state's own view is sound over that of the unit, by its numbers (C99 6.2.5, 6.7.8, 6.9.1).
-use Rattle.std.specs.Prelude.{◌≡◌, ℕ, Bool, true, false, List, Option, Some, None, slice_get}
+use Rattle.std.proofs.Common.{◌≡◌, ℕ, Bool, true, false, List, Option, Some, None, slice_get, subst}
+use Rattle.cc_first_values.specs.Values.{AreInitial, HasInitial}
+use Rattle.cc_left_names.proofs.Functions.{function_left, test_left}
+use Rattle.cc_left_names.proofs.Leaves.{values_left}
 use Rattle.cc_linked_structures.specs.Linked.{AreStanding}
 use Rattle.cc_num.specs.declared.target.Target.{Target}
 use Rattle.cc_numbering.specs.Names.{function_in}
@@ -13,7 +16,10 @@ use Rattle.cc_program.specs.declared.types.Sig.{Sig}
 use Rattle.cc_program.specs.declared.value.Leaf.{Leaf}
 use Rattle.cc_scopes.specs.State.{State}
 use Rattle.cc_scopes.specs.declared.unit.Declared.{Declared}
-use Rattle.cc_sound_sources.specs.Units.{IsSoundFunction, unit_view}
+use Rattle.cc_sound_sources.specs.Units.{IsOfText, IsSoundFunction, unit_view}
+use Rattle.cc_sound_terms.specs.Ordered.{IsOrdered}
+use Rattle.cc_standing_units.proofs.Standing.{left_standing}
+use Rattle.cc_standing_units.specs.Closed.{AreClosed}
 use Rattle.cc_syntax.specs.Initial.{IsInitial}
 use Rattle.cc_syntax.specs.Kinds.{Kind}
 use Rattle.cc_syntax.specs.Views.{kind_in}
@@ -28,3 +34,12 @@ pub record IsLeft (target : Target) (s : State) : Type 0 where
   pub standing : AreStanding target (unit_left s)
   -- first values
   pub initial : (i : ℕ) (d : Declared) (leaves : List Leaf) → slice_get s.names i ≡ Some d → d.kind ≡ kind.Object leaves → IsInitial (view_of target s) d.ctype leaves
+
+pub is_left : (target : Target) (s : State) → IsOrdered s → AreClosed target s → IsOfText (unit_left s) → AreInitial (view_of target s) s.names → IsLeft target s
+is_left target s ordered closed text initial = record {
+  tests = test_left target s ordered closed.laid;
+  values = values_left target s ordered closed.laid;
+  functions = function_left target s ordered closed.laid;
+  standing = left_standing target s ordered closed text;
+  initial = λ i d leaves e k. subst (HasInitial (view_of target s) d.ctype) k (initial i d e);
+}
