@@ -1,8 +1,7 @@
 -- What a member's type names is named by then: by the words of a member in front of it or by its own, or in front of all
 -- structures, where parameters name it first.
-use Rattle.std.proofs.Common.{◌≡◌, ◌<◌, ◌≤◌, ◌+◌, ◌⊎◌, inl, inr, ℕ, zero, suc, Bool, true, false, not, ◌&&◌, ◌||◌, List, [], ◌∷◌, ◌++◌, map, length, take, Option, Some, None, refl, ap, sym, ◌∙◌, subst, append_assoc, slice_get, nat_eq, nat_lt, arith}
-use Rattle.std.proofs.lemmas.Bool.Decides.{nat_tests}
-use Rattle.std.specs.Prelude.{if◌then◌else◌, unwrap_or}
+use Rattle.std.proofs.Common.{◌≡◌, ◌<◌, ◌≤◌, ◌+◌, ◌⊎◌, inl, inr, ℕ, zero, suc, Bool, true, false, not, ◌||◌, List, [], ◌∷◌, ◌++◌, map, length, take, Option, Some, None, refl, ap, sym, ◌∙◌, subst, slice_get, nat_eq, nat_lt, arith}
+use Rattle.std.specs.Prelude.{if◌then◌else◌}
 use Rattle.std.specs.Option.{is_some}
 use Rattle.cc_later_kinds.proofs.Members.{members_stand}
 use Rattle.cc_operand_types.specs.Typed.{is_pointed_kind}
@@ -11,11 +10,11 @@ use Rattle.cc_program.specs.declared.program.Program.{Program}
 use Rattle.cc_program.specs.declared.types.CType.{CType}
 use Rattle.cc_program.specs.declared.types.Shape.{Shape, out-Shape, roll-Shape, out-roll-Shape}
 use Rattle.cc_program.specs.declared.types.Shape.TheOpen as shape
-use Rattle.cc_program.specs.declared.types.Sig.{Sig, out-Sig, roll-Sig, out-roll-Sig}
+use Rattle.cc_program.specs.declared.types.Sig.{Sig, out-Sig, out-roll-Sig}
 use Rattle.cc_program.specs.declared.types.Structure.{Structure}
 use Rattle.cc_program.proofs.Each.{Each}
-use Rattle.cc_program.proofs.TypeInduction.{with_shape, TypeParts, SigParts, by_type}
-use Rattle.cc_syntax.specs.Kinds.{Kind, extent_kind, qualified_kind, extent_in, is_plain_scalar}
+use Rattle.cc_program.proofs.TypeInduction.{with_shape, TypeParts, by_type}
+use Rattle.cc_syntax.specs.Kinds.{Kind, extent_kind, qualified_kind, is_plain_scalar}
 use Rattle.cc_syntax.specs.Programs.{kind_in}
 use Rattle.cc_syntax.specs.Sound.{IsSound}
 use Rattle.cc_syntax.specs.Types.{Named, has_members}
@@ -24,7 +23,7 @@ use Rattle.std.specs.List.{list_all}
 use Rattle.cc_type_trees.proofs.Names.{there}
 use Rattle.cc_shown_types.proofs.Standing.{Stands, kind-at, pointed-stands, element-stands, signature-stands, signature-parts, result-stands, scalar-stands}
 use Rattle.cc_shown_structures.specs.Order.{base_of, is_among, with_first, with_base, announced_from}
-use Rattle.cc_shown_structures.proofs.Orders.{same, self, or-left, or-cases, among-grown, first-there, first-keeps}
+use Rattle.cc_shown_structures.proofs.Orders.{same, self, or-left, or-cases, first-there, first-keeps}
 use Rattle.cc_shown_structures.proofs.Namings.{named_level, named-at, base-named, naming-is}
 
 -- ---- where a structure is named first

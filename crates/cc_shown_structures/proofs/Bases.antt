@@ -1,5 +1,5 @@
 -- The words of a member's type name it, where they name a structure that is known, and one that is not: that is declared there.
-use Rattle.std.proofs.Common.{◌≡◌, ◌<◌, ◌≤◌, ℕ, suc, Bool, true, false, List, [], ◌∷◌, ◌++◌, map, length, Option, Some, None, Ok, refl, ap, sym, ◌∙◌, subst, slice_get, nat_eq, nat_lt, arith}
+use Rattle.std.proofs.Common.{◌≡◌, ◌<◌, ℕ, Bool, true, false, List, [], ◌∷◌, ◌++◌, map, length, Option, Some, None, Ok, refl, ap, sym, ◌∙◌, subst, slice_get, nat_eq, nat_lt, arith}
 use Rattle.std.proofs.lemmas.Bool.Decides.{nat_tests}
 use Rattle.std.proofs.lemmas.List.{length-map, map-append}
 use Rattle.std.specs.Prelude.{if◌then◌else◌, ◌&&◌, ◌||◌}
@@ -33,8 +33,7 @@ use Rattle.cc_syntax.specs.Sound.{IsSound}
 use Rattle.cc_syntax.specs.Types.{has_members}
 use Rattle.cc_syntax.proofs.Prefixes.{both_true}
 use Rattle.cc_words.specs.Names.{is_name, are_distinct}
-use Rattle.cc_terms.specs.InTurn.{in_turn}
-use Rattle.cc_terms.specs.Specifiers.{specifier_found, specified_found}
+use Rattle.cc_terms.specs.Specifiers.{specified_found}
 use Rattle.cc_terms.specs.Terms.{spec_of, spec_here}
 use Rattle.cc_tree.specs.declared.at.At.{At}
 use Rattle.cc_tree.specs.declared.tree.Declr.TheOpen as one
@@ -47,7 +46,7 @@ use Rattle.cc_shown_types.proofs.Bases.{type-of-fields, shape-of-level, opens-as
 use Rattle.cc_shown_types.proofs.Numbering.{level-at, constant-kept, volatile-kept}
 use Rattle.cc_shown_types.proofs.Words.{start, reached, qualifiers-told, spec-at, words-behind}
 use Rattle.cc_shown_structures.specs.Order.{base_of, is_among, with_first, with_base, appearance, structure_number}
-use Rattle.cc_shown_structures.specs.States.{tag_or_none, tag_at, tag_entry, whole_structure, known_by, known_as, first_state}
+use Rattle.cc_shown_structures.specs.States.{tag_or_none, tag_entry, whole_structure, known_by, known_as, first_state}
 use Rattle.cc_shown_structures.proofs.Announced.{NamesOnly}
 use Rattle.cc_shown_structures.proofs.Namings.{base_in, base-at, named_level, named-at}
 use Rattle.cc_shown_structures.proofs.Orders.{same, self, or-left, FirstIs, Old, New, first-is, Begins, number-new}

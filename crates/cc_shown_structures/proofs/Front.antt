@@ -1,12 +1,8 @@
 -- What is known of the order in front of each structure; and what a sound program says of the members of each.
-use Rattle.std.proofs.Common.{◌≡◌, ◌<◌, ◌≤◌, ◌+◌, ℕ, zero, suc, Bool, true, false, not, ◌&&◌, ◌||◌, List, [], ◌∷◌, ◌++◌, map, length, take, drop, Option, Some, None, refl, ap, sym, ◌∙◌, subst, append_assoc, slice_get, nat_eq, arith}
+use Rattle.std.proofs.Common.{◌≡◌, ◌<◌, ◌≤◌, ◌+◌, ℕ, zero, suc, Bool, true, false, ◌||◌, List, [], ◌∷◌, ◌++◌, map, length, take, drop, Option, Some, None, refl, ap, sym, ◌∙◌, subst, append_assoc, slice_get, nat_eq, arith}
 use Rattle.std.proofs.lemmas.Bool.Decides.{nat_tests}
 use Rattle.std.proofs.lemmas.List.{append-nil, take_all}
 use Rattle.std.specs.Prelude.{if◌then◌else◌}
-use Rattle.std.specs.List.{list_any, list_all}
-use Rattle.std.specs.Str.{bytes_eq}
-use Rattle.std.proofs.lemmas.Slice.Eq.{bytes_eq-Decides}
-use Rattle.cc_num.specs.declared.target.Target.{Target}
 use Rattle.cc_print.specs.Units.{any_true, is_named_in, first_naming, is_in_parameters}
 use Rattle.cc_program.specs.declared.program.Program.{Program}
 use Rattle.cc_program.specs.declared.types.CType.{CType}
@@ -14,16 +10,13 @@ use Rattle.cc_program.specs.declared.types.Shape.{Shape, out-Shape, roll-Shape, 
 use Rattle.cc_program.specs.declared.types.Shape.TheOpen as shape
 use Rattle.cc_program.specs.declared.types.Sig.{Sig, out-Sig, out-roll-Sig}
 use Rattle.cc_program.specs.declared.types.Structure.{Structure}
-use Rattle.cc_program.proofs.TypeInduction.{with_shape, TypeParts, SigParts, by_type}
-use Rattle.cc_syntax.specs.Names.{are_names, local_names}
-use Rattle.cc_syntax.specs.Sound.{IsSound, have_ids, is_member, is_structure, are_structures}
+use Rattle.cc_program.proofs.TypeInduction.{with_shape, TypeParts, by_type}
+use Rattle.cc_syntax.specs.Sound.{IsSound}
 use Rattle.cc_syntax.specs.Types.{Named}
-use Rattle.cc_syntax.proofs.Prefixes.{both_true}
-use Rattle.cc_words.specs.Names.{is_name, are_distinct}
 use Rattle.cc_shown_structures.specs.Order.{base_of, is_among, with_first, with_base, with_members, with_structures, announced_from, order_before, appearance}
 use Rattle.cc_shown_structures.proofs.Announced.{InFront, at-first-known, begun, base-keeps, member-passed, structure-passed, member-stands, named-there, take-more}
-use Rattle.cc_shown_structures.proofs.Namings.{base_in, base-at, named-at}
-use Rattle.cc_shown_structures.proofs.Orders.{self, or-left, Begins, begins-itself, begins-structures, first-there, first-keeps, first-origin, Apart, first-apart}
+use Rattle.cc_shown_structures.proofs.Namings.{base-at, named-at}
+use Rattle.cc_shown_structures.proofs.Orders.{self, or-left, Begins, begins-itself, begins-structures, first-there, first-origin}
 
 -- ---- what the words of a type name, it names
 
@@ -122,7 +115,7 @@ module _ (p : Program) (sound : IsSound p) where
   abbrev AllAt : Structure → ℕ → List Named → Type 0
   AllAt s n ls = (m : ℕ) (l : Named) → slice_get ls m ≡ Some l → slice_get s.members (n + m) ≡ Some l
 
-  members-passed : (k : ℕ) (s : Structure) → slice_get p.structures k ≡ Some s → (n : ℕ) (done ls : List Named) (order : List ℕ) → AllAt s n ls → InFront p k done order → Within order → InFront p k (done ++ ls) (with_members ls order) × Within (with_members ls order)
+  pub members-passed : (k : ℕ) (s : Structure) → slice_get p.structures k ≡ Some s → (n : ℕ) (done ls : List Named) (order : List ℕ) → AllAt s n ls → InFront p k done order → Within order → InFront p k (done ++ ls) (with_members ls order) × Within (with_members ls order)
   members-passed k s e n done [] order f q w = (subst (λ (ks : List Named). InFront p k ks order) (sym (append-nil done)) q, w)
   members-passed k s e n done (l ∷ ls) order f q w =
       let z : n + 0 ≡ n = omega arith in
@@ -132,7 +125,7 @@ module _ (p : Program) (sound : IsSound p) where
       (base-within (base_of l.1) order (λ j g. named-there p j l.1 (member-stands p sound k n s l e here) (words-name j l.1 g)) w) in
       (subst (λ (ks : List Named). InFront p k ks (with_members (l ∷ ls) order)) (append_assoc done (l ∷ []) ls) inner.0, inner.1)
 
-  members-keep : (i : ℕ) (ls : List Named) (order : List ℕ) → is_among i order ≡ true → is_among i (with_members ls order) ≡ true
+  pub members-keep : (i : ℕ) (ls : List Named) (order : List ℕ) → is_among i order ≡ true → is_among i (with_members ls order) ≡ true
   members-keep i [] order h = h
   members-keep i (l ∷ ls) order h = members-keep i ls (with_base (base_of l.1) order) (base-keeps p (base_of l.1) i order h)
 
@@ -144,7 +137,7 @@ module _ (p : Program) (sound : IsSound p) where
         within = r.1;
       }
 
-  order-next : (k : ℕ) (s : Structure) → slice_get p.structures k ≡ Some s → order_before p (suc k) ≡ with_members s.members (with_first k (order_before p k))
+  pub order-next : (k : ℕ) (s : Structure) → slice_get p.structures k ≡ Some s → order_before p (suc k) ≡ with_members s.members (with_first k (order_before p k))
   order-next k s e =
       let n : 0 + length (take k p.structures) ≡ k = omega (arith, take-length p.structures k s e) in
       ap (λ (ss : List Structure). with_structures 0 ss (announced_from p.structures 0 p.structures)) (take-more p.structures k s e)

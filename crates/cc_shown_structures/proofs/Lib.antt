@@ -5,3 +5,4 @@ pub mod Standing
 pub mod Bases
 pub mod Members
 pub mod Front
+pub mod Closed

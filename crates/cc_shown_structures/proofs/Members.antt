@@ -1,14 +1,13 @@
 -- Members of a structure are declared one behind another, each with what its words name first.
-use Rattle.std.proofs.Common.{◌≡◌, ◌<◌, ◌≤◌, ℕ, zero, suc, Bool, true, false, not, ◌&&◌, ◌||◌, List, [], ◌∷◌, ◌++◌, map, length, take, Option, Some, None, Ok, Err, refl, ap, sym, ◌∙◌, subst, append_assoc, slice_get, nat_lt, arith}
-use Rattle.std.proofs.lemmas.Bool.Decides.{nat_tests}
+use Rattle.std.proofs.Common.{◌≡◌, ℕ, Bool, true, false, ◌||◌, List, [], ◌∷◌, ◌++◌, map, length, take, Option, Some, None, Ok, Err, refl, ap, sym, ◌∙◌, subst, append_assoc, slice_get, arith}
 use Rattle.std.proofs.lemmas.List.{append-nil, map-append}
 use Rattle.std.specs.Prelude.{if◌then◌else◌}
-use Rattle.std.specs.List.{list_any, list_all}
+use Rattle.std.specs.List.{list_any}
 use Rattle.std.specs.Option.{is_some}
 use Rattle.std.specs.Str.{bytes_eq}
 use Rattle.cc_declarators.specs.Located.{located}
 use Rattle.cc_declarators.specs.Members.{member_judged}
-use Rattle.cc_operands.specs.Verdicts.{Judged, must}
+use Rattle.cc_operands.specs.Verdicts.{must}
 use Rattle.cc_operands.specs.declared.rule.Rule.TheVariants as rule
 use Rattle.cc_program.specs.declared.program.Program.{Program}
 use Rattle.cc_program.specs.declared.program.Roles.{Roles}
@@ -19,27 +18,25 @@ use Rattle.cc_scopes.specs.State.{State, Scope, structures_of, layouts_of}
 use Rattle.cc_scopes.specs.Structures.{is_member_name}
 use Rattle.cc_scopes.specs.Verdicts.{Found, whole, and_then}
 use Rattle.cc_specifiers.specs.Derivations.{nothing_more}
-use Rattle.cc_specifiers.specs.Objects.{is_object}
 use Rattle.cc_specifiers.specs.Places.{JudgedAt}
 use Rattle.cc_specifiers.specs.Storage.{setting}
 use Rattle.cc_specifiers.specs.declared.attribute.Entity.TheVariants as entity
 use Rattle.cc_specifiers.specs.declared.derivation.Declarator.{Declarator}
 use Rattle.cc_specifiers.specs.declared.specifier.Specified.{Specified as SpecifiedType}
 use Rattle.cc_specifiers.specs.declared.storage.Where.TheVariants as stands
-use Rattle.cc_syntax.specs.Kinds.{Kind, bytes_in, is_small, is_object_kind, is_object_type, kind_of, extent_with}
-use Rattle.cc_syntax.specs.Names.{are_names, local_names}
+use Rattle.cc_syntax.specs.Kinds.{Kind, bytes_in, is_small, is_object_kind, is_object_type}
+use Rattle.cc_syntax.specs.Names.{local_names}
 use Rattle.cc_syntax.specs.Programs.{kind_in}
-use Rattle.cc_syntax.specs.Sound.{IsSound, have_ids, is_member, is_structure, are_structures}
+use Rattle.cc_syntax.specs.Sound.{IsSound, is_member}
 use Rattle.cc_syntax.specs.Types.{Named}
-use Rattle.cc_syntax.proofs.Prefixes.{both_true}
 use Rattle.cc_terms.specs.Constants.{enumr_step}
-use Rattle.cc_terms.specs.Declarators.{declarator, declr_step, params_step, param_step, type_name_step}
+use Rattle.cc_terms.specs.Declarators.{declr_step, params_step, param_step, type_name_step}
 use Rattle.cc_terms.specs.Expressions.{tree_step}
 use Rattle.cc_terms.specs.InTurn.{in_turn}
 use Rattle.cc_terms.specs.Meanings.{TreeMeaning, DeclrMeaning, ParamsMeaning, ParamMeaning, SpecMeaning, MembersMeaning, EnumrMeaning, TypeNameMeaning}
 use Rattle.cc_terms.specs.Members.{declared_members, members_step}
 use Rattle.cc_terms.specs.Specifiers.{specified_found, spec_step}
-use Rattle.cc_terms.specs.Structures.{members_found, member_behind}
+use Rattle.cc_terms.specs.Structures.{member_behind}
 use Rattle.cc_terms.specs.Terms.{tree_of, declr_of, params_of, param_of, spec_of, members_of, enumr_of, type_name_of, spec_here, declr_here, members_here}
 use Rattle.cc_tree.specs.declared.at.At.{At}
 use Rattle.cc_tree.specs.declared.tree.Declr.{Declr}
@@ -47,15 +44,14 @@ use Rattle.cc_tree.specs.declared.tree.MemberDecl.{MemberDecl, fold_out-MemberDe
 use Rattle.cc_tree.specs.declared.tree.Spec.{Spec}
 use Rattle.cc_type_trees.specs.Types.{Plain, ShowsBase, ShowsVoid, ShowsInt, ShowsStructure, Declares}
 use Rattle.cc_item_trees.specs.Items.{ShowsMembers, NoMember, MoreMembers}
-use Rattle.cc_words.specs.Names.{is_name, are_distinct}
 use Rattle.cc_shown_types.specs.Numbers.{type_numbered, named_numbered}
 use Rattle.cc_shown_types.proofs.Complete.{object-numbered}
-use Rattle.cc_shown_types.proofs.Declared.{DeclaredAs, declared}
+use Rattle.cc_shown_types.proofs.Declared.{declared}
 use Rattle.cc_shown_types.proofs.Derived.{fits-derived}
 use Rattle.cc_shown_structures.specs.Order.{base_of, is_among, with_base, with_members, appearance, structure_number}
 use Rattle.cc_shown_structures.specs.States.{first_state}
 use Rattle.cc_shown_structures.proofs.Announced.{InFront, NamesOnly, base-keeps, member-passed, earlier-names, member-names}
-use Rattle.cc_shown_structures.proofs.Bases.{Specified, base-specified}
+use Rattle.cc_shown_structures.proofs.Bases.{base-specified}
 use Rattle.cc_shown_structures.proofs.Namings.{base-at, declared-base, named-inside}
 use Rattle.cc_shown_structures.proofs.Orders.{Begins, begins-base, begins-members, first-origin}
 use Rattle.cc_shown_structures.proofs.Standing.{program_then, number_then, sized-then, kind-then, declares-then, same-numbers, knows-then, IsThen}
@@ -139,7 +135,7 @@ module _ (p : Program) (roles : Roles) where
         pub own : is_among complete order ≡ true
         pub within : (i : ℕ) → is_among i order ≡ true → (t : Structure) × (slice_get p.structures i ≡ Some t)
 
-      is-then : (done : List Named) (order : List ℕ) → Before done order → Begins order (appearance p) → IsThen p complete order complete
+      pub is-then : (done : List Named) (order : List ℕ) → Before done order → Begins order (appearance p) → IsThen p complete order complete
       is-then done order b g = record {
         begins = g;
         before = b.passed.before;

@@ -1,12 +1,12 @@
 -- Which structures a type names: in its words, or anywhere; opened at a level, and through declarators.
-use Rattle.std.proofs.Common.{◌≡◌, ℕ, Bool, true, false, not, ◌&&◌, ◌||◌, List, [], ◌∷◌, map, Option, Some, None, refl, ap, sym, ◌∙◌, subst, nat_eq}
+use Rattle.std.proofs.Common.{◌≡◌, ℕ, Bool, true, false, not, ◌||◌, List, map, Option, Some, None, refl, ap, sym, ◌∙◌, subst, nat_eq}
 use Rattle.std.specs.Prelude.{if◌then◌else◌}
 use Rattle.cc_print.specs.Units.{any_true, base_step as named_step, is_base, named_in_sig, is_named_in, is_named_by, naming}
 use Rattle.cc_program.specs.declared.types.CType.{CType, fold_out-CType}
 use Rattle.cc_program.specs.declared.types.Shape.{Shape, out-Shape, roll-Shape, out-roll-Shape, map-Shape, fold-Shape, fold_out-Shape}
 use Rattle.cc_program.specs.declared.types.Shape.TheOpen as shape
-use Rattle.cc_program.specs.declared.types.Sig.{Sig, out-Sig, roll-Sig, out-roll-Sig, map-Sig, fold-Sig, fold_out-Sig}
-use Rattle.cc_program.proofs.TypeInduction.{with_shape, TypeParts, SigParts, by_type}
+use Rattle.cc_program.specs.declared.types.Sig.{Sig, out-Sig, out-roll-Sig, fold-Sig, fold_out-Sig}
+use Rattle.cc_program.proofs.TypeInduction.{with_shape, TypeParts, by_type}
 use Rattle.cc_program.specs.declared.types.Structure.{Structure}
 use Rattle.cc_tree.specs.declared.tree.Declr.{Declr}
 use Rattle.cc_type_trees.specs.Types.{Core, Declares, DeclaresNothing, DeclaresName, DeclaresFunction, InParens, DeclaresPointer, DeclaresArray, DeclaresFunc}

@@ -1,10 +1,9 @@
 -- Lists of structures in order of first appearance: each stands once, keeps its place as the list grows, and the next one
 -- has the count of those before it.
-use Rattle.std.proofs.Common.{◌≡◌, ◌<◌, ◌≤◌, ◌+◌, ℕ, zero, suc, Bool, true, false, not, ◌&&◌, ◌||◌, List, [], ◌∷◌, ◌++◌, map, length, Option, Some, None, refl, ap, sym, ◌∙◌, subst, append_assoc, slice_get, nat_eq, nat_lt, arith}
+use Rattle.std.proofs.Common.{◌≡◌, ℕ, suc, Bool, true, false, ◌||◌, List, [], ◌∷◌, ◌++◌, map, length, Option, Some, None, refl, ap, sym, ◌∙◌, subst, append_assoc, slice_get, nat_eq, arith}
 use Rattle.std.proofs.lemmas.Bool.Decides.{nat_tests}
 use Rattle.std.proofs.lemmas.List.{append-nil}
 use Rattle.std.specs.Prelude.{if◌then◌else◌}
-use Rattle.std.specs.List.{list_any}
 use Rattle.cc_program.specs.declared.types.Structure.{Structure}
 use Rattle.cc_scopes.specs.State.{change_at}
 use Rattle.cc_syntax.specs.Types.{Named}

@@ -1,16 +1,13 @@
 -- While structures are still to come, what is known is known of a program too: the one in which those to come have no members, and
 -- those that are not named yet have the tag of one that is. A type that names none of these is the same there.
-use Rattle.std.proofs.Common.{◌≡◌, ◌<◌, ◌≤◌, ◌+◌, ◌⊎◌, inl, inr, ℕ, zero, suc, Bool, true, false, not, ◌&&◌, ◌||◌, List, [], ◌∷◌, ◌++◌, map, length, take, Option, Some, None, refl, ap, sym, ◌∙◌, subst, slice_get, nat_eq, nat_lt, unwrap_or, arith}
+use Rattle.std.proofs.Common.{◌≡◌, ◌<◌, ◌≤◌, ◌+◌, ℕ, zero, suc, Bool, true, false, not, ◌&&◌, ◌||◌, List, [], ◌∷◌, ◌++◌, map, length, take, Option, Some, None, refl, ap, sym, ◌∙◌, subst, slice_get, nat_eq, nat_lt, unwrap_or, arith}
 use Rattle.std.proofs.lemmas.Bool.Decides.{nat_tests}
-use Rattle.std.proofs.lemmas.List.{length-map}
 use Rattle.std.proofs.lemmas.Option.{slice_get-map}
 use Rattle.std.proofs.lemmas.Slice.Eq.{bytes_eq-Decides}
 use Rattle.std.proofs.Math.Path.{fun_ext}
 use Rattle.std.specs.Prelude.{if◌then◌else◌, option_map}
 use Rattle.std.specs.List.{list_any, list_all}
-use Rattle.std.specs.Option.{is_some}
 use Rattle.std.specs.Str.{bytes_eq}
-use Rattle.cc_num.specs.declared.target.Target.{Target}
 use Rattle.cc_print.specs.Units.{any_true, is_named_in}
 use Rattle.cc_program.specs.declared.program.Program.{Program}
 use Rattle.cc_program.specs.declared.types.CType.{CType}
@@ -24,12 +21,12 @@ use Rattle.cc_program.proofs.TypeInduction.{with_shape, TypeParts, SigParts, by_
 use Rattle.cc_scopes.specs.State.{State, Name, KnownStructure, as_structure, structures_of, layouts_of, find_name, tagged, or_else, only_named}
 use Rattle.cc_scopes.specs.declared.designated.Tagged.{Tagged}
 use Rattle.cc_scopes.specs.declared.designated.Tagged.TheVariants.{StructureTag}
-use Rattle.cc_syntax.specs.Kinds.{Kind, extent_with, extent_in, kind_of}
+use Rattle.cc_syntax.specs.Kinds.{extent_with, extent_in, kind_of}
 use Rattle.cc_syntax.specs.Layout.{nothing, aligned, structure, type_layout, next_layout, layouts}
-use Rattle.cc_syntax.specs.Names.{are_names, local_names, tags}
+use Rattle.cc_syntax.specs.Names.{tags}
 use Rattle.cc_syntax.specs.Programs.{kind_in}
 use Rattle.cc_syntax.specs.Sizes.{AreSized}
-use Rattle.cc_syntax.specs.Sound.{IsSound, have_ids, is_member, is_structure, are_structures}
+use Rattle.cc_syntax.specs.Sound.{IsSound, is_structure, are_structures}
 use Rattle.cc_syntax.specs.Types.{Named, has_members}
 use Rattle.cc_syntax.specs.declared.sizes.Layout.{Layout}
 use Rattle.cc_syntax.proofs.Prefixes.{both_true, get_taken, layouts-at}
@@ -46,10 +43,10 @@ use Rattle.cc_shown_types.specs.Known.{KnowsStructures}
 use Rattle.cc_shown_types.specs.Numbers.{type_numbered, sig_numbered, named_numbered, structure_numbered}
 use Rattle.cc_shown_types.proofs.Bases.{type-of-fields, shape-of-level}
 use Rattle.cc_shown_types.proofs.Numbering.{level, level-at, constant-kept, volatile-kept, sig-level}
-use Rattle.cc_shown_structures.specs.Order.{is_among, place_in, appearance, structure_number}
-use Rattle.cc_shown_structures.specs.States.{tag_or_none, tag_at, tag_entry, whole_structure, known_by, known_as, file_scope, first_state}
+use Rattle.cc_shown_structures.specs.Order.{is_among, appearance, structure_number}
+use Rattle.cc_shown_structures.specs.States.{tag_or_none, tag_at, tag_entry, whole_structure, known_by, known_as, first_state}
 use Rattle.cc_shown_structures.proofs.Announced.{NamesOnly}
-use Rattle.cc_shown_structures.proofs.Namings.{named_level, named-at, named-inside}
+use Rattle.cc_shown_structures.proofs.Namings.{named-at, named-inside}
 use Rattle.cc_shown_structures.proofs.Orders.{same, self, or-left, place-there, Begins, number-old}
 
 -- ---- tags are apart
@@ -163,7 +160,7 @@ module _ (p : Program) (complete : ℕ) (order : List ℕ) (someone : ℕ) where
   below-complete : (i k : ℕ) → i + suc k ≤ complete → nat_lt i complete ≡ true
   below-complete i k h = grind (arith, nat_tests)
 
-  take-then : (i k : ℕ) (ss : List Structure) → i + k ≤ complete → take k (then_from i ss) ≡ take k ss
+  pub take-then : (i k : ℕ) (ss : List Structure) → i + k ≤ complete → take k (then_from i ss) ≡ take k ss
   take-then i zero [] h = refl
   take-then i (suc k) [] h = refl
   take-then i zero (s ∷ ss) h = refl

@@ -1,6 +1,6 @@
 -- The order in which a program's text names its structures first, by which a translation unit numbers them: those that are
 -- announced, and then each structure, with those that the words of its members name (C99 6.2.1, 4; 6.7.2.3).
-use Rattle.std.specs.Prelude.{ℕ, zero, suc, Bool, nat_eq, List, [], ◌∷◌, ◌++◌, Option, Some, None, take, if◌then◌else◌}
+use Rattle.std.specs.Prelude.{ℕ, suc, Bool, nat_eq, List, [], ◌∷◌, ◌++◌, Option, Some, None, take, if◌then◌else◌}
 use Rattle.std.specs.List.{list_any}
 use Rattle.cc_print.specs.Units.{first_naming, is_in_parameters}
 use Rattle.cc_program.specs.declared.program.Program.{Program}

@@ -1,11 +1,9 @@
 -- Address constants are typed to pointers that are assigned as they are, and give the leaves that they show.
-use Rattle.std.proofs.Common.{◌≡◌, ℕ, ℤ, pos, Bool, true, false, not, ◌&&◌, ◌||◌, List, [], ◌∷◌, ◌++◌, Option, Some, None, Ok, refl, ap, sym, ◌∙◌, subst, slice_get, nat_lt, nat_le, nat_eq, arith}
-use Rattle.std.specs.Prelude.{if◌then◌else◌}
+use Rattle.std.proofs.Common.{◌≡◌, ℕ, pos, Bool, true, false, not, ◌&&◌, ◌||◌, List, Option, Some, None, Ok, refl, ap, sym, ◌∙◌, subst, slice_get, nat_le, nat_eq, arith}
 use Rattle.cc_designators.specs.Designators.{TypedExpr, IsPlace, IsValue, IsFunction}
 use Rattle.cc_designators.specs.Postfix.{address_at}
 use Rattle.cc_expression_trees.specs.Constants.{IsZero}
-use Rattle.cc_initial.specs.Addresses.{Spot, Located, ConstantExpression, AtNull, AtSpot, AtFunction, located, place_located, spot_address, address_leaf, moved_to, moved_address, leaf_by, leaf_of, path_into}
-use Rattle.cc_lex.specs.declared.token.Mark.{Mark}
+use Rattle.cc_initial.specs.Addresses.{Spot, Located, ConstantExpression, AtNull, AtSpot, located, place_located, spot_address, address_leaf, moved_to, moved_address, leaf_of, path_into}
 use Rattle.cc_lex.specs.declared.token.Mark.TheVariants as m
 use Rattle.cc_num.specs.declared.int_type.IntType.{IntType}
 use Rattle.cc_num.specs.declared.int_type.IntType.TheVariants as int
@@ -13,15 +11,13 @@ use Rattle.cc_objects.specs.Values.{objects_in, leaf_given}
 use Rattle.cc_operands.specs.Operands.{Operand, operand, integer, number_type, is_pointer, is_zero_constant, is_null_at, constant_at, null_of, is_null_constant}
 use Rattle.cc_operands.specs.Qualified.{type_of_value}
 use Rattle.cc_operands.specs.Operators.{operator_of}
-use Rattle.cc_operands.specs.Arithmetic.{binary_of}
 use Rattle.cc_operands.specs.Assignments.{assigned}
 use Rattle.cc_operands.specs.Verdicts.{Judged, judge_then}
-use Rattle.cc_operands.specs.declared.operator.Operator.{Operator}
 use Rattle.cc_operands.specs.declared.operator.Operator.TheVariants as operator
 use Rattle.cc_operand_rules.proofs.Rules.{move-rule}
 use Rattle.cc_primary.specs.Operators.{binary_by}
 use Rattle.cc_primary.specs.Values.{gives, valued, value_found}
-use Rattle.cc_program.specs.declared.expr.Expr.{Expr, Const, Null, FuncAddr, AddrOf, Move, out-Expr}
+use Rattle.cc_program.specs.declared.expr.Expr.{Expr, Const, FuncAddr, AddrOf, Move, out-Expr}
 use Rattle.cc_program.specs.declared.expr.Expr.TheOpen as one
 use Rattle.cc_program.specs.declared.expr.Expr.TheVariants as expr_rolls
 use Rattle.cc_program.specs.declared.expr.Place.{Place, Element}
@@ -58,7 +54,7 @@ use Rattle.cc_tree.specs.declared.tree.Tree as tree
 use Rattle.cc_tree.specs.declared.tree.Tree.{Tree}
 use Rattle.cc_tree.specs.declared.tree.Tree.TheVariants as tree_rolls
 use Rattle.cc_type_trees.specs.Types.{plain_suffix}
-use Rattle.cc_value_trees.specs.Values.{IsIndex, ShowsPart, ShowsAtIndex, ElementInParens, AtIndex, ShowsAddress, AddressInParens, ShowsNull, ShowsFunction, ShowsElementAddress, ShowsWholeAddress, ShowsPast}
+use Rattle.cc_value_trees.specs.Values.{IsIndex, ShowsAtIndex, ElementInParens, AtIndex, ShowsAddress, AddressInParens, ShowsNull, ShowsFunction, ShowsElementAddress, ShowsWholeAddress, ShowsPast}
 use Rattle.cc_shown_constants.proofs.Constants.{paren-tree, zero-found}
 use Rattle.cc_shown_operations.specs.Known.{TypesStand}
 use Rattle.cc_shown_operations.specs.Numbers.{Numbers}
@@ -66,11 +62,11 @@ use Rattle.cc_shown_operations.proofs.Levels.{one-is, when-is}
 use Rattle.cc_shown_operations.proofs.Trees.{tree-at, name-tree}
 use Rattle.cc_shown_types.specs.Numbers.{type_numbered, sig_numbered, value_numbered, place_type_numbered}
 use Rattle.cc_shown_types.proofs.Complete.{points-numbered}
-use Rattle.cc_shown_types.proofs.Kept.{pointer-numbered, assignable-numbered, scalar-stays, address-at}
+use Rattle.cc_shown_types.proofs.Kept.{pointer-numbered, assignable-numbered, address-at}
 use Rattle.cc_shown_values.specs.Known.{KnowsStatics}
 use Rattle.cc_shown_values.specs.Numbers.{address_numbered}
 use Rattle.cc_shown_values.proofs.Located.{expression-at, located-at, leaf-pointer, assigned-address, assigned-null, no-null}
-use Rattle.cc_shown_values.proofs.Parts.{IsCompletePlace, element-complete, index-value, subscript_type, subscript-tree, PartShown, element-located, part-shown}
+use Rattle.cc_shown_values.proofs.Parts.{IsCompletePlace, element-complete, index-value, subscript-tree, PartShown, element-located, part-shown}
 
 pointer-by : (t : CType) (x : shape.Shape-F Shape CType Sig) → is_pointer (pointer_shape t x) ≡ true
 pointer-by t shape.Void = refl

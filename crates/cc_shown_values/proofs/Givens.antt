@@ -1,25 +1,24 @@
 -- Initialisers that show first values give them: by induction over what shows them, where structures nest as deep as their
 -- members are complete.
-use Rattle.std.proofs.Common.{◌≡◌, ◌≤◌, ◌<◌, ℕ, ℤ, pos, zero, suc, Bool, true, false, ◌||◌, List, [], ◌∷◌, ◌++◌, map, replicate, length, take, Option, Some, None, Ok, refl, ap, sym, ◌∙◌, subst, append_assoc, slice_get, nat_lt, arith}
+use Rattle.std.proofs.Common.{◌≡◌, ◌≤◌, ◌<◌, ℕ, ℤ, zero, suc, Bool, true, false, ◌||◌, List, [], ◌∷◌, ◌++◌, map, replicate, length, take, Option, Some, None, Ok, refl, ap, sym, ◌∙◌, subst, append_assoc, slice_get, nat_lt, arith}
 use Rattle.std.proofs.lemmas.List.{append-nil, map-append}
 use Rattle.std.specs.Prelude.{option_to_list, is_some, if◌then◌else◌}
 use Rattle.std.specs.List.{All}
-use Rattle.cc_expression_trees.specs.Constants.{ShowsInteger, InParens as IntegerInParens, ShowsNatural, ShowsNegative, ShowsLeast, IsZero, Zero, ZeroInParens, number_of}
+use Rattle.cc_expression_trees.specs.Constants.{ShowsInteger, InParens as IntegerInParens, ShowsNatural, ShowsNegative, ShowsLeast, IsZero, Zero, ZeroInParens}
 use Rattle.cc_designators.specs.Designators.{TypedExpr, IsValue}
-use Rattle.cc_initial.specs.Addresses.{integer_leaf, leaf_by, leaf_of}
+use Rattle.cc_initial.specs.Addresses.{integer_leaf, leaf_of}
 use Rattle.cc_initialisers.specs.Contents.{Contents, Scalar, Elements, Inside, contents_over, of_members, members_at, structure_inside}
-use Rattle.cc_initialisers.specs.Initialisers.{Step, Give, Initialiser, Init, Filled, is_scalar_object, both_filled, repeated, started, elided, all_taken, nothing_left, initialiser_of, initialised, here as given_here, text_in, expression_text, sole_text}
+use Rattle.cc_initialisers.specs.Initialisers.{Step, Give, Initialiser, Init, Filled, is_scalar_object, both_filled, repeated, started, elided, nothing_left, initialiser_of, initialised, here as given_here, text_in, expression_text, sole_text}
 use Rattle.cc_initialisers.proofs.Layers.{initialiser-One, initialiser-Many}
 use Rattle.cc_lex.specs.declared.token.Mark.TheVariants as m
 use Rattle.cc_num.specs.declared.int_type.IntType.{IntType}
 use Rattle.cc_num.specs.Integers.{is_value_of}
 use Rattle.cc_objects.specs.Values.{objects_in, leaf_given, no_leaf}
-use Rattle.cc_operands.specs.Assignments.{assigned}
-use Rattle.cc_operands.specs.Operands.{Operand, integer, constancy}
+use Rattle.cc_operands.specs.Operands.{Operand, integer}
 use Rattle.cc_operands.specs.Verdicts.{Judged, judge_then}
 use Rattle.cc_operand_rules.proofs.Choices.{constancy-of}
 use Rattle.cc_shown_values.proofs.Located.{integer-assigned}
-use Rattle.cc_primary.specs.Values.{value_found, valued}
+use Rattle.cc_primary.specs.Values.{valued}
 use Rattle.cc_program.specs.declared.func.Func.{Func}
 use Rattle.cc_program.specs.declared.object.Object.{Object}
 use Rattle.cc_program.specs.declared.program.Program.{Program}
@@ -33,7 +32,6 @@ use Rattle.cc_program.specs.declared.value.Leaf.{Leaf}
 use Rattle.cc_program.specs.declared.value.Leaf.TheVariants as leaf
 use Rattle.cc_scopes.specs.State.{State, structures_of}
 use Rattle.cc_scopes.specs.Verdicts.{Found, whole, and_then}
-use Rattle.cc_syntax.specs.Folding.{Constant}
 use Rattle.cc_syntax.specs.Initial.{OfInteger, OfPointer, OfArray, OfStructure, NoElement, Element, NoMember, Member}
 use Rattle.cc_syntax.specs.Programs.{AreLeaves, AreElements, AreMembers, is_address}
 use Rattle.cc_syntax.specs.Sizes.{AreSized}
@@ -43,25 +41,22 @@ use Rattle.cc_syntax.proofs.Parts.{all_at}
 use Rattle.cc_syntax.proofs.Prefixes.{both_true, get_taken}
 use Rattle.cc_syntax.proofs.TypeLayouts.{parts_complete, complete-opens}
 use Rattle.cc_terms.specs.InTurn.{in_turn}
-use Rattle.cc_terms.specs.Terms.{tree_of, here}
 use Rattle.cc_tree.specs.declared.at.At.{At}
-use Rattle.cc_tree.specs.declared.tree.Declr.TheOpen as trees
-use Rattle.cc_tree.specs.declared.tree.Tree as tree
 use Rattle.cc_tree.specs.declared.tree.Tree.{Tree, out-Tree}
 use Rattle.cc_tree.specs.declared.tree.Tree.TheVariants as tree_rolls
 use Rattle.cc_tree.specs.declared.unit.Given as given
 use Rattle.cc_tree.specs.declared.unit.Given.{Given}
-use Rattle.cc_type_trees.specs.Types.{suffix, plain_suffix}
-use Rattle.cc_typed_declarations.specs.Plans.{as_given, step_found, step_done}
-use Rattle.cc_value_trees.specs.Values.{IsIndex, ShowsAtIndex, ElementInParens, AtIndex, ShowsAddress, AddressInParens, ShowsNull, ShowsFunction, ShowsElementAddress, ShowsWholeAddress, ShowsPast, ShowsGiven, ShowsNumber, ShowsPointer, ShowsArray, ShowsStructure, ShowsEach, ShowsNone, ShowsMore}
-use Rattle.cc_shown_constants.proofs.Constants.{IsNumber, integer-found}
+use Rattle.cc_type_trees.specs.Types.{plain_suffix}
+use Rattle.cc_typed_declarations.specs.Plans.{as_given, step_done}
+use Rattle.cc_value_trees.specs.Values.{ShowsAddress, AddressInParens, ShowsNull, ShowsFunction, ShowsElementAddress, ShowsWholeAddress, ShowsPast, ShowsGiven, ShowsNumber, ShowsPointer, ShowsArray, ShowsStructure, ShowsEach, ShowsNone, ShowsMore}
+use Rattle.cc_shown_constants.proofs.Constants.{integer-found}
 use Rattle.cc_shown_operations.specs.Known.{TypesStand}
 use Rattle.cc_shown_operations.specs.Numbers.{Numbers}
-use Rattle.cc_shown_types.specs.Numbers.{type_numbered, named_numbered, structure_numbered}
+use Rattle.cc_shown_types.specs.Numbers.{type_numbered, named_numbered}
 use Rattle.cc_shown_types.proofs.Numbering.{level-at}
 use Rattle.cc_shown_types.proofs.Words.{in-turn-append}
 use Rattle.cc_shown_values.specs.Known.{KnowsStatics}
-use Rattle.cc_shown_values.specs.Numbers.{leaf_numbered, address_numbered}
+use Rattle.cc_shown_values.specs.Numbers.{leaf_numbered}
 use Rattle.cc_shown_values.proofs.Addresses.{LeafShown, address-shown}
 use Rattle.cc_shown_values.proofs.Contents.{contents-at, IsForm, started-shown, scalar-alone, list-alone-taken, list-is-form, scalar-is-form, members-plain}
 

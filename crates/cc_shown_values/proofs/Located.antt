@@ -1,15 +1,15 @@
 -- Where an address constant lies, opened at a level.
-use Rattle.std.proofs.Common.{◌≡◌, ℕ, ℤ, pos, Bool, true, false, ◌||◌, ◌&&◌, List, Option, Some, None, Ok, refl, ap, sym, ◌∙◌}
+use Rattle.std.proofs.Common.{◌≡◌, ℕ, ℤ, Bool, true, false, ◌||◌, ◌&&◌, List, Option, Ok, refl, ap, ◌∙◌}
 use Rattle.std.specs.Prelude.{if◌then◌else◌}
-use Rattle.cc_initial.specs.Addresses.{Located, ConstantExpression, AtNull, AtFunction, AtSpot, expr_step, place_step, constant_expression, place_located, located, address_leaf, leaf_by}
+use Rattle.cc_initial.specs.Addresses.{Located, ConstantExpression, expr_step, place_step, constant_expression, place_located, located, address_leaf, leaf_by}
 use Rattle.cc_num.specs.declared.int_type.IntType.{IntType}
 use Rattle.cc_num.specs.Integers.{is_value_of}
 use Rattle.cc_num.proofs.Conversions.{converted-same}
 use Rattle.cc_num.proofs.ResultLaws.{value_from_test}
 use Rattle.cc_num.specs.declared.target.Target.{Target}
 use Rattle.cc_operands.specs.Assignments.{assigned, assigned_pointer}
-use Rattle.cc_operands.specs.Operands.{Operand, operand, integer, folded, cast_to, converted_from, constant_at, constancy, is_pointer, is_to_void, is_zero_constant, is_null_at, is_null_constant, null_of}
-use Rattle.cc_operands.specs.Verdicts.{Judged, must}
+use Rattle.cc_operands.specs.Operands.{Operand, operand, integer, folded, cast_to, converted_from, constant_at, is_pointer, is_to_void, is_zero_constant, is_null_at, is_null_constant, null_of}
+use Rattle.cc_operands.specs.Verdicts.{must}
 use Rattle.cc_operands.specs.declared.rule.Rule.TheVariants as rule
 use Rattle.cc_operand_rules.proofs.Choices.{constancy-of}
 use Rattle.cc_operand_rules.proofs.Rules.{with-scalar, without-structure}
@@ -18,7 +18,6 @@ use Rattle.cc_program.specs.declared.expr.Expr.TheOpen as one
 use Rattle.cc_program.specs.declared.expr.Place.{Place, out-Place, map-Place, fold_out-Place}
 use Rattle.cc_program.specs.declared.types.CType.{CType}
 use Rattle.cc_program.specs.declared.types.Structure.{Structure}
-use Rattle.cc_program.specs.declared.value.Leaf.{Leaf}
 use Rattle.cc_syntax.specs.Folding.{Constant, NoConstant, converted_constant}
 use Rattle.cc_syntax.specs.SameTypes.{same_int}
 use Rattle.cc_syntax.proofs.SameLemmas.{int_same}

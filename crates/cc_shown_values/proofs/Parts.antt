@@ -1,19 +1,16 @@
 -- What a path leads to in a static object is typed to a place, and lies where the path leads.
-use Rattle.std.proofs.Common.{◌≡◌, ℕ, ℤ, pos, Bool, true, false, not, ◌&&◌, ◌||◌, List, [], ◌∷◌, ◌++◌, Option, Some, None, Ok, refl, ap, sym, ◌∙◌, subst, slice_get, nat_lt, nat_le, arith}
+use Rattle.std.proofs.Common.{◌≡◌, ℕ, ℤ, pos, Bool, true, false, List, [], ◌∷◌, ◌++◌, Option, Some, None, Ok, refl, ap, sym, ◌∙◌, subst, slice_get, nat_lt, nat_le, arith}
 use Rattle.std.specs.Prelude.{is_some, if◌then◌else◌, take}
-use Rattle.std.specs.List.{All}
 use Rattle.cc_bodies.specs.Names.{member_name}
 use Rattle.cc_designators.specs.Designators.{TypedExpr, IsPlace, IsValue}
 use Rattle.cc_designators.specs.Postfix.{element, element_by, dot}
-use Rattle.cc_initial.specs.Addresses.{Spot, Located, ConstantExpression, NotConstant, Trapping, AtSpot, constant_expression, place_located, into, path_into, element_found, element_spot, element_in, element_by as element_located, element_at as located_element, member_spot, whole_object}
+use Rattle.cc_initial.specs.Addresses.{Spot, Located, ConstantExpression, Trapping, AtSpot, constant_expression, place_located, into, path_into, element_found, element_spot, element_in, element_by as element_located, element_at as located_element, member_spot, whole_object}
 use Rattle.cc_num.specs.declared.int_type.IntType.{IntType}
 use Rattle.cc_objects.specs.Values.{objects_in}
 use Rattle.cc_operands.specs.Operands.{Operand, integer, number_type}
-use Rattle.cc_operands.specs.Verdicts.{Judged, must}
-use Rattle.cc_operands.specs.declared.rule.Rule.TheVariants as rule
 use Rattle.cc_operand_rules.proofs.Rules.{with-scalar}
 use Rattle.cc_primary.specs.Values.{valued, value_found, designating}
-use Rattle.cc_program.specs.declared.expr.Expr.{Expr, Const}
+use Rattle.cc_program.specs.declared.expr.Expr.{Const}
 use Rattle.cc_program.specs.declared.expr.Expr.TheOpen as one
 use Rattle.cc_program.specs.declared.expr.Expr.TheVariants as expr_rolls
 use Rattle.cc_program.specs.declared.expr.Place.{Place, Static, Element, Member}
@@ -30,17 +27,15 @@ use Rattle.cc_program.specs.declared.value.Part.{Part}
 use Rattle.cc_program.specs.declared.value.Part.TheVariants as part
 use Rattle.cc_scopes.specs.State.{State, structures_of}
 use Rattle.cc_scopes.specs.Verdicts.{Found, whole, and_then}
-use Rattle.cc_syntax.specs.Expressions.{of_one}
 use Rattle.cc_syntax.specs.Initial.{bound_shape, bound_of, is_below, step_into, leads_to_element}
 use Rattle.cc_syntax.specs.Sizes.{AreSized}
-use Rattle.cc_syntax.specs.Types.{Named, has_members, complete_shape, is_complete}
-use Rattle.cc_syntax.specs.Values.{ValueType, Integer, PlaceType, DevicePlace, ObjectPlace, FunctionPlace, is_scalar, object_place, element_shape, element_of, member_shape, member_in, member_at, member_of}
+use Rattle.cc_syntax.specs.Types.{Named, complete_shape, is_complete}
+use Rattle.cc_syntax.specs.Values.{PlaceType, DevicePlace, ObjectPlace, FunctionPlace, object_place, element_shape, element_of, member_shape, member_in, member_at, member_of}
 use Rattle.cc_syntax.proofs.Parts.{all_at}
 use Rattle.cc_syntax.proofs.Prefixes.{both_true, complete-taken}
 use Rattle.cc_syntax.proofs.TypeLayouts.{parts_complete, complete-opens}
 use Rattle.cc_terms.specs.Operations.{subscript_base, subscript_judged, as_value}
 use Rattle.cc_terms.specs.Terms.{tree_of, here}
-use Rattle.cc_terms.proofs.Arms.{tree_in, tree-out}
 use Rattle.cc_tree.specs.declared.at.At.{At}
 use Rattle.cc_tree.specs.declared.tree.Tree as tree
 use Rattle.cc_tree.specs.declared.tree.Tree.{Tree}
@@ -52,9 +47,9 @@ use Rattle.cc_value_trees.specs.Values.{IsIndex, Index, IndexInParens, ShowsPart
 use Rattle.cc_shown_constants.proofs.Constants.{paren-tree, number-tree}
 use Rattle.cc_shown_operations.specs.Known.{TypesStand}
 use Rattle.cc_shown_operations.specs.Numbers.{Numbers}
-use Rattle.cc_shown_operations.proofs.Members.{MemberIs, member-is, dot-is}
+use Rattle.cc_shown_operations.proofs.Members.{member-is, dot-is}
 use Rattle.cc_shown_operations.proofs.Trees.{tree-at, name-tree}
-use Rattle.cc_shown_types.specs.Numbers.{type_numbered, place_type_numbered}
+use Rattle.cc_shown_types.specs.Numbers.{place_type_numbered}
 use Rattle.cc_shown_types.proofs.Kept.{object-numbered, element-at}
 use Rattle.cc_shown_types.proofs.Numbering.{level, level-at}
 use Rattle.cc_shown_values.specs.Known.{KnowsStatics}

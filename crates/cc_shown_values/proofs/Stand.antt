@@ -19,7 +19,6 @@ use Rattle.cc_syntax.specs.Names.{are_names, local_names}
 use Rattle.cc_syntax.specs.SameTypes.{is_void_shape}
 use Rattle.cc_syntax.specs.Types.{Named}
 use Rattle.cc_syntax.specs.Sound.{IsSound, is_object, have_ids, is_member, is_structure, are_structures}
-use Rattle.cc_syntax.proofs.Parts.{all_at}
 use Rattle.cc_syntax.proofs.Prefixes.{both_true}
 use Rattle.cc_shown_operations.specs.Known.{TypesStand}
 use Rattle.cc_shown_expressions.proofs.Stand.{tested-at}

@@ -1,22 +1,22 @@
-use Rattle.std.proofs.Common.{◌≡◌, ◌<◌, ◌≤◌, ◌+◌, ℕ, zero, suc, Bool, true, false, not, ◌&&◌, List, [], ◌∷◌, ◌++◌, map, length, take, Option, Some, None, Ok, refl, ap, sym, ◌∙◌, subst, append_assoc, slice_get, nat_lt, arith}
+use Rattle.std.proofs.Common.{◌≡◌, ◌<◌, ◌≤◌, ◌+◌, ℕ, zero, suc, Bool, true, false, List, [], ◌∷◌, ◌++◌, map, length, take, Some, Ok, refl, ap, sym, ◌∙◌, subst, append_assoc, slice_get, nat_lt, arith}
 use Rattle.std.proofs.lemmas.Bool.Decides.{nat_tests}
 use Rattle.std.proofs.lemmas.List.{append-nil, map-append}
 use Rattle.std.specs.Prelude.{if◌then◌else◌}
 use Rattle.std.proofs.lemmas.Option.{slice_get_within}
-use Rattle.std.specs.List.{list_all, list_any}
-use Rattle.std.specs.Str.{bytes_eq}
+use Rattle.std.specs.List.{list_all}
 use Rattle.cc_item_trees.specs.Items.{ShowsMembers}
 use Rattle.cc_num.specs.declared.target.Target.{Target}
 use Rattle.cc_program.specs.declared.program.Program.{Program}
 use Rattle.cc_program.specs.declared.program.Roles.{Roles}
 use Rattle.cc_program.specs.declared.types.CType.{CType}
 use Rattle.cc_program.specs.declared.types.Structure.{Structure}
-use Rattle.cc_scopes.specs.State.{State, structures_of, layouts_of}
+use Rattle.cc_scopes.specs.State.{structures_of, layouts_of}
 use Rattle.cc_scopes.specs.declared.designated.Tagged.TheVariants.{StructureTag}
 use Rattle.cc_shown_declarators.proofs.Names.{apart-before}
 use Rattle.cc_syntax.specs.Names.{are_names, local_names}
 use Rattle.cc_syntax.specs.Sound.{IsSound, have_ids, is_member, is_structure, are_structures}
-use Rattle.cc_syntax.specs.Types.{Named}
+use Rattle.cc_scopes.specs.Structures.{completed}
+use Rattle.cc_syntax.specs.Types.{Named, has_members}
 use Rattle.cc_syntax.proofs.Prefixes.{both_true}
 use Rattle.cc_terms.specs.Structures.{members_found}
 use Rattle.cc_terms.specs.Terms.{members_here}
@@ -25,12 +25,13 @@ use Rattle.cc_tree.specs.declared.tree.MemberDecl.{MemberDecl}
 use Rattle.cc_words.specs.Names.{is_name, are_distinct}
 use Rattle.cc_shown_types.specs.Known.{KnowsStructures}
 use Rattle.cc_shown_types.specs.Numbers.{named_numbered}
-use Rattle.cc_shown_structures.specs.Order.{appearance, is_among, order_before, structure_number, with_first, with_members}
+use Rattle.cc_shown_structures.specs.Order.{appearance, order_before, structure_number, with_first, with_members}
 use Rattle.cc_shown_structures.specs.States.{first_state}
-use Rattle.cc_shown_structures.proofs.Announced.{begun, earlier-names}
-use Rattle.cc_shown_structures.proofs.Front.{Front, front-of, first-within, begins-behind, order-whole}
-use Rattle.cc_shown_structures.proofs.Members.{AreLeft, Before, all-members}
-use Rattle.cc_shown_structures.proofs.Orders.{begins-itself, first-there}
+use Rattle.cc_shown_structures.proofs.Announced.{begun, earlier-names, member-names}
+use Rattle.cc_shown_structures.proofs.Closed.{members-apart, order-apart, closed-state}
+use Rattle.cc_shown_structures.proofs.Front.{Front, front-of, first-within, members-passed, members-keep, order-next, begins-behind, order-whole}
+use Rattle.cc_shown_structures.proofs.Members.{AreLeft, Before, is-then, all-members}
+use Rattle.cc_shown_structures.proofs.Orders.{begins-itself, first-apart, first-there}
 use Rattle.cc_shown_structures.proofs.Standing.{IsThen, knows-then, same-numbers, whole-program, program_then, number_then}
 use Rattle.cc_shown_structures.proofs.laws.structures_are_declared.Goals as goal
 
@@ -74,6 +75,25 @@ module _ (p : Program) (roles : Roles) (sound : IsSound p) (k : ℕ) (s : Struct
   members : (ms : List (At MemberDecl)) → ShowsMembers p.structures s.members ms → members_found (map (members_here p.target roles) ms) (first_state p k (with_first k (order_before p k)))
       ≡ Ok (map (named_numbered (structure_number p)) s.members, first_state p k (with_members s.members (with_first k (order_before p k))))
   members ms h = (all-members p roles sound k s there [] s.members ms h refl (are-left [] s.members parts.1 distinct) (with_first k (order_before p k)) before (begins-behind p sound k s there)).0
+
+  -- ---- behind its members
+
+  abbrev order : List ℕ
+  order = with_members s.members (with_first k (order_before p k))
+
+  behind : Before p roles sound k s there s.members (with_members s.members (with_first k (order_before p k)))
+  behind =
+      let q = front-of p sound k within-all in
+      let r = members-passed p sound k s there 0 [] s.members (with_first k (order_before p k)) (λ m l f. let z : 0 + m ≡ m = omega arith in ap (slice_get s.members) z ∙ f) (begun p k (order_before p k) q.passed) (first-within p sound k s (order_before p k) there q.within) in
+      record { passed = r.0; own = members-keep p sound k s.members (with_first k (order_before p k)) (first-there k (order_before p k)); within = r.1 }
+
+  closed : has_members (Some s) ≡ true → completed p.target (structure_number p k) (map (named_numbered (structure_number p)) s.members) (first_state p k (order_before p (suc k))) ≡ first_state p (suc k) (order_before p (suc k))
+  closed full =
+      let is = order-next p sound k s there in
+      let known = is-then p roles sound k s there s.members order behind (begins-behind p sound k s there) in
+      subst (λ (o : List ℕ). completed p.target (structure_number p k) (map (named_numbered (structure_number p)) s.members) (first_state p k o) ≡ first_state p (suc k) o) (sym is)
+      (closed-state p sound k s there full order known behind.own (members-apart s.members (with_first k (order_before p k)) (first-apart k (order_before p k) (order-apart p k)))
+      (λ m l f. member-names p sound k s s.members [] order there (sym (append-nil s.members)) behind.own behind.passed m l f))
 
 module _ (p : Program) (sound : IsSound p) where
   count : ℕ
@@ -125,5 +145,6 @@ module _ (p : Program) (sound : IsSound p) where
 pub returns : goal.returns
 returns c = record {
   members = λ p roles sound k s e ms h. members p roles sound k s e ms h;
+  completions = λ p sound k s e full. closed p p.roles sound k s e full;
   known = λ p sound. known p sound;
 }

@@ -1,6 +1,5 @@
-use Rattle.std.proofs.Common.{◌≡◌, ◌≤◌, ℕ, Bool, true, false, List, [], map, length, Some, None, Ok, refl, ap, sym, ◌∙◌, subst, slice_get, take, arith}
+use Rattle.std.proofs.Common.{◌≡◌, ◌≤◌, ℕ, Bool, true, false, List, [], map, length, Some, None, Ok, refl, ap, sym, ◌∙◌, subst, slice_get, arith}
 use Rattle.std.proofs.lemmas.List.{take_all, append-nil}
-use Rattle.std.specs.List.{list_all}
 use Rattle.cc_initialisers.specs.Contents.{contents_over, structure_inside}
 use Rattle.cc_initialisers.specs.Initialisers.{initialised, here as given_here}
 use Rattle.cc_objects.specs.Values.{leaf_given, no_leaf}
@@ -18,7 +17,7 @@ use Rattle.cc_program.specs.declared.types.Structure.{Structure}
 use Rattle.cc_syntax.specs.Programs.{AreLeaves, IsInitial}
 use Rattle.cc_syntax.specs.Sizes.{AreSized}
 use Rattle.cc_syntax.specs.Sound.{IsSound, is_object}
-use Rattle.cc_syntax.specs.Types.{Named, is_complete}
+use Rattle.cc_syntax.specs.Types.{is_complete}
 use Rattle.cc_syntax.proofs.Parts.{all_at}
 use Rattle.cc_syntax.proofs.StructureLemmas.{structures_sized, object_complete}
 use Rattle.cc_tree.specs.declared.at.At.{At}
