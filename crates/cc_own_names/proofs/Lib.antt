@@ -1,4 +1,0 @@
-pub mod Steps
-pub mod Declarations
-pub mod Bodies
-pub mod Units
