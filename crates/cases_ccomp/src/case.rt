@@ -87,8 +87,16 @@ impl Case {
         Ok(true)
     }
 
+    /// Puts the names of the files behind words.
+    pub fn put_names(&self, alloc: Global, words: &mut Vec<String>) -> Result<(), AllocError> {
+        for file in &self.files {
+            words.push(file.name.to_string(alloc)?)?;
+        }
+        Ok(())
+    }
+
     /// The store, of which no call was made yet.
-    fn store(&self, alloc: Global) -> Result<MemoryStore, WriteFault> {
+    pub fn store(&self, alloc: Global) -> Result<MemoryStore, WriteFault> {
         let mut store = MemoryStore::new(alloc);
         for file in &self.files {
             write_whole(&mut store, file.name.as_str(), &file.text)?;
@@ -137,12 +145,13 @@ impl Case {
     }
 }
 
-/// The table, where the words name one.
+/// The table, where the words of `pack` name one.
 fn table(words: &[String]) -> Option<&str> {
     match words {
-        [_, _, _, table, _, _, ..] => match table.as_str() {
-            "-" => None,
-            name => Some(name),
+        [command, _, _, table, _, _, ..] => match (command.as_str(), table.as_str()) {
+            ("pack", "-") => None,
+            ("pack", name) => Some(name),
+            _ => None,
         },
         _ => None,
     }

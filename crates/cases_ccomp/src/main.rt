@@ -8,13 +8,17 @@
 //!     failing N         has the store's call of this number fail
 //!     deaf N            has the sink's call of this number fail
 //!     run WORD..        does what the words say
+//!     trace STEPS | INPUTS | ARRIVALS | PROFILE
+//!                       runs the program of the files, over rows that are parted by blanks
 //!
 //! and of a run it prints the status, the line that explains it, the calls of the store and its faults, what was
 //! said and the faults of the sink where there was anything to say, and what the output `o.c` holds then, and the
-//! table where the words name one. A quoted text ends at the last quote of its line.
+//! table where the words name one. Behind a line `trace` it prints the rows that were said. A quoted text ends at the last
+//! quote of its line.
 #![tactic(auto)]
 
 mod case;
+mod trace;
 
 use case::Case;
 use std::io;
@@ -34,6 +38,10 @@ fn main(rt: HostRuntime) -> io::Result<()> {
             }
             "run" => {
                 case.run(&rt, rest)?;
+                runs = runs.saturating_add(1);
+            }
+            "trace" => {
+                trace::run(&rt, &case, rest)?;
                 runs = runs.saturating_add(1);
             }
             _ => {
