@@ -33,8 +33,8 @@ use Rattle.cc_pieces.specs.Constants.{is_narrow, constant}
 use Rattle.cc_pieces.specs.Declarators.{int_name, type_name, qualifiers}
 use Rattle.cc_pieces.specs.declared.types.Inside.TheVariants.{Nothing}
 use Rattle.cc_pieces.specs.Pieces.{Pieces, punct, ident, plain_number, space, flat, opening, closing}
-use Rattle.cc_piece_tokens.specs.Parts.{Fits, is_inside, is_apart}
-use Rattle.cc_piece_tokens.proofs.Spelling.{name-parts}
+use Rattle.cc_expression_trees.specs.Parts.{Fits, is_inside, is_apart}
+use Rattle.cc_expression_trees.proofs.Spelling.{name-parts}
 use Rattle.cc_bodies.specs.Exprs.{Text, unary_mark, binary_mark, movement_mark, unary, binary, choice, conversion, constant_text, narrow, null_text, null_cast, void_null, device_by, device_text, Written, WrittenPlace, expr_written, place_written, written, place, expr, place_text}
 use Rattle.cc_bodies.specs.Names.{named, local_name, object_name, func_name, member_name, member_shape, member_at}
 use Rattle.cc_bodies.specs.Spots.{Spot, Whole, Operand, Converted, Pointed, wraps_operation, wraps_conversion, converts_constant}
@@ -44,10 +44,10 @@ use Rattle.cc_syntax.specs.Operators.{function_type, when}
 use Rattle.cc_syntax.specs.SameTypes.{alike}
 use Rattle.cc_syntax.specs.Types.{Named}
 use Rattle.cc_syntax.specs.Values.{PlaceType, DevicePlace, ObjectPlace, FunctionPlace, Integer}
-use Rattle.cc_type_trees.specs.Soft.{IsSoft}
-use Rattle.cc_type_trees.proofs.Bases.{int-fits}
-use Rattle.cc_type_trees.proofs.Fitting.{name-apart, open-apart, close-apart, bracket-apart, unbracket-apart, number-fits}
-use Rattle.cc_type_trees.proofs.Parameters.{nothing-fits}
+use Rattle.cc_expression_trees.specs.Soft.{IsSoft}
+use Rattle.cc_expression_trees.proofs.Bases.{int-fits}
+use Rattle.cc_expression_trees.proofs.TypeFitting.{name-apart, open-apart, close-apart, bracket-apart, unbracket-apart, number-fits}
+use Rattle.cc_expression_trees.proofs.Parameters.{nothing-fits}
 use Rattle.cc_expression_trees.specs.Names.{HasNames}
 use Rattle.cc_expression_trees.proofs.Numbers.{is_first, Starts, constant-fits}
 use Rattle.cc_expression_trees.proofs.Typed.{held, IsOperand, IsOperandPlace, OperandParts, OperandPlaceParts, parts-of, place-parts-of}

@@ -13,8 +13,8 @@ use Rattle.cc_tree.specs.Tokens.{Name, at as at_of}
 use Rattle.cc_bodies.specs.Exprs.{spaced}
 use Rattle.cc_bodies.specs.Spots.{Spot, Whole, Operand, Converted, Pointed, wraps_operation, wraps_conversion}
 use Rattle.cc_pieces.specs.Pieces.{Pieces, punct, ident, spelled, opening, closing}
-use Rattle.cc_piece_tokens.specs.Laid.{laid}
-use Rattle.cc_expression_trees.specs.Read.{ReadsTree, tightest, tightest_place}
+use Rattle.cc_expression_trees.specs.Laid.{laid}
+use Rattle.cc_expression_trees.specs.ReadExpressions.{ReadsTree, tightest, tightest_place}
 
 pub record ReadsName (S : TypeName → Type 0) (at : ℕ) (qs ps : Pieces) : Type 0 where
   pub type : TypeName

@@ -23,12 +23,12 @@ use Rattle.cc_tree.proofs.NewNames.{name_of-Nothing, name_of-Pointer}
 use Rattle.cc_pieces.specs.Constants.{has_unsigned_letter, long_letters_of, of_type, negative, least, constant}
 use Rattle.cc_pieces.specs.Declarators.{int_name, qualifiers}
 use Rattle.cc_pieces.specs.Pieces.{Pieces, punct, keyword, plain_number, space, spelled}
-use Rattle.cc_piece_tokens.specs.Laid.{laid}
-use Rattle.cc_type_trees.specs.Types.{suffix, plain_suffix, Plain, DeclaresNothing, DeclaresPointer, NamesType, ShowsTypeName}
-use Rattle.cc_type_trees.proofs.Words.{closed-apart}
-use Rattle.cc_type_trees.proofs.Bases.{int-read, void-read, ReadsBase}
+use Rattle.cc_expression_trees.specs.Laid.{laid}
+use Rattle.cc_expression_trees.specs.Types.{suffix, plain_suffix, Plain, DeclaresNothing, DeclaresPointer, NamesType, ShowsTypeName}
+use Rattle.cc_expression_trees.proofs.Words.{closed-apart}
+use Rattle.cc_expression_trees.proofs.Bases.{int-read, void-read, ReadsBase}
 use Rattle.cc_expression_trees.specs.Constants.{qualified, plain, number_of, ShowsInteger, InParens, ShowsNatural, ShowsNegative, ShowsLeast, IsZero, Zero, void_pointer, IsVoidNull, VoidNull, NullInParens}
-use Rattle.cc_expression_trees.specs.Read.{ReadsTree}
+use Rattle.cc_expression_trees.specs.ReadExpressions.{ReadsTree}
 use Rattle.cc_expression_trees.proofs.Forms.{ReadsName, in-parens, cast-read}
 
 -- ---- integers

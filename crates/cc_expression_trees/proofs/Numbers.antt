@@ -19,11 +19,11 @@ use Rattle.cc_lex.specs.declared.token.Mark.TheVariants as m
 use Rattle.cc_lex.proofs.Booleans.{and-true}
 use Rattle.cc_pieces.specs.Constants.{has_unsigned_letter, long_letters_of, of_type, negative, least, constant}
 use Rattle.cc_pieces.specs.Pieces.{Pieces, punct, plain_number, space, flat}
-use Rattle.cc_piece_tokens.specs.Parts.{Fits, is_apart}
-use Rattle.cc_piece_tokens.proofs.Numerals.{IsNumeral, numeral}
-use Rattle.cc_type_trees.specs.Soft.{IsSoft}
-use Rattle.cc_type_trees.specs.Types.{suffix}
-use Rattle.cc_type_trees.proofs.Fitting.{number-apart, close-apart, number-fits}
+use Rattle.cc_expression_trees.specs.Parts.{Fits, is_apart}
+use Rattle.cc_expression_trees.proofs.Numerals.{IsNumeral, numeral}
+use Rattle.cc_expression_trees.specs.Soft.{IsSoft}
+use Rattle.cc_expression_trees.specs.Types.{suffix}
+use Rattle.cc_expression_trees.proofs.TypeFitting.{number-apart, close-apart, number-fits}
 
 -- an operand begins with a letter, a digit or a parenthesis
 abbrev pub is_first : ℕ → Bool

@@ -35,12 +35,12 @@ use Rattle.cc_bodies.proofs.Links.{level, place_level, place_type_linked}
 use Rattle.cc_syntax.specs.Programs.{place_type, null_type}
 use Rattle.cc_syntax.specs.Operators.{function_type}
 use Rattle.cc_syntax.specs.SameTypes.{alike}
-use Rattle.cc_type_trees.specs.Types.{ShowsTypeName, plain_suffix}
-use Rattle.cc_type_trees.proofs.Parameters.{Reads}
-use Rattle.cc_type_trees.proofs.Names.{type-name-of}
+use Rattle.cc_expression_trees.specs.Types.{ShowsTypeName, plain_suffix}
+use Rattle.cc_expression_trees.proofs.Parameters.{Reads}
+use Rattle.cc_expression_trees.proofs.TypeNames.{type-name-of}
 use Rattle.cc_expression_trees.specs.Constants.{plain, ShowsInteger, IsZero, IsVoidNull}
 use Rattle.cc_expression_trees.specs.Exprs.{IsBinary, AnOperation, AMovement, ADifference, AComparison, ABoth, AnEither, is_null, ShowsExpr, InParens, ShowsConstant, ShowsNarrow, ShowsNull, ShowsFunction, ShowsRead, ShowsAddress, ShowsUnary, ShowsConversion, ShowsQualified, ShowsBinary, ShowsChoice, ShowsPlace, PlaceInParens, ShowsLocal, ShowsStatic, ShowsDevice, ShowsNumbered, ShowsElement, ShowsMember, ShowsPointed, ShowsPointer, PointerNull, AnotherPointer, ShowsValue, ValueOf, NarrowValue, NullValue, ShowsAt}
-use Rattle.cc_expression_trees.specs.Read.{ReadsTree, tightest, tightest_place}
+use Rattle.cc_expression_trees.specs.ReadExpressions.{ReadsTree, tightest, tightest_place}
 use Rattle.cc_expression_trees.proofs.Forms.{ReadsName, showing, operation-loose, conversion-loose, place-loose, place-most, within-place, IsLevel, in-parens, wrapped, name-read, prefix-read, cast-read, binary-read, choice-read, subscript-read, member-read}
 use Rattle.cc_expression_trees.proofs.Integers.{constant-read, zero-read, int-name-read, device-name-read, void-null-read}
 use Rattle.cc_expression_trees.proofs.Types.{pointer-type-reads, null-reads}

@@ -15,10 +15,10 @@ use Rattle.cc_syntax.specs.Programs.{kind_in, null_type, pointer_type}
 use Rattle.cc_syntax.specs.Operators.{pointer_in, void_pointer_in, first_of, is_unqualified}
 use Rattle.cc_syntax.specs.SameTypes.{is_void_shape}
 use Rattle.cc_syntax.specs.Values.{ValueType, is_void, pointer_to}
-use Rattle.cc_type_trees.proofs.Levels.{scalar-some}
-use Rattle.cc_type_trees.proofs.Parameters.{Reads}
-use Rattle.cc_type_trees.proofs.Declarators.{type-reads, void-level, pointer-level, FitsDeclarator, type-fits, void-fitting, pointer-fitting}
-use Rattle.cc_type_trees.proofs.Names.{there}
+use Rattle.cc_expression_trees.proofs.Levels.{scalar-some}
+use Rattle.cc_expression_trees.proofs.Parameters.{Reads}
+use Rattle.cc_expression_trees.proofs.Declarators.{type-reads, void-level, pointer-level, FitsDeclarator, type-fits, void-fitting, pointer-fitting}
+use Rattle.cc_expression_trees.proofs.TypeNames.{there}
 use Rattle.cc_expression_trees.specs.Constants.{qualified}
 
 -- what holds of types that may stand in a program, of void, and of a pointer to what it holds of, holds of these types

@@ -15,7 +15,7 @@ use Rattle.cc_tree.specs.declared.at.At.{At}
 use Rattle.cc_tree.specs.declared.tree.Tree as tree
 use Rattle.cc_tree.specs.declared.tree.Tree.{Tree}
 use Rattle.cc_tree.specs.declared.tree.TypeName.{TypeName}
-use Rattle.cc_type_trees.specs.Types.{suffix, plain_suffix, ShowsTypeName}
+use Rattle.cc_expression_trees.specs.Types.{suffix, plain_suffix, ShowsTypeName}
 
 -- a type with qualifiers of its own
 abbrev pub qualified : Bool → Bool → shape.Shape-F Shape CType Sig → CType

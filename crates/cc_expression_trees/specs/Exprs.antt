@@ -27,7 +27,7 @@ use Rattle.cc_tree.specs.declared.tree.Tree as tree
 use Rattle.cc_tree.specs.declared.tree.Tree.{Tree}
 use Rattle.cc_tree.specs.declared.tree.TypeName.{TypeName}
 use Rattle.cc_tree.specs.Tokens.{Name}
-use Rattle.cc_type_trees.specs.Types.{plain_suffix, ShowsTypeName}
+use Rattle.cc_expression_trees.specs.Types.{plain_suffix, ShowsTypeName}
 use Rattle.cc_expression_trees.specs.Constants.{qualified, plain, ShowsInteger, IsZero, IsVoidNull}
 
 -- an operation that is written with a mark between two operands

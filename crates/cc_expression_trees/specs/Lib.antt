@@ -1,4 +1,10 @@
 pub mod Constants
+pub mod Examples
 pub mod Exprs
-pub mod Read
+pub mod Laid
 pub mod Names
+pub mod Parts
+pub mod ReadExpressions
+pub mod ReadTypes
+pub mod Soft
+pub mod Types

@@ -1,1 +1,3 @@
 pub mod External
+pub mod Initialises
+pub mod Values

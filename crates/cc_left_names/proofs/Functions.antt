@@ -2,15 +2,15 @@
 use Rattle.std.proofs.Common.{◌≡◌, ℕ, Bool, true, false, List, [], ◌∷◌, map, Option, None, refl, ap, subst}
 use Rattle.std.specs.Prelude.{zip}
 use Rattle.std.proofs.lemmas.List.{length-map}
-use Rattle.cc_left_units.proofs.Views.{left_renumbered}
-use Rattle.cc_left_units.specs.Laid.{AreLaid}
-use Rattle.cc_linked_contents.proofs.Relocated.{function_relocated, test_stays}
+use Rattle.cc_standing_units.proofs.LeftViews.{left_renumbered}
+use Rattle.cc_standing_units.specs.Laid.{AreLaid}
+use Rattle.cc_linked_programs.proofs.Relocated.{function_relocated, test_stays}
 use Rattle.cc_num.specs.declared.target.Target.{Target}
 use Rattle.cc_numbering.specs.Names.{function_in}
 use Rattle.cc_numbering.specs.Numbers.{numbers_of}
 use Rattle.cc_numbering.specs.Structures.{all_named_in}
 use Rattle.cc_numbering.specs.Units.{ids_of, unit_left}
-use Rattle.cc_own_views.specs.Views.{view_of}
+use Rattle.cc_standing_units.specs.Views.{view_of}
 use Rattle.cc_program.proofs.Each.{Each}
 use Rattle.cc_program.specs.declared.func.Entry.{Entry}
 use Rattle.cc_program.specs.declared.func.Func.{Func}

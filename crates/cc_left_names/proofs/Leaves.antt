@@ -2,13 +2,13 @@
 use Rattle.std.proofs.Common.{◌≡◌, ◌∙◌, inl, inr, ℕ, true, List, [], ◌∷◌, map, Option, Some, None, slice_get, refl, ap, sym, subst}
 use Rattle.std.specs.Prelude.{option_and_then}
 use Rattle.std.specs.List.{flat_map}
-use Rattle.cc_left_units.proofs.Views.{id-at, left_renumbered}
-use Rattle.cc_left_units.specs.Laid.{AreLaid}
+use Rattle.cc_standing_units.proofs.LeftViews.{id-at, left_renumbered}
+use Rattle.cc_standing_units.specs.Laid.{AreLaid}
 use Rattle.cc_num.specs.declared.target.Target.{Target}
 use Rattle.cc_numbering.specs.Names.{own_id}
 use Rattle.cc_numbering.specs.Numbers.{numbers_of}
 use Rattle.cc_numbering.specs.Units.{ids_of, unit_left}
-use Rattle.cc_own_views.specs.Views.{view_of}
+use Rattle.cc_standing_units.specs.Views.{view_of}
 use Rattle.cc_program.proofs.Each.{Each}
 use Rattle.cc_program.specs.declared.types.CType.{CType}
 use Rattle.cc_program.specs.declared.value.Address.{Address}

@@ -1,10 +1,10 @@
 ghost use Rattle.std.specs.Prelude.{◌≡◌, Bool, true, false, List, None, Option};
-ghost use Rattle.cc_left_units.specs.Laid.{AreLaid};
+ghost use Rattle.cc_standing_units.specs.Laid.{AreLaid};
 ghost use Rattle.cc_num.specs.declared.target.Target.{Target};
 ghost use Rattle.cc_numbering.specs.Names.{function_in};
 ghost use Rattle.cc_numbering.specs.Numbers.{numbers_of};
 ghost use Rattle.cc_numbering.specs.Units.{ids_of, unit_left};
-ghost use Rattle.cc_own_views.specs.Views.{view_of};
+ghost use Rattle.cc_standing_units.specs.Views.{view_of};
 ghost use Rattle.cc_program.specs.declared.func.Entry.{Entry};
 ghost use Rattle.cc_program.specs.declared.func.Func.{Func};
 ghost use Rattle.cc_program.specs.declared.types.CType.{CType};

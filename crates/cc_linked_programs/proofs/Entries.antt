@@ -7,17 +7,17 @@ use Rattle.cc_causes.specs.Entries.{entry_at, entry_by, is_in_roles, is_listed}
 use Rattle.cc_definitions.specs.Definitions.{thing_at}
 use Rattle.cc_definitions.specs.Handlers.{entry_given, entry_in, has_handler_type, is_named_main, may_be_handler}
 use Rattle.cc_link.specs.Linked.{name_or_none, program}
-use Rattle.cc_linked_contents.proofs.Named.{NameOf, has_name_by, name_there}
+use Rattle.cc_linked_programs.proofs.Named.{NameOf, has_name_by, name_there}
 use Rattle.cc_linked_names.specs.Given.{name_at, reserved_names}
-use Rattle.cc_linked_things.proofs.Lists.{found-in}
-use Rattle.cc_linked_units.proofs.Definitions.{DefinedAt, MentionAt, mention_at, thing-within}
+use Rattle.cc_linked_programs.proofs.ThingLists.{found-in}
+use Rattle.cc_linked_programs.proofs.Definitions.{DefinedAt, MentionAt, mention_at, thing-within}
 use Rattle.cc_num.specs.declared.target.Target.{Target}
 use Rattle.cc_program.specs.declared.func.Entry.{Entry}
 use Rattle.cc_program.specs.declared.func.Entry.TheVariants as entry
 use Rattle.cc_program.specs.declared.func.Func.{Func}
 use Rattle.cc_program.specs.declared.program.Program.{Program}
 use Rattle.cc_program.specs.declared.program.Roles.{Roles}
-use Rattle.cc_program_views.proofs.Handlers.{not_bad}
+use Rattle.cc_linked_programs.proofs.HandlerViews.{not_bad}
 use Rattle.cc_sound_sources.specs.Units.{unit_view, IsSoundKind, IsSoundUnit, is_attributed}
 use Rattle.cc_structures.proofs.Elements.{In, any-in}
 use Rattle.cc_structures.specs.Structures.{Known, Numbering}

@@ -2,10 +2,10 @@
 use Rattle.std.proofs.Common.{◌≡◌, ◌∙◌, ◌<◌, ℕ, true, true≢false, List, length, Option, Some, None, is_some, slice_get, refl, ap, sym}
 use Rattle.std.specs.Prelude.{option_and_then}
 use Rattle.cc_definitions.specs.Definitions.{thing_at}
-use Rattle.cc_linked_contents.proofs.Apart.{one_place}
-use Rattle.cc_linked_things.proofs.Agreeing.{external_identity, first_of}
-use Rattle.cc_linked_units.proofs.Definitions.{MentionAt, mention_at}
-use Rattle.cc_linked_views.proofs.Defined.{each_named}
+use Rattle.cc_linked_programs.proofs.Apart.{one_place}
+use Rattle.cc_linked_programs.proofs.Agreeing.{external_identity, first_of}
+use Rattle.cc_linked_programs.proofs.Definitions.{MentionAt, mention_at}
+use Rattle.cc_linked_programs.proofs.Defined.{each_named}
 use Rattle.cc_num.specs.declared.target.Target.{Target}
 use Rattle.cc_sound_sources.specs.Units.{IsSoundUnit}
 use Rattle.cc_structures.proofs.Elements.{in-any}

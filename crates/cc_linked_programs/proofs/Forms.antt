@@ -7,10 +7,10 @@ use Rattle.cc_causes.specs.Entries.{entry_at}
 use Rattle.cc_definitions.specs.Definitions.{thing_at, has_definition}
 use Rattle.cc_definitions.specs.Handlers.{has_name, is_named_main, takes_and_gives_nothing}
 use Rattle.cc_link.specs.Linked.{all_ids, ids_in, program}
-use Rattle.cc_linked_contents.proofs.Contents.{FuncIn}
+use Rattle.cc_linked_programs.proofs.Contents.{FuncIn}
 use Rattle.cc_linked_names.specs.Given.{name_at, reserved_names}
-use Rattle.cc_linked_units.proofs.Definitions.{DefinedAt, FunctionAt, thing-within}
-use Rattle.cc_linked_units.proofs.Units.{units_of}
+use Rattle.cc_linked_programs.proofs.Definitions.{DefinedAt, FunctionAt, thing-within}
+use Rattle.cc_linked_programs.proofs.Units.{units_of}
 use Rattle.cc_num.specs.declared.int_type.IntType.TheVariants as int
 use Rattle.cc_num.specs.declared.target.Target.{Target}
 use Rattle.cc_program.specs.declared.func.Func.{Func}
@@ -20,7 +20,7 @@ use Rattle.cc_program.specs.declared.types.CType.{CType}
 use Rattle.cc_program.specs.declared.types.Shape.{Shape, out-Shape}
 use Rattle.cc_program.specs.declared.types.Shape.TheOpen as shape
 use Rattle.cc_program.specs.declared.types.Sig.{Sig, out-Sig}
-use Rattle.cc_relocated_types.proofs.Types.{unqualified_kept, void_kept}
+use Rattle.cc_relocated_units.proofs.Types.{unqualified_kept, void_kept}
 use Rattle.cc_sound_sources.specs.Units.{IsSoundUnit, is_main_name, is_main_sig}
 use Rattle.cc_structures.proofs.WordLaws.{level-renumbered, renumbered_level, sig_level}
 use Rattle.cc_structures.specs.Structures.{AreNumbered, Known, Numbering}

@@ -9,16 +9,16 @@ use Rattle.cc_causes.specs.Entries.{entry_by, is_bad_handler, is_in_roles, is_li
 use Rattle.cc_definitions.specs.Definitions.{thing_at, defined, functions, is_function, numbers_below}
 use Rattle.cc_definitions.specs.Handlers.{entry_given, has_name, takes_and_gives_nothing}
 use Rattle.cc_link.specs.Linked.{program}
-use Rattle.cc_linked_contents.proofs.Lists.{below-lower, list_all-in}
+use Rattle.cc_linked_programs.proofs.ContentLists.{below-lower, list_all-in}
 use Rattle.cc_linked_names.specs.Given.{file_names as given_names, name_at, reserved_names, tags as given_tags}
-use Rattle.cc_linked_things.proofs.Agreeing.{second_none}
-use Rattle.cc_linked_things.proofs.Lists.{in-found, not-found}
-use Rattle.cc_linked_units.proofs.Definitions.{DefinedAt, defined_at, function_at}
-use Rattle.cc_linked_units.proofs.Functions.{func_from, func_there}
-use Rattle.cc_linked_units.proofs.Used.{in-slice}
-use Rattle.cc_linked_views.proofs.Numbers.{in-defined}
-use Rattle.cc_linked_views.proofs.Shapes.{no_object}
-use Rattle.cc_linked_views.specs.FunctionTypes.{is_function_shape}
+use Rattle.cc_linked_programs.proofs.Agreeing.{second_none}
+use Rattle.cc_linked_programs.proofs.ThingLists.{in-found, not-found}
+use Rattle.cc_linked_programs.proofs.Definitions.{DefinedAt, defined_at, function_at}
+use Rattle.cc_linked_programs.proofs.Functions.{func_from, func_there}
+use Rattle.cc_linked_programs.proofs.Used.{in-slice}
+use Rattle.cc_linked_programs.proofs.ViewNumbers.{in-defined}
+use Rattle.cc_linked_programs.proofs.Shapes.{no_object}
+use Rattle.cc_linked_programs.specs.FunctionTypes.{is_function_shape}
 use Rattle.cc_num.specs.declared.target.Target.{Target}
 use Rattle.cc_program.specs.declared.func.Entry.{Entry}
 use Rattle.cc_program.specs.declared.func.Func.{Func}

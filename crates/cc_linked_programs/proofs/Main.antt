@@ -11,18 +11,18 @@ use Rattle.cc_definitions.specs.Definitions.{thing_at, defined, definition, func
 use Rattle.cc_definitions.specs.Handlers.{has_name, is_named_main}
 use Rattle.cc_link.specs.Linked.{program}
 use Rattle.cc_linked_names.specs.Given.{file_names as given_names, name_at, reserved_names, tags as given_tags}
-use Rattle.cc_linked_things.proofs.Agreeing.{second_none}
-use Rattle.cc_linked_units.proofs.Definitions.{MentionAt, function_at, mention_at}
-use Rattle.cc_linked_units.proofs.Functions.{func_from, func_there}
-use Rattle.cc_linked_views.proofs.Numbers.{in-defined}
-use Rattle.cc_linked_views.proofs.Shapes.{function_is}
-use Rattle.cc_linked_views.specs.FunctionTypes.{is_function_type}
+use Rattle.cc_linked_programs.proofs.Agreeing.{second_none}
+use Rattle.cc_linked_programs.proofs.Definitions.{MentionAt, function_at, mention_at}
+use Rattle.cc_linked_programs.proofs.Functions.{func_from, func_there}
+use Rattle.cc_linked_programs.proofs.ViewNumbers.{in-defined}
+use Rattle.cc_linked_programs.proofs.Shapes.{function_is}
+use Rattle.cc_linked_programs.specs.FunctionTypes.{is_function_type}
 use Rattle.cc_num.specs.declared.target.Target.{Target}
 use Rattle.cc_program.specs.declared.func.Func.{Func}
 use Rattle.cc_program.specs.declared.object.Object.{Object}
 use Rattle.cc_program.specs.declared.program.Program.{Program}
 use Rattle.cc_program.specs.declared.program.Roles.{Roles}
-use Rattle.cc_program_views.proofs.Functions.{body_of}
+use Rattle.cc_linked_programs.proofs.FunctionViews.{body_of}
 use Rattle.cc_sound_sources.specs.Units.{unit_view, IsSoundKind, IsSoundUnit}
 use Rattle.cc_structures.proofs.Elements.{In, any-in, in-any}
 use Rattle.cc_structures.proofs.OrderLemmas.{filter-in}
@@ -40,7 +40,7 @@ use Rattle.cc_words.specs.Names.{are_distinct, is_name}
 use Rattle.cc_linked_programs.proofs.Entries.{is_there_by}
 use Rattle.cc_linked_programs.proofs.Places.{PlacedBy, bytes-itself, distinct-left, distinct-places, distinct-right, in-place, placed-by}
 use Rattle.cc_linked_programs.specs.Named.{IsMainNamed}
-use Rattle.cc_linked_units.proofs.Used.{in-slice}
+use Rattle.cc_linked_programs.proofs.Used.{in-slice}
 
 -- some function is the one that runs first
 pub main_any : (numbering : Numbering) (ts : List Thing) → cause_of_things numbering ts ≡ None → list_any is_main ts ≡ true

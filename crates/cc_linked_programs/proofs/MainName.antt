@@ -7,10 +7,10 @@ use Rattle.std.proofs.lemmas.Bool.{eq-eqb}
 use Rattle.std.proofs.lemmas.List.Folds.{list_any-append}
 use Rattle.std.proofs.lemmas.Option.{slice_get-map}
 use Rattle.cc_definitions.specs.Definitions.{thing_at, has_a_name, is_named_by, is_nameless, named, numbers_of}
-use Rattle.cc_linked_contents.proofs.Named.{has_name_by, in-numbered, numbered-in}
+use Rattle.cc_linked_programs.proofs.Named.{has_name_by, in-numbered, numbered-in}
 use Rattle.cc_linked_names.specs.Given.{file_names, reserved_names, tags, thing_wish, wish_or}
-use Rattle.cc_linked_things.proofs.Lists.{Positioned, positioned}
-use Rattle.cc_linked_units.proofs.Definitions.{thing-within}
+use Rattle.cc_linked_programs.proofs.ThingLists.{Positioned, positioned}
+use Rattle.cc_linked_programs.proofs.Definitions.{thing-within}
 use Rattle.cc_names.specs.Names.{Wish, Own, Numbered, is_among, name_for, names_for, new_name, with_number}
 use Rattle.cc_num.specs.declared.target.Target.{Target}
 use Rattle.cc_program.specs.declared.program.Roles.{Roles}

@@ -5,9 +5,9 @@ use Rattle.std.proofs.lemmas.Option.{get_or_from_slice_get}
 use Rattle.cc_causes.specs.Causes.{cause_of_things, is_main}
 use Rattle.cc_definitions.specs.Definitions.{thing_at}
 use Rattle.cc_definitions.specs.Handlers.{is_named_main}
-use Rattle.cc_linked_things.proofs.Lists.{in-found}
-use Rattle.cc_linked_units.proofs.Definitions.{defined_at}
-use Rattle.cc_linked_views.proofs.Defined.{at_all}
+use Rattle.cc_linked_programs.proofs.ThingLists.{in-found}
+use Rattle.cc_linked_programs.proofs.Definitions.{defined_at}
+use Rattle.cc_linked_programs.proofs.Defined.{at_all}
 use Rattle.cc_names.specs.Names.{is_among}
 use Rattle.cc_num.specs.declared.target.Target.{Target}
 use Rattle.cc_program.specs.declared.program.Roles.{Roles}

@@ -3,13 +3,13 @@ use Rattle.std.proofs.Common.{◌≡◌, ℕ, List, Option, Some, None, option_m
 use Rattle.cc_causes.specs.Causes.{bad_handler, cause_of_things}
 use Rattle.cc_causes.specs.declared.fault.LinkFault.TheVariants as fault
 use Rattle.cc_link.specs.Linked.{Links, program}
-use Rattle.cc_linked_contents.proofs.Contents.{func_in, function_sound, object_sound}
-use Rattle.cc_linked_contents.proofs.Devices.{devices_apart, devices_fit}
-use Rattle.cc_linked_contents.proofs.Lists.{all-in, list_all-in}
+use Rattle.cc_linked_programs.proofs.Contents.{func_in, function_sound, object_sound}
+use Rattle.cc_linked_programs.proofs.Devices.{devices_apart, devices_fit}
+use Rattle.cc_linked_programs.proofs.ContentLists.{all-in, list_all-in}
 use Rattle.cc_linked_names.specs.Given.{name_at, reserved_names, tags}
 use Rattle.cc_linked_structures.proofs.Standing.{in-order-program, named-first-program}
-use Rattle.cc_linked_things.proofs.Agreeing.{first_none, second_none}
-use Rattle.cc_linked_units.proofs.Units.{all_stand, tags-as_many, units_of}
+use Rattle.cc_linked_programs.proofs.Agreeing.{first_none, second_none}
+use Rattle.cc_linked_programs.proofs.Units.{all_stand, tags-as_many, units_of}
 use Rattle.cc_num.specs.declared.target.Target.{Target}
 use Rattle.cc_program.specs.declared.func.Func.{Func}
 use Rattle.cc_program.specs.declared.object.Object.{Object}

@@ -1,1 +1,4 @@
+pub mod Few
+pub mod FunctionTypes
 pub mod Named
+pub mod NamedThings

@@ -3,18 +3,18 @@ use Rattle.std.proofs.Common.{◌≡◌, ◌≤◌, ◌+◌, ℕ, Bool, true, fa
 use Rattle.std.specs.Prelude.{not, is_some, if◌then◌else◌}
 use Rattle.std.specs.List.{list_all}
 use Rattle.std.proofs.lemmas.List.{length-map}
-use Rattle.cc_counted_trees.specs.Counts.{each_count, declr_count, spec_count, line_count}
+use Rattle.cc_named_units.specs.Counts.{each_count, declr_count, spec_count, line_count}
 use Rattle.cc_declarators.specs.Declarators.{derived_type}
 use Rattle.cc_declarators.specs.Located.{located}
 use Rattle.cc_linkage.specs.Linkage.{declared}
 use Rattle.cc_linkage.specs.declared.linkage.DeclaredAs.{DeclaredAs}
-use Rattle.cc_named_declarations.proofs.Bodies.{body_lines_add}
-use Rattle.cc_named_declarations.proofs.Left.{IsOwnName, defined_named, function_adds}
-use Rattle.cc_named_terms.proofs.Adding.{each_changed, changed-length, adds_through, adds_same, unmoved, chained, behind, done, placed}
-use Rattle.cc_named_terms.proofs.Cycle.{declr_adds, front_few, rest_few}
-use Rattle.cc_named_terms.proofs.Laws.{specifiers_add}
-use Rattle.cc_named_terms.specs.Named.{Limits, is_own, AreFewNames, IsNamedEntry, IsNamedParameter, AreNamedParameters, IsNamedNext, Adds}
-use Rattle.cc_named_trees.specs.Names.{each_named, tag_named, declr_named, spec_named, line_named, member_named}
+use Rattle.cc_named_units.proofs.Bodies.{body_lines_add}
+use Rattle.cc_named_units.proofs.Left.{IsOwnName, defined_named, function_adds}
+use Rattle.cc_named_units.proofs.Adding.{each_changed, changed-length, adds_through, adds_same, unmoved, chained, behind, done, placed}
+use Rattle.cc_named_units.proofs.Cycle.{declr_adds, front_few, rest_few}
+use Rattle.cc_named_units.proofs.Laws.{specifiers_add}
+use Rattle.cc_named_units.specs.Named.{Limits, is_own, AreFewNames, IsNamedEntry, IsNamedParameter, AreNamedParameters, IsNamedNext, Adds}
+use Rattle.cc_named_units.specs.Names.{each_named, tag_named, declr_named, spec_named, line_named, member_named}
 use Rattle.cc_num.specs.declared.target.Target.{Target}
 use Rattle.cc_objects.specs.Names.{function_judged}
 use Rattle.cc_operand_types.proofs.Operands.{ok_is}

@@ -1,17 +1,17 @@
 -- What the typed unit of a text has.
 use Rattle.std.proofs.Common.{◌≡◌, ◌≤◌, ◌<◌, ◌^◌, ℕ, zero, suc, Bool, true, false, List, [], ◌∷◌, length, Option, Some, None, refl, subst, arith}
-use Rattle.cc_counted_trees.proofs.Statements.{sentence_read}
-use Rattle.cc_counted_trees.proofs.Texts.{text_spelled}
+use Rattle.cc_named_units.proofs.CountedStatements.{sentence_read}
+use Rattle.cc_named_units.proofs.CountedTexts.{text_spelled}
 use Rattle.std.specs.Prelude.{not, ◌||◌, is_some, nat_lt, slice_index_or, if◌then◌else◌}
 use Rattle.std.specs.List.{All, list_all, list_any}
 use Rattle.std.specs.Str.{bytes_eq}
 use Rattle.std.proofs.lemmas.Slice.Eq.{bytes_eq-Decides}
 use Rattle.cc_lex.specs.Tokens.{Tokens}
 use Rattle.cc_lex.specs.declared.token.Token.{Token}
-use Rattle.cc_named_terms.specs.Named.{is_own}
-use Rattle.cc_named_trees.proofs.Statements.{sentence_named}
-use Rattle.cc_named_trees.proofs.Texts.{text_named}
-use Rattle.cc_named_trees.specs.Names.{unit_named}
+use Rattle.cc_named_units.specs.Named.{is_own}
+use Rattle.cc_named_units.proofs.NamedStatements.{sentence_named}
+use Rattle.cc_named_units.proofs.NamedTexts.{text_named}
+use Rattle.cc_named_units.specs.Names.{unit_named}
 use Rattle.cc_num.specs.declared.target.Target.{Target}
 use Rattle.cc_numbering.specs.Units.{ids_of}
 use Rattle.cc_program.specs.declared.expr.Intr.TheVariants as intr

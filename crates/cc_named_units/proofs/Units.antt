@@ -5,12 +5,12 @@ use Rattle.std.specs.List.{list_all}
 use Rattle.std.proofs.lemmas.Bool.{lt-ltb}
 use Rattle.std.proofs.lemmas.List.{length-map}
 use Rattle.std.proofs.lemmas.List.Folds.{list_all-append}
-use Rattle.cc_counted_trees.specs.Counts.{each_count, decl_count, item_count, unit_count}
-use Rattle.cc_named_declarations.proofs.Declarations.{declaration_adds}
-use Rattle.cc_named_terms.proofs.Adding.{adds_through, before, done}
-use Rattle.cc_named_terms.proofs.Cycle.{front_few, rest_few}
-use Rattle.cc_named_terms.specs.Named.{Limits, is_own, AreFewNames, IsNamedStructure, HasFewLocals, IsNamedEntry, IsNamedState, Adds}
-use Rattle.cc_named_trees.specs.Names.{each_named, tag_named, item_named, unit_named}
+use Rattle.cc_named_units.specs.Counts.{each_count, decl_count, item_count, unit_count}
+use Rattle.cc_named_units.proofs.Declarations.{declaration_adds}
+use Rattle.cc_named_units.proofs.Adding.{adds_through, before, done}
+use Rattle.cc_named_units.proofs.Cycle.{front_few, rest_few}
+use Rattle.cc_named_units.specs.Named.{Limits, is_own, AreFewNames, IsNamedStructure, HasFewLocals, IsNamedEntry, IsNamedState, Adds}
+use Rattle.cc_named_units.specs.Names.{each_named, tag_named, item_named, unit_named}
 use Rattle.cc_num.specs.declared.target.Target.{Target}
 use Rattle.cc_numbering.specs.Names.{kind_in, name_in}
 use Rattle.cc_numbering.specs.Numbers.{unless, only_named, order_of, numbers_of}

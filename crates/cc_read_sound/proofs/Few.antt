@@ -4,13 +4,13 @@ use Rattle.std.specs.Prelude.{flat_map}
 use Rattle.std.specs.List.{AllZip}
 use Rattle.std.proofs.lemmas.Bool.{lt-ltb}
 use Rattle.std.proofs.lemmas.List.Sums.{sum_by-cons}
-use Rattle.cc_counted_trees.proofs.Texts.{text_spelled}
+use Rattle.cc_named_units.proofs.CountedTexts.{text_spelled}
 use Rattle.cc_lex.specs.declared.token.Token.{Token}
 use Rattle.cc_named_units.proofs.Texts.{few_there}
 use Rattle.cc_num.specs.declared.target.Target.{Target}
 use Rattle.cc_program.specs.declared.program.Roles.{Roles}
-use Rattle.cc_program_names.specs.Few.{FewTexts}
-use Rattle.cc_program_names.proofs.Numbers.{length-filter_map}
+use Rattle.cc_linked_programs.specs.Few.{FewTexts}
+use Rattle.cc_linked_programs.proofs.NameNumbers.{length-filter_map}
 use Rattle.cc_read.specs.Texts.{IsTypedText, identifier_in}
 use Rattle.cc_structures.specs.Structures.{known_in, known_from, structures}
 use Rattle.cc_structures.specs.View.{units_of}

@@ -7,7 +7,7 @@ use Rattle.cc_num.specs.declared.target.Target.{Target}
 use Rattle.cc_program.specs.declared.program.Program.{Program}
 use Rattle.cc_program.specs.declared.program.Roles.{Roles}
 use Rattle.cc_read.specs.Texts.{IsTypedText, Reads}
-use Rattle.cc_sound_programs.proofs.Whole.{sources_sound}
+use Rattle.cc_linked_programs.proofs.Whole.{sources_sound}
 use Rattle.cc_syntax.specs.Sound.{IsSound}
 use Rattle.cc_things.specs.declared.text.Text.{Text}
 use Rattle.cc_read_sound.specs.Texts.{UnitsAreSound}

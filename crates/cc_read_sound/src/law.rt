@@ -3,7 +3,7 @@ ghost use Rattle.std.specs.List.{AllZip, sum};
 ghost use Rattle.cc_num.specs.declared.target.Target.{Target};
 ghost use Rattle.cc_program.specs.declared.program.Program.{Program};
 ghost use Rattle.cc_program.specs.declared.program.Roles.{Roles};
-ghost use Rattle.cc_program_names.specs.Few.{FewTexts};
+ghost use Rattle.cc_linked_programs.specs.Few.{FewTexts};
 ghost use Rattle.cc_read.specs.Texts.{IsTypedText, Reads};
 ghost use Rattle.cc_read_sound.specs.Texts.{UnitsAreSound};
 ghost use Rattle.cc_syntax.specs.Sound.{IsSound};

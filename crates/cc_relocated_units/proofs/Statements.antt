@@ -22,11 +22,11 @@ use Rattle.cc_reduced_types.specs.Kept.{Keeps}
 use Rattle.cc_reduced_types.proofs.Bodies.{follows_kept}
 use Rattle.cc_reduced_types.proofs.Changes.{changed, GoodLevel, IsChange, body_stays}
 use Rattle.cc_reduced_types.proofs.Follows.{Follows}
-use Rattle.cc_relocated_types.specs.Renumbering.{Renumbers, RenumberedLocals, value_renumbered}
-use Rattle.cc_relocated_types.proofs.Rules.{Numbered, mapped_follows, some_exact}
-use Rattle.cc_relocated_types.proofs.Typed.{front_each, back_each, numbered_typed, members}
-use Rattle.cc_relocated_types.proofs.Types.{void_kept}
-use Rattle.cc_relocated_types.proofs.Values.{scalar_same}
+use Rattle.cc_relocated_units.specs.Renumbering.{Renumbers, RenumberedLocals, value_renumbered}
+use Rattle.cc_relocated_units.proofs.Rules.{Numbered, mapped_follows, some_exact}
+use Rattle.cc_relocated_units.proofs.Typed.{front_each, back_each, numbered_typed, members}
+use Rattle.cc_relocated_units.proofs.Types.{void_kept}
+use Rattle.cc_relocated_units.proofs.Values.{scalar_same}
 
 -- ---- what statements ask of a type they ask of it by other numbers
 

@@ -1,6 +1,8 @@
-//! Bodies and first values stay sound by other numbers of structures, objects, devices and functions.
+//! Types, first values and functions keep their meaning when their structures are numbered anew.
 #![tactic(auto)]
 
-mod law;
+mod type_law;
+mod unit_law;
 
-pub use law::relocated_laws;
+pub use type_law::renumbered_laws;
+pub use unit_law::relocated_laws;

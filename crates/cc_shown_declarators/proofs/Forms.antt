@@ -24,7 +24,7 @@ use Rattle.cc_tree.specs.declared.tree.Tree.{Tree, fold-Tree}
 use Rattle.cc_tree.specs.declared.tree.TypeName.{TypeName, fold-TypeName}
 use Rattle.cc_tree.specs.Tokens.{Name}
 use Rattle.cc_shown_declarators.specs.Parameters.{is_function_shape}
-use Rattle.cc_type_trees.specs.Types.{Core, Plain, Function, qualifier_words, plain_suffix, Declares, DeclaresNothing, DeclaresName, DeclaresFunction, InParens, DeclaresPointer, DeclaresArray, DeclaresFunc}
+use Rattle.cc_expression_trees.specs.Types.{Core, Plain, Function, qualifier_words, plain_suffix, Declares, DeclaresNothing, DeclaresName, DeclaresFunction, InParens, DeclaresPointer, DeclaresArray, DeclaresFunc}
 
 abbrev F : Type 0
 F = Option Form

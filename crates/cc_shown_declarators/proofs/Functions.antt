@@ -38,16 +38,16 @@ use Rattle.cc_tree.specs.declared.tree.Declr.TheVariants as declr_rolls
 use Rattle.cc_tree.specs.declared.tree.Params.{Params}
 use Rattle.cc_tree.specs.declared.tree.Tree as tree
 use Rattle.cc_tree.specs.declared.tree.Tree.{Tree}
-use Rattle.cc_type_trees.specs.Types.{qualifier_words, plain_suffix, Core, Function, unnamed, Declares, DeclaresNothing, DeclaresName, DeclaresFunction, InParens, DeclaresPointer, DeclaresArray, DeclaresFunc, ShowsParams}
-use Rattle.cc_shown_types.specs.Known.{KnowsStructures}
-use Rattle.cc_shown_types.specs.Numbers.{type_numbered, sig_numbered}
-use Rattle.cc_shown_types.proofs.Bases.{type-of-fields, shape-of-level}
-use Rattle.cc_shown_types.proofs.Complete.{object-numbered}
-use Rattle.cc_shown_types.proofs.Declared.{declr-at, bound-found, DeclaredAs, base-stands, pointer-type, function-is}
-use Rattle.cc_shown_types.proofs.Derived.{Derivations, Fits, Itself, Further, fits-derived, suffix-function, suffix-array}
-use Rattle.cc_shown_types.proofs.Kept.{void-numbered}
-use Rattle.cc_shown_types.proofs.Numbering.{shape-level, level-at, constant-kept, volatile-kept}
-use Rattle.cc_shown_types.proofs.Standing.{Stands, pointed-not-void, element-is, signature-stands, signature-parts, result-stands, result-breaks, scalar-plain}
+use Rattle.cc_expression_trees.specs.Types.{qualifier_words, plain_suffix, Core, Function, unnamed, Declares, DeclaresNothing, DeclaresName, DeclaresFunction, InParens, DeclaresPointer, DeclaresArray, DeclaresFunc, ShowsParams}
+use Rattle.cc_shown_expressions.specs.Known.{KnowsStructures}
+use Rattle.cc_shown_expressions.specs.Numbers.{type_numbered, sig_numbered}
+use Rattle.cc_shown_expressions.proofs.Bases.{type-of-fields, shape-of-level}
+use Rattle.cc_shown_expressions.proofs.Complete.{object-numbered}
+use Rattle.cc_shown_expressions.proofs.Declared.{declr-at, bound-found, DeclaredAs, base-stands, pointer-type, function-is}
+use Rattle.cc_shown_expressions.proofs.Derived.{Derivations, Fits, Itself, Further, fits-derived, suffix-function, suffix-array}
+use Rattle.cc_shown_expressions.proofs.Kept.{void-numbered}
+use Rattle.cc_shown_expressions.proofs.Numbering.{shape-level, level-at, constant-kept, volatile-kept}
+use Rattle.cc_shown_expressions.proofs.Standing.{Stands, pointed-not-void, element-is, signature-stands, signature-parts, result-stands, result-breaks, scalar-plain}
 use Rattle.cc_shown_declarators.specs.Declared.{IsFunctionDeclared}
 use Rattle.cc_shown_declarators.specs.Parameters.{Entry, entry_numbered, entry_of, HaveNewNames, scope_of}
 use Rattle.cc_shown_declarators.proofs.Names.{AreNew, all-new}

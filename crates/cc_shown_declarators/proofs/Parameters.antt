@@ -47,14 +47,14 @@ use Rattle.cc_tree.specs.declared.tree.Params as params
 use Rattle.cc_tree.specs.declared.tree.Params.{Params}
 use Rattle.cc_tree.specs.declared.tree.Params.TheVariants as params_rolls
 use Rattle.cc_tree.specs.declared.tree.Spec.{Spec}
-use Rattle.cc_type_trees.specs.Types.{Plain, ShowsBase, ShowsParams, ShowsNone, ShowsSome, ShowsParamList, NoParam, MoreParams}
-use Rattle.cc_shown_types.specs.Known.{KnowsStructures}
-use Rattle.cc_shown_types.specs.Numbers.{type_numbered}
-use Rattle.cc_shown_types.proofs.Bases.{specified-found}
-use Rattle.cc_shown_types.proofs.Declared.{params-at, param-at, DeclaredAs, declared}
-use Rattle.cc_shown_types.proofs.Derived.{Derivations, Fits, fits-derived}
-use Rattle.cc_shown_types.proofs.Numbering.{level, type-opens, level-at}
-use Rattle.cc_shown_types.proofs.Standing.{Stands, ScalarShape, IsInteger, IsPointer, scalar-shape, kind-at}
+use Rattle.cc_expression_trees.specs.Types.{Plain, ShowsBase, ShowsParams, ShowsNone, ShowsSome, ShowsParamList, NoParam, MoreParams}
+use Rattle.cc_shown_expressions.specs.Known.{KnowsStructures}
+use Rattle.cc_shown_expressions.specs.Numbers.{type_numbered}
+use Rattle.cc_shown_expressions.proofs.Bases.{specified-found}
+use Rattle.cc_shown_expressions.proofs.Declared.{params-at, param-at, DeclaredAs, declared}
+use Rattle.cc_shown_expressions.proofs.Derived.{Derivations, Fits, fits-derived}
+use Rattle.cc_shown_expressions.proofs.Numbering.{level, type-opens, level-at}
+use Rattle.cc_shown_expressions.proofs.Standing.{Stands, ScalarShape, IsInteger, IsPointer, scalar-shape, kind-at}
 use Rattle.cc_shown_declarators.specs.Parameters.{Entry, entry_numbered, entry_of, entry_names, locals_from, scope_of}
 use Rattle.cc_shown_declarators.proofs.Names.{IsNew, AreNew, not-found, added-behind, locals-append}
 

@@ -8,7 +8,7 @@ use Rattle.cc_program.specs.declared.types.Shape.{Func}
 use Rattle.cc_program.specs.declared.types.Sig.{Sig}
 use Rattle.cc_scopes.specs.State.{State, Scope, Name, structures_of, layouts_of}
 use Rattle.cc_shown_declarators.specs.Parameters.{Entry, entry_numbered, entry_of, scope_of}
-use Rattle.cc_shown_types.specs.Numbers.{type_numbered, sig_numbered}
+use Rattle.cc_shown_expressions.specs.Numbers.{type_numbered, sig_numbered}
 use Rattle.cc_specifiers.specs.Declarators.{type_found}
 use Rattle.cc_specifiers.specs.declared.derivation.Allowed.{Allowed}
 use Rattle.cc_specifiers.specs.declared.derivation.Derivation.{Derivation}

@@ -11,7 +11,7 @@ use Rattle.cc_program.specs.declared.types.Sig.{Sig}
 use Rattle.cc_scopes.specs.State.{Scope, Name}
 use Rattle.cc_scopes.specs.declared.designated.Designated.{Designated}
 use Rattle.cc_scopes.specs.declared.designated.Designated.TheVariants as means
-use Rattle.cc_shown_types.specs.Numbers.{type_numbered}
+use Rattle.cc_shown_expressions.specs.Numbers.{type_numbered}
 use Rattle.cc_specifiers.specs.declared.derivation.Parameter.{Parameter}
 use Rattle.cc_words.specs.Names.{are_distinct}
 

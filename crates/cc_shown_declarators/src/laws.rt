@@ -12,14 +12,14 @@ ghost use Rattle.cc_program.specs.declared.types.Sig.{Sig, out-Sig};
 ghost use Rattle.cc_scopes.specs.State.{Name, State};
 ghost use Rattle.cc_shown_declarators.specs.Declared.{IsFunctionDeclared};
 ghost use Rattle.cc_shown_declarators.specs.Parameters.{Entry, HaveNewNames, is_function_shape};
-ghost use Rattle.cc_shown_types.specs.Known.{KnowsStructures};
+ghost use Rattle.cc_shown_expressions.specs.Known.{KnowsStructures};
 ghost use Rattle.cc_specifiers.specs.Declarators.{declares_function};
 ghost use Rattle.cc_specifiers.specs.declared.derivation.Allowed.{Allowed};
 ghost use Rattle.cc_syntax.specs.Kinds.{is_plain_scalar, is_result};
 ghost use Rattle.cc_syntax.specs.Programs.{kind_in};
 ghost use Rattle.cc_syntax.specs.Sound.{IsSound};
 ghost use Rattle.cc_tree.specs.declared.tree.Declr.{Declr};
-ghost use Rattle.cc_type_trees.specs.Types.{Declares, Function, Plain};
+ghost use Rattle.cc_expression_trees.specs.Types.{Declares, Function, Plain};
 
 /// What holds of declarators that show functions of a program, where its structures are known (C99 6.7.5.3): each declares
 /// its name with the function's type, with the numbers that the translation unit gives to structures, and its parameters,

@@ -1,6 +1,6 @@
 -- The body of a function: its automatic objects, one line each, and its statements.
 use Rattle.std.proofs.Common.{arith, ◌≡◌, inr, ℕ, zero, suc, ◌≤◌, ◌+◌, true, List, [], ◌∷◌, ◌++◌, map, length, take, drop, Some, None, Ok, refl, ap, sym, ◌∙◌, subst, slice_get, append-nil, length-append, add-one}
-use Rattle.cc_function_trees.specs.Units.{ShowsLocals, NoLocal, MoreLocals}
+use Rattle.cc_unit_trees.specs.Units.{ShowsLocals, NoLocal, MoreLocals}
 use Rattle.cc_objects.specs.Linked.{with_automatic}
 use Rattle.cc_operands.specs.Qualified.{without_const}
 use Rattle.cc_program.specs.declared.func.Func.{Func}
@@ -10,7 +10,7 @@ use Rattle.cc_program.specs.declared.types.CType.{CType}
 use Rattle.cc_program.specs.declared.types.Sig.{out-Sig}
 use Rattle.cc_scopes.specs.State.{State, Name, named_here}
 use Rattle.cc_scopes.specs.Verdicts.{Found, and_then}
-use Rattle.cc_statement_trees.specs.Lines.{ShowsStmts}
+use Rattle.cc_unit_trees.specs.Lines.{ShowsStmts}
 use Rattle.cc_syntax.specs.Kinds.{is_object_type}
 use Rattle.cc_syntax.specs.Normal.{devices_in, is_normal_body, next_of}
 use Rattle.cc_syntax.specs.Programs.{kind_in}
@@ -25,15 +25,15 @@ use Rattle.cc_typed_bodies.specs.Meanings.{line_found, lines_found}
 use Rattle.cc_typed_statements.specs.Jumps.{no_jumps}
 use Rattle.cc_typed_statements.specs.declared.jumps.Jumps.{Jumps}
 use Rattle.cc_shown_expressions.proofs.Stand.{tested-at}
-use Rattle.cc_shown_lines.specs.Numbers.{stmt_numbered}
-use Rattle.cc_shown_operations.specs.Known.{KnowsNames, TypesStand}
-use Rattle.cc_shown_operations.specs.Numbers.{Numbers}
+use Rattle.cc_shown_effects.specs.Numbers.{stmt_numbered}
+use Rattle.cc_shown_expressions.specs.KnownNames.{KnowsNames, TypesStand}
+use Rattle.cc_shown_expressions.specs.OperationNumbers.{Numbers}
 use Rattle.cc_shown_definitions.specs.Devices.{DevicesFrom, KnowsDevices, with_devices}
 use Rattle.cc_shown_definitions.proofs.Lines.{meant, lines-typed}
 use Rattle.cc_shown_definitions.proofs.Order.{uses-known}
 use Rattle.cc_shown_definitions.proofs.Statements.{stmts-typed}
 use Rattle.cc_shown_definitions.proofs.Uses.{names-used}
-use Rattle.cc_shown_types.specs.Numbers.{type_numbered}
+use Rattle.cc_shown_expressions.specs.Numbers.{type_numbered}
 use Rattle.cc_shown_definitions.specs.Bodies.{KnowsParameters, with_local_objects}
 use Rattle.cc_shown_definitions.proofs.Known.{Knows, knows-more, knows-all, new-still}
 use Rattle.cc_shown_definitions.proofs.Locals.{local-line}

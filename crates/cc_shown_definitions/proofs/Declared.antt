@@ -5,7 +5,7 @@ use Rattle.std.specs.Option.{is_some}
 use Rattle.std.specs.Str.{bytes_eq}
 use Rattle.std.proofs.lemmas.List.{map-append}
 use Rattle.std.proofs.lemmas.List.Folds.{list_any-append}
-use Rattle.cc_function_trees.specs.Units.{parameters_of}
+use Rattle.cc_unit_trees.specs.Units.{parameters_of}
 use Rattle.cc_operands.specs.Qualified.{plain, unqualified}
 use Rattle.cc_primary.specs.Primary.{intrinsic_named, is_intrinsic}
 use Rattle.cc_program.specs.declared.func.Func.{Func}
@@ -33,17 +33,17 @@ use Rattle.cc_syntax.proofs.SameLemmas.{and_true, shape_of_same}
 use Rattle.cc_tree.specs.declared.at.At.{At}
 use Rattle.cc_tree.specs.declared.tree.Declr.{Declr}
 use Rattle.cc_type.specs.Functions.{local_of, locals_of}
-use Rattle.cc_type_trees.specs.Types.{Function, Declares}
+use Rattle.cc_expression_trees.specs.Types.{Function, Declares}
 use Rattle.cc_words.specs.Names.{is_name, are_distinct}
 use Rattle.cc_shown_definitions.proofs.Names.{own-name}
 use Rattle.cc_shown_declarators.specs.Parameters.{Entry, entry_numbered, entry_of, entry_names, HaveNewNames, locals_from, scope_of}
 use Rattle.cc_shown_declarators.proofs.Functions.{are-scalars, is-declared}
 use Rattle.cc_shown_definitions.specs.Functions.{names_from, parameters_scope, IsDefinition}
 use Rattle.cc_shown_definitions.proofs.Parameters.{taken-at}
-use Rattle.cc_shown_operations.specs.Numbers.{Numbers}
-use Rattle.cc_shown_types.specs.Known.{KnowsStructures}
-use Rattle.cc_shown_types.specs.Numbers.{type_numbered, named_numbered}
-use Rattle.cc_shown_types.proofs.Standing.{scalar-plain}
+use Rattle.cc_shown_expressions.specs.OperationNumbers.{Numbers}
+use Rattle.cc_shown_expressions.specs.Known.{KnowsStructures}
+use Rattle.cc_shown_expressions.specs.Numbers.{type_numbered, named_numbered}
+use Rattle.cc_shown_expressions.proofs.Standing.{scalar-plain}
 
 -- the declarators of a program's definitions give its functions, wherever the structures are known
 abbrev pub DeclaresFunctions : Program → Numbers → Type 0

@@ -1,7 +1,7 @@
 -- The definitions of a program's functions, one behind another.
 use Rattle.std.proofs.Common.{◌≡◌, ℕ, zero, suc, ◌≤◌, true, List, [], ◌∷◌, length, drop, Some, Ok, unwrap_or, refl, ap, sym, ◌∙◌, subst, slice_get, arith}
 use Rattle.std.specs.List.{flat_map, list_all}
-use Rattle.cc_function_trees.specs.Units.{ShowsFunction, ShowsDefinition}
+use Rattle.cc_unit_trees.specs.Units.{ShowsFunction, ShowsDefinition}
 use Rattle.cc_program.specs.declared.func.Func.{Func}
 use Rattle.cc_program.specs.declared.program.Program.{Program}
 use Rattle.cc_scopes.specs.State.{State, with_locals}
@@ -23,8 +23,8 @@ use Rattle.cc_shown_definitions.proofs.KnownOutside.{known-is, may-be-defined, n
 use Rattle.cc_shown_expressions.proofs.Stand.{tested-at, types-stand}
 use Rattle.cc_shown_definitions.specs.Functions.{type_of_function, func_numbered}
 use Rattle.cc_shown_definitions.proofs.Functions.{definition-found}
-use Rattle.cc_shown_operations.specs.Known.{KnowsNames}
-use Rattle.cc_shown_operations.specs.Numbers.{Numbers}
+use Rattle.cc_shown_expressions.specs.KnownNames.{KnowsNames}
+use Rattle.cc_shown_expressions.specs.OperationNumbers.{Numbers}
 use Rattle.cc_shown_definitions.specs.Devices.{KnowsDevices, with_devices}
 use Rattle.cc_shown_definitions.proofs.Order.{next-least, uses-known}
 use Rattle.cc_shown_definitions.proofs.Uses.{names-used}

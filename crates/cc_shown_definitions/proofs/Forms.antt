@@ -28,10 +28,10 @@ use Rattle.cc_tree.specs.declared.tree.Spec.{Spec}
 use Rattle.cc_tree.specs.declared.tree.Tree as tree
 use Rattle.cc_tree.specs.declared.tree.Tree.{Tree}
 use Rattle.cc_tree.specs.declared.tree.TypeName.{TypeName}
-use Rattle.cc_type_trees.specs.Types.{Core, Plain, plain_suffix, qualifier_words, Declares, DeclaresNothing, DeclaresName, DeclaresFunction, InParens, DeclaresPointer, DeclaresArray, DeclaresFunc}
-use Rattle.cc_shown_types.specs.Numbers.{type_numbered}
-use Rattle.cc_shown_types.proofs.Numbering.{level, shape-level}
-use Rattle.cc_shown_types.proofs.Standing.{kind-at}
+use Rattle.cc_expression_trees.specs.Types.{Core, Plain, plain_suffix, qualifier_words, Declares, DeclaresNothing, DeclaresName, DeclaresFunction, InParens, DeclaresPointer, DeclaresArray, DeclaresFunc}
+use Rattle.cc_shown_expressions.specs.Numbers.{type_numbered}
+use Rattle.cc_shown_expressions.proofs.Numbering.{level, shape-level}
+use Rattle.cc_shown_expressions.proofs.Standing.{kind-at}
 
 abbrev formed : one.Declr-F Declr Params Spec Tree Enumr MemberDecl Param TypeName → Option Form
 formed x = form_step (map-Declr Declr Params Spec Tree Enumr MemberDecl Param TypeName (Option Form) (Unit {0}) (Unit {0}) (Unit {0}) (Unit {0}) (Unit {0}) (Unit {0}) (Unit {0}) form_of (λ _. tt) (λ _. tt) (λ _. tt) (λ _. tt) (λ _. tt) (λ _. tt) (λ _. tt) x)

@@ -6,7 +6,7 @@ use Rattle.std.specs.Option.{is_some}
 use Rattle.std.proofs.lemmas.List.{map-append}
 use Rattle.cc_declarators.specs.Declarators.{derived_type}
 use Rattle.cc_declarators.specs.Located.{located}
-use Rattle.cc_function_trees.specs.Units.{ShowsLocals}
+use Rattle.cc_unit_trees.specs.Units.{ShowsLocals}
 use Rattle.cc_linkage.specs.Linkage.{declared, may_be_declared}
 use Rattle.cc_linkage.specs.declared.linkage.DeclaredAs.TheVariants.{AsExtern}
 use Rattle.cc_objects.specs.Names.{function_judged}
@@ -32,7 +32,7 @@ use Rattle.cc_specifiers.specs.declared.derivation.Derivation.TheVariants as to
 use Rattle.cc_specifiers.specs.declared.derivation.Parameter.{Parameter}
 use Rattle.cc_specifiers.specs.declared.specifier.Specified.{Specified}
 use Rattle.cc_specifiers.specs.declared.storage.Where.TheVariants as stands
-use Rattle.cc_statement_trees.specs.Lines.{ShowsStmts}
+use Rattle.cc_unit_trees.specs.Lines.{ShowsStmts}
 use Rattle.cc_syntax.specs.Normal.{devices_in, is_normal_body, next_of}
 use Rattle.cc_syntax.specs.Sizes.{AreSized}
 use Rattle.cc_syntax.specs.Sound.{IsSound, IsFunc}
@@ -43,7 +43,7 @@ use Rattle.cc_tree.specs.declared.tree.Declr.{Declr}
 use Rattle.cc_tree.specs.declared.tree.Spec.{Spec}
 use Rattle.cc_tree.specs.declared.unit.Line.{Line}
 use Rattle.cc_type.specs.Functions.{asked_by, locals_of, definition_judged, defined_as, function_of, function_defined, signature_at, entered_function, function_body_found, function_entered, judged_function, named_function, function_found}
-use Rattle.cc_type_trees.specs.Types.{ShowsBase}
+use Rattle.cc_expression_trees.specs.Types.{ShowsBase}
 use Rattle.cc_typed_bodies.specs.Lines.{line_here}
 use Rattle.cc_typed_bodies.specs.Meanings.{lines_found}
 use Rattle.cc_typed_statements.specs.Jumps.{no_jumps}
@@ -54,14 +54,14 @@ use Rattle.cc_shown_definitions.proofs.Objects.{objects-behind, outside-stays}
 use Rattle.cc_shown_definitions.specs.Functions.{parameters_scope, type_of_function, func_numbered, IsDefinition}
 use Rattle.cc_shown_definitions.proofs.Main.{function-own, main-fits}
 use Rattle.cc_shown_definitions.proofs.Parameters.{inside, knows-parameters, count-inside}
-use Rattle.cc_shown_lines.specs.Numbers.{stmt_numbered}
-use Rattle.cc_shown_operations.specs.Known.{KnowsNames, TypesStand}
-use Rattle.cc_shown_operations.specs.Numbers.{Numbers}
+use Rattle.cc_shown_effects.specs.Numbers.{stmt_numbered}
+use Rattle.cc_shown_expressions.specs.KnownNames.{KnowsNames, TypesStand}
+use Rattle.cc_shown_expressions.specs.OperationNumbers.{Numbers}
 use Rattle.cc_shown_definitions.specs.Devices.{KnowsDevices, with_devices}
-use Rattle.cc_shown_types.specs.Known.{KnowsStructures}
-use Rattle.cc_shown_types.specs.Numbers.{type_numbered, named_numbered, sig_numbered}
-use Rattle.cc_shown_types.proofs.Bases.{specified-found}
-use Rattle.cc_shown_types.proofs.Numbering.{sig-level}
+use Rattle.cc_shown_expressions.specs.Known.{KnowsStructures}
+use Rattle.cc_shown_expressions.specs.Numbers.{type_numbered, named_numbered, sig_numbered}
+use Rattle.cc_shown_expressions.proofs.Bases.{specified-found}
+use Rattle.cc_shown_expressions.proofs.Numbering.{sig-level}
 
 module _ (p : Program) (i : ℕ) (f : Func) (n : Numbers) (defined : List (List ℕ)) (sound : IsSound p) (sized : AreSized p.structures p.target) (stand : TypesStand p f) (there : slice_get p.funcs i ≡ Some f) (own : IsFunc p f) where
   abbrev sig : Sig

@@ -17,10 +17,10 @@ use Rattle.cc_scopes.specs.declared.designated.Designated.TheVariants as means
 use Rattle.cc_scopes.proofs.LinkedLemmas.{find-with_name}
 use Rattle.cc_syntax.specs.Types.{Named}
 use Rattle.cc_syntax.specs.Values.{object_place}
-use Rattle.cc_shown_operations.specs.Known.{KnowsNames}
-use Rattle.cc_shown_operations.specs.Numbers.{Numbers}
-use Rattle.cc_shown_types.specs.Known.{KnowsStructures}
-use Rattle.cc_shown_types.specs.Numbers.{type_numbered}
+use Rattle.cc_shown_expressions.specs.KnownNames.{KnowsNames}
+use Rattle.cc_shown_expressions.specs.OperationNumbers.{Numbers}
+use Rattle.cc_shown_expressions.specs.Known.{KnowsStructures}
+use Rattle.cc_shown_expressions.specs.Numbers.{type_numbered}
 use Rattle.cc_shown_definitions.specs.Bodies.{first_locals}
 use Rattle.cc_shown_definitions.proofs.Names.{name-itself, IsOwnName}
 

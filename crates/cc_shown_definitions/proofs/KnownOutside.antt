@@ -33,11 +33,11 @@ use Rattle.cc_unit.specs.declared.unit.UnitKind.TheVariants as kind
 use Rattle.cc_shown_definitions.specs.Definitions.{IsKnownFunction}
 use Rattle.cc_shown_definitions.proofs.Changes.{mapped-still, length-changed, changed-there, changed-other, unchanged, position-same, linked-same, linked-behind, stays-there, linked-there}
 use Rattle.cc_shown_definitions.specs.Functions.{type_of_function}
-use Rattle.cc_shown_operations.specs.Known.{KnowsNames}
-use Rattle.cc_shown_operations.specs.Numbers.{Numbers}
+use Rattle.cc_shown_expressions.specs.KnownNames.{KnowsNames}
+use Rattle.cc_shown_expressions.specs.OperationNumbers.{Numbers}
 use Rattle.cc_shown_definitions.specs.Devices.{KnowsDevices, between, with_devices}
-use Rattle.cc_shown_types.specs.Known.{KnowsStructures}
-use Rattle.cc_shown_types.specs.Numbers.{sig_numbered}
+use Rattle.cc_shown_expressions.specs.Known.{KnowsStructures}
+use Rattle.cc_shown_expressions.specs.Numbers.{sig_numbered}
 
 -- ---- a function that is declared is so again
 

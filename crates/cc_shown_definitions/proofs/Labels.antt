@@ -11,8 +11,8 @@ use Rattle.cc_num.specs.Promotions.{promoted}
 use Rattle.cc_num.specs.declared.int_type.IntType.{IntType}
 use Rattle.cc_num.proofs.Conversions.{converted-same}
 use Rattle.cc_num.proofs.ResultLaws.{value_from_test}
-use Rattle.cc_operand_rules.proofs.Choices.{constancy-of}
-use Rattle.cc_operand_rules.proofs.Rules.{with-scalar, promoted-is, same-conversion}
+use Rattle.cc_shown_expressions.proofs.ChoiceRules.{constancy-of}
+use Rattle.cc_shown_expressions.proofs.Rules.{with-scalar, promoted-is, same-conversion}
 use Rattle.cc_operands.specs.Operands.{Operand, integer, converted_to}
 use Rattle.cc_operands.specs.Verdicts.{Judged, must, judge_then}
 use Rattle.cc_operands.specs.declared.rule.Rule.TheVariants as rule
@@ -50,12 +50,12 @@ use Rattle.cc_typed_statements.specs.Labels.{is_empty as no_cases}
 use Rattle.cc_typed_statements.specs.Switch.{switch_type, switch_of}
 use Rattle.cc_typed_statements.specs.declared.cases.Cases.{Cases}
 use Rattle.cc_typed_statements.specs.declared.jumps.Jumps.{Jumps}
-use Rattle.cc_statement_trees.specs.Lines.{block, ShowsLabels, NoLabel, ACase, ADefault}
-use Rattle.cc_shown_constants.proofs.Constants.{integer-found}
-use Rattle.cc_shown_lines.specs.Numbers.{stmt_numbered, case_numbered}
-use Rattle.cc_shown_lines.proofs.Lines.{stmt-at}
-use Rattle.cc_shown_operations.specs.Numbers.{Numbers}
-use Rattle.cc_shown_operations.specs.Typed.{IsTypedAs, operand_of}
+use Rattle.cc_unit_trees.specs.Lines.{block, ShowsLabels, NoLabel, ACase, ADefault}
+use Rattle.cc_shown_expressions.proofs.Constants.{integer-found}
+use Rattle.cc_shown_effects.specs.Numbers.{stmt_numbered, case_numbered}
+use Rattle.cc_shown_effects.proofs.Lines.{stmt-at}
+use Rattle.cc_shown_expressions.specs.OperationNumbers.{Numbers}
+use Rattle.cc_shown_expressions.specs.Typed.{IsTypedAs, operand_of}
 use Rattle.cc_shown_definitions.proofs.Levels.{case-numbered}
 use Rattle.cc_shown_definitions.proofs.Lines.{is_statement, in_scope, scoped-found, meaning, meant, meaning-at, line-at, AreTyped, NoneTyped, MoreTyped, value-is}
 

@@ -23,11 +23,11 @@ use Rattle.cc_syntax.specs.Programs.{type_of, sound_step, is_sound_stmt}
 use Rattle.cc_syntax.specs.Statements.{SoundWhere, Labelled, sound_case, is_condition, label_fits, labels_fit}
 use Rattle.cc_syntax.specs.Values.{ValueType, NoValue, Integer, ToObject, ToFunction, is_scalar, is_assignable, is_assignable_some}
 use Rattle.cc_syntax.proofs.Prefixes.{both_true}
-use Rattle.cc_statement_trees.proofs.Lines.{one-pure}
-use Rattle.cc_shown_lines.specs.Numbers.{stmt_step, case_step, stmt_numbered, case_numbered}
-use Rattle.cc_shown_operations.specs.Normal.{HasOperand}
-use Rattle.cc_shown_operations.specs.Numbers.{Numbers}
-use Rattle.cc_shown_operations.proofs.Levels.{folded-at}
+use Rattle.cc_unit_trees.proofs.Lines.{one-pure}
+use Rattle.cc_shown_effects.specs.Numbers.{stmt_step, case_step, stmt_numbered, case_numbered}
+use Rattle.cc_shown_expressions.specs.Normal.{HasOperand}
+use Rattle.cc_shown_expressions.specs.OperationNumbers.{Numbers}
+use Rattle.cc_shown_expressions.proofs.Levels.{folded-at}
 
 -- ---- types that are there
 

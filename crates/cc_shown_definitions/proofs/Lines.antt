@@ -2,7 +2,7 @@
 use Rattle.std.proofs.Common.{◌≡◌, ℕ, Bool, true, false, List, [], ◌∷◌, ◌++◌, map, Option, Some, None, Ok, refl, ap, sym, ◌∙◌, append_assoc, append-nil}
 use Rattle.std.specs.Prelude.{if◌then◌else◌}
 use Rattle.cc_designators.specs.Designators.{TypedExpr}
-use Rattle.cc_operand_rules.proofs.Rules.{with-scalar}
+use Rattle.cc_shown_expressions.proofs.Rules.{with-scalar}
 use Rattle.cc_operands.specs.Operands.{Operand}
 use Rattle.cc_operands.specs.Verdicts.{Judged, must, judge_then}
 use Rattle.cc_operands.specs.declared.rule.Rule.TheVariants as rule
@@ -32,13 +32,13 @@ use Rattle.cc_typed_statements.specs.Conditions.{condition, inside_block, body_o
 use Rattle.cc_typed_statements.specs.Jumps.{in_loop}
 use Rattle.cc_typed_statements.specs.Statements.{if_of, while_of}
 use Rattle.cc_typed_statements.specs.declared.jumps.Jumps.{Jumps}
-use Rattle.cc_statement_trees.specs.Lines.{block}
-use Rattle.cc_shown_lines.specs.Numbers.{stmt_numbered}
-use Rattle.cc_shown_lines.proofs.Lines.{stmt-at}
-use Rattle.cc_shown_operations.specs.Numbers.{Numbers, expr_numbered}
-use Rattle.cc_shown_operations.specs.Typed.{IsTypedAs, operand_of}
-use Rattle.cc_shown_types.specs.Numbers.{value_numbered}
-use Rattle.cc_shown_types.proofs.Kept.{scalar-stays}
+use Rattle.cc_unit_trees.specs.Lines.{block}
+use Rattle.cc_shown_effects.specs.Numbers.{stmt_numbered}
+use Rattle.cc_shown_effects.proofs.Lines.{stmt-at}
+use Rattle.cc_shown_expressions.specs.OperationNumbers.{Numbers, expr_numbered}
+use Rattle.cc_shown_expressions.specs.Typed.{IsTypedAs, operand_of}
+use Rattle.cc_shown_expressions.specs.Numbers.{value_numbered}
+use Rattle.cc_shown_expressions.proofs.Kept.{scalar-stays}
 
 -- what is no label and no declaration, and not empty
 abbrev pub is_statement : one_line.Line-F Line → Bool

@@ -4,7 +4,7 @@ use Rattle.std.specs.Prelude.{if◌then◌else◌}
 use Rattle.std.specs.Option.{is_some}
 use Rattle.cc_declarators.specs.Located.{located}
 use Rattle.cc_declarators.specs.Declarators.{derived_type}
-use Rattle.cc_function_trees.specs.Units.{ShowsDecl, ShowsOne}
+use Rattle.cc_unit_trees.specs.Units.{ShowsDecl, ShowsOne}
 use Rattle.cc_objects.specs.Categories.{category_of, category_by, setting_of}
 use Rattle.cc_objects.specs.Linked.{with_automatic}
 use Rattle.cc_objects.specs.Names.{object_judged, typedef_judged, name_judged}
@@ -41,19 +41,19 @@ use Rattle.cc_tree.specs.declared.unit.Init.{Init}
 use Rattle.cc_tree.specs.declared.unit.Line as line
 use Rattle.cc_tree.specs.declared.unit.Line.TheOpen as one_line
 use Rattle.cc_tree.specs.declared.unit.Line.TheVariants as line_rolls
-use Rattle.cc_type_trees.specs.Types.{ShowsWords, NoWord, MoreWords, ShowsBase, Declares, Plain}
+use Rattle.cc_expression_trees.specs.Types.{ShowsWords, NoWord, MoreWords, ShowsBase, Declares, Plain}
 use Rattle.cc_typed_bodies.specs.Parts.{declared_found}
 use Rattle.cc_typed_declarations.specs.Declarations.{declared_left, named_found, init_found, inits_found, declaration}
 use Rattle.cc_typed_statements.specs.declared.jumps.Jumps.{Jumps}
 use Rattle.cc_words.specs.declared.word.Word.{Word}
-use Rattle.cc_shown_operations.specs.Numbers.{Numbers}
+use Rattle.cc_shown_expressions.specs.OperationNumbers.{Numbers}
 use Rattle.cc_shown_definitions.proofs.Lines.{meaning, line-at}
-use Rattle.cc_shown_types.specs.Known.{KnowsStructures}
-use Rattle.cc_shown_types.specs.Numbers.{type_numbered}
-use Rattle.cc_shown_types.proofs.Bases.{specified-found}
-use Rattle.cc_shown_types.proofs.Complete.{object-numbered}
-use Rattle.cc_shown_types.proofs.Declared.{declared}
-use Rattle.cc_shown_types.proofs.Derived.{fits-derived}
+use Rattle.cc_shown_expressions.specs.Known.{KnowsStructures}
+use Rattle.cc_shown_expressions.specs.Numbers.{type_numbered}
+use Rattle.cc_shown_expressions.proofs.Bases.{specified-found}
+use Rattle.cc_shown_expressions.proofs.Complete.{object-numbered}
+use Rattle.cc_shown_expressions.proofs.Declared.{declared}
+use Rattle.cc_shown_expressions.proofs.Derived.{fits-derived}
 use Rattle.cc_shown_definitions.proofs.Forms.{no-function}
 
 no-words : (xs : List Word) (qs : List (At Spec)) → ShowsWords xs qs → xs ≡ [] → qs ≡ []

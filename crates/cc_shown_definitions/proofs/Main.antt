@@ -26,10 +26,10 @@ use Rattle.cc_syntax.proofs.SameLemmas.{and_true}
 use Rattle.cc_words.specs.Names.{is_name, are_distinct}
 use Rattle.cc_shown_definitions.proofs.Names.{mapped, behind, no-intrinsic}
 use Rattle.cc_shown_definitions.specs.Functions.{type_of_function}
-use Rattle.cc_shown_operations.specs.Numbers.{Numbers}
-use Rattle.cc_shown_types.specs.Numbers.{type_numbered, sig_numbered}
-use Rattle.cc_shown_types.proofs.Kept.{void-numbered}
-use Rattle.cc_shown_types.proofs.Numbering.{level, shape-level, constant-kept, volatile-kept, sig-level}
+use Rattle.cc_shown_expressions.specs.OperationNumbers.{Numbers}
+use Rattle.cc_shown_expressions.specs.Numbers.{type_numbered, sig_numbered}
+use Rattle.cc_shown_expressions.proofs.Kept.{void-numbered}
+use Rattle.cc_shown_expressions.proofs.Numbering.{level, shape-level, constant-kept, volatile-kept, sig-level}
 
 -- ---- intrinsics
 

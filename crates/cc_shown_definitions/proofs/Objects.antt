@@ -13,10 +13,10 @@ use Rattle.cc_program.proofs.QualifierLemmas.{parts_const, const-opens}
 use Rattle.cc_program.proofs.TypeInduction.{TypeParts, with_shape, by_type}
 use Rattle.cc_scopes.specs.State.{State, Scope, with_name, in_innermost, with_scopes, with_locals, outer_scopes, left}
 use Rattle.cc_scopes.specs.declared.designated.Designated.TheVariants as means
-use Rattle.cc_shown_operations.specs.Numbers.{Numbers}
-use Rattle.cc_shown_types.specs.Numbers.{type_numbered, named_numbered}
-use Rattle.cc_shown_types.proofs.Bases.{opens-as}
-use Rattle.cc_shown_types.proofs.Kept.{const-numbered}
+use Rattle.cc_shown_expressions.specs.OperationNumbers.{Numbers}
+use Rattle.cc_shown_expressions.specs.Numbers.{type_numbered, named_numbered}
+use Rattle.cc_shown_expressions.proofs.Bases.{opens-as}
+use Rattle.cc_shown_expressions.proofs.Kept.{const-numbered}
 use Rattle.cc_syntax.specs.Sound.{is_automatic}
 use Rattle.cc_syntax.specs.Types.{Named}
 use Rattle.cc_syntax.proofs.Prefixes.{both_true}

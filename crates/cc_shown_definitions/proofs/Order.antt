@@ -13,7 +13,7 @@ use Rattle.cc_syntax.specs.SameTypes.{same_int, same_flag}
 use Rattle.cc_syntax.specs.Sound.{is_numbered, is_same_device, devices_differ}
 use Rattle.cc_syntax.proofs.Prefixes.{both_true}
 use Rattle.cc_syntax.proofs.SameLemmas.{int_same, int_itself, and_true}
-use Rattle.cc_shown_operations.specs.Numbers.{Numbers}
+use Rattle.cc_shown_expressions.specs.OperationNumbers.{Numbers}
 use Rattle.cc_shown_definitions.specs.Devices.{DeviceFrom, HasName, Again, AtFirst, DevicesFrom, KnowsDevices, between, with_devices}
 use Rattle.cc_shown_definitions.proofs.Positions.{position-stays, position-new, position-none}
 

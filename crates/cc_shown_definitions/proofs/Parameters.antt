@@ -21,10 +21,10 @@ use Rattle.cc_syntax.proofs.Prefixes.{both_true}
 use Rattle.cc_shown_definitions.specs.Bodies.{first_locals, parameters_alone, KnowsParameters}
 use Rattle.cc_shown_definitions.proofs.Names.{name-itself, names-turned, own-name}
 use Rattle.cc_shown_definitions.specs.Functions.{names_from, parameters_scope}
-use Rattle.cc_shown_operations.specs.Known.{KnowsNames}
-use Rattle.cc_shown_operations.specs.Numbers.{Numbers}
-use Rattle.cc_shown_types.specs.Known.{KnowsStructures}
-use Rattle.cc_shown_types.specs.Numbers.{type_numbered, named_numbered}
+use Rattle.cc_shown_expressions.specs.KnownNames.{KnowsNames}
+use Rattle.cc_shown_expressions.specs.OperationNumbers.{Numbers}
+use Rattle.cc_shown_expressions.specs.Known.{KnowsStructures}
+use Rattle.cc_shown_expressions.specs.Numbers.{type_numbered, named_numbered}
 
 -- ---- lists
 

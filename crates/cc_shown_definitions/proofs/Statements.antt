@@ -35,22 +35,22 @@ use Rattle.cc_tree.specs.declared.unit.Line.TheVariants as line_rolls
 use Rattle.cc_typed_statements.specs.Jumps.{in_loop, in_switch}
 use Rattle.cc_typed_statements.specs.declared.jumps.Jumps.{Jumps}
 use Rattle.cc_expression_trees.specs.Exprs.{ShowsExpr, ShowsValue}
-use Rattle.cc_statement_trees.specs.Effects.{ShowsEffect}
-use Rattle.cc_statement_trees.specs.Lines.{block, ShowsStmt, ShowsDo, ShowsIf, ShowsIfElse, ShowsWhile, ShowsSwitch, ShowsBreak, ShowsContinue, ShowsReturn, ShowsReturnOf, ShowsStmts, NoStmt, MoreStmts, ShowsCase, EmptyCase, FullCase, ShowsCases, NoCase, MoreCases, ShowsLabels}
-use Rattle.cc_shown_calls.proofs.Arguments.{assigned-scalar}
+use Rattle.cc_unit_trees.specs.Effects.{ShowsEffect}
+use Rattle.cc_unit_trees.specs.Lines.{block, ShowsStmt, ShowsDo, ShowsIf, ShowsIfElse, ShowsWhile, ShowsSwitch, ShowsBreak, ShowsContinue, ShowsReturn, ShowsReturnOf, ShowsStmts, NoStmt, MoreStmts, ShowsCase, EmptyCase, FullCase, ShowsCases, NoCase, MoreCases, ShowsLabels}
+use Rattle.cc_shown_effects.proofs.Arguments.{assigned-scalar}
 use Rattle.cc_shown_effects.proofs.Effects.{effect-done}
 use Rattle.cc_shown_expressions.proofs.Shown.{expr-shown}
 use Rattle.cc_shown_expressions.proofs.Values.{value-taken}
-use Rattle.cc_shown_lines.specs.Numbers.{stmt_numbered, case_numbered}
-use Rattle.cc_shown_lines.proofs.Lines.{scalar-no-void, effect-line, break-line, continue-line, return-line, value-line}
-use Rattle.cc_shown_operations.specs.Fits.{FitsValue}
-use Rattle.cc_shown_operations.specs.Known.{KnowsNames, TypesStand}
-use Rattle.cc_shown_operations.specs.Normal.{HasOperand}
-use Rattle.cc_shown_operations.specs.Numbers.{Numbers}
-use Rattle.cc_shown_operations.specs.Typed.{IsTypedAs}
-use Rattle.cc_shown_operations.proofs.Fits.{read-fits}
-use Rattle.cc_shown_types.specs.Numbers.{type_numbered, value_numbered}
-use Rattle.cc_shown_types.proofs.Kept.{void-numbered, scalar-at}
+use Rattle.cc_shown_effects.specs.Numbers.{stmt_numbered, case_numbered}
+use Rattle.cc_shown_effects.proofs.Lines.{scalar-no-void, effect-line, break-line, continue-line, return-line, value-line}
+use Rattle.cc_shown_expressions.specs.Fits.{FitsValue}
+use Rattle.cc_shown_expressions.specs.KnownNames.{KnowsNames, TypesStand}
+use Rattle.cc_shown_expressions.specs.Normal.{HasOperand}
+use Rattle.cc_shown_expressions.specs.OperationNumbers.{Numbers}
+use Rattle.cc_shown_expressions.specs.Typed.{IsTypedAs}
+use Rattle.cc_shown_expressions.proofs.Fits.{read-fits}
+use Rattle.cc_shown_expressions.specs.Numbers.{type_numbered, value_numbered}
+use Rattle.cc_shown_expressions.proofs.Kept.{void-numbered, scalar-at}
 use Rattle.cc_shown_definitions.specs.Devices.{DevicesFrom}
 use Rattle.cc_shown_definitions.proofs.Labels.{HaveLabels, settled, labels-behind, items, empty-case, full-case, switch-line}
 use Rattle.cc_shown_definitions.proofs.Levels.{some-is, condition-is, labels-are, assigned-is, devices_in_case, devices-at, case-devices, all_normal, all_sound, normal_in, sound_in, normal-at, sound-at, case-normal, case-labels, case-sound, operand-has, one-has, case-numbered}

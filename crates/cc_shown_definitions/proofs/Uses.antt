@@ -17,12 +17,12 @@ use Rattle.cc_scopes.specs.declared.designated.Designated.{Designated}
 use Rattle.cc_scopes.specs.declared.designated.Designated.TheVariants as means
 use Rattle.cc_syntax.specs.Forms.{form_at, form_of}
 use Rattle.cc_syntax.specs.Normal.{device_in, device_read, devices_accessed}
-use Rattle.cc_shown_assignments.specs.Accesses.{Accesses, NoneNumbered, Known, First}
-use Rattle.cc_shown_assignments.proofs.Assigned.{names-behind}
+use Rattle.cc_shown_effects.specs.Accesses.{Accesses, NoneNumbered, Known, First}
+use Rattle.cc_shown_effects.proofs.Assigned.{names-behind}
 use Rattle.cc_shown_effects.specs.Steps.{is_load, is_assign, Reads, APlace, NoPlace, Steps, Assigning, Another}
-use Rattle.cc_shown_operations.specs.Known.{KnowsNames}
-use Rattle.cc_shown_operations.specs.Numbers.{Numbers}
-use Rattle.cc_shown_types.specs.Known.{KnowsStructures}
+use Rattle.cc_shown_expressions.specs.KnownNames.{KnowsNames}
+use Rattle.cc_shown_expressions.specs.OperationNumbers.{Numbers}
+use Rattle.cc_shown_expressions.specs.Known.{KnowsStructures}
 use Rattle.cc_shown_definitions.specs.Devices.{DeviceFrom, HasName, Again, AtFirst, DevicesFrom}
 
 -- ---- a scope in which nothing is declared changes nothing

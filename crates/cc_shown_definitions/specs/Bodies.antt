@@ -5,9 +5,9 @@ use Rattle.cc_objects.specs.Linked.{with_automatic}
 use Rattle.cc_program.specs.declared.func.Func.{Func}
 use Rattle.cc_program.specs.declared.program.Program.{Program}
 use Rattle.cc_scopes.specs.State.{State, named_here}
-use Rattle.cc_shown_operations.specs.Known.{KnowsNames}
-use Rattle.cc_shown_operations.specs.Numbers.{Numbers}
-use Rattle.cc_shown_types.specs.Numbers.{type_numbered}
+use Rattle.cc_shown_expressions.specs.KnownNames.{KnowsNames}
+use Rattle.cc_shown_expressions.specs.OperationNumbers.{Numbers}
+use Rattle.cc_shown_expressions.specs.Numbers.{type_numbered}
 use Rattle.cc_syntax.specs.Types.{Named}
 
 -- a function with so many of its locals

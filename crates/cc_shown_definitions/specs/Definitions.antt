@@ -1,7 +1,7 @@
 -- What is known in front of the definitions of a program's functions, where all that it names is declared, and behind them
 -- (C99 6.9).
 use Rattle.std.specs.Prelude.{◌≡◌, ℕ, suc, List, [], ◌∷◌, Option, Some, slice_get, unwrap_or}
-use Rattle.cc_function_trees.specs.Units.{ShowsFunction}
+use Rattle.cc_unit_trees.specs.Units.{ShowsFunction}
 use Rattle.cc_program.specs.declared.func.Entry.{Entry}
 use Rattle.cc_program.specs.declared.func.Func.{Func}
 use Rattle.cc_program.specs.declared.program.Program.{Program}
@@ -11,8 +11,8 @@ use Rattle.cc_scopes.specs.declared.designated.Designated.TheVariants as means
 use Rattle.cc_scopes.specs.declared.unit.Declared.{Declared}
 use Rattle.cc_shown_definitions.specs.Bodies.{first_locals}
 use Rattle.cc_shown_definitions.specs.Functions.{type_of_function, func_numbered}
-use Rattle.cc_shown_operations.specs.Known.{KnowsNames}
-use Rattle.cc_shown_operations.specs.Numbers.{Numbers}
+use Rattle.cc_shown_expressions.specs.KnownNames.{KnowsNames}
+use Rattle.cc_shown_expressions.specs.OperationNumbers.{Numbers}
 use Rattle.cc_shown_definitions.specs.Devices.{KnowsDevices, with_devices}
 use Rattle.cc_syntax.specs.Normal.{devices_in, next_of}
 use Rattle.cc_tree.specs.declared.at.At.{At}

@@ -7,7 +7,7 @@ use Rattle.cc_program.specs.declared.object.Device.{Device}
 use Rattle.cc_program.specs.declared.program.Program.{Program}
 use Rattle.cc_scopes.specs.State.{State, with_names, with_declared}
 use Rattle.cc_scopes.specs.declared.unit.Declared.{Declared}
-use Rattle.cc_shown_operations.specs.Numbers.{Numbers}
+use Rattle.cc_shown_expressions.specs.OperationNumbers.{Numbers}
 
 module _ (p : Program) (n : Numbers) where
   -- one use of a device, from what is known in front of it to what is known behind it

@@ -9,9 +9,9 @@ use Rattle.cc_program.specs.declared.types.Shape.{Func as FuncShape}
 use Rattle.cc_scopes.specs.State.{State, Scope, Name, structures_of, layouts_of}
 use Rattle.cc_scopes.specs.declared.designated.Designated.{Designated}
 use Rattle.cc_scopes.specs.declared.designated.Designated.TheVariants as means
-use Rattle.cc_shown_lines.specs.Numbers.{stmt_numbered}
-use Rattle.cc_shown_operations.specs.Numbers.{Numbers}
-use Rattle.cc_shown_types.specs.Numbers.{type_numbered, named_numbered, sig_numbered}
+use Rattle.cc_shown_effects.specs.Numbers.{stmt_numbered}
+use Rattle.cc_shown_expressions.specs.OperationNumbers.{Numbers}
+use Rattle.cc_shown_expressions.specs.Numbers.{type_numbered, named_numbered, sig_numbered}
 use Rattle.cc_specifiers.specs.Declarators.{type_found}
 use Rattle.cc_specifiers.specs.Derivations.{in_definition}
 use Rattle.cc_specifiers.specs.declared.derivation.Derivation.{Derivation}

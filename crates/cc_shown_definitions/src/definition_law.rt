@@ -7,7 +7,7 @@ ghost use Rattle.cc_program.specs.declared.program.Program.{Program};
 ghost use Rattle.cc_scopes.specs.State.{Name, State};
 ghost use Rattle.cc_scopes.specs.Verdicts.{checked};
 ghost use Rattle.cc_shown_definitions.specs.Definitions.{KnowsFile, ShowsFunctions, with_definitions};
-ghost use Rattle.cc_shown_operations.specs.Numbers.{Numbers};
+ghost use Rattle.cc_shown_expressions.specs.OperationNumbers.{Numbers};
 ghost use Rattle.cc_syntax.specs.Normal.{devices_in, is_normal_body, next_of};
 ghost use Rattle.cc_syntax.specs.Sound.{IsSound};
 ghost use Rattle.cc_tree.specs.declared.at.At.{At};

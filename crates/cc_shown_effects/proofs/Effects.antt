@@ -4,7 +4,7 @@ use Rattle.std.specs.List.{list_all}
 use Rattle.cc_bodies.specs.Stmts.{taker}
 use Rattle.cc_designators.specs.Designators.{IsValue}
 use Rattle.cc_lex.specs.declared.token.Mark.TheVariants as m
-use Rattle.cc_operand_rules.proofs.Choices.{assign-rule}
+use Rattle.cc_shown_expressions.proofs.ChoiceRules.{assign-rule}
 use Rattle.cc_operands.specs.Operands.{operand, constant_at, is_zero_constant, is_to_void, is_null_at, is_null_constant}
 use Rattle.cc_program.specs.declared.expr.Expr.{Expr, out-Expr}
 use Rattle.cc_program.specs.declared.expr.Expr.TheOpen as one
@@ -27,24 +27,24 @@ use Rattle.cc_tree.specs.declared.at.At.{At}
 use Rattle.cc_tree.specs.declared.tree.Tree as tree
 use Rattle.cc_tree.specs.declared.tree.Tree.{Tree}
 use Rattle.cc_expression_trees.specs.Exprs.{ShowsPlace, ShowsValue}
-use Rattle.cc_statement_trees.specs.Effects.{ShowsRight, ShowsCall, ShowsIntrinsic, ShowsIntrinsicOf, AnotherValue, ShowsEffect, ShowsAssignment, ShowsDone}
-use Rattle.cc_shown_assignments.specs.Accesses.{Accesses}
-use Rattle.cc_shown_assignments.specs.Taken.{IsTakenFrom}
-use Rattle.cc_shown_assignments.proofs.Assigned.{and-false, names-behind, assign-tree, taken-from, place-fits, read-taken, written-fits, takes-written}
-use Rattle.cc_shown_assignments.proofs.Devices.{place-accessed}
-use Rattle.cc_shown_calls.proofs.Arguments.{has-operand}
-use Rattle.cc_shown_calls.proofs.Calls.{call-shown}
+use Rattle.cc_unit_trees.specs.Effects.{ShowsRight, ShowsCall, ShowsIntrinsic, ShowsIntrinsicOf, AnotherValue, ShowsEffect, ShowsAssignment, ShowsDone}
+use Rattle.cc_shown_effects.specs.Accesses.{Accesses}
+use Rattle.cc_shown_effects.specs.Taken.{IsTakenFrom}
+use Rattle.cc_shown_effects.proofs.Assigned.{and-false, names-behind, assign-tree, taken-from, place-fits, read-taken, written-fits, takes-written}
+use Rattle.cc_shown_effects.proofs.Devices.{place-accessed}
+use Rattle.cc_shown_effects.proofs.Arguments.{has-operand}
+use Rattle.cc_shown_effects.proofs.Calls.{call-shown}
 use Rattle.cc_shown_effects.specs.Steps.{is_load, is_assign, Reads, APlace, NoPlace, Steps, Assigning, Another}
 use Rattle.cc_shown_effects.proofs.Normal.{is_effect, contrary, no-value, RightKind, AnOperand, ARead, ACall, IsOfOperands, soft-operands, other-operands, assignment-normal, assign-parts}
 use Rattle.cc_shown_expressions.proofs.Values.{value-taken}
-use Rattle.cc_shown_intrinsics.proofs.Intrinsics.{intrinsic-shown, argument-shown}
-use Rattle.cc_shown_operations.specs.Fits.{FitsValue}
-use Rattle.cc_shown_operations.specs.Known.{KnowsNames, TypesStand}
-use Rattle.cc_shown_operations.specs.Normal.{HasPlace}
-use Rattle.cc_shown_operations.specs.Numbers.{Numbers, expr_numbered}
-use Rattle.cc_shown_operations.proofs.Levels.{one-is, type-at, effects-at, expr-at, constant-numbered, null-numbered}
-use Rattle.cc_shown_types.specs.Numbers.{value_numbered}
-use Rattle.cc_shown_types.proofs.Kept.{assignable-numbered}
+use Rattle.cc_shown_effects.proofs.Intrinsics.{intrinsic-shown, argument-shown}
+use Rattle.cc_shown_expressions.specs.Fits.{FitsValue}
+use Rattle.cc_shown_expressions.specs.KnownNames.{KnowsNames, TypesStand}
+use Rattle.cc_shown_expressions.specs.Normal.{HasPlace}
+use Rattle.cc_shown_expressions.specs.OperationNumbers.{Numbers, expr_numbered}
+use Rattle.cc_shown_expressions.proofs.Levels.{one-is, type-at, effects-at, expr-at, constant-numbered, null-numbered}
+use Rattle.cc_shown_expressions.specs.Numbers.{value_numbered}
+use Rattle.cc_shown_expressions.proofs.Kept.{assignable-numbered}
 
 module _ (p : Program) (f : Func) (n : Numbers) (sound : IsSound p) (sized : AreSized p.structures p.target) (stand : TypesStand p f) where
   abbrev value : ValueType → ValueType

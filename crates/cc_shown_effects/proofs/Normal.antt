@@ -20,7 +20,7 @@ use Rattle.cc_syntax.specs.Values.{ValueType, PlaceType, written_to, is_assignab
 use Rattle.cc_syntax.proofs.Prefixes.{both_true}
 use Rattle.cc_tree.specs.declared.tree.Tree.{Tree}
 use Rattle.cc_expression_trees.specs.Exprs.{IsBinary, AnOperation, AMovement, ADifference, AComparison, ABoth, AnEither, ShowsExpr, InParens, ShowsConstant, ShowsNarrow, ShowsNull, ShowsFunction, ShowsRead, ShowsAddress, ShowsUnary, ShowsConversion, ShowsQualified, ShowsBinary, ShowsChoice, ShowsValue, ValueInParens, ValueOf, NarrowValue, NullValue}
-use Rattle.cc_shown_operations.proofs.Levels.{one-is, two-is, when-is, type-at, place-effects-at, place-folding-at}
+use Rattle.cc_shown_expressions.proofs.Levels.{one-is, two-is, when-is, type-at, place-effects-at, place-folding-at}
 
 -- ---- an expression that has an effect is shown by no operand's tree
 

@@ -6,8 +6,8 @@ use Rattle.cc_program.specs.declared.expr.Expr.TheOpen as one
 use Rattle.cc_program.specs.declared.expr.Place.{Place}
 use Rattle.cc_program.specs.declared.program.Program.{Program}
 use Rattle.cc_scopes.specs.State.{State}
-use Rattle.cc_shown_assignments.specs.Accesses.{Accesses}
-use Rattle.cc_shown_operations.specs.Numbers.{Numbers}
+use Rattle.cc_shown_effects.specs.Accesses.{Accesses}
+use Rattle.cc_shown_expressions.specs.OperationNumbers.{Numbers}
 
 abbrev pub is_load : one.Expr-F Expr Place → Bool
 is_load (one.Load a) = true

@@ -10,8 +10,8 @@ use Rattle.cc_num.proofs.Conversions.{converted-same}
 use Rattle.cc_num.proofs.ResultLaws.{value_from_test}
 use Rattle.cc_operands.specs.Operands.{Operand, operand, integer, cast_to, folded, is_pointer, is_to_void, is_zero_constant, is_null_constant, is_null_at}
 use Rattle.cc_operands.specs.Qualified.{unqualified}
-use Rattle.cc_operand_rules.proofs.Casts.{integer-cast, constant-pointer, void-pointer, null-pointer, qualified-pointer}
-use Rattle.cc_operand_rules.proofs.Choices.{alike-void, constancy-of, pointer-scalar}
+use Rattle.cc_shown_expressions.proofs.CastRules.{integer-cast, constant-pointer, void-pointer, null-pointer, qualified-pointer}
+use Rattle.cc_shown_expressions.proofs.ChoiceRules.{alike-void, constancy-of, pointer-scalar}
 use Rattle.cc_pieces.specs.Constants.{is_narrow}
 use Rattle.cc_primary.specs.Values.{valued, value_found}
 use Rattle.cc_program.specs.declared.expr.Expr.{Expr, Const, Null, Conv, Qualify, out-Expr}
@@ -36,27 +36,27 @@ use Rattle.cc_tree.specs.declared.at.At.{At}
 use Rattle.cc_tree.specs.declared.tree.Tree as tree
 use Rattle.cc_tree.specs.declared.tree.Tree.{Tree}
 use Rattle.cc_tree.specs.declared.tree.TypeName.{TypeName}
-use Rattle.cc_type_trees.specs.Types.{ShowsTypeName}
+use Rattle.cc_expression_trees.specs.Types.{ShowsTypeName}
 use Rattle.cc_expression_trees.specs.Constants.{plain, ShowsInteger, IsZero, IsVoidNull, VoidNull, NullInParens, void_pointer}
 use Rattle.cc_expression_trees.specs.Exprs.{is_null}
-use Rattle.cc_shown_constants.proofs.Constants.{integer-found, zero-found, paren-tree}
-use Rattle.cc_shown_operations.specs.Normal.{HasOperand}
-use Rattle.cc_shown_operations.specs.Numbers.{Numbers, expr_numbered}
-use Rattle.cc_shown_operations.specs.Typed.{operand_of, IsTypedAs, IsShown}
-use Rattle.cc_shown_operations.proofs.Fits.{null-fits, qualified-fits}
-use Rattle.cc_shown_operations.proofs.Levels.{when-is, type-at, constant-at, folded-at, expr-at}
-use Rattle.cc_shown_operations.proofs.Operands.{constancy-is, folded-operand, plain-operand, constant-operand, null-constant, no-null}
-use Rattle.cc_shown_operations.proofs.Operations.{integer-shown}
-use Rattle.cc_shown_operations.proofs.Parts.{conversion-parts}
-use Rattle.cc_shown_operations.proofs.PlaceParts.{NullIs, ToVoid, ToOther, null-is, qualified-parts}
-use Rattle.cc_shown_operations.proofs.Trees.{typed-value, found-value, cast-by}
-use Rattle.cc_shown_types.specs.Known.{KnowsStructures}
-use Rattle.cc_shown_types.specs.Numbers.{type_numbered, value_numbered}
-use Rattle.cc_shown_types.proofs.Bases.{type-of-fields}
-use Rattle.cc_shown_types.proofs.Kept.{pointer-numbered, void-numbered, assignable-numbered}
-use Rattle.cc_shown_types.proofs.Numbering.{level-at, constant-kept, volatile-kept}
-use Rattle.cc_shown_types.proofs.Standing.{kind-at, pointed-not-void, scalar-plain, scalar-stands}
-use Rattle.cc_shown_types.proofs.TypeNames.{type-name-found, void-name-found}
+use Rattle.cc_shown_expressions.proofs.Constants.{integer-found, zero-found, paren-tree}
+use Rattle.cc_shown_expressions.specs.Normal.{HasOperand}
+use Rattle.cc_shown_expressions.specs.OperationNumbers.{Numbers, expr_numbered}
+use Rattle.cc_shown_expressions.specs.Typed.{operand_of, IsTypedAs, IsShown}
+use Rattle.cc_shown_expressions.proofs.Fits.{null-fits, qualified-fits}
+use Rattle.cc_shown_expressions.proofs.Levels.{when-is, type-at, constant-at, folded-at, expr-at}
+use Rattle.cc_shown_expressions.proofs.Operands.{constancy-is, folded-operand, plain-operand, constant-operand, null-constant, no-null}
+use Rattle.cc_shown_expressions.proofs.Operations.{integer-shown}
+use Rattle.cc_shown_expressions.proofs.Parts.{conversion-parts}
+use Rattle.cc_shown_expressions.proofs.PlaceParts.{NullIs, ToVoid, ToOther, null-is, qualified-parts}
+use Rattle.cc_shown_expressions.proofs.Trees.{typed-value, found-value, cast-by}
+use Rattle.cc_shown_expressions.specs.Known.{KnowsStructures}
+use Rattle.cc_shown_expressions.specs.Numbers.{type_numbered, value_numbered}
+use Rattle.cc_shown_expressions.proofs.Bases.{type-of-fields}
+use Rattle.cc_shown_expressions.proofs.Kept.{pointer-numbered, void-numbered, assignable-numbered}
+use Rattle.cc_shown_expressions.proofs.Numbering.{level-at, constant-kept, volatile-kept}
+use Rattle.cc_shown_expressions.proofs.Standing.{kind-at, pointed-not-void, scalar-plain, scalar-stands}
+use Rattle.cc_shown_expressions.proofs.TypeNames.{type-name-found, void-name-found}
 
 -- ---- pointers
 

@@ -3,7 +3,7 @@ use Rattle.std.proofs.Common.{◌≡◌, ℕ, Bool, true, false, not, ◌&&◌, 
 use Rattle.std.specs.Prelude.{if◌then◌else◌}
 use Rattle.cc_num.specs.declared.target.Target.{Target}
 use Rattle.cc_operands.specs.Operands.{Operand, operand, constancy, folded, is_to_void}
-use Rattle.cc_operand_rules.proofs.Choices.{Common, Integers, Pointers, choose-integers, choose-pointers}
+use Rattle.cc_shown_expressions.proofs.ChoiceRules.{Common, Integers, Pointers, choose-integers, choose-pointers}
 use Rattle.cc_program.specs.declared.expr.Expr.{Expr, Choose, out-Expr}
 use Rattle.cc_program.specs.declared.expr.Expr.TheOpen as one
 use Rattle.cc_program.specs.declared.func.Func.{Func}
@@ -17,19 +17,19 @@ use Rattle.cc_tree.specs.declared.at.At.{At}
 use Rattle.cc_tree.specs.declared.tree.Tree as tree
 use Rattle.cc_tree.specs.declared.tree.Tree.{Tree}
 use Rattle.cc_shown_expressions.proofs.Casts.{pointer-numbered-is}
-use Rattle.cc_shown_operations.specs.Fits.{FitsValue}
-use Rattle.cc_shown_operations.specs.Normal.{HasOperand}
-use Rattle.cc_shown_operations.specs.Numbers.{Numbers, expr_numbered}
-use Rattle.cc_shown_operations.specs.Typed.{operand_of, IsShown}
-use Rattle.cc_shown_operations.proofs.Fits.{common-fits}
-use Rattle.cc_shown_operations.proofs.Levels.{expr-at}
-use Rattle.cc_shown_operations.proofs.Operands.{constancy-is, folded-operand, plain-operand, no-null, to-void}
-use Rattle.cc_shown_operations.proofs.Operations.{integer-shown}
-use Rattle.cc_shown_operations.proofs.PlaceParts.{ChoiceParts, choice-parts}
-use Rattle.cc_shown_operations.proofs.Trees.{choice-tree}
-use Rattle.cc_shown_types.specs.Known.{KnowsStructures}
-use Rattle.cc_shown_types.specs.Numbers.{type_numbered, sig_numbered, value_numbered}
-use Rattle.cc_shown_types.proofs.Kept.{alike-numbered, sig-numbered, point-numbered, scalar-stays, void-numbered}
+use Rattle.cc_shown_expressions.specs.Fits.{FitsValue}
+use Rattle.cc_shown_expressions.specs.Normal.{HasOperand}
+use Rattle.cc_shown_expressions.specs.OperationNumbers.{Numbers, expr_numbered}
+use Rattle.cc_shown_expressions.specs.Typed.{operand_of, IsShown}
+use Rattle.cc_shown_expressions.proofs.Fits.{common-fits}
+use Rattle.cc_shown_expressions.proofs.Levels.{expr-at}
+use Rattle.cc_shown_expressions.proofs.Operands.{constancy-is, folded-operand, plain-operand, no-null, to-void}
+use Rattle.cc_shown_expressions.proofs.Operations.{integer-shown}
+use Rattle.cc_shown_expressions.proofs.PlaceParts.{ChoiceParts, choice-parts}
+use Rattle.cc_shown_expressions.proofs.Trees.{choice-tree}
+use Rattle.cc_shown_expressions.specs.Known.{KnowsStructures}
+use Rattle.cc_shown_expressions.specs.Numbers.{type_numbered, sig_numbered, value_numbered}
+use Rattle.cc_shown_expressions.proofs.Kept.{alike-numbered, sig-numbered, point-numbered, scalar-stays, void-numbered}
 
 no-numbers : (k : Constant) → chosen_constant k NoConstant NoConstant ≡ NoConstant
 no-numbers NoConstant = refl

@@ -9,7 +9,7 @@ use Rattle.cc_num.specs.declared.int_type.IntType.{IntType}
 use Rattle.cc_operands.specs.Operands.{Operand, operand}
 use Rattle.cc_operands.specs.Verdicts.{must}
 use Rattle.cc_operands.specs.declared.rule.Rule.TheVariants as rule
-use Rattle.cc_operand_rules.proofs.Rules.{with-scalar}
+use Rattle.cc_shown_expressions.proofs.Rules.{with-scalar}
 use Rattle.cc_primary.specs.Devices.{cast_constant}
 use Rattle.cc_program.specs.declared.expr.Expr.{Expr, FuncAddr, Load, AddrOf, out-Expr}
 use Rattle.cc_program.specs.declared.expr.Expr.TheOpen as one
@@ -34,19 +34,19 @@ use Rattle.cc_tree.specs.declared.at.At.{At}
 use Rattle.cc_tree.specs.declared.tree.Tree as tree
 use Rattle.cc_tree.specs.declared.tree.Tree.{Tree}
 use Rattle.cc_tree.specs.Tokens.{Name}
-use Rattle.cc_shown_operations.specs.Fits.{FitsPlace, FitsValue, is_device_place}
-use Rattle.cc_shown_operations.specs.Known.{KnowsNames, TypesStand}
-use Rattle.cc_shown_operations.specs.Normal.{HasOperand, HasPlace}
-use Rattle.cc_shown_operations.specs.Numbers.{Numbers, expr_numbered, place_numbered}
-use Rattle.cc_shown_operations.specs.Typed.{operand_of, IsPlacedAs, IsShown}
-use Rattle.cc_shown_operations.proofs.Fits.{object-place-fits, read-fits, address-fits, deref-fits, element-fits, member-fits}
-use Rattle.cc_shown_operations.proofs.Levels.{one-is, when-is, type-at, place-at, effects-at, place-effects-at, constant-at, folded-at, expr-at, place-numbered-at}
-use Rattle.cc_shown_operations.proofs.Members.{dot-is}
-use Rattle.cc_shown_operations.proofs.Operands.{plain-operand}
-use Rattle.cc_shown_operations.proofs.PlaceParts.{address-parts, element-parts, member-parts, pointed-parts}
-use Rattle.cc_shown_operations.proofs.Trees.{name-tree, read-tree, address-tree, element-tree, member-tree, pointed-tree}
-use Rattle.cc_shown_types.specs.Numbers.{type_numbered, sig_numbered, value_numbered, place_type_numbered}
-use Rattle.cc_shown_types.proofs.Kept.{object-numbered, read-at, address-at, element-at, pointed-at as pointed-numbered, scalar-stays}
+use Rattle.cc_shown_expressions.specs.Fits.{FitsPlace, FitsValue, is_device_place}
+use Rattle.cc_shown_expressions.specs.KnownNames.{KnowsNames, TypesStand}
+use Rattle.cc_shown_expressions.specs.Normal.{HasOperand, HasPlace}
+use Rattle.cc_shown_expressions.specs.OperationNumbers.{Numbers, expr_numbered, place_numbered}
+use Rattle.cc_shown_expressions.specs.Typed.{operand_of, IsPlacedAs, IsShown}
+use Rattle.cc_shown_expressions.proofs.Fits.{object-place-fits, read-fits, address-fits, deref-fits, element-fits, member-fits}
+use Rattle.cc_shown_expressions.proofs.Levels.{one-is, when-is, type-at, place-at, effects-at, place-effects-at, constant-at, folded-at, expr-at, place-numbered-at}
+use Rattle.cc_shown_expressions.proofs.Members.{dot-is}
+use Rattle.cc_shown_expressions.proofs.Operands.{plain-operand}
+use Rattle.cc_shown_expressions.proofs.PlaceParts.{address-parts, element-parts, member-parts, pointed-parts}
+use Rattle.cc_shown_expressions.proofs.Trees.{name-tree, read-tree, address-tree, element-tree, member-tree, pointed-tree}
+use Rattle.cc_shown_expressions.specs.Numbers.{type_numbered, sig_numbered, value_numbered, place_type_numbered}
+use Rattle.cc_shown_expressions.proofs.Kept.{object-numbered, read-at, address-at, element-at, pointed-at as pointed-numbered, scalar-stays}
 
 -- ---- the rules
 

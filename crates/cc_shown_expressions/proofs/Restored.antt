@@ -16,11 +16,11 @@ use Rattle.cc_program.proofs.QualifierLemmas.{const-opens, volatile-opens, parts
 use Rattle.cc_program.proofs.TypeInduction.{with_shape, TypeParts, by_type}
 use Rattle.cc_syntax.specs.Programs.{kind_in}
 use Rattle.cc_syntax.specs.Values.{pointer_shape, pointer_to}
-use Rattle.cc_type_trees.proofs.Levels.{array-type, func-type}
-use Rattle.cc_shown_types.specs.Numbers.{type_numbered, sig_numbered, value_numbered}
-use Rattle.cc_shown_types.proofs.Bases.{opens-as, type-of-fields, shape-of-level}
-use Rattle.cc_shown_types.proofs.Numbering.{level-at, constant-kept, volatile-kept}
-use Rattle.cc_shown_types.proofs.Standing.{rolled}
+use Rattle.cc_expression_trees.proofs.Levels.{array-type, func-type}
+use Rattle.cc_shown_expressions.specs.Numbers.{type_numbered, sig_numbered, value_numbered}
+use Rattle.cc_shown_expressions.proofs.Bases.{opens-as, type-of-fields, shape-of-level}
+use Rattle.cc_shown_expressions.proofs.Numbering.{level-at, constant-kept, volatile-kept}
+use Rattle.cc_shown_expressions.proofs.Standing.{rolled}
 
 or-false : (b : Bool) → (b || false) ≡ b
 or-false true = refl

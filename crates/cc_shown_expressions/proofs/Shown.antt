@@ -13,19 +13,19 @@ use Rattle.cc_tree.specs.declared.at.At.{At}
 use Rattle.cc_tree.specs.declared.tree.Tree as tree
 use Rattle.cc_tree.specs.declared.tree.Tree.{Tree}
 use Rattle.cc_expression_trees.specs.Exprs.{ShowsExpr, InParens, ShowsConstant, ShowsNarrow, ShowsNull, ShowsFunction, ShowsRead, ShowsAddress, ShowsUnary, ShowsConversion, ShowsQualified, ShowsBinary, ShowsChoice, ShowsPlace, PlaceInParens, ShowsLocal, ShowsStatic, ShowsDevice, ShowsNumbered, ShowsElement, ShowsMember, ShowsPointed, ShowsPointer, PointerInParens, PointerNull, AnotherPointer}
-use Rattle.cc_shown_constants.proofs.Constants.{paren-tree}
+use Rattle.cc_shown_expressions.proofs.Constants.{paren-tree}
 use Rattle.cc_shown_expressions.proofs.Casts.{constant-shown, narrow-shown, conversion-shown, null-shown, null-again-shown, qualified-shown}
 use Rattle.cc_shown_expressions.proofs.Choices.{choice-shown}
 use Rattle.cc_shown_expressions.proofs.Places.{IsPlaceShown, IsPointerShown, function-shown, read-shown, address-shown, local-shown, static-shown, no-device, element-shown, member-shown, pointed-shown}
-use Rattle.cc_shown_operations.specs.Fits.{is_device_place}
-use Rattle.cc_shown_operations.specs.Known.{KnowsNames, TypesStand}
-use Rattle.cc_shown_operations.specs.Normal.{HasOperand, HasPlace}
-use Rattle.cc_shown_operations.specs.Numbers.{Numbers}
-use Rattle.cc_shown_operations.specs.Typed.{operand_of, IsShown}
-use Rattle.cc_shown_operations.proofs.Fits.{null-fits}
-use Rattle.cc_shown_operations.proofs.Levels.{constant-at}
-use Rattle.cc_shown_operations.proofs.Operations.{unary-shown, binary-shown}
-use Rattle.cc_shown_operations.proofs.Trees.{inside, inside-place}
+use Rattle.cc_shown_expressions.specs.Fits.{is_device_place}
+use Rattle.cc_shown_expressions.specs.KnownNames.{KnowsNames, TypesStand}
+use Rattle.cc_shown_expressions.specs.Normal.{HasOperand, HasPlace}
+use Rattle.cc_shown_expressions.specs.OperationNumbers.{Numbers}
+use Rattle.cc_shown_expressions.specs.Typed.{operand_of, IsShown}
+use Rattle.cc_shown_expressions.proofs.Fits.{null-fits}
+use Rattle.cc_shown_expressions.proofs.Levels.{constant-at}
+use Rattle.cc_shown_expressions.proofs.Operations.{unary-shown, binary-shown}
+use Rattle.cc_shown_expressions.proofs.Trees.{inside, inside-place}
 
 module _ (p : Program) (f : Func) (n : Numbers) (s : State) (sized : AreSized p.structures p.target) (names : KnowsNames p f n s) (stand : TypesStand p f) where
   paren-pointer : (e : Expr) (x : At Tree) (at : ℕ) (v : ValueType) → IsPointerShown p f n s names stand x.node x.at e v → IsPointerShown p f n s names stand (tree.Paren x) at e v

@@ -19,8 +19,8 @@ use Rattle.cc_syntax.specs.SameTypes.{is_void_shape}
 use Rattle.cc_syntax.specs.Sound.{IsSound, IsFunc, is_local, is_object, have_ids, is_member, is_structure, are_structures}
 use Rattle.cc_syntax.proofs.Parts.{all_at}
 use Rattle.cc_syntax.proofs.Prefixes.{both_true}
-use Rattle.cc_shown_operations.specs.Known.{TypesStand}
-use Rattle.cc_shown_types.proofs.Standing.{kind-at}
+use Rattle.cc_shown_expressions.specs.KnownNames.{TypesStand}
+use Rattle.cc_shown_expressions.proofs.Standing.{kind-at}
 
 pub tested-at : {A : Type 0} → (test : A → Bool) (xs : List A) (i : ℕ) (x : A) → list_all test xs ≡ true → slice_get xs i ≡ Some x → test x ≡ true
 tested-at test [] i x h e = absurd (cc)

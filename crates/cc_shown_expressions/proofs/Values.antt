@@ -5,8 +5,8 @@ use Rattle.cc_designators.specs.Designators.{IsValue}
 use Rattle.cc_num.specs.declared.int_type.IntType.{IntType}
 use Rattle.cc_num.specs.declared.int_type.IntType.TheVariants as int
 use Rattle.cc_operands.specs.Operands.{Operand, integer, is_pointer, is_null_constant, null_of}
-use Rattle.cc_operand_rules.specs.Assigned.{AssignedAs}
-use Rattle.cc_operand_rules.proofs.Choices.{assign-rule, assign-null, assign-constant}
+use Rattle.cc_shown_expressions.specs.Assigned.{AssignedAs}
+use Rattle.cc_shown_expressions.proofs.ChoiceRules.{assign-rule, assign-null, assign-constant}
 use Rattle.cc_program.specs.declared.expr.Expr.{Expr, Null, out-Expr}
 use Rattle.cc_program.specs.declared.expr.Expr.TheOpen as one
 use Rattle.cc_program.specs.declared.expr.Expr.TheVariants as expr_rolls
@@ -23,24 +23,24 @@ use Rattle.cc_syntax.proofs.SameLemmas.{int_same}
 use Rattle.cc_tree.specs.declared.tree.Tree.{Tree}
 use Rattle.cc_expression_trees.specs.Constants.{ShowsInteger, IsZero}
 use Rattle.cc_expression_trees.specs.Exprs.{ShowsValue, ValueInParens, ValueOf, NarrowValue, NullValue}
-use Rattle.cc_shown_constants.proofs.Constants.{integer-found, zero-found, paren-tree}
+use Rattle.cc_shown_expressions.proofs.Constants.{integer-found, zero-found, paren-tree}
 use Rattle.cc_shown_expressions.specs.Taken.{IsTakenAs}
 use Rattle.cc_shown_expressions.proofs.Casts.{assigned-pointer, constant-parts, zero-null, null-type, pointer-numbered-is, pointer-is-one, assigned-void}
 use Rattle.cc_shown_expressions.proofs.Restored.{null-restored}
 use Rattle.cc_shown_expressions.proofs.Shown.{expr-shown}
-use Rattle.cc_shown_operations.specs.Fits.{FitsValue}
-use Rattle.cc_shown_operations.specs.Known.{KnowsNames, TypesStand}
-use Rattle.cc_shown_operations.specs.Normal.{HasOperand}
-use Rattle.cc_shown_operations.specs.Numbers.{Numbers, expr_numbered}
-use Rattle.cc_shown_operations.specs.Typed.{operand_of, IsShown}
-use Rattle.cc_shown_operations.proofs.Fits.{void-to}
-use Rattle.cc_shown_operations.proofs.Levels.{expr-at}
-use Rattle.cc_shown_operations.proofs.Nulls.{null-value}
-use Rattle.cc_shown_operations.proofs.Operands.{void-null}
-use Rattle.cc_shown_operations.proofs.PlaceParts.{NullIs, ToVoid, ToOther}
-use Rattle.cc_shown_types.specs.Numbers.{type_numbered, value_numbered}
-use Rattle.cc_shown_types.proofs.Kept.{assignable-numbered, scalar-stays}
-use Rattle.cc_shown_types.proofs.Standing.{pointed-stands, scalar-plain, scalar-stands}
+use Rattle.cc_shown_expressions.specs.Fits.{FitsValue}
+use Rattle.cc_shown_expressions.specs.KnownNames.{KnowsNames, TypesStand}
+use Rattle.cc_shown_expressions.specs.Normal.{HasOperand}
+use Rattle.cc_shown_expressions.specs.OperationNumbers.{Numbers, expr_numbered}
+use Rattle.cc_shown_expressions.specs.Typed.{operand_of, IsShown}
+use Rattle.cc_shown_expressions.proofs.Fits.{void-to}
+use Rattle.cc_shown_expressions.proofs.Levels.{expr-at}
+use Rattle.cc_shown_expressions.proofs.Nulls.{null-value}
+use Rattle.cc_shown_expressions.proofs.Operands.{void-null}
+use Rattle.cc_shown_expressions.proofs.PlaceParts.{NullIs, ToVoid, ToOther}
+use Rattle.cc_shown_expressions.specs.Numbers.{type_numbered, value_numbered}
+use Rattle.cc_shown_expressions.proofs.Kept.{assignable-numbered, scalar-stays}
+use Rattle.cc_shown_expressions.proofs.Standing.{pointed-stands, scalar-plain, scalar-stands}
 
 integer-taker : (w : ValueType) (t : IntType) → is_assignable w (Integer t) ≡ true → w ≡ Integer t
 integer-taker NoValue t h = absurd (cc)

@@ -1,1 +1,10 @@
+pub mod Assigned
+pub mod Fits
+pub mod Known
+pub mod KnownNames
+pub mod Normal
+pub mod Numbers
+pub mod OperationNumbers
+pub mod Operators
 pub mod Taken
+pub mod Typed

@@ -2,7 +2,7 @@
 use Rattle.std.specs.Prelude.{◌≡◌, ℕ, Ok}
 use Rattle.cc_designators.specs.Designators.{TypedExpr}
 use Rattle.cc_operands.specs.Operands.{Operand}
-use Rattle.cc_operand_rules.specs.Assigned.{AssignedAs}
+use Rattle.cc_shown_expressions.specs.Assigned.{AssignedAs}
 use Rattle.cc_primary.specs.Values.{valued}
 use Rattle.cc_program.specs.declared.expr.Expr.{Expr}
 use Rattle.cc_program.specs.declared.program.Program.{Program}
@@ -10,8 +10,8 @@ use Rattle.cc_scopes.specs.State.{State}
 use Rattle.cc_syntax.specs.Values.{ValueType}
 use Rattle.cc_terms.specs.Terms.{tree_of}
 use Rattle.cc_tree.specs.declared.tree.Tree.{Tree}
-use Rattle.cc_shown_operations.specs.Numbers.{Numbers, expr_numbered}
-use Rattle.cc_shown_types.specs.Numbers.{value_numbered}
+use Rattle.cc_shown_expressions.specs.OperationNumbers.{Numbers, expr_numbered}
+use Rattle.cc_shown_expressions.specs.Numbers.{value_numbered}
 
 module _ (p : Program) (n : Numbers) (s : State) where
   -- where it is taken as a value of the type, with the numbers of the unit, it is the expression (C99 6.5.16.1, 6.5.2.2, 7, 6.8.6.4, 3)

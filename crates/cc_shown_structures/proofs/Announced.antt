@@ -20,8 +20,8 @@ use Rattle.cc_syntax.specs.Sound.{IsSound}
 use Rattle.cc_syntax.specs.Types.{Named, has_members}
 use Rattle.cc_syntax.proofs.Prefixes.{both_true}
 use Rattle.std.specs.List.{list_all}
-use Rattle.cc_type_trees.proofs.Names.{there}
-use Rattle.cc_shown_types.proofs.Standing.{Stands, kind-at, pointed-stands, element-stands, signature-stands, signature-parts, result-stands, scalar-stands}
+use Rattle.cc_expression_trees.proofs.TypeNames.{there}
+use Rattle.cc_shown_expressions.proofs.Standing.{Stands, kind-at, pointed-stands, element-stands, signature-stands, signature-parts, result-stands, scalar-stands}
 use Rattle.cc_shown_structures.specs.Order.{base_of, is_among, with_first, with_base, announced_from}
 use Rattle.cc_shown_structures.proofs.Orders.{same, self, or-left, or-cases, first-there, first-keeps}
 use Rattle.cc_shown_structures.proofs.Namings.{named_level, named-at, base-named, naming-is}

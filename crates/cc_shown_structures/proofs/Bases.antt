@@ -40,11 +40,11 @@ use Rattle.cc_tree.specs.declared.tree.Declr.TheOpen as one
 use Rattle.cc_tree.specs.declared.tree.Spec as spec
 use Rattle.cc_tree.specs.declared.tree.Spec.{Spec}
 use Rattle.cc_tree.specs.declared.tree.Spec.TheVariants as spec_rolls
-use Rattle.cc_type_trees.specs.Types.{ShowsWords, ShowsBase, ShowsVoid, ShowsInt, ShowsStructure, qualifier_words}
-use Rattle.cc_shown_types.specs.Numbers.{type_numbered}
-use Rattle.cc_shown_types.proofs.Bases.{type-of-fields, shape-of-level, opens-as, specified-found}
-use Rattle.cc_shown_types.proofs.Numbering.{level-at, constant-kept, volatile-kept}
-use Rattle.cc_shown_types.proofs.Words.{start, reached, qualifiers-told, spec-at, words-behind}
+use Rattle.cc_expression_trees.specs.Types.{ShowsWords, ShowsBase, ShowsVoid, ShowsInt, ShowsStructure, qualifier_words}
+use Rattle.cc_shown_expressions.specs.Numbers.{type_numbered}
+use Rattle.cc_shown_expressions.proofs.Bases.{type-of-fields, shape-of-level, opens-as, specified-found}
+use Rattle.cc_shown_expressions.proofs.Numbering.{level-at, constant-kept, volatile-kept}
+use Rattle.cc_shown_expressions.proofs.Words.{start, reached, qualifiers-told, spec-at, words-behind}
 use Rattle.cc_shown_structures.specs.Order.{base_of, is_among, with_first, with_base, appearance, structure_number}
 use Rattle.cc_shown_structures.specs.States.{tag_or_none, tag_entry, whole_structure, known_by, known_as, first_state}
 use Rattle.cc_shown_structures.proofs.Announced.{NamesOnly}

@@ -16,8 +16,8 @@ use Rattle.cc_syntax.specs.declared.sizes.Layout.{Layout}
 use Rattle.cc_syntax.proofs.Parts.{all_at}
 use Rattle.cc_syntax.proofs.Prefixes.{layouts-at, layout-taken, complete-taken}
 use Rattle.cc_syntax.proofs.StructureLemmas.{structures_sized}
-use Rattle.cc_shown_types.specs.Numbers.{type_numbered, named_numbered}
-use Rattle.cc_shown_types.proofs.Complete.{layout-numbered}
+use Rattle.cc_shown_expressions.specs.Numbers.{type_numbered, named_numbered}
+use Rattle.cc_shown_expressions.proofs.Complete.{layout-numbered}
 use Rattle.cc_shown_structures.specs.Order.{base_of, is_among, with_first, with_base, with_members, with_structures, announced_from, order_before, appearance, structure_number}
 use Rattle.cc_shown_structures.specs.States.{whole_structure, known_by, known_as, completed_from, first_state}
 use Rattle.cc_shown_structures.proofs.Announced.{take-more, NamesOnly}

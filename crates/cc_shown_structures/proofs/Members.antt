@@ -42,12 +42,12 @@ use Rattle.cc_tree.specs.declared.at.At.{At}
 use Rattle.cc_tree.specs.declared.tree.Declr.{Declr}
 use Rattle.cc_tree.specs.declared.tree.MemberDecl.{MemberDecl, fold_out-MemberDecl}
 use Rattle.cc_tree.specs.declared.tree.Spec.{Spec}
-use Rattle.cc_type_trees.specs.Types.{Plain, ShowsBase, ShowsVoid, ShowsInt, ShowsStructure, Declares}
-use Rattle.cc_item_trees.specs.Items.{ShowsMembers, NoMember, MoreMembers}
-use Rattle.cc_shown_types.specs.Numbers.{type_numbered, named_numbered}
-use Rattle.cc_shown_types.proofs.Complete.{object-numbered}
-use Rattle.cc_shown_types.proofs.Declared.{declared}
-use Rattle.cc_shown_types.proofs.Derived.{fits-derived}
+use Rattle.cc_expression_trees.specs.Types.{Plain, ShowsBase, ShowsVoid, ShowsInt, ShowsStructure, Declares}
+use Rattle.cc_unit_trees.specs.Items.{ShowsMembers, NoMember, MoreMembers}
+use Rattle.cc_shown_expressions.specs.Numbers.{type_numbered, named_numbered}
+use Rattle.cc_shown_expressions.proofs.Complete.{object-numbered}
+use Rattle.cc_shown_expressions.proofs.Declared.{declared}
+use Rattle.cc_shown_expressions.proofs.Derived.{fits-derived}
 use Rattle.cc_shown_structures.specs.Order.{base_of, is_among, with_base, with_members, appearance, structure_number}
 use Rattle.cc_shown_structures.specs.States.{first_state}
 use Rattle.cc_shown_structures.proofs.Announced.{InFront, NamesOnly, base-keeps, member-passed, earlier-names, member-names}

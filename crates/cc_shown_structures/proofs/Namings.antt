@@ -9,7 +9,7 @@ use Rattle.cc_program.specs.declared.types.Sig.{Sig, out-Sig, out-roll-Sig, fold
 use Rattle.cc_program.proofs.TypeInduction.{with_shape, TypeParts, by_type}
 use Rattle.cc_program.specs.declared.types.Structure.{Structure}
 use Rattle.cc_tree.specs.declared.tree.Declr.{Declr}
-use Rattle.cc_type_trees.specs.Types.{Core, Declares, DeclaresNothing, DeclaresName, DeclaresFunction, InParens, DeclaresPointer, DeclaresArray, DeclaresFunc}
+use Rattle.cc_expression_trees.specs.Types.{Core, Declares, DeclaresNothing, DeclaresName, DeclaresFunction, InParens, DeclaresPointer, DeclaresArray, DeclaresFunc}
 use Rattle.cc_shown_structures.specs.Order.{base_step, base_of}
 use Rattle.cc_shown_structures.proofs.Orders.{same, or-left}
 

@@ -37,12 +37,12 @@ use Rattle.cc_tree.specs.declared.tree.Param.{Param}
 use Rattle.cc_tree.specs.declared.tree.Params.{Params}
 use Rattle.cc_tree.specs.declared.tree.Spec as spec
 use Rattle.cc_tree.specs.declared.tree.Spec.{Spec}
-use Rattle.cc_type_trees.specs.Types.{Core, Plain, unnamed, ShowsBase, ShowsVoid, ShowsInt, ShowsStructure, Declares, DeclaresNothing, DeclaresName, DeclaresFunction, InParens, DeclaresPointer, DeclaresArray, DeclaresFunc, ShowsParams, ShowsNone, ShowsSome, ShowsParamList, NoParam, MoreParams}
+use Rattle.cc_expression_trees.specs.Types.{Core, Plain, unnamed, ShowsBase, ShowsVoid, ShowsInt, ShowsStructure, Declares, DeclaresNothing, DeclaresName, DeclaresFunction, InParens, DeclaresPointer, DeclaresArray, DeclaresFunc, ShowsParams, ShowsNone, ShowsSome, ShowsParamList, NoParam, MoreParams}
 use Rattle.cc_words.specs.Names.{is_name, are_distinct}
-use Rattle.cc_shown_types.specs.Known.{KnowsStructures}
-use Rattle.cc_shown_types.specs.Numbers.{type_numbered, sig_numbered, named_numbered, structure_numbered}
-use Rattle.cc_shown_types.proofs.Bases.{type-of-fields, shape-of-level}
-use Rattle.cc_shown_types.proofs.Numbering.{level, level-at, constant-kept, volatile-kept, sig-level}
+use Rattle.cc_shown_expressions.specs.Known.{KnowsStructures}
+use Rattle.cc_shown_expressions.specs.Numbers.{type_numbered, sig_numbered, named_numbered, structure_numbered}
+use Rattle.cc_shown_expressions.proofs.Bases.{type-of-fields, shape-of-level}
+use Rattle.cc_shown_expressions.proofs.Numbering.{level, level-at, constant-kept, volatile-kept, sig-level}
 use Rattle.cc_shown_structures.specs.Order.{is_among, appearance, structure_number}
 use Rattle.cc_shown_structures.specs.States.{tag_or_none, tag_at, tag_entry, whole_structure, known_by, known_as, first_state}
 use Rattle.cc_shown_structures.proofs.Announced.{NamesOnly}

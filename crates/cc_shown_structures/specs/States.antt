@@ -6,7 +6,7 @@ use Rattle.cc_program.specs.declared.types.Structure.{Structure}
 use Rattle.cc_scopes.specs.State.{State, Name, Scope, KnownStructure, only_named}
 use Rattle.cc_scopes.specs.declared.designated.Tagged.{Tagged}
 use Rattle.cc_scopes.specs.declared.designated.Tagged.TheVariants.{StructureTag}
-use Rattle.cc_shown_types.specs.Numbers.{named_numbered}
+use Rattle.cc_shown_expressions.specs.Numbers.{named_numbered}
 use Rattle.cc_shown_structures.specs.Order.{structure_number}
 use Rattle.cc_syntax.specs.Layout.{nothing, layouts}
 use Rattle.cc_syntax.specs.Types.{has_members}

@@ -1,15 +1,15 @@
 //! What holds of the structures of a program while its text declares them.
 
 ghost use Rattle.std.specs.Prelude.{◌≡◌, ℕ, suc, true, List, [], length, map, Ok, Some, slice_get};
-ghost use Rattle.cc_item_trees.specs.Items.{ShowsMembers};
+ghost use Rattle.cc_unit_trees.specs.Items.{ShowsMembers};
 ghost use Rattle.cc_program.specs.declared.program.Program.{Program};
 ghost use Rattle.cc_program.specs.declared.program.Roles.{Roles};
 ghost use Rattle.cc_program.specs.declared.types.Structure.{Structure};
 ghost use Rattle.cc_scopes.specs.Structures.{completed};
 ghost use Rattle.cc_shown_structures.specs.Order.{appearance, order_before, structure_number, with_first, with_members};
 ghost use Rattle.cc_shown_structures.specs.States.{first_state};
-ghost use Rattle.cc_shown_types.specs.Known.{KnowsStructures};
-ghost use Rattle.cc_shown_types.specs.Numbers.{named_numbered};
+ghost use Rattle.cc_shown_expressions.specs.Known.{KnowsStructures};
+ghost use Rattle.cc_shown_expressions.specs.Numbers.{named_numbered};
 ghost use Rattle.cc_syntax.specs.Sound.{IsSound};
 ghost use Rattle.cc_syntax.specs.Types.{has_members};
 ghost use Rattle.cc_terms.specs.Structures.{members_found};

@@ -14,7 +14,7 @@ use Rattle.cc_operands.specs.Operators.{operator_of}
 use Rattle.cc_operands.specs.Assignments.{assigned}
 use Rattle.cc_operands.specs.Verdicts.{Judged, judge_then}
 use Rattle.cc_operands.specs.declared.operator.Operator.TheVariants as operator
-use Rattle.cc_operand_rules.proofs.Rules.{move-rule}
+use Rattle.cc_shown_expressions.proofs.Rules.{move-rule}
 use Rattle.cc_primary.specs.Operators.{binary_by}
 use Rattle.cc_primary.specs.Values.{gives, valued, value_found}
 use Rattle.cc_program.specs.declared.expr.Expr.{Expr, Const, FuncAddr, AddrOf, Move, out-Expr}
@@ -53,16 +53,16 @@ use Rattle.cc_tree.specs.declared.tree.Declr.TheOpen as trees
 use Rattle.cc_tree.specs.declared.tree.Tree as tree
 use Rattle.cc_tree.specs.declared.tree.Tree.{Tree}
 use Rattle.cc_tree.specs.declared.tree.Tree.TheVariants as tree_rolls
-use Rattle.cc_type_trees.specs.Types.{plain_suffix}
-use Rattle.cc_value_trees.specs.Values.{IsIndex, ShowsAtIndex, ElementInParens, AtIndex, ShowsAddress, AddressInParens, ShowsNull, ShowsFunction, ShowsElementAddress, ShowsWholeAddress, ShowsPast}
-use Rattle.cc_shown_constants.proofs.Constants.{paren-tree, zero-found}
-use Rattle.cc_shown_operations.specs.Known.{TypesStand}
-use Rattle.cc_shown_operations.specs.Numbers.{Numbers}
-use Rattle.cc_shown_operations.proofs.Levels.{one-is, when-is}
-use Rattle.cc_shown_operations.proofs.Trees.{tree-at, name-tree}
-use Rattle.cc_shown_types.specs.Numbers.{type_numbered, sig_numbered, value_numbered, place_type_numbered}
-use Rattle.cc_shown_types.proofs.Complete.{points-numbered}
-use Rattle.cc_shown_types.proofs.Kept.{pointer-numbered, assignable-numbered, address-at}
+use Rattle.cc_expression_trees.specs.Types.{plain_suffix}
+use Rattle.cc_unit_trees.specs.Values.{IsIndex, ShowsAtIndex, ElementInParens, AtIndex, ShowsAddress, AddressInParens, ShowsNull, ShowsFunction, ShowsElementAddress, ShowsWholeAddress, ShowsPast}
+use Rattle.cc_shown_expressions.proofs.Constants.{paren-tree, zero-found}
+use Rattle.cc_shown_expressions.specs.KnownNames.{TypesStand}
+use Rattle.cc_shown_expressions.specs.OperationNumbers.{Numbers}
+use Rattle.cc_shown_expressions.proofs.Levels.{one-is, when-is}
+use Rattle.cc_shown_expressions.proofs.Trees.{tree-at, name-tree}
+use Rattle.cc_shown_expressions.specs.Numbers.{type_numbered, sig_numbered, value_numbered, place_type_numbered}
+use Rattle.cc_shown_expressions.proofs.Complete.{points-numbered}
+use Rattle.cc_shown_expressions.proofs.Kept.{pointer-numbered, assignable-numbered, address-at}
 use Rattle.cc_shown_values.specs.Known.{KnowsStatics}
 use Rattle.cc_shown_values.specs.Numbers.{address_numbered}
 use Rattle.cc_shown_values.proofs.Located.{expression-at, located-at, leaf-pointer, assigned-address, assigned-null, no-null}

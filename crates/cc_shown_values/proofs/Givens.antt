@@ -16,7 +16,7 @@ use Rattle.cc_num.specs.Integers.{is_value_of}
 use Rattle.cc_objects.specs.Values.{objects_in, leaf_given, no_leaf}
 use Rattle.cc_operands.specs.Operands.{Operand, integer}
 use Rattle.cc_operands.specs.Verdicts.{Judged, judge_then}
-use Rattle.cc_operand_rules.proofs.Choices.{constancy-of}
+use Rattle.cc_shown_expressions.proofs.ChoiceRules.{constancy-of}
 use Rattle.cc_shown_values.proofs.Located.{integer-assigned}
 use Rattle.cc_primary.specs.Values.{valued}
 use Rattle.cc_program.specs.declared.func.Func.{Func}
@@ -46,15 +46,15 @@ use Rattle.cc_tree.specs.declared.tree.Tree.{Tree, out-Tree}
 use Rattle.cc_tree.specs.declared.tree.Tree.TheVariants as tree_rolls
 use Rattle.cc_tree.specs.declared.unit.Given as given
 use Rattle.cc_tree.specs.declared.unit.Given.{Given}
-use Rattle.cc_type_trees.specs.Types.{plain_suffix}
+use Rattle.cc_expression_trees.specs.Types.{plain_suffix}
 use Rattle.cc_typed_declarations.specs.Plans.{as_given, step_done}
-use Rattle.cc_value_trees.specs.Values.{ShowsAddress, AddressInParens, ShowsNull, ShowsFunction, ShowsElementAddress, ShowsWholeAddress, ShowsPast, ShowsGiven, ShowsNumber, ShowsPointer, ShowsArray, ShowsStructure, ShowsEach, ShowsNone, ShowsMore}
-use Rattle.cc_shown_constants.proofs.Constants.{integer-found}
-use Rattle.cc_shown_operations.specs.Known.{TypesStand}
-use Rattle.cc_shown_operations.specs.Numbers.{Numbers}
-use Rattle.cc_shown_types.specs.Numbers.{type_numbered, named_numbered}
-use Rattle.cc_shown_types.proofs.Numbering.{level-at}
-use Rattle.cc_shown_types.proofs.Words.{in-turn-append}
+use Rattle.cc_unit_trees.specs.Values.{ShowsAddress, AddressInParens, ShowsNull, ShowsFunction, ShowsElementAddress, ShowsWholeAddress, ShowsPast, ShowsGiven, ShowsNumber, ShowsPointer, ShowsArray, ShowsStructure, ShowsEach, ShowsNone, ShowsMore}
+use Rattle.cc_shown_expressions.proofs.Constants.{integer-found}
+use Rattle.cc_shown_expressions.specs.KnownNames.{TypesStand}
+use Rattle.cc_shown_expressions.specs.OperationNumbers.{Numbers}
+use Rattle.cc_shown_expressions.specs.Numbers.{type_numbered, named_numbered}
+use Rattle.cc_shown_expressions.proofs.Numbering.{level-at}
+use Rattle.cc_shown_expressions.proofs.Words.{in-turn-append}
 use Rattle.cc_shown_values.specs.Known.{KnowsStatics}
 use Rattle.cc_shown_values.specs.Numbers.{leaf_numbered}
 use Rattle.cc_shown_values.proofs.Addresses.{LeafShown, address-shown}

@@ -11,8 +11,8 @@ use Rattle.cc_operands.specs.Assignments.{assigned, assigned_pointer}
 use Rattle.cc_operands.specs.Operands.{Operand, operand, integer, folded, cast_to, converted_from, constant_at, is_pointer, is_to_void, is_zero_constant, is_null_at, is_null_constant, null_of}
 use Rattle.cc_operands.specs.Verdicts.{must}
 use Rattle.cc_operands.specs.declared.rule.Rule.TheVariants as rule
-use Rattle.cc_operand_rules.proofs.Choices.{constancy-of}
-use Rattle.cc_operand_rules.proofs.Rules.{with-scalar, without-structure}
+use Rattle.cc_shown_expressions.proofs.ChoiceRules.{constancy-of}
+use Rattle.cc_shown_expressions.proofs.Rules.{with-scalar, without-structure}
 use Rattle.cc_program.specs.declared.expr.Expr.{Expr, Const, Conv, out-Expr, map-Expr, fold_out-Expr}
 use Rattle.cc_program.specs.declared.expr.Expr.TheOpen as one
 use Rattle.cc_program.specs.declared.expr.Place.{Place, out-Place, map-Place, fold_out-Place}

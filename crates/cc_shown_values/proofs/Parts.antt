@@ -8,7 +8,7 @@ use Rattle.cc_initial.specs.Addresses.{Spot, Located, ConstantExpression, Trappi
 use Rattle.cc_num.specs.declared.int_type.IntType.{IntType}
 use Rattle.cc_objects.specs.Values.{objects_in}
 use Rattle.cc_operands.specs.Operands.{Operand, integer, number_type}
-use Rattle.cc_operand_rules.proofs.Rules.{with-scalar}
+use Rattle.cc_shown_expressions.proofs.Rules.{with-scalar}
 use Rattle.cc_primary.specs.Values.{valued, value_found, designating}
 use Rattle.cc_program.specs.declared.expr.Expr.{Const}
 use Rattle.cc_program.specs.declared.expr.Expr.TheOpen as one
@@ -42,16 +42,16 @@ use Rattle.cc_tree.specs.declared.tree.Tree.{Tree}
 use Rattle.cc_tree.specs.declared.tree.Declr.TheOpen as trees
 use Rattle.cc_tree.specs.declared.tree.Tree.TheVariants as tree_rolls
 use Rattle.cc_tree.specs.Tokens.{Name}
-use Rattle.cc_type_trees.specs.Types.{plain_suffix}
-use Rattle.cc_value_trees.specs.Values.{IsIndex, Index, IndexInParens, ShowsPart, PartInParens, ShowsObject, ShowsMember, ShowsElement}
-use Rattle.cc_shown_constants.proofs.Constants.{paren-tree, number-tree}
-use Rattle.cc_shown_operations.specs.Known.{TypesStand}
-use Rattle.cc_shown_operations.specs.Numbers.{Numbers}
-use Rattle.cc_shown_operations.proofs.Members.{member-is, dot-is}
-use Rattle.cc_shown_operations.proofs.Trees.{tree-at, name-tree}
-use Rattle.cc_shown_types.specs.Numbers.{place_type_numbered}
-use Rattle.cc_shown_types.proofs.Kept.{object-numbered, element-at}
-use Rattle.cc_shown_types.proofs.Numbering.{level, level-at}
+use Rattle.cc_expression_trees.specs.Types.{plain_suffix}
+use Rattle.cc_unit_trees.specs.Values.{IsIndex, Index, IndexInParens, ShowsPart, PartInParens, ShowsObject, ShowsMember, ShowsElement}
+use Rattle.cc_shown_expressions.proofs.Constants.{paren-tree, number-tree}
+use Rattle.cc_shown_expressions.specs.KnownNames.{TypesStand}
+use Rattle.cc_shown_expressions.specs.OperationNumbers.{Numbers}
+use Rattle.cc_shown_expressions.proofs.Members.{member-is, dot-is}
+use Rattle.cc_shown_expressions.proofs.Trees.{tree-at, name-tree}
+use Rattle.cc_shown_expressions.specs.Numbers.{place_type_numbered}
+use Rattle.cc_shown_expressions.proofs.Kept.{object-numbered, element-at}
+use Rattle.cc_shown_expressions.proofs.Numbering.{level, level-at}
 use Rattle.cc_shown_values.specs.Known.{KnowsStatics}
 use Rattle.cc_shown_values.proofs.Located.{expression-at, place-located-at}
 

@@ -20,9 +20,9 @@ use Rattle.cc_syntax.specs.SameTypes.{is_void_shape}
 use Rattle.cc_syntax.specs.Types.{Named}
 use Rattle.cc_syntax.specs.Sound.{IsSound, is_object, have_ids, is_member, is_structure, are_structures}
 use Rattle.cc_syntax.proofs.Prefixes.{both_true}
-use Rattle.cc_shown_operations.specs.Known.{TypesStand}
+use Rattle.cc_shown_expressions.specs.KnownNames.{TypesStand}
 use Rattle.cc_shown_expressions.proofs.Stand.{tested-at}
-use Rattle.cc_shown_types.proofs.Standing.{kind-at}
+use Rattle.cc_shown_expressions.proofs.Standing.{kind-at}
 
 structure-at : (before rest : List Structure) (count : ℕ) (target : Target) (i : ℕ) (s : Structure) → slice_get rest i ≡ Some s → are_structures before count target rest ≡ true → are_names (local_names s.members) ≡ true
 structure-at before [] count target i s e h = absurd (cc)

@@ -21,8 +21,8 @@ use Rattle.cc_syntax.specs.Values.{pointer_to}
 use Rattle.cc_syntax.proofs.Prefixes.{both_true}
 use Rattle.cc_tree.specs.declared.at.At.{At}
 use Rattle.cc_tree.specs.declared.unit.Given.{Given}
-use Rattle.cc_value_trees.specs.Values.{ShowsGiven, ShowsNumber, ShowsPointer, ShowsArray, ShowsStructure, ShowsEach, ShowsNone, ShowsMore, StartsWith}
-use Rattle.cc_shown_operations.specs.Numbers.{Numbers}
+use Rattle.cc_unit_trees.specs.Values.{ShowsGiven, ShowsNumber, ShowsPointer, ShowsArray, ShowsStructure, ShowsEach, ShowsNone, ShowsMore, StartsWith}
+use Rattle.cc_shown_expressions.specs.OperationNumbers.{Numbers}
 use Rattle.cc_shown_values.specs.Numbers.{leaf_numbered}
 
 zero-value : (p : Program) (i : IntType) (n : ℤ) → int_eq n (pos 0) ≡ true → is_value_of i p.target n ≡ true

@@ -10,9 +10,9 @@ use Rattle.cc_program.specs.declared.object.Object.{Object}
 use Rattle.cc_program.specs.declared.program.Program.{Program}
 use Rattle.cc_scopes.specs.State.{State, structures_of}
 use Rattle.cc_syntax.specs.Values.{object_place}
-use Rattle.cc_shown_operations.specs.Numbers.{Numbers}
-use Rattle.cc_shown_types.specs.Known.{KnowsStructures}
-use Rattle.cc_shown_types.specs.Numbers.{type_numbered, sig_numbered}
+use Rattle.cc_shown_expressions.specs.OperationNumbers.{Numbers}
+use Rattle.cc_shown_expressions.specs.Known.{KnowsStructures}
+use Rattle.cc_shown_expressions.specs.Numbers.{type_numbered, sig_numbered}
 
 pub record KnowsStatics (p : Program) (n : Numbers) (s : State) : Type 0 where
   pub structures : KnowsStructures p n.structure s

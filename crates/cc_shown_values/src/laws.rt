@@ -10,8 +10,8 @@ ghost use Rattle.cc_program.specs.declared.program.Program.{Program};
 ghost use Rattle.cc_program.specs.declared.types.CType.{CType};
 ghost use Rattle.cc_program.specs.declared.value.Leaf.{Leaf};
 ghost use Rattle.cc_scopes.specs.State.{State, structures_of};
-ghost use Rattle.cc_shown_operations.specs.Numbers.{Numbers};
-ghost use Rattle.cc_shown_types.specs.Numbers.{type_numbered};
+ghost use Rattle.cc_shown_expressions.specs.OperationNumbers.{Numbers};
+ghost use Rattle.cc_shown_expressions.specs.Numbers.{type_numbered};
 ghost use Rattle.cc_shown_values.specs.Known.{KnowsStatics};
 ghost use Rattle.cc_shown_values.specs.Numbers.{leaf_numbered};
 ghost use Rattle.cc_syntax.specs.Programs.{AreLeaves};
@@ -20,7 +20,7 @@ ghost use Rattle.cc_syntax.specs.Types.{is_complete};
 ghost use Rattle.cc_tree.specs.declared.at.At.{At};
 ghost use Rattle.cc_tree.specs.declared.unit.Given.{Given};
 ghost use Rattle.cc_typed_declarations.specs.Plans.{steps_done};
-ghost use Rattle.cc_value_trees.specs.Values.{ShowsGiven, ShowsInitial};
+ghost use Rattle.cc_unit_trees.specs.Values.{ShowsGiven, ShowsInitial};
 
 /// What holds of initialisers that show first values of a sound program, where its structures are known and names designate
 /// its static objects and functions (C99 6.7.8, 6.6): their steps give each scalar its value, with the numbers that the

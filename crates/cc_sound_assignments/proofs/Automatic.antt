@@ -1,9 +1,9 @@
 -- An automatic object with an initialiser: its scalars are assigned what they are given, and each assignment is typed.
 use Rattle.std.proofs.Common.{arith, ◌≡◌, ◌≤◌, ℕ, Bool, true, false, List, [], ◌∷◌, ◌++◌, length, Option, Some, None, Ok, refl, ap, sym, ◌∙◌, subst}
 use Rattle.std.specs.Prelude.{option_map, slice_get}
-use Rattle.cc_given_scalars.specs.Scalars.{OneScalar, scalars_of}
-use Rattle.cc_given_values.proofs.Values.{values_are}
-use Rattle.cc_given_values.specs.Values.{AreGiven, MayStand}
+use Rattle.cc_sound_assignments.specs.Scalars.{OneScalar, scalars_of}
+use Rattle.cc_sound_assignments.proofs.Values.{values_are}
+use Rattle.cc_sound_assignments.specs.Values.{AreGiven, MayStand}
 use Rattle.cc_initialisers.specs.Contents.{Contents, contents}
 use Rattle.cc_initialisers.specs.Initialisers.{here as given_here, initialised}
 use Rattle.cc_initialisers.specs.Scalars.{scalars_from}
@@ -24,8 +24,8 @@ use Rattle.cc_program.specs.declared.types.CType.{CType}
 use Rattle.cc_program.specs.declared.types.Shape.{Shape, out-Shape}
 use Rattle.cc_program.specs.declared.types.Shape.TheOpen as shape
 use Rattle.cc_program.specs.declared.types.Sig.{Sig}
-use Rattle.cc_scalar_places.proofs.Places.{scalars_placed}
-use Rattle.cc_scalar_places.specs.Places.{IsScalarPlace, ArePlaces}
+use Rattle.cc_sound_assignments.proofs.Places.{scalars_placed}
+use Rattle.cc_sound_assignments.specs.Places.{IsScalarPlace, ArePlaces}
 use Rattle.cc_scopes.specs.State.{State, Name, structures_of, with_unfinished}
 use Rattle.cc_scopes.specs.Verdicts.{whole, and_then}
 use Rattle.cc_sound_assignments.specs.Assigns.{AssignsTyped, HasObjects}
@@ -47,7 +47,7 @@ use Rattle.cc_sound_terms.specs.Standing.{IsDerived}
 use Rattle.cc_sound_terms.specs.Typing.{Knows, KnowsTypes}
 use Rattle.cc_sound_units.proofs.WithoutConst.{reduced_const}
 use Rattle.cc_specifiers.specs.Declarators.{is_unbounded}
-use Rattle.cc_stable_contents.proofs.Contents.{contents_same}
+use Rattle.cc_sound_assignments.proofs.Contents.{contents_same}
 use Rattle.cc_syntax.specs.Expressions.{place_type}
 use Rattle.cc_syntax.specs.Kinds.{is_object_type}
 use Rattle.cc_syntax.specs.Types.{Named, is_complete}
@@ -55,7 +55,7 @@ use Rattle.cc_syntax.specs.Values.{ValueType, ObjectPlace, is_scalar, object_pla
 use Rattle.cc_syntax.specs.Views.{View, kind_in}
 use Rattle.cc_tree.specs.declared.at.At.{At}
 use Rattle.cc_tree.specs.declared.unit.Given.{Given}
-use Rattle.cc_typed_assignments.proofs.Assignments.{all_typed}
+use Rattle.cc_sound_assignments.proofs.Assignments.{all_typed}
 use Rattle.cc_typed_declarations.specs.Objects.{automatic_left, exprs_found}
 use Rattle.cc_typed_declarations.specs.Plans.{steps_done}
 

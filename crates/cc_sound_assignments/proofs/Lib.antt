@@ -1,6 +1,11 @@
-pub mod Unconst
-pub mod Complete
-pub mod Has
-pub mod Gives
+pub mod Assignments
 pub mod Automatic
+pub mod Complete
+pub mod Contents
 pub mod Declarations
+pub mod Gives
+pub mod Has
+pub mod Ordered
+pub mod Places
+pub mod Unconst
+pub mod Values

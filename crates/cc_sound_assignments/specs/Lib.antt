@@ -1,1 +1,4 @@
 pub mod Assigns
+pub mod Places
+pub mod Scalars
+pub mod Values

@@ -1,6 +1,16 @@
-//! Declarations in a function give assignments that are typed, from state to state.
+//! What declarations in a function give: what each scalar is given, and assignments that are typed.
 #![tactic(auto)]
 
-mod law;
+mod assignment_law;
+mod content_law;
+mod place_law;
+mod scalar_law;
+mod typed_law;
+mod value_law;
 
-pub use law::assignment_laws;
+pub use assignment_law::assignment_laws;
+pub use content_law::content_laws;
+pub use place_law::place_laws;
+pub use scalar_law::scalar_laws;
+pub use typed_law::typed_laws;
+pub use value_law::value_laws;

@@ -17,7 +17,7 @@ use Rattle.cc_sound_assignments.proofs.Has.{given_on}
 use Rattle.cc_sound_assignments.proofs.Unconst.{lowered_reduced}
 use Rattle.cc_sound_assignments.specs.Assigns.{AssignsTyped, BodyReached, HasObjects}
 use Rattle.cc_sound_declarations.proofs.Storage.{IsInside, Block, For}
-use Rattle.cc_sound_statements.specs.Sound.{Keeps}
+use Rattle.cc_sound_bodies.specs.Sound.{Keeps}
 use Rattle.cc_sound_states.proofs.Declaring.{of_extends, wider}
 use Rattle.cc_sound_states.specs.Declaring.{Declares, lowered}
 use Rattle.cc_sound_states.specs.Reached.{Reached}

@@ -17,12 +17,12 @@ use Rattle.cc_program.specs.declared.stmt.Stmt.{Stmt, Do, Empty, Block}
 use Rattle.cc_program.specs.declared.types.CType.{CType}
 use Rattle.cc_scopes.specs.State.{State, Name, empty, entered}
 use Rattle.cc_scopes.specs.Verdicts.{Found, Meaning, whole, and_then, maybe_found}
-use Rattle.cc_sound_statements.specs.Sound.{Keeps, AreSound, AreCases}
-use Rattle.cc_sound_statements.proofs.Choices.{effect_sound, chosen_sound, repeated_sound, done_sound, counted_sound, broken_by, continued_by, returned_sound, joined_sound, sequences}
-use Rattle.cc_sound_statements.proofs.Cases.{none_sound, case_sound, default_sound, behind_sound, behind_empty_sound}
-use Rattle.cc_sound_statements.proofs.Kept.{has_type}
-use Rattle.cc_sound_statements.proofs.Opened.{all_do_sound, append_sound, do_sound, empty_sound, block_sound, body_sound}
-use Rattle.cc_sound_statements.proofs.Switches.{switched_sound}
+use Rattle.cc_sound_bodies.specs.Sound.{Keeps, AreSound, AreCases}
+use Rattle.cc_sound_bodies.proofs.Choices.{effect_sound, chosen_sound, repeated_sound, done_sound, counted_sound, broken_by, continued_by, returned_sound, joined_sound, sequences}
+use Rattle.cc_sound_bodies.proofs.Cases.{none_sound, case_sound, default_sound, behind_sound, behind_empty_sound}
+use Rattle.cc_sound_bodies.proofs.Kept.{has_type}
+use Rattle.cc_sound_bodies.proofs.Opened.{all_do_sound, append_sound, do_sound, empty_sound, block_sound, body_sound}
+use Rattle.cc_sound_bodies.proofs.Switches.{switched_sound}
 use Rattle.cc_syntax.specs.Statements.{is_typed}
 use Rattle.cc_specifiers.specs.declared.storage.Where.TheVariants as place
 use Rattle.cc_syntax.specs.Types.{Named}

@@ -11,7 +11,7 @@ use Rattle.cc_program.specs.declared.program.Roles.{Roles}
 use Rattle.cc_program.specs.declared.stmt.Stmt.{Stmt}
 use Rattle.cc_program.specs.declared.types.CType.{CType}
 use Rattle.cc_scopes.specs.State.{State, Name, empty, entered}
-use Rattle.cc_sound_statements.specs.Sound.{Keeps}
+use Rattle.cc_sound_bodies.specs.Sound.{Keeps}
 use Rattle.cc_sound_terms.specs.Ranges.{all_fit, fits}
 use Rattle.cc_syntax.proofs.Prefixes.{both_true}
 use Rattle.cc_syntax.specs.Types.{Named}

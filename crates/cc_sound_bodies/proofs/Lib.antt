@@ -1,4 +1,14 @@
-pub mod Scopes
-pub mod Constructs
-pub mod Induction
 pub mod Bodies
+pub mod Cases
+pub mod Choices
+pub mod Constructs
+pub mod Declarators
+pub mod Functions
+pub mod Induction
+pub mod Kept
+pub mod Labels
+pub mod Opened
+pub mod ParameterTypes
+pub mod Parameters
+pub mod Scopes
+pub mod Switches

@@ -3,7 +3,7 @@ use Rattle.std.specs.Prelude.{◌≡◌, ℕ, true, List, Some}
 use Rattle.cc_operand_types.specs.Typed.{stands}
 use Rattle.cc_program.specs.declared.stmt.Stmt.{Stmt}
 use Rattle.cc_program.specs.declared.types.CType.{CType}
-use Rattle.cc_sound_statements.specs.Sound.{AreSound}
+use Rattle.cc_sound_bodies.specs.Sound.{AreSound}
 use Rattle.cc_sound_states.specs.Declaring.{lowered}
 use Rattle.cc_syntax.specs.Expressions.{type_of}
 use Rattle.cc_syntax.specs.Types.{Named}

@@ -1,1 +1,4 @@
 pub mod Bodies
+pub mod FunctionBodies
+pub mod Scopes
+pub mod Sound

@@ -23,7 +23,7 @@ use Rattle.cc_sound_typed_units.proofs.Kept.{extends_well, same_well}
 use Rattle.cc_sound_typed_units.proofs.Places.{inside_keeps}
 use Rattle.cc_sound_typed_units.specs.Entries.{AreWell}
 use Rattle.cc_sound_states.specs.Reached.{GoesOn, Reached}
-use Rattle.cc_sound_statements.specs.Sound.{Keeps}
+use Rattle.cc_sound_bodies.specs.Sound.{Keeps}
 use Rattle.cc_sound_terms.proofs.Cycle.{tree_holds}
 use Rattle.cc_sound_terms.proofs.Trees.{value_holds}
 use Rattle.cc_sound_terms.specs.Ranges.{fits}

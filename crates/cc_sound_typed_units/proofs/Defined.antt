@@ -20,9 +20,9 @@ use Rattle.cc_scopes.specs.declared.unit.Declared.{Declared}
 use Rattle.cc_sound_typed_units.proofs.Entries.{IsFunctionAt, functions_stay}
 use Rattle.cc_sound_typed_units.proofs.Locals.{parameters_first, parameters_lowered, parameters_behind, lowered_locals, plain_automatic, objects_behind}
 use Rattle.cc_sound_typed_units.proofs.Signatures.{function_params, parameter_kinds, result_kind, result_may_stand, signature_is}
-use Rattle.cc_sound_functions.proofs.Functions.{function_body, known_begun, ordered_begun}
-use Rattle.cc_sound_functions.specs.Bodies.{IsFunctionBody, begun}
-use Rattle.cc_sound_parameters.specs.Scopes.{IsParameterScope}
+use Rattle.cc_sound_bodies.proofs.Functions.{function_body, known_begun, ordered_begun}
+use Rattle.cc_sound_bodies.specs.FunctionBodies.{IsFunctionBody, begun}
+use Rattle.cc_sound_bodies.specs.Scopes.{IsParameterScope}
 use Rattle.cc_sound_sources.specs.Units.{IsSoundFunction}
 use Rattle.cc_sound_states.proofs.Entries.{entries_through}
 use Rattle.cc_sound_states.proofs.Steps.{changed}

@@ -32,10 +32,10 @@ use Rattle.cc_sound_typed_units.proofs.Entries.{IsFunctionAt, entered_is}
 use Rattle.cc_sound_typed_units.proofs.Parts.{IsFound, IsNamed, named_is}
 use Rattle.cc_sound_typed_units.proofs.Signatures.{HasParameters, parameters_are, parameters_stand}
 use Rattle.cc_sound_typed_units.specs.Definitions.{AreApart, IsSoundAt}
-use Rattle.cc_sound_functions.proofs.Functions.{ordered_begun}
-use Rattle.cc_sound_functions.specs.Bodies.{begun as body_begun}
-use Rattle.cc_sound_parameters.proofs.Declarators.{parameters_listed}
-use Rattle.cc_sound_parameters.specs.Scopes.{IsParameterScope}
+use Rattle.cc_sound_bodies.proofs.Functions.{ordered_begun}
+use Rattle.cc_sound_bodies.specs.FunctionBodies.{begun as body_begun}
+use Rattle.cc_sound_bodies.proofs.Declarators.{parameters_listed}
+use Rattle.cc_sound_bodies.specs.Scopes.{IsParameterScope}
 use Rattle.cc_sound_states.proofs.Declaring.{declares_itself, declares_through, given_less, known_behind, of_extends}
 use Rattle.cc_sound_states.specs.Declaring.{Declares, DeclaresGiven}
 use Rattle.cc_sound_terms.proofs.Behind.{known_first}

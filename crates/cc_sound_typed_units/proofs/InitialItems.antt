@@ -4,14 +4,14 @@ use Rattle.std.specs.Prelude.{slice_get}
 use Rattle.std.specs.List.{list_all}
 use Rattle.cc_external_declarations.proofs.DefinedNames.{defined_among}
 use Rattle.cc_external_declarations.specs.External.{AreAmong}
-use Rattle.cc_first_values.specs.Values.{AreInitial}
+use Rattle.cc_external_declarations.specs.Values.{AreInitial}
 use Rattle.cc_sound_typed_units.proofs.InitialDefinitions.{definition_initial}
-use Rattle.cc_initialised_objects.proofs.Declarations.{file_initialises}
-use Rattle.cc_initialised_objects.proofs.Through.{initialises_through, own_contents}
-use Rattle.cc_initialised_objects.specs.Initialises.{Initialises}
+use Rattle.cc_external_declarations.proofs.InitialisedDeclarations.{file_initialises}
+use Rattle.cc_external_declarations.proofs.Through.{initialises_through, own_contents}
+use Rattle.cc_external_declarations.specs.Initialises.{Initialises}
 use Rattle.cc_num.specs.declared.target.Target.{Target}
-use Rattle.cc_own_views.proofs.Views.{first_ordered}
-use Rattle.cc_own_views.specs.Views.{view_of}
+use Rattle.cc_standing_units.proofs.OwnViews.{first_ordered}
+use Rattle.cc_standing_units.specs.Views.{view_of}
 use Rattle.cc_program.proofs.Each.{Each}
 use Rattle.cc_program.specs.declared.expr.Expr.{Expr}
 use Rattle.cc_program.specs.declared.program.Roles.{Roles}

@@ -6,8 +6,8 @@ use Rattle.cc_external_declarations.proofs.Declarations.{external_declares}
 use Rattle.cc_external_declarations.proofs.DefinedNames.{defined_among}
 use Rattle.cc_external_declarations.specs.External.{AreAmong}
 use Rattle.cc_num.specs.declared.target.Target.{Target}
-use Rattle.cc_own_views.proofs.Views.{all_is_known, first_ordered}
-use Rattle.cc_own_views.specs.Views.{view_of}
+use Rattle.cc_standing_units.proofs.OwnViews.{all_is_known, first_ordered}
+use Rattle.cc_standing_units.specs.Views.{view_of}
 use Rattle.cc_program.proofs.Each.{Each}
 use Rattle.cc_program.specs.declared.expr.Expr.{Expr}
 use Rattle.cc_program.specs.declared.func.Func.{Func}

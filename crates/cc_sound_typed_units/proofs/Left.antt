@@ -1,6 +1,6 @@
 -- What the unit that is left has of its last state: its structures stand, and what is sound over the state's own view is sound over that of the unit, by its numbers (C99 6.2.5, 6.7.8, 6.9.1).
 use Rattle.std.proofs.Common.{◌≡◌, ℕ, Bool, true, false, List, Option, Some, None, slice_get, subst}
-use Rattle.cc_first_values.specs.Values.{AreInitial, HasInitial}
+use Rattle.cc_external_declarations.specs.Values.{AreInitial, HasInitial}
 use Rattle.cc_left_names.proofs.Functions.{function_left, test_left}
 use Rattle.cc_left_names.proofs.Leaves.{values_left}
 use Rattle.cc_linked_structures.specs.Linked.{AreStanding}
@@ -8,7 +8,7 @@ use Rattle.cc_num.specs.declared.target.Target.{Target}
 use Rattle.cc_numbering.specs.Names.{function_in}
 use Rattle.cc_numbering.specs.Numbers.{numbers_of}
 use Rattle.cc_numbering.specs.Units.{ids_of, unit_left}
-use Rattle.cc_own_views.specs.Views.{view_of}
+use Rattle.cc_standing_units.specs.Views.{view_of}
 use Rattle.cc_program.specs.declared.func.Entry.{Entry}
 use Rattle.cc_program.specs.declared.func.Func.{Func}
 use Rattle.cc_program.specs.declared.types.CType.{CType}

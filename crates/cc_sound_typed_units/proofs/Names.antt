@@ -7,13 +7,13 @@ use Rattle.std.specs.Str.{bytes_eq}
 use Rattle.std.proofs.lemmas.Slice.Eq.{bytes_eq-Decides}
 use Rattle.cc_linkage.specs.Linkage.{is_main_result, is_main_shape, no_types}
 use Rattle.cc_linked_programs.proofs.Forms.{main_sig_kept}
-use Rattle.cc_linked_views.proofs.Shapes.{register_kept}
+use Rattle.cc_linked_programs.proofs.Shapes.{register_kept}
 use Rattle.cc_num.specs.declared.target.Target.{Target}
 use Rattle.cc_numbering.specs.Names.{count_of, function_in, kind_in, name_in}
 use Rattle.cc_numbering.specs.Numbers.{numbers_of}
 use Rattle.cc_numbering.specs.Units.{ids_of, unit_left}
 use Rattle.cc_operands.specs.Qualified.{is_function_type}
-use Rattle.cc_own_views.specs.Views.{view_of}
+use Rattle.cc_standing_units.specs.Views.{view_of}
 use Rattle.cc_primary.specs.Primary.{is_intrinsic}
 use Rattle.cc_program.proofs.Each.{Each}
 use Rattle.cc_program.specs.declared.func.Entry.{Entry}

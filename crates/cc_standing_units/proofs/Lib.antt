@@ -1,2 +1,11 @@
+pub mod Built
+pub mod Closed
+pub mod Laid
+pub mod Layouts
+pub mod LeftViews
 pub mod Lists
+pub mod OwnViews
+pub mod Places
 pub mod Standing
+pub mod Steps
+pub mod Types

@@ -9,10 +9,10 @@ use Rattle.cc_linked_structures.specs.Linked.{AreStanding, HasMembers as HasSome
 use Rattle.cc_num.specs.declared.target.Target.{Target}
 use Rattle.cc_numbering.specs.Structures.{all_named_in, named_in, structure_at, structure_in, structures_in}
 use Rattle.cc_numbering.specs.Units.{unit_left}
-use Rattle.cc_own_views.specs.Views.{has_content}
+use Rattle.cc_standing_units.specs.Views.{has_content}
 use Rattle.cc_program.proofs.Each.{Each}
 use Rattle.cc_program.specs.declared.types.Structure.{Structure}
-use Rattle.cc_relocated_types.proofs.KindsKept.{test_kept}
+use Rattle.cc_relocated_units.proofs.KindsKept.{test_kept}
 use Rattle.cc_scopes.specs.State.{KnownStructure, State, members_or_none}
 use Rattle.cc_sound_sources.specs.Units.{IsOfText, are_few_names}
 use Rattle.cc_sound_terms.specs.Ordered.{AreOrdered, IsOrdered, is_among}
@@ -27,9 +27,9 @@ use Rattle.cc_syntax.specs.Types.{Named, has_members}
 use Rattle.cc_syntax.specs.declared.sizes.Layout.{Layout}
 use Rattle.cc_unit.specs.declared.unit.UnitStructure.{UnitStructure}
 use Rattle.cc_words.specs.Names.{are_distinct, is_name}
-use Rattle.cc_left_units.proofs.Built.{AllThere, built-at, built-length, one-at}
-use Rattle.cc_left_units.proofs.Laid.{Known, all_there, before_middle, built, content, layouts_first, named, numbers, order, place, place_here, place_is, same_known, step, take_get, unit, unit_at, wider, zero_plus}
-use Rattle.cc_left_units.proofs.Places.{among-in, in-among, only-in}
+use Rattle.cc_standing_units.proofs.Built.{AllThere, built-at, built-length, one-at}
+use Rattle.cc_standing_units.proofs.Laid.{Known, all_there, before_middle, built, content, layouts_first, named, numbers, order, place, place_here, place_is, same_known, step, take_get, unit, unit_at, wider, zero_plus}
+use Rattle.cc_standing_units.proofs.Places.{among-in, in-among, only-in}
 use Rattle.cc_standing_units.proofs.Lists.{all-at, all-in, both, flat_parts, structures_parts, take_front, take_more, take_past}
 use Rattle.cc_standing_units.specs.Closed.{AreClosed, AreOver, MembersOver, extents_over}
 

@@ -1,8 +1,8 @@
 -- Structures of a state as their closing braces left them: each has members, no two of one name, and of object types over the structures that were complete by then (C99 6.7.2.1).
 use Rattle.std.specs.Prelude.{◌≡◌, ℕ, true, ◌&&◌, nat_lt, List, [], ◌∷◌, ◌++◌, length, Option, Some, None, option_map, slice_get, if◌then◌else◌}
-use Rattle.cc_left_units.specs.Laid.{AreLaid}
+use Rattle.cc_standing_units.specs.Laid.{AreLaid}
 use Rattle.cc_num.specs.declared.target.Target.{Target}
-use Rattle.cc_own_views.specs.Views.{has_content}
+use Rattle.cc_standing_units.specs.Views.{has_content}
 use Rattle.cc_program.proofs.Each.{Each}
 use Rattle.cc_scopes.specs.State.{KnownStructure, State}
 use Rattle.cc_sound_terms.specs.Ordered.{HasMembers, is_among}

@@ -1,1 +1,4 @@
 pub mod Closed
+pub mod Closings
+pub mod Laid
+pub mod Views

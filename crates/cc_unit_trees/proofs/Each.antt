@@ -1,7 +1,7 @@
 -- What holds of each element of a list that is put together.
 use Rattle.std.proofs.Common.{◌≡◌, ℕ, ◌+◌, Bool, true, false, cond, List, [], ◌∷◌, ◌++◌, map, take, refl}
 use Rattle.std.specs.List.{filter}
-use Rattle.cc_externals.specs.Externals.{in_front_if, announced}
+use Rattle.cc_unit_trees.specs.Externals.{in_front_if, announced}
 use Rattle.cc_print.specs.Units.{first_naming, is_in_parameters}
 use Rattle.cc_program.specs.declared.types.Structure.{Structure}
 use Rattle.cc_program.proofs.Each.{Each}

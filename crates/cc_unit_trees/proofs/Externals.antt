@@ -4,19 +4,19 @@ use Rattle.std.specs.List.{filter}
 use Rattle.std.specs.Option.{is_none}
 use Rattle.cc_words.specs.Names.{is_name}
 use Rattle.cc_bodies.specs.Stmts.{intrinsic_name}
-use Rattle.cc_externals.specs.Externals.{External, AnIntrinsic, ATag, AStructure, ADevice, APrototype, AnObject, AValue, AFunction, intrinsics_used, announced, is_given, externals, external_text}
-use Rattle.cc_fit.proofs.Lists.{each-from}
-use Rattle.cc_fit.proofs.Names.{tag-named, member-named, mapped-at, device-named, file-names, intrinsic-named, names-of}
-use Rattle.cc_fit.proofs.Programs.{device-number, object-at, function-at, body-at}
-use Rattle.cc_function_trees.specs.Read.{ReadsItem}
-use Rattle.cc_function_trees.proofs.Fitting.{function-fits}
-use Rattle.cc_function_trees.proofs.Functions.{function-read}
-use Rattle.cc_function_trees.proofs.Sound.{result-reads, parameters-known, locals-known}
-use Rattle.cc_item_trees.specs.Items.{ShowsDevice}
-use Rattle.cc_item_trees.proofs.Items.{intrinsic-reads, tag-reads, structure-reads, device-reads, prototype-reads, object-reads, definition-reads, intrinsic-fits, tag-fits, structure-fits, device-fits, prototype-fits, object-fits, definition-fits}
-use Rattle.cc_value_trees.specs.Names.{HasUnitNames}
+use Rattle.cc_unit_trees.specs.Externals.{External, AnIntrinsic, ATag, AStructure, ADevice, APrototype, AnObject, AValue, AFunction, intrinsics_used, announced, is_given, externals, external_text}
+use Rattle.cc_unit_trees.proofs.Lists.{each-from}
+use Rattle.cc_unit_trees.proofs.FitNames.{tag-named, member-named, mapped-at, device-named, file-names, intrinsic-named, names-of}
+use Rattle.cc_unit_trees.proofs.FitPrograms.{device-number, object-at, function-at, body-at}
+use Rattle.cc_unit_trees.specs.ReadFunctions.{ReadsItem}
+use Rattle.cc_unit_trees.proofs.FunctionFitting.{function-fits}
+use Rattle.cc_unit_trees.proofs.Functions.{function-read}
+use Rattle.cc_unit_trees.proofs.Sound.{result-reads, parameters-known, locals-known}
+use Rattle.cc_unit_trees.specs.Items.{ShowsDevice}
+use Rattle.cc_unit_trees.proofs.Items.{intrinsic-reads, tag-reads, structure-reads, device-reads, prototype-reads, object-reads, definition-reads, intrinsic-fits, tag-fits, structure-fits, device-fits, prototype-fits, object-fits, definition-fits}
+use Rattle.cc_unit_trees.specs.ValueNames.{HasUnitNames}
 use Rattle.cc_pieces.specs.Pieces.{Pieces}
-use Rattle.cc_piece_tokens.specs.Parts.{Fits}
+use Rattle.cc_expression_trees.specs.Parts.{Fits}
 use Rattle.cc_print.specs.Units.{device_named}
 use Rattle.cc_program.specs.declared.expr.Intr.{Intr}
 use Rattle.cc_program.specs.declared.func.Func.{Func}
@@ -26,7 +26,7 @@ use Rattle.cc_program.specs.declared.program.Program.{Program}
 use Rattle.cc_program.specs.declared.types.Sig.{out-Sig}
 use Rattle.cc_program.specs.declared.types.Structure.{Structure}
 use Rattle.cc_program.proofs.Each.{Each, each_of}
-use Rattle.cc_statement_trees.proofs.Lines.{body-reads}
+use Rattle.cc_unit_trees.proofs.Lines.{body-reads}
 use Rattle.cc_syntax.specs.Normal.{IsNormal, has_name}
 use Rattle.cc_unit_trees.specs.Programs.{ShowsExternal}
 use Rattle.cc_unit_trees.proofs.Each.{each-append, each-mapped, each-passing, each-announced}

@@ -1,9 +1,9 @@
 -- A tree that shows a program declares what the program's text does.
 use Rattle.std.proofs.Common.{◌≡◌, List, [], ◌∷◌, map, Some, None, refl, ap, sym, ◌∙◌}
 use Rattle.cc_bodies.specs.Stmts.{intrinsic_name}
-use Rattle.cc_externals.specs.Externals.{External, AnIntrinsic, ATag, AStructure, ADevice, APrototype, AnObject, AValue, AFunction}
-use Rattle.cc_function_trees.specs.Units.{ShowsDecl, ShowsOne, ShowsFunction, ShowsDefinition as ADefinedFunction}
-use Rattle.cc_item_trees.specs.Items.{ShowsIntrinsic, AnIntrinsic as AnIntrinsicItem, ShowsTag, ATag as ATagItem, ShowsStructure, OnlyNamed, WithMembers, ShowsDevice, ADevice as ADeviceItem, ShowsPrototype, APrototype as APrototypeItem, ShowsObject, AnObject as AnObjectItem, ShowsDefinition, ADefinition}
+use Rattle.cc_unit_trees.specs.Externals.{External, AnIntrinsic, ATag, AStructure, ADevice, APrototype, AnObject, AValue, AFunction}
+use Rattle.cc_unit_trees.specs.Units.{ShowsDecl, ShowsOne, ShowsFunction, ShowsDefinition as ADefinedFunction}
+use Rattle.cc_unit_trees.specs.Items.{ShowsIntrinsic, AnIntrinsic as AnIntrinsicItem, ShowsTag, ATag as ATagItem, ShowsStructure, OnlyNamed, WithMembers, ShowsDevice, ADevice as ADeviceItem, ShowsPrototype, APrototype as APrototypeItem, ShowsObject, AnObject as AnObjectItem, ShowsDefinition, ADefinition}
 use Rattle.cc_program.specs.declared.expr.Intr.{Intr}
 use Rattle.cc_program.specs.declared.func.Func.{Func}
 use Rattle.cc_program.specs.declared.object.Device.{Device}
@@ -16,8 +16,8 @@ use Rattle.cc_tree.specs.declared.tree.Spec.TheVariants as spec_rolls
 use Rattle.cc_tree.specs.declared.unit.Decl.{Decl}
 use Rattle.cc_tree.specs.declared.unit.Item.{Item}
 use Rattle.cc_tree.specs.declared.unit.Item.TheVariants as item
-use Rattle.cc_type_trees.specs.Types.{Core}
-use Rattle.cc_type_trees.proofs.Insides.{core_name, core-named}
+use Rattle.cc_expression_trees.specs.Types.{Core}
+use Rattle.cc_expression_trees.proofs.Insides.{core_name, core-named}
 use Rattle.cc_words.specs.declared.word.Word.{Word}
 use Rattle.cc_unit_trees.specs.Names.{tag_at, declared, name_in}
 use Rattle.cc_unit_trees.specs.Programs.{ShowsExternal, ShowsExternals, NoExternal, MoreExternals}

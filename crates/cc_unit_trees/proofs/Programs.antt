@@ -1,15 +1,15 @@
 -- The text of a normal program is a sentence whose tree shows it: its external declarations are read one behind the
 -- other, each behind the items that are done.
 use Rattle.std.proofs.Common.{◌≡◌, ℕ, true, List, [], ◌∷◌, ◌++◌, None, sym, subst, append_assoc, append-nil}
-use Rattle.cc_externals.specs.Externals.{External, externals, external_text}
-use Rattle.cc_externals.proofs.Texts.{externals-text}
+use Rattle.cc_unit_trees.specs.Externals.{External, externals, external_text}
+use Rattle.cc_unit_trees.proofs.Texts.{externals-text}
 use Rattle.cc_lex.specs.declared.token.Token.{Token}
 use Rattle.cc_lex.specs.Tokens.{Tokens as TokensOf}
 use Rattle.cc_pieces.specs.Pieces.{Pieces}
-use Rattle.cc_piece_tokens.specs.Laid.{laid}
-use Rattle.cc_piece_tokens.specs.Parts.{Fits}
-use Rattle.cc_piece_tokens.proofs.Inside.{none-outside}
-use Rattle.cc_piece_tokens.proofs.Spelling.{pieces-tokens}
+use Rattle.cc_expression_trees.specs.Laid.{laid}
+use Rattle.cc_expression_trees.specs.Parts.{Fits}
+use Rattle.cc_expression_trees.proofs.Inside.{none-outside}
+use Rattle.cc_expression_trees.proofs.Spelling.{pieces-tokens}
 use Rattle.cc_print.specs.Printed.{printed, text}
 use Rattle.cc_print.specs.Units.{each}
 use Rattle.cc_program.specs.declared.program.Program.{Program}

@@ -1,2 +1,12 @@
+pub mod Effects
+pub mod Externals
+pub mod Items
+pub mod Lines
 pub mod Names
 pub mod Programs
+pub mod ReadFunctions
+pub mod ReadStatements
+pub mod ReadValues
+pub mod Units
+pub mod ValueNames
+pub mod Values

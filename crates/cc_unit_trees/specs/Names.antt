@@ -1,7 +1,7 @@
 -- What an item of a unit declares, and what an external declaration does: a tag, or a name (C99 6.2.3, 6.7, 6.9.1).
 use Rattle.std.specs.Prelude.{List, [], ◌∷◌, map, Option, Some, None}
 use Rattle.cc_bodies.specs.Stmts.{intrinsic_name}
-use Rattle.cc_externals.specs.Externals.{External, AnIntrinsic, ATag, AStructure, ADevice, APrototype, AnObject, AValue, AFunction}
+use Rattle.cc_unit_trees.specs.Externals.{External, AnIntrinsic, ATag, AStructure, ADevice, APrototype, AnObject, AValue, AFunction}
 use Rattle.cc_program.specs.declared.program.Program.{Program}
 use Rattle.cc_tree.specs.declared.at.At.{At}
 use Rattle.cc_tree.specs.declared.tree.Spec as spec

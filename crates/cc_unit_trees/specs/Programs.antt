@@ -1,9 +1,9 @@
 -- Which trees of translation units show a program, whatever their offsets (C99 6.9): they have an item for each external
 -- declaration of its text, in order, and no other.
 use Rattle.std.specs.Prelude.{List, [], ◌∷◌}
-use Rattle.cc_externals.specs.Externals.{External, AnIntrinsic, ATag, AStructure, ADevice, APrototype, AnObject, AValue, AFunction, externals}
-use Rattle.cc_function_trees.specs.Units.{ShowsFunction}
-use Rattle.cc_item_trees.specs.Items.{ShowsIntrinsic, ShowsTag, ShowsStructure, ShowsDevice, ShowsPrototype, ShowsObject, ShowsDefinition}
+use Rattle.cc_unit_trees.specs.Externals.{External, AnIntrinsic, ATag, AStructure, ADevice, APrototype, AnObject, AValue, AFunction, externals}
+use Rattle.cc_unit_trees.specs.Units.{ShowsFunction}
+use Rattle.cc_unit_trees.specs.Items.{ShowsIntrinsic, ShowsTag, ShowsStructure, ShowsDevice, ShowsPrototype, ShowsObject, ShowsDefinition}
 use Rattle.cc_program.specs.declared.program.Program.{Program}
 use Rattle.cc_tree.specs.declared.at.At.{At}
 use Rattle.cc_tree.specs.declared.unit.Item.{Item}

@@ -6,7 +6,7 @@ use Rattle.cc_syntax.specs.Sound.{IsSound, IsFunc}
 use Rattle.cc_syntax.proofs.Parts.{all_at}
 use Rattle.cc_syntax.proofs.StructureLemmas.{structures_sized}
 use Rattle.cc_shown_expressions.proofs.Stand.{types-stand}
-use Rattle.cc_shown_types.specs.Numbers.{type_numbered}
+use Rattle.cc_shown_expressions.specs.Numbers.{type_numbered}
 use Rattle.cc_shown_definitions.proofs.Lines.{lines-typed}
 use Rattle.cc_shown_definitions.proofs.Order.{uses-known}
 use Rattle.cc_shown_definitions.proofs.Statements.{stmts-typed}

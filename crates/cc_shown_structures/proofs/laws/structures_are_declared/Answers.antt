@@ -4,7 +4,7 @@ use Rattle.std.proofs.lemmas.List.{append-nil, map-append}
 use Rattle.std.specs.Prelude.{if◌then◌else◌}
 use Rattle.std.proofs.lemmas.Option.{slice_get_within}
 use Rattle.std.specs.List.{list_all}
-use Rattle.cc_item_trees.specs.Items.{ShowsMembers}
+use Rattle.cc_unit_trees.specs.Items.{ShowsMembers}
 use Rattle.cc_num.specs.declared.target.Target.{Target}
 use Rattle.cc_program.specs.declared.program.Program.{Program}
 use Rattle.cc_program.specs.declared.program.Roles.{Roles}
@@ -23,8 +23,8 @@ use Rattle.cc_terms.specs.Terms.{members_here}
 use Rattle.cc_tree.specs.declared.at.At.{At}
 use Rattle.cc_tree.specs.declared.tree.MemberDecl.{MemberDecl}
 use Rattle.cc_words.specs.Names.{is_name, are_distinct}
-use Rattle.cc_shown_types.specs.Known.{KnowsStructures}
-use Rattle.cc_shown_types.specs.Numbers.{named_numbered}
+use Rattle.cc_shown_expressions.specs.Known.{KnowsStructures}
+use Rattle.cc_shown_expressions.specs.Numbers.{named_numbered}
 use Rattle.cc_shown_structures.specs.Order.{appearance, order_before, structure_number, with_first, with_members}
 use Rattle.cc_shown_structures.specs.States.{first_state}
 use Rattle.cc_shown_structures.proofs.Announced.{begun, earlier-names, member-names}

@@ -23,11 +23,11 @@ use Rattle.cc_syntax.proofs.StructureLemmas.{structures_sized, object_complete}
 use Rattle.cc_tree.specs.declared.at.At.{At}
 use Rattle.cc_tree.specs.declared.unit.Given.{Given}
 use Rattle.cc_typed_declarations.specs.Plans.{steps_done}
-use Rattle.cc_value_trees.specs.Values.{ShowsGiven, ShowsInitial, ShowsFirst}
+use Rattle.cc_unit_trees.specs.Values.{ShowsGiven, ShowsInitial, ShowsFirst}
 use Rattle.cc_shown_expressions.proofs.Stand.{tested-at}
-use Rattle.cc_shown_operations.specs.Known.{TypesStand}
-use Rattle.cc_shown_operations.specs.Numbers.{Numbers}
-use Rattle.cc_shown_types.specs.Numbers.{type_numbered}
+use Rattle.cc_shown_expressions.specs.KnownNames.{TypesStand}
+use Rattle.cc_shown_expressions.specs.OperationNumbers.{Numbers}
+use Rattle.cc_shown_expressions.specs.Numbers.{type_numbered}
 use Rattle.cc_shown_values.specs.Known.{KnowsStatics}
 use Rattle.cc_shown_values.specs.Numbers.{leaf_numbered}
 use Rattle.cc_shown_values.proofs.Givens.{given-gives}

@@ -1,5 +1,0 @@
-use Rattle.cc_closing_braces.proofs.Closed.{are_closed}
-use Rattle.cc_closing_braces.proofs.law.closing_laws.Goals as goal
-
-pub returns : goal.returns
-returns c = record { closed = λ target t ordered some apart closings. are_closed target t ordered some apart closings }

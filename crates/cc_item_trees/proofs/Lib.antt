@@ -1,4 +1,0 @@
-pub mod Declarations
-pub mod Members
-pub mod Fitting
-pub mod Items

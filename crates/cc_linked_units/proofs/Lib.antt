@@ -1,4 +1,0 @@
-pub mod Definitions
-pub mod Functions
-pub mod Used
-pub mod Units

@@ -1,6 +1,0 @@
-pub mod Structures
-pub mod Shapes
-pub mod Defined
-pub mod Numbers
-pub mod Objects
-pub mod Devices

@@ -1,9 +1,0 @@
-pub mod Levels
-pub mod Operands
-pub mod Parts
-pub mod PlaceParts
-pub mod Fits
-pub mod Nulls
-pub mod Members
-pub mod Trees
-pub mod Operations

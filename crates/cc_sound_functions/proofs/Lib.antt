@@ -1,2 +1,0 @@
-pub mod ParameterTypes
-pub mod Functions

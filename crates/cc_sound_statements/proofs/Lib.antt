@@ -1,6 +1,0 @@
-pub mod Kept
-pub mod Opened
-pub mod Choices
-pub mod Labels
-pub mod Cases
-pub mod Switches

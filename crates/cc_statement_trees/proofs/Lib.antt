@@ -1,4 +1,0 @@
-pub mod Effects
-pub mod Blocks
-pub mod Lines
-pub mod Fitting

@@ -1,9 +1,0 @@
-use Rattle.cc_statement_trees.proofs.Fitting.{body-fits}
-use Rattle.cc_statement_trees.proofs.Lines.{body-reads}
-use Rattle.cc_statement_trees.proofs.laws.statements_read_back.Goals as goal
-
-pub returns : goal.returns
-returns c = record {
-  statements = λ p f list b e n s level at done all ps k. body-reads p f list b e n s level at done all ps k;
-  statements_part = λ p f names devices acts list b e n s level ps g. body-fits p f names devices acts list b e n s level ps g;
-}

@@ -1,3 +1,0 @@
-pub mod Soft
-pub mod Types
-pub mod Read

@@ -1,8 +1,0 @@
-use Rattle.cc_value_trees.proofs.Starts.{object-values}
-use Rattle.cc_value_trees.proofs.laws.values_read_back.Goals as goal
-
-pub returns : goal.returns
-returns c = record {
-  values = λ p sound i o h at ps. (object-values p sound i o h ps).reads at;
-  values_part = λ p sound names i o h ps f s. (object-values p sound i o h ps).fits names f s;
-}
