@@ -6,7 +6,7 @@ use Rattle.std.specs.List.{list_any}
 use Rattle.cc_causes.specs.Causes.{first_named, types_differ, disagree, agree, is_undefined, is_twice, cause_of_things}
 use Rattle.cc_causes.specs.declared.fault.LinkFault.TheVariants as fault
 use Rattle.cc_structures.specs.Structures.{Numbering, type_in}
-use Rattle.cc_linked_structures.proofs.ProgramOrder.{filter-passes}
+use Rattle.cc_relocated_units.proofs.ProgramOrder.{filter-passes}
 use Rattle.cc_structures.proofs.Elements.{In, any-in, in-any, in-map, in-map_from}
 use Rattle.cc_structures.proofs.OrderLemmas.{in-filter}
 use Rattle.cc_syntax.proofs.Prefixes.{both_true}

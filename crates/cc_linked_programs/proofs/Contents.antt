@@ -9,7 +9,7 @@ use Rattle.cc_causes.specs.Entries.{entry_at}
 use Rattle.cc_definitions.specs.Definitions.{thing_at, defined, is_function, objects}
 use Rattle.cc_link.specs.Linked.{all_ids, ids_in, leaves_in, name_or_none, object_at, object_in, program}
 use Rattle.cc_linked_names.specs.Given.{file_names, name_at, reserved_names, tags}
-use Rattle.cc_linked_structures.proofs.ProgramOrder.{filter-passes}
+use Rattle.cc_relocated_units.proofs.ProgramOrder.{filter-passes}
 use Rattle.cc_linked_programs.proofs.Definitions.{DefinedAt, FunctionAt, defined_at}
 use Rattle.cc_linked_programs.proofs.Functions.{FuncOf, func_of, given-from}
 use Rattle.cc_linked_programs.proofs.Units.{unit_renumbered, units_of}
@@ -29,7 +29,7 @@ use Rattle.cc_program.specs.declared.types.Shape.TheOpen as shape
 use Rattle.cc_program.specs.declared.types.Sig.{Sig}
 use Rattle.cc_relocated_units.specs.Renumbering.{Renumbers}
 use Rattle.cc_relocated_units.proofs.Leaves.{initial_numbered}
-use Rattle.cc_sound_sources.specs.Units.{unit_view, IsSoundFunction, IsSoundKind, IsSoundUnit}
+use Rattle.cc_relocated_units.specs.Units.{unit_view, IsSoundFunction, IsSoundKind, IsSoundUnit}
 use Rattle.cc_structures.proofs.Elements.{In, any-in}
 use Rattle.cc_structures.proofs.WordLaws.{level-renumbered}
 use Rattle.cc_structures.specs.Structures.{AreNumbered, Known, Numbering}

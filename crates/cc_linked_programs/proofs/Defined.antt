@@ -16,7 +16,7 @@ use Rattle.cc_linked_programs.specs.NamedThings.{IsNamed}
 use Rattle.cc_linked_programs.proofs.Agreeing.{mention_in, one_type}
 use Rattle.cc_linked_programs.proofs.ThingLists.{found-in, in-found}
 use Rattle.cc_linked_programs.proofs.ThingSources.{is_mention, in_thing}
-use Rattle.cc_sound_sources.specs.Units.{unit_view, IsSoundUnit, IsSoundName, IsSoundKind, IsSoundDevice, IsWellNamed, is_register_type}
+use Rattle.cc_relocated_units.specs.Units.{unit_view, IsSoundUnit, IsSoundName, IsSoundKind, IsSoundDevice, IsWellNamed, is_register_type}
 use Rattle.cc_structures.specs.Structures.{Numbering, numbers_of, type_in}
 use Rattle.cc_structures.proofs.Elements.{In, any-in}
 use Rattle.cc_structures.proofs.WordLaws.{constant-kept, level-renumbered}

@@ -12,7 +12,7 @@ use Rattle.cc_linked_programs.proofs.ViewNumbers.{functions-in}
 use Rattle.cc_num.specs.declared.target.Target.{Target}
 use Rattle.cc_program.specs.declared.func.Entry.{Entry}
 use Rattle.cc_program.specs.declared.func.Func.{Func}
-use Rattle.cc_sound_sources.specs.Units.{unit_view, IsSoundUnit, IsSoundName, IsSoundKind, IsSoundFunctionName}
+use Rattle.cc_relocated_units.specs.Units.{unit_view, IsSoundUnit, IsSoundName, IsSoundKind, IsSoundFunctionName}
 use Rattle.cc_structures.proofs.Elements.{In, in-at}
 use Rattle.cc_things.specs.Mentions.{Mention, mentions}
 use Rattle.cc_things.specs.Things.{Identity, Thing, identity_of, thing_of, things, is_definition, is_func_kind}

@@ -13,7 +13,7 @@ use Rattle.cc_relocation.specs.Relocated.{device_with}
 use Rattle.cc_linked_programs.proofs.Agreeing.{first_of, from_identity, mention_in}
 use Rattle.cc_linked_programs.proofs.ThingLists.{given-at}
 use Rattle.cc_linked_programs.proofs.ThingSources.{in_thing, its_thing, number_of, number_within}
-use Rattle.cc_sound_sources.specs.Units.{IsSoundUnit}
+use Rattle.cc_relocated_units.specs.Units.{IsSoundUnit}
 use Rattle.cc_structures.specs.Structures.{Numbering}
 use Rattle.cc_structures.proofs.Elements.{In, in-at, in-any}
 use Rattle.cc_things.specs.Mentions.{Mention, mentions}

@@ -17,7 +17,7 @@ use Rattle.cc_program.specs.declared.object.Device.{Device}
 use Rattle.cc_program.specs.declared.program.Program.{Program}
 use Rattle.cc_program.specs.declared.program.Roles.{Roles}
 use Rattle.cc_relocation.specs.Relocated.{device_with}
-use Rattle.cc_sound_sources.specs.Units.{unit_view, IsSoundDevice, IsSoundKind, IsSoundUnit}
+use Rattle.cc_relocated_units.specs.Units.{unit_view, IsSoundDevice, IsSoundKind, IsSoundUnit}
 use Rattle.cc_structures.proofs.Elements.{In, in-any}
 use Rattle.cc_structures.specs.Structures.{Known, Numbering}
 use Rattle.cc_syntax.proofs.Prefixes.{both_true}

@@ -18,7 +18,7 @@ use Rattle.cc_program.specs.declared.func.Func.{Func}
 use Rattle.cc_program.specs.declared.program.Program.{Program}
 use Rattle.cc_program.specs.declared.program.Roles.{Roles}
 use Rattle.cc_linked_programs.proofs.HandlerViews.{not_bad}
-use Rattle.cc_sound_sources.specs.Units.{unit_view, IsSoundKind, IsSoundUnit, is_attributed}
+use Rattle.cc_relocated_units.specs.Units.{unit_view, IsSoundKind, IsSoundUnit, is_attributed}
 use Rattle.cc_structures.proofs.Elements.{In, any-in}
 use Rattle.cc_structures.specs.Structures.{Known, Numbering}
 use Rattle.cc_syntax.specs.Sound.{entry_fits, is_handler_name}

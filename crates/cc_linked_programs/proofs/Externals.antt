@@ -7,7 +7,7 @@ use Rattle.cc_linked_programs.proofs.Agreeing.{external_identity, first_of}
 use Rattle.cc_linked_programs.proofs.Definitions.{MentionAt, mention_at}
 use Rattle.cc_linked_programs.proofs.Defined.{each_named}
 use Rattle.cc_num.specs.declared.target.Target.{Target}
-use Rattle.cc_sound_sources.specs.Units.{IsSoundUnit}
+use Rattle.cc_relocated_units.specs.Units.{IsSoundUnit}
 use Rattle.cc_structures.proofs.Elements.{in-any}
 use Rattle.cc_things.specs.Mentions.{Mention, mentions}
 use Rattle.cc_things.specs.Things.{Identity, External, Single, Thing, external_or, identity_of, is_external, is_external_linkage, numbered_or, own_name, thing_of, things, name_of as mention_name}

@@ -21,7 +21,7 @@ use Rattle.cc_program.specs.declared.types.Shape.{Shape, out-Shape}
 use Rattle.cc_program.specs.declared.types.Shape.TheOpen as shape
 use Rattle.cc_program.specs.declared.types.Sig.{Sig, out-Sig}
 use Rattle.cc_relocated_units.proofs.Types.{unqualified_kept, void_kept}
-use Rattle.cc_sound_sources.specs.Units.{IsSoundUnit, is_main_name, is_main_sig}
+use Rattle.cc_relocated_units.specs.Units.{IsSoundUnit, is_main_name, is_main_sig}
 use Rattle.cc_structures.proofs.WordLaws.{level-renumbered, renumbered_level, sig_level}
 use Rattle.cc_structures.specs.Structures.{AreNumbered, Known, Numbering}
 use Rattle.cc_syntax.specs.Names.{are_names, file_names}

@@ -8,7 +8,7 @@ use Rattle.cc_program.specs.declared.types.CType.{CType}
 use Rattle.cc_program.specs.declared.types.Shape.{out-Shape}
 use Rattle.cc_program.specs.declared.types.Shape.TheOpen as shape
 use Rattle.cc_program.specs.declared.types.Sig.{Sig}
-use Rattle.cc_sound_sources.specs.Units.{unit_view, IsSoundUnit, IsSoundKind}
+use Rattle.cc_relocated_units.specs.Units.{unit_view, IsSoundUnit, IsSoundKind}
 use Rattle.cc_structures.specs.Structures.{Numbering, numbers_of}
 use Rattle.cc_structures.proofs.Elements.{In}
 use Rattle.cc_things.specs.Mentions.{Mention, mentions}

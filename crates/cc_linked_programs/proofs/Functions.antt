@@ -13,7 +13,7 @@ use Rattle.cc_program.specs.declared.func.Func.{Func}
 use Rattle.cc_program.specs.declared.program.Roles.{Roles}
 use Rattle.cc_linked_programs.proofs.HandlerViews.{local_at, local_in, func_is}
 use Rattle.cc_relocation.specs.Relocated.{func_with}
-use Rattle.cc_sound_sources.specs.Units.{IsSoundUnit}
+use Rattle.cc_relocated_units.specs.Units.{IsSoundUnit}
 use Rattle.cc_structures.specs.Structures.{Numbering}
 use Rattle.cc_structures.proofs.Elements.{In}
 use Rattle.cc_syntax.specs.Types.{Named}

@@ -21,7 +21,7 @@ use Rattle.cc_program.specs.declared.func.Entry.TheVariants as entry
 use Rattle.cc_program.specs.declared.func.Func.{Func}
 use Rattle.cc_program.specs.declared.program.Roles.{Roles}
 use Rattle.cc_relocation.specs.Relocated.{func_with}
-use Rattle.cc_sound_sources.specs.Units.{unit_view, IsSoundUnit, IsSoundKind}
+use Rattle.cc_relocated_units.specs.Units.{unit_view, IsSoundUnit, IsSoundKind}
 use Rattle.cc_structures.proofs.Elements.{In, in-at}
 use Rattle.cc_things.specs.Mentions.{Mention, mentions}
 use Rattle.cc_things.specs.Things.{Identity, External, Numbered, Single, Thing, identity_of, thing_of, things, own_name, name_of as mention_name, is_defined, is_used, is_device, is_func_kind}

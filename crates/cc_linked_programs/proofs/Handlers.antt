@@ -28,7 +28,7 @@ use Rattle.cc_program.specs.declared.types.CType.{CType}
 use Rattle.cc_program.specs.declared.types.Shape.{Shape, out-Shape}
 use Rattle.cc_program.specs.declared.types.Shape.TheOpen as shape
 use Rattle.cc_program.specs.declared.types.Sig.{Sig}
-use Rattle.cc_sound_sources.specs.Units.{unit_view, IsSoundKind, IsSoundUnit}
+use Rattle.cc_relocated_units.specs.Units.{unit_view, IsSoundKind, IsSoundUnit}
 use Rattle.cc_structures.proofs.Elements.{In, any-in, in-any, in-map}
 use Rattle.cc_structures.proofs.OrderLemmas.{filter-in}
 use Rattle.cc_structures.specs.Structures.{Known, Numbering}

@@ -8,7 +8,7 @@ use Rattle.cc_causes.specs.Entries.{entry_at}
 use Rattle.cc_definitions.specs.Definitions.{thing_at, numbers_below, numbers_of, definition, has_definition, is_function, function_of, is_defined_before, defined, functions, objects, devices, is_nameless, has_a_name, is_named_by, named}
 use Rattle.cc_link.specs.Linked.{device_at, device_in, object_at, object_in, func_at, ids_in, name_or_none}
 use Rattle.cc_linked_names.specs.Given.{local_wishes, locals_for}
-use Rattle.cc_linked_structures.proofs.ProgramOrder.{filter-passes}
+use Rattle.cc_relocated_units.proofs.ProgramOrder.{filter-passes}
 use Rattle.cc_linked_programs.proofs.ThingLists.{below-in, found-in, order-in}
 use Rattle.cc_names.specs.Names.{names_for}
 use Rattle.cc_program.specs.declared.func.Func.{Func}

@@ -23,7 +23,7 @@ use Rattle.cc_program.specs.declared.object.Object.{Object}
 use Rattle.cc_program.specs.declared.program.Program.{Program}
 use Rattle.cc_program.specs.declared.program.Roles.{Roles}
 use Rattle.cc_linked_programs.proofs.FunctionViews.{body_of}
-use Rattle.cc_sound_sources.specs.Units.{unit_view, IsSoundKind, IsSoundUnit}
+use Rattle.cc_relocated_units.specs.Units.{unit_view, IsSoundKind, IsSoundUnit}
 use Rattle.cc_structures.proofs.Elements.{In, any-in, in-any}
 use Rattle.cc_structures.proofs.OrderLemmas.{filter-in}
 use Rattle.cc_structures.specs.Structures.{Known, Numbering}

@@ -14,7 +14,7 @@ use Rattle.cc_linked_programs.proofs.Definitions.{thing-within}
 use Rattle.cc_names.specs.Names.{Wish, Own, Numbered, is_among, name_for, names_for, new_name, with_number}
 use Rattle.cc_num.specs.declared.target.Target.{Target}
 use Rattle.cc_program.specs.declared.program.Roles.{Roles}
-use Rattle.cc_sound_sources.specs.Units.{IsSoundUnit}
+use Rattle.cc_relocated_units.specs.Units.{IsSoundUnit}
 use Rattle.cc_structures.proofs.Elements.{In, in-left}
 use Rattle.cc_structures.specs.Structures.{Known}
 use Rattle.cc_syntax.proofs.Prefixes.{both_true}

@@ -11,7 +11,7 @@ use Rattle.cc_linked_programs.proofs.ThingLists.{found-in}
 use Rattle.cc_linked_programs.proofs.ThingSources.{is_mention}
 use Rattle.cc_names.specs.Names.{Own}
 use Rattle.cc_program.specs.declared.func.Func.{Func}
-use Rattle.cc_sound_sources.specs.Units.{may_name, are_few_names, has_few_locals}
+use Rattle.cc_relocated_units.specs.Units.{may_name, are_few_names, has_few_locals}
 use Rattle.cc_structures.proofs.Elements.{In, in-cases, in-map_from}
 use Rattle.cc_structures.proofs.OrderLemmas.{in-filter}
 use Rattle.cc_structures.specs.Structures.{Known, Numbering, known_in, known_from, structures, tag_of, tag_or, number_of, firsts_of, is_complete, in_program_order, AreNumbered}

@@ -5,7 +5,7 @@ use Rattle.std.proofs.lemmas.List.{length-map}
 use Rattle.std.proofs.lemmas.Option.{slice_get-get_or, slice_get_within}
 use Rattle.cc_definitions.specs.Definitions.{thing_at, has_a_name, is_nameless, is_named_by, named, numbers_below, numbers_of}
 use Rattle.cc_linked_names.specs.Given.{file_names, name_at, tags, thing_wish}
-use Rattle.cc_linked_structures.proofs.ProgramOrder.{filter-passes}
+use Rattle.cc_relocated_units.proofs.ProgramOrder.{filter-passes}
 use Rattle.cc_linked_programs.proofs.ThingLists.{below-in, no-position, positioned}
 use Rattle.cc_linked_programs.proofs.Definitions.{thing-within}
 use Rattle.cc_linked_programs.proofs.Functions.{names-as_many}

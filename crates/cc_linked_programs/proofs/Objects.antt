@@ -12,7 +12,7 @@ use Rattle.cc_program.specs.declared.value.Leaf.{Leaf}
 use Rattle.cc_linked_programs.proofs.Agreeing.{used_there, mention_in}
 use Rattle.cc_linked_programs.proofs.ThingLists.{given-at}
 use Rattle.cc_linked_programs.proofs.ThingSources.{ids_are, its_thing, number_of, number_within, is_mention}
-use Rattle.cc_sound_sources.specs.Units.{unit_view, IsSoundUnit, IsSoundKind}
+use Rattle.cc_relocated_units.specs.Units.{unit_view, IsSoundUnit, IsSoundKind}
 use Rattle.cc_structures.specs.Structures.{Numbering, numbers_of, type_in}
 use Rattle.cc_structures.proofs.Elements.{In, in-any}
 use Rattle.cc_things.specs.Mentions.{Mention, mentions}

@@ -11,7 +11,7 @@ use Rattle.cc_linked_programs.proofs.Defined.{at_all}
 use Rattle.cc_names.specs.Names.{is_among}
 use Rattle.cc_num.specs.declared.target.Target.{Target}
 use Rattle.cc_program.specs.declared.program.Roles.{Roles}
-use Rattle.cc_sound_sources.specs.Units.{IsSoundUnit, is_main_name}
+use Rattle.cc_relocated_units.specs.Units.{IsSoundUnit, is_main_name}
 use Rattle.cc_structures.proofs.Elements.{in-any}
 use Rattle.cc_structures.specs.Structures.{Numbering}
 use Rattle.cc_syntax.proofs.Prefixes.{both_true}

@@ -7,7 +7,7 @@ use Rattle.cc_linked_programs.proofs.Contents.{func_in, function_sound, object_s
 use Rattle.cc_linked_programs.proofs.Devices.{devices_apart, devices_fit}
 use Rattle.cc_linked_programs.proofs.ContentLists.{all-in, list_all-in}
 use Rattle.cc_linked_names.specs.Given.{name_at, reserved_names, tags}
-use Rattle.cc_linked_structures.proofs.Standing.{in-order-program, named-first-program}
+use Rattle.cc_relocated_units.proofs.Standing.{in-order-program, named-first-program}
 use Rattle.cc_linked_programs.proofs.Agreeing.{first_none, second_none}
 use Rattle.cc_linked_programs.proofs.Units.{all_stand, tags-as_many, units_of}
 use Rattle.cc_num.specs.declared.target.Target.{Target}
@@ -15,7 +15,7 @@ use Rattle.cc_program.specs.declared.func.Func.{Func}
 use Rattle.cc_program.specs.declared.object.Object.{Object}
 use Rattle.cc_program.specs.declared.program.Program.{Program}
 use Rattle.cc_program.specs.declared.program.Roles.{Roles}
-use Rattle.cc_sound_sources.specs.Units.{IsSoundUnit}
+use Rattle.cc_relocated_units.specs.Units.{IsSoundUnit}
 use Rattle.cc_structures.proofs.Elements.{In}
 use Rattle.cc_structures.specs.Structures.{AreNumbered, Known, Numbering}
 use Rattle.cc_syntax.specs.Programs.{IsInitial}

@@ -16,7 +16,7 @@ use Rattle.cc_relocated_units.proofs.Types.{const_kept}
 use Rattle.cc_relocated_units.specs.Renumbering.{Renumbers, RenumberedLocals}
 use Rattle.cc_relocated_units.proofs.Statements.{body_numbered}
 use Rattle.cc_relocation.specs.Relocated.{func_with, local_with}
-use Rattle.cc_sound_sources.specs.Units.{IsSoundFunction}
+use Rattle.cc_relocated_units.specs.Units.{IsSoundFunction}
 use Rattle.cc_structures.proofs.WordLaws.{renumbered_sig_level, sig_level}
 use Rattle.cc_syntax.proofs.Prefixes.{both_true}
 use Rattle.cc_syntax.proofs.SameLemmas.{compared, shape_of_same}

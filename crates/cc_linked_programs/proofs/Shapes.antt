@@ -7,7 +7,7 @@ use Rattle.cc_program.specs.declared.types.Shape.{Shape, out-Shape}
 use Rattle.cc_program.specs.declared.types.Shape.TheOpen as shape
 use Rattle.cc_program.specs.declared.types.Sig.{Sig}
 use Rattle.cc_program.proofs.QualifierLemmas.{const-opens, parts_const}
-use Rattle.cc_sound_sources.specs.Units.{is_integer_shape, is_register_type}
+use Rattle.cc_relocated_units.specs.Units.{is_integer_shape, is_register_type}
 use Rattle.cc_structures.proofs.WordLaws.{renumbered_level, level-renumbered, volatile-kept}
 use Rattle.cc_syntax.specs.Kinds.{is_object_type, is_sig, qualified_kind, shape_kind}
 use Rattle.cc_syntax.specs.Views.{View, kind_in}

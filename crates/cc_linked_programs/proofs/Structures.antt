@@ -2,9 +2,9 @@
 use Rattle.std.proofs.Common.{◌≡◌, ◌∙◌, ℕ, Bool, false, ◌||◌, List, [], ◌∷◌, length, map, Option, Some, None, option_map, slice_get, refl, ap, sym}
 use Rattle.std.specs.Prelude.{unwrap_or}
 use Rattle.std.proofs.lemmas.Option.{slice_get-map}
-use Rattle.cc_linked_structures.specs.Linked.{linked, untagged, structures_of, AllStand}
-use Rattle.cc_linked_structures.proofs.Standing.{at-number, kind-same}
-use Rattle.cc_linked_structures.proofs.UnitPlaces.{known, in-unit}
+use Rattle.cc_relocated_units.specs.Linked.{linked, untagged, structures_of, AllStand}
+use Rattle.cc_relocated_units.proofs.Standing.{at-number, kind-same}
+use Rattle.cc_relocated_units.proofs.UnitPlaces.{known, in-unit}
 use Rattle.cc_num.specs.declared.target.Target.{Target}
 use Rattle.cc_operands.specs.Qualified.{plain}
 use Rattle.cc_program.specs.declared.types.CType.{CType}
@@ -14,7 +14,7 @@ use Rattle.cc_program.specs.declared.types.Shape.TheVariants.{outs-Struct}
 use Rattle.cc_program.specs.declared.types.Structure.{Structure}
 use Rattle.cc_relocation.specs.Relocated.{member_with}
 use Rattle.cc_relocated_units.specs.Renumbering.{MemberTypes}
-use Rattle.cc_sound_sources.proofs.UnitKinds.{unit_kind}
+use Rattle.cc_relocated_units.proofs.UnitKinds.{unit_kind}
 use Rattle.cc_structures.specs.Structures.{Known, Numbering, numbers_of, AreNumbered}
 use Rattle.cc_structures.proofs.WordLaws.{number_by, level-renumbered, constant-kept, volatile-kept}
 use Rattle.cc_syntax.specs.Kinds.{Kind, IsStructure, IsIncomplete, extent_in, extent_kind, kind_of, shape_kind, qualified_kind}

@@ -7,7 +7,7 @@ use Rattle.std.proofs.lemmas.Option.{slice_get-map}
 use Rattle.cc_causes.specs.Causes.{bad_handler, cause_of_things}
 use Rattle.cc_link.specs.Linked.{all_ids, ids_in, program}
 use Rattle.cc_linked_names.specs.Given.{name_at, reserved_names, tag_wish, tags}
-use Rattle.cc_linked_structures.specs.Linked.{AllStand, AreStanding}
+use Rattle.cc_relocated_units.specs.Linked.{AllStand, AreStanding}
 use Rattle.cc_linked_programs.proofs.Structures.{extents_numbered, structures_numbered}
 use Rattle.cc_num.specs.declared.target.Target.{Target}
 use Rattle.cc_program.specs.declared.program.Program.{Program}
@@ -15,7 +15,7 @@ use Rattle.cc_program.specs.declared.program.Roles.{Roles}
 use Rattle.cc_program.specs.declared.types.Structure.{Structure}
 use Rattle.cc_relocated_units.specs.Renumbering.{MemberTypes, Renumbers}
 use Rattle.cc_linked_programs.proofs.Views.{devices_numbered, statics_numbered}
-use Rattle.cc_sound_sources.specs.Units.{unit_view, IsSoundUnit}
+use Rattle.cc_relocated_units.specs.Units.{unit_view, IsSoundUnit}
 use Rattle.cc_structures.specs.Structures.{AreNumbered, Known, Numbering, numbers_of}
 use Rattle.cc_syntax.specs.Views.{View, of_program}
 use Rattle.cc_things.specs.Things.{Thing, things}

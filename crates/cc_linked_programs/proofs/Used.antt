@@ -27,7 +27,7 @@ use Rattle.cc_program.specs.declared.types.Sig.{Sig}
 use Rattle.cc_linked_programs.proofs.FunctionViews.{body_of}
 use Rattle.cc_linked_programs.proofs.HandlerViews.{no_handler}
 use Rattle.cc_relocated_units.specs.Renumbering.{value_renumbered}
-use Rattle.cc_sound_sources.specs.Units.{unit_view, function_as, function_shape, IsSoundUnit}
+use Rattle.cc_relocated_units.specs.Units.{unit_view, function_as, function_shape, IsSoundUnit}
 use Rattle.cc_structures.specs.Structures.{Known, Numbering, numbers_of, type_in}
 use Rattle.cc_structures.proofs.Elements.{In, any-in, in-any}
 use Rattle.cc_structures.proofs.WordLaws.{level-renumbered}

@@ -3,7 +3,7 @@ use Rattle.std.proofs.Common.{◌≡◌, ◌∙◌, ◌<◌, ℕ, true, false, t
 use Rattle.std.specs.Prelude.{nat_eq, position}
 use Rattle.cc_definitions.specs.Definitions.{thing_at, numbers_below, numbers_of, has_definition, is_function, is_defined_before, defined, devices, functions, objects}
 use Rattle.cc_link.specs.Linked.{id_at}
-use Rattle.cc_linked_structures.proofs.ProgramOrder.{filter-passes}
+use Rattle.cc_relocated_units.proofs.ProgramOrder.{filter-passes}
 use Rattle.cc_linked_programs.proofs.ThingLists.{positioned, no-position, in-order, order-in, below-in}
 use Rattle.cc_structures.proofs.Elements.{In}
 use Rattle.cc_structures.proofs.OrderLemmas.{in-filter, filter-in}

@@ -30,8 +30,8 @@ use Rattle.cc_program.specs.declared.value.Leaf.{Leaf}
 use Rattle.cc_program.specs.Qualifiers.{is_const, is_volatile}
 use Rattle.cc_relocated_units.specs.Renumbering.{place_type_renumbered}
 use Rattle.cc_relocated_units.proofs.Types.{object_kept}
-use Rattle.cc_sound_sources.specs.Units.{unit_view, static_as, device_as, IsSoundUnit, IsSoundKind}
-use Rattle.cc_sound_units.specs.Reduced.{ReducedPlace, Devices, Defined}
+use Rattle.cc_relocated_units.specs.Units.{unit_view, static_as, device_as, IsSoundUnit, IsSoundKind}
+use Rattle.cc_operand_types.specs.Reduced.{ReducedPlace, Devices, Defined}
 use Rattle.cc_structures.specs.Structures.{Known, Numbering, numbers_of}
 use Rattle.cc_structures.proofs.Elements.{In}
 use Rattle.cc_structures.proofs.WordLaws.{level-renumbered, constant-kept}

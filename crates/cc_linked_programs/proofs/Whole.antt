@@ -9,7 +9,7 @@ use Rattle.cc_program.specs.declared.program.Roles.{Roles}
 use Rattle.cc_linked_programs.proofs.Counts.{few_devices, few_funcs, few_locals, few_objects, few_structures}
 use Rattle.cc_linked_programs.proofs.Names.{local_spaces, names, tag_names}
 use Rattle.cc_linked_programs.specs.Few.{EachOfText, FewTexts}
-use Rattle.cc_sound_sources.specs.Units.{IsSoundUnit}
+use Rattle.cc_relocated_units.specs.Units.{IsSoundUnit}
 use Rattle.cc_syntax.specs.Sound.{IsSound}
 use Rattle.cc_things.specs.declared.text.Text.{Text}
 

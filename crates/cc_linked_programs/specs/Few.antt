@@ -1,6 +1,6 @@
 -- Few sources: fewer than 2^32 structures, mentions of names and identifiers in all of them.
 use Rattle.std.specs.Prelude.{◌≡◌, ℕ, true, List, length, flat_map, Some, slice_get}
-use Rattle.cc_sound_sources.specs.Units.{IsOfText}
+use Rattle.cc_relocated_units.specs.Units.{IsOfText}
 use Rattle.cc_structures.specs.Structures.{structures}
 use Rattle.cc_structures.specs.View.{units_of}
 use Rattle.cc_syntax.specs.Sound.{have_ids}

@@ -8,7 +8,7 @@ use Rattle.cc_names.specs.Names.{is_among}
 use Rattle.cc_program.specs.declared.func.Func.{Func}
 use Rattle.cc_program.specs.declared.program.Program.{Program}
 use Rattle.cc_program.specs.declared.program.Roles.{Roles}
-use Rattle.cc_sound_sources.specs.Units.{is_main_name}
+use Rattle.cc_relocated_units.specs.Units.{is_main_name}
 use Rattle.cc_structures.proofs.Elements.{In}
 use Rattle.cc_structures.specs.Structures.{Known}
 use Rattle.cc_syntax.specs.Names.{are_names, file_names, intrinsic_names, local_names, tags}

@@ -12,7 +12,7 @@ ghost use Rattle.cc_program.specs.declared.program.Roles.{Roles};
 ghost use Rattle.cc_program.specs.declared.types.Sig.{Sig};
 ghost use Rattle.cc_relocated_units.specs.Renumbering.{Renumbers};
 ghost use Rattle.cc_relocation.specs.Relocated.{func_with};
-ghost use Rattle.cc_sound_sources.specs.Units.{IsSoundFunction, IsSoundUnit};
+ghost use Rattle.cc_relocated_units.specs.Units.{IsSoundFunction, IsSoundUnit};
 ghost use Rattle.cc_structures.proofs.Elements.{In};
 ghost use Rattle.cc_structures.specs.Structures.{AreNumbered, Known, Numbering};
 ghost use Rattle.cc_syntax.specs.Initial.{IsInitial};

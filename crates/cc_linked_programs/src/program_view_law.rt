@@ -3,7 +3,7 @@ ghost use Rattle.cc_causes.specs.Causes.{bad_handler};
 ghost use Rattle.cc_causes.specs.Entries.{entry_at};
 ghost use Rattle.cc_num.specs.declared.target.Target.{Target};
 ghost use Rattle.cc_program.specs.declared.program.Roles.{Roles};
-ghost use Rattle.cc_sound_sources.specs.Units.{IsSoundUnit};
+ghost use Rattle.cc_relocated_units.specs.Units.{IsSoundUnit};
 ghost use Rattle.cc_structures.proofs.Elements.{In};
 ghost use Rattle.cc_things.specs.Mentions.{Mention, mentions};
 ghost use Rattle.cc_things.specs.Things.{identities, identity_of, is_used, number_in, thing_of, things};

@@ -5,7 +5,7 @@ ghost use Rattle.cc_num.specs.declared.target.Target.{Target};
 ghost use Rattle.cc_program.specs.declared.program.Program.{Program};
 ghost use Rattle.cc_program.specs.declared.program.Roles.{Roles};
 ghost use Rattle.cc_linked_programs.specs.Few.{EachOfText, FewTexts};
-ghost use Rattle.cc_sound_sources.specs.Units.{IsSoundUnit};
+ghost use Rattle.cc_relocated_units.specs.Units.{IsSoundUnit};
 ghost use Rattle.cc_syntax.specs.Sound.{IsSound};
 ghost use Rattle.cc_things.specs.declared.text.Text.{Text};
 

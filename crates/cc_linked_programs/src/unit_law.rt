@@ -6,7 +6,7 @@ ghost use Rattle.cc_linked_names.specs.Given.{name_at, reserved_names};
 ghost use Rattle.cc_num.specs.declared.target.Target.{Target};
 ghost use Rattle.cc_program.specs.declared.program.Roles.{Roles};
 ghost use Rattle.cc_relocated_units.specs.Renumbering.{Renumbers};
-ghost use Rattle.cc_sound_sources.specs.Units.{unit_view, IsSoundUnit};
+ghost use Rattle.cc_relocated_units.specs.Units.{unit_view, IsSoundUnit};
 ghost use Rattle.cc_structures.specs.Structures.{AreNumbered, Known, Numbering};
 ghost use Rattle.cc_syntax.specs.Views.{of_program};
 ghost use Rattle.cc_things.specs.Things.{things};

@@ -2,7 +2,7 @@ ghost use Rattle.std.specs.Prelude.{◌≡◌, ℕ, false, true, List, None, Opt
 ghost use Rattle.cc_causes.specs.Causes.{cause_of_things};
 ghost use Rattle.cc_definitions.specs.Definitions.{devices, objects};
 ghost use Rattle.cc_link.specs.Linked.{all_ids, device_at, id_at, object_at};
-ghost use Rattle.cc_linked_structures.specs.Linked.{linked, structures_of, AllStand};
+ghost use Rattle.cc_relocated_units.specs.Linked.{linked, structures_of, AllStand};
 ghost use Rattle.cc_num.specs.declared.target.Target.{Target};
 ghost use Rattle.cc_syntax.specs.Kinds.{extent_in};
 ghost use Rattle.cc_program.specs.declared.object.Device.{Device};
@@ -10,7 +10,7 @@ ghost use Rattle.cc_program.specs.declared.object.Object.{Object};
 ghost use Rattle.cc_program.specs.declared.types.Structure.{Structure};
 ghost use Rattle.cc_program.specs.declared.value.Leaf.{Leaf};
 ghost use Rattle.cc_relocated_units.specs.Renumbering.{MemberTypes};
-ghost use Rattle.cc_sound_sources.specs.Units.{IsSoundUnit};
+ghost use Rattle.cc_relocated_units.specs.Units.{IsSoundUnit};
 ghost use Rattle.cc_structures.proofs.Elements.{In};
 ghost use Rattle.cc_structures.proofs.WordLaws.{number_by};
 ghost use Rattle.cc_structures.specs.Structures.{Known, Numbering, numbers_of, AreNumbered, type_in};

@@ -17,7 +17,7 @@ use Rattle.cc_numbering.specs.Units.{ids_of}
 use Rattle.cc_program.specs.declared.expr.Intr.TheVariants as intr
 use Rattle.cc_program.specs.declared.program.Roles.{Roles}
 use Rattle.cc_scopes.specs.State.{Name}
-use Rattle.cc_sound_sources.specs.Units.{IsOfText, is_main_name}
+use Rattle.cc_relocated_units.specs.Units.{IsOfText, is_main_name}
 use Rattle.cc_syntax.proofs.Prefixes.{both_true}
 use Rattle.cc_syntax.specs.Names.{intrinsic_names}
 use Rattle.cc_syntax.specs.Sound.{main_name}

@@ -21,7 +21,7 @@ use Rattle.cc_program.specs.declared.program.Roles.{Roles}
 use Rattle.cc_scopes.specs.State.{State, Name, KnownStructure, members_or_none, at_first}
 use Rattle.cc_scopes.specs.Verdicts.{Found, Checked, checked}
 use Rattle.cc_scopes.specs.declared.unit.Declared.{Declared}
-use Rattle.cc_sound_sources.specs.Units.{may_name, are_few_names, has_few_locals, IsOfText}
+use Rattle.cc_relocated_units.specs.Units.{may_name, are_few_names, has_few_locals, IsOfText}
 use Rattle.cc_sound_terms.proofs.Founds.{answer, then_found}
 use Rattle.cc_specifiers.specs.declared.storage.Where.TheVariants as stands
 use Rattle.cc_syntax.proofs.Prefixes.{both_true}

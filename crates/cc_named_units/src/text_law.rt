@@ -6,7 +6,7 @@ ghost use Rattle.cc_lex.specs.declared.token.Token.{Token};
 ghost use Rattle.cc_named_units.specs.Named.{is_own};
 ghost use Rattle.cc_num.specs.declared.target.Target.{Target};
 ghost use Rattle.cc_program.specs.declared.program.Roles.{Roles};
-ghost use Rattle.cc_sound_sources.specs.Units.{IsOfText, is_main_name};
+ghost use Rattle.cc_relocated_units.specs.Units.{IsOfText, is_main_name};
 ghost use Rattle.cc_syntax.specs.Names.{intrinsic_names};
 ghost use Rattle.cc_syntax.specs.Sound.{main_name};
 ghost use Rattle.cc_tree.specs.Sentences.{IsSentence};

@@ -1,1 +1,4 @@
+pub mod Kept
+pub mod Later
+pub mod Reduced
 pub mod Typed

@@ -4,7 +4,7 @@ use Rattle.cc_lex.specs.Tokens.{Tokens}
 use Rattle.cc_lex.specs.declared.token.Token.{Token}
 use Rattle.cc_num.specs.declared.target.Target.{Target}
 use Rattle.cc_program.specs.declared.program.Roles.{Roles}
-use Rattle.cc_sound_sources.specs.Units.{IsSoundUnit}
+use Rattle.cc_relocated_units.specs.Units.{IsSoundUnit}
 use Rattle.cc_tree.specs.Sentences.{IsSentence}
 use Rattle.cc_tree.specs.declared.unit.Unit.{Unit as UnitTree}
 use Rattle.cc_type.specs.Typed.{IsTyped}

@@ -29,7 +29,7 @@ use Rattle.cc_syntax.specs.Values.{ValueType, PlaceType, DevicePlace, ObjectPlac
 use Rattle.cc_unit.specs.Mentioned.{in_leaf, in_address, in_root}
 use Rattle.cc_unit.specs.Renumbered.{type_renumbered, leaf_renumbered, address_renumbered, root_renumbered, func_by, object_by}
 use Rattle.cc_unit.specs.declared.ids.Ids.{Ids}
-use Rattle.cc_reduced_types.proofs.Rules.{each_of_two, second_of}
+use Rattle.cc_operand_types.proofs.Rules.{each_of_two, second_of}
 use Rattle.cc_relocated_units.specs.Renumbering.{Renumbers, value_renumbered, place_type_renumbered, MemberTypes}
 use Rattle.cc_relocated_units.proofs.Places.{element_exact, member_exact, address_exact}
 use Rattle.cc_relocated_units.proofs.Typed.{front_each, back_each}

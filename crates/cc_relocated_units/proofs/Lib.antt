@@ -1,8 +1,14 @@
 pub mod KindsKept
 pub mod Leaves
+pub mod NamedFirst
 pub mod Places
+pub mod ProgramOrder
 pub mod Rules
+pub mod Standing
 pub mod Statements
 pub mod Typed
 pub mod Types
+pub mod TypesKept
+pub mod UnitKinds
+pub mod UnitPlaces
 pub mod Values

@@ -22,13 +22,13 @@ use Rattle.cc_syntax.specs.Operators.{when, first_of, pointer_in, void_pointer_i
 use Rattle.cc_syntax.specs.SameTypes.{same_int}
 use Rattle.cc_syntax.specs.Types.{has_members, is_complete}
 use Rattle.cc_syntax.specs.Values.{ValueType, NoValue, Integer, ToObject, ToFunction, PlaceType, is_scalar, is_void, point_alike, is_assignable, is_assignable_some, are_assignable, scalar_value, result_value, pointer_to, element_of, read_from, written_to, address_of, pointed_to, member_of}
-use Rattle.cc_reduced_types.proofs.Follows.{Gives, Follows}
-use Rattle.cc_reduced_types.proofs.Places.{address_reduced, pointed_reduced, member_reduced, read_reduced, written_reduced}
-use Rattle.cc_reduced_types.proofs.Rules as reduced
-use Rattle.cc_reduced_types.proofs.Rules.{each_of_two, second_of, AllFollow}
-use Rattle.cc_reduced_types.proofs.Values.{reduced_itself, scalar_reduced, common_reduced}
+use Rattle.cc_operand_types.proofs.Follows.{Gives, Follows}
+use Rattle.cc_operand_types.proofs.ReducedPlaces.{address_reduced, pointed_reduced, member_reduced, read_reduced, written_reduced}
+use Rattle.cc_operand_types.proofs.Rules as reduced
+use Rattle.cc_operand_types.proofs.Rules.{each_of_two, second_of, AllFollow}
+use Rattle.cc_operand_types.proofs.Values.{reduced_itself, scalar_reduced, common_reduced}
 use Rattle.cc_unit.specs.Renumbered.{type_renumbered}
-use Rattle.cc_sound_units.specs.Reduced.{Reduced, ReducedPlace}
+use Rattle.cc_operand_types.specs.Reduced.{Reduced, ReducedPlace}
 use Rattle.cc_relocated_units.specs.Renumbering.{value_renumbered, place_type_renumbered, MemberTypes}
 use Rattle.cc_relocated_units.proofs.Places.{element_exact, read_exact, written_exact, address_exact, pointed_exact, member_exact}
 use Rattle.cc_relocated_units.proofs.Types.{void_kept, unqualified_kept, pointer_kept, scalar_kept, result_kept}

@@ -18,10 +18,10 @@ use Rattle.cc_unit.specs.Mentioned.{in_expr, in_maybe, in_stmt, in_case, all_of}
 use Rattle.cc_unit.specs.Renumbered as renumbered
 use Rattle.cc_unit.specs.Renumbered.{expr_renumbered, stmt_renumbered, case_renumbered, type_renumbered}
 use Rattle.cc_unit.specs.declared.ids.Ids.{Ids}
-use Rattle.cc_reduced_types.specs.Kept.{Keeps}
-use Rattle.cc_reduced_types.proofs.Bodies.{follows_kept}
-use Rattle.cc_reduced_types.proofs.Changes.{changed, GoodLevel, IsChange, body_stays}
-use Rattle.cc_reduced_types.proofs.Follows.{Follows}
+use Rattle.cc_operand_types.specs.Kept.{Keeps}
+use Rattle.cc_operand_types.proofs.Bodies.{follows_kept}
+use Rattle.cc_operand_types.proofs.Changes.{changed, GoodLevel, IsChange, body_stays}
+use Rattle.cc_operand_types.proofs.Follows.{Follows}
 use Rattle.cc_relocated_units.specs.Renumbering.{Renumbers, RenumberedLocals, value_renumbered}
 use Rattle.cc_relocated_units.proofs.Rules.{Numbered, mapped_follows, some_exact}
 use Rattle.cc_relocated_units.proofs.Typed.{front_each, back_each, numbered_typed, members}

@@ -23,10 +23,10 @@ use Rattle.cc_unit.specs.Mentioned.{in_expr, in_place, all_of}
 use Rattle.cc_unit.specs.Renumbered as renumbered
 use Rattle.cc_unit.specs.Renumbered.{expr_renumbered, place_renumbered, type_renumbered, func_by, object_by, device_by}
 use Rattle.cc_unit.specs.declared.ids.Ids.{Ids}
-use Rattle.cc_reduced_types.proofs.Follows.{Gives, Follows, one_follows, two_follows, gives_from}
-use Rattle.cc_reduced_types.proofs.Places.{place_itself}
-use Rattle.cc_reduced_types.proofs.Rules.{AllFollow, NoneLeft, More}
-use Rattle.cc_reduced_types.proofs.Values.{reduced_itself}
+use Rattle.cc_operand_types.proofs.Follows.{Gives, Follows, one_follows, two_follows, gives_from}
+use Rattle.cc_operand_types.proofs.ReducedPlaces.{place_itself}
+use Rattle.cc_operand_types.proofs.Rules.{AllFollow, NoneLeft, More}
+use Rattle.cc_operand_types.proofs.Values.{reduced_itself}
 use Rattle.cc_relocated_units.specs.Renumbering.{Renumbers, RenumberedLocals, value_renumbered, place_type_renumbered}
 use Rattle.cc_relocated_units.proofs.KindsKept.{kind_kept, test_kept}
 use Rattle.cc_relocated_units.proofs.Places.{members_kept}

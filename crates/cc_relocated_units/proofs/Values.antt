@@ -1,7 +1,7 @@
 -- Values by other numbers: what the rules ask of a type holds of it, and it stands to others as it did.
 use Rattle.std.proofs.Common.{◌≡◌, ℕ, Bool, true, false, not, ◌&&◌, ◌||◌, List, slice_get, refl, ap, ◌∙◌}
 use Rattle.std.specs.Prelude.{if◌then◌else◌}
-use Rattle.cc_linked_structures.proofs.TypesKept.{complete-kept}
+use Rattle.cc_relocated_units.proofs.TypesKept.{complete-kept}
 use Rattle.cc_num.specs.declared.int_type.IntType.{IntType}
 use Rattle.cc_num.specs.declared.op.BinOp.{BinOp}
 use Rattle.cc_num.specs.declared.target.Target.{Target}
@@ -17,9 +17,9 @@ use Rattle.cc_syntax.specs.Values.{ValueType, NoValue, Integer, ToObject, ToFunc
 use Rattle.cc_syntax.proofs.AlikeLemmas.{alike_joined}
 use Rattle.cc_syntax.proofs.Prefixes.{both_true}
 use Rattle.cc_unit.specs.Renumbered.{type_renumbered, sig_renumbered}
-use Rattle.cc_reduced_types.proofs.Rules.{both}
-use Rattle.cc_reduced_types.proofs.Values.{reduced_itself}
-use Rattle.cc_sound_units.specs.Reduced.{Reduced, Unused, Integers, Pointers, Functions}
+use Rattle.cc_operand_types.proofs.Rules.{both}
+use Rattle.cc_operand_types.proofs.Values.{reduced_itself}
+use Rattle.cc_operand_types.specs.Reduced.{Reduced, Unused, Integers, Pointers, Functions}
 use Rattle.cc_relocated_units.specs.Renumbering.{value_renumbered}
 use Rattle.cc_relocated_units.proofs.Types.{alike_kept, sig_kept, void_kept}
 

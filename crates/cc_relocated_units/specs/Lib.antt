@@ -1,1 +1,3 @@
+pub mod Linked
 pub mod Renumbering
+pub mod Units

@@ -5,7 +5,7 @@ ghost use Rattle.cc_program.proofs.Each.{Each};
 ghost use Rattle.cc_program.specs.declared.expr.Expr.{Expr};
 ghost use Rattle.cc_program.specs.declared.expr.Place.{Place};
 ghost use Rattle.cc_program.specs.declared.types.CType.{CType};
-ghost use Rattle.cc_sound_units.specs.Reduced.{Reduced, ReducedPlace};
+ghost use Rattle.cc_operand_types.specs.Reduced.{Reduced, ReducedPlace};
 ghost use Rattle.cc_syntax.specs.Kinds.{Kind};
 ghost use Rattle.cc_syntax.specs.Types.{Named};
 ghost use Rattle.cc_syntax.specs.Values.{PlaceType, ValueType};

@@ -36,8 +36,8 @@ use Rattle.cc_type.specs.Functions.{local_of, locals_of}
 use Rattle.cc_expression_trees.specs.Types.{Function, Declares}
 use Rattle.cc_words.specs.Names.{is_name, are_distinct}
 use Rattle.cc_shown_definitions.proofs.Names.{own-name}
-use Rattle.cc_shown_declarators.specs.Parameters.{Entry, entry_numbered, entry_of, entry_names, HaveNewNames, locals_from, scope_of}
-use Rattle.cc_shown_declarators.proofs.Functions.{are-scalars, is-declared}
+use Rattle.cc_shown_declarations.specs.Parameters.{Entry, entry_numbered, entry_of, entry_names, HaveNewNames, locals_from, scope_of}
+use Rattle.cc_shown_declarations.proofs.Functions.{are-scalars, is-declared}
 use Rattle.cc_shown_definitions.specs.Functions.{names_from, parameters_scope, IsDefinition}
 use Rattle.cc_shown_definitions.proofs.Parameters.{taken-at}
 use Rattle.cc_shown_expressions.specs.OperationNumbers.{Numbers}

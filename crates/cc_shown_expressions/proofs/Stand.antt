@@ -3,7 +3,7 @@ use Rattle.std.proofs.Common.{◌≡◌, ℕ, zero, suc, Bool, true, false, ◌&
 use Rattle.std.specs.List.{list_all}
 use Rattle.std.specs.Option.{is_some}
 use Rattle.cc_num.specs.declared.target.Target.{Target}
-use Rattle.cc_later_kinds.proofs.Members.{members_stand}
+use Rattle.cc_operand_types.proofs.Members.{members_stand}
 use Rattle.cc_operand_types.specs.Typed.{is_pointed_kind}
 use Rattle.cc_program.specs.declared.func.Func.{Func}
 use Rattle.cc_program.specs.declared.program.Program.{Program}

@@ -28,9 +28,9 @@ use Rattle.cc_scopes.specs.Structures.{new_structure, tag_by}
 use Rattle.cc_scopes.specs.Verdicts.{whole, and_then}
 use Rattle.cc_scopes.specs.State as states
 use Rattle.cc_scopes.specs.declared.designated.Tagged.{Tagged}
-use Rattle.cc_sound_states.specs.Declaring.{AreDeclared, DeclaresGiven, Declares}
-use Rattle.cc_sound_states.proofs.Declaring.{declares_itself, of_extends}
-use Rattle.cc_sound_states.proofs.Steps.{restructured}
+use Rattle.cc_sound_declarations.specs.Declaring.{AreDeclared, DeclaresGiven, Declares}
+use Rattle.cc_sound_declarations.proofs.Declaring.{declares_itself, of_extends}
+use Rattle.cc_sound_declarations.proofs.Steps.{restructured}
 use Rattle.cc_sound_terms.specs.Behind.{SigStands}
 use Rattle.cc_sound_terms.specs.Knowing.{Stands}
 use Rattle.cc_sound_terms.specs.Ranges.{all_fit, declr_in_range, spec_in_range}

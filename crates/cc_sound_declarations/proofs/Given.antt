@@ -2,9 +2,9 @@
 use Rattle.std.proofs.Common.{◌≡◌, ℕ, List, ◌∙◌, subst, sym}
 use Rattle.cc_syntax.specs.Views.{View}
 use Rattle.cc_scopes.specs.State.{State, Name}
-use Rattle.cc_sound_states.specs.Declaring.{AreDeclared, DeclaresGiven}
-use Rattle.cc_sound_states.proofs.Entries.{entries_through}
-use Rattle.cc_sound_states.proofs.Declaring.{declares_itself, declares_through, of_extends, given_less}
+use Rattle.cc_sound_declarations.specs.Declaring.{AreDeclared, DeclaresGiven}
+use Rattle.cc_sound_declarations.proofs.Entries.{entries_through}
+use Rattle.cc_sound_declarations.proofs.Declaring.{declares_itself, declares_through, of_extends, given_less}
 use Rattle.cc_sound_terms.specs.Behind.{Extends}
 use Rattle.cc_sound_terms.specs.Growing.{IsConstant}
 use Rattle.cc_sound_terms.specs.Typing.{KnowsTypes}

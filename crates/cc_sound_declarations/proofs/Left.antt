@@ -35,10 +35,10 @@ use Rattle.cc_scopes.specs.State.{State, Name, bind, with_declared, with_unfinis
 use Rattle.cc_scopes.specs.Verdicts.{whole, and_then}
 use Rattle.cc_scopes.specs.declared.designated.Designated.TheVariants as means
 use Rattle.cc_scopes.specs.declared.unit.Declared.{Declared}
-use Rattle.cc_sound_states.specs.Entries.{IsEntryOf}
-use Rattle.cc_sound_states.specs.Declaring.{AreDeclared, DeclaresGiven}
-use Rattle.cc_sound_states.proofs.Declaring.{declares_itself, declares_through, of_extends}
-use Rattle.cc_sound_states.proofs.Steps.{named, changed, unfinished, bound, automatic}
+use Rattle.cc_sound_declarations.specs.Entries.{IsEntryOf}
+use Rattle.cc_sound_declarations.specs.Declaring.{AreDeclared, DeclaresGiven}
+use Rattle.cc_sound_declarations.proofs.Declaring.{declares_itself, declares_through, of_extends}
+use Rattle.cc_sound_declarations.proofs.Steps.{named, changed, unfinished, bound, automatic}
 use Rattle.cc_sound_terms.specs.Behind.{KindStands, SigStands, Extends, SameKind, Objects, Devices, Functions, EntryKept, NamesKept}
 use Rattle.cc_sound_terms.specs.Knowing.{Stands, KnowsStructures}
 use Rattle.cc_sound_terms.specs.Standing.{IsDerived}

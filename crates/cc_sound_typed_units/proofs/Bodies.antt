@@ -13,17 +13,17 @@ use Rattle.cc_program.specs.declared.func.Func.{Func}
 use Rattle.cc_program.specs.declared.program.Roles.{Roles}
 use Rattle.cc_program.specs.declared.stmt.Stmt.{Stmt}
 use Rattle.cc_program.specs.declared.types.CType.{CType}
-use Rattle.cc_ranged_trees.specs.Ranges.{each_fits, line_in_range}
+use Rattle.cc_sound_typed_units.specs.Ranges.{each_fits, line_in_range}
 use Rattle.cc_scopes.specs.State.{State, Name, empty, entered, left}
-use Rattle.cc_sound_bodies.proofs.Constructs.{EachTyped, ValueHolds, DeclHolds}
-use Rattle.cc_sound_bodies.proofs.Induction.{body_sound}
+use Rattle.cc_sound_typed_units.proofs.Constructs.{EachTyped, ValueHolds, DeclHolds}
+use Rattle.cc_sound_typed_units.proofs.Induction.{body_sound}
 use Rattle.cc_sound_declarations.proofs.Storage.{IsInside, Block, For}
 use Rattle.cc_sound_declarations.specs.Ranges.{decl_fits}
 use Rattle.cc_sound_typed_units.proofs.Kept.{extends_well, same_well}
 use Rattle.cc_sound_typed_units.proofs.Places.{inside_keeps}
 use Rattle.cc_sound_typed_units.specs.Entries.{AreWell}
-use Rattle.cc_sound_states.specs.Reached.{GoesOn, Reached}
-use Rattle.cc_sound_bodies.specs.Sound.{Keeps}
+use Rattle.cc_sound_declarations.specs.Reached.{GoesOn, Reached}
+use Rattle.cc_sound_typed_units.specs.Sound.{Keeps}
 use Rattle.cc_sound_terms.proofs.Cycle.{tree_holds}
 use Rattle.cc_sound_terms.proofs.Trees.{value_holds}
 use Rattle.cc_sound_terms.specs.Ranges.{fits}

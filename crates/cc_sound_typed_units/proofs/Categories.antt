@@ -5,8 +5,8 @@ use Rattle.std.specs.List.{list_any}
 use Rattle.std.specs.Str.{bytes_eq}
 use Rattle.cc_declarators.specs.Located.{located}
 use Rattle.cc_declarators.specs.Names.{new_name}
-use Rattle.cc_external_declarations.proofs.Linked.{IsDefinition, external_definition}
-use Rattle.cc_external_declarations.specs.External.{AreEntries}
+use Rattle.cc_sound_typed_units.proofs.Linked.{IsDefinition, external_definition}
+use Rattle.cc_sound_typed_units.specs.External.{AreEntries}
 use Rattle.cc_initialisers.specs.Initialisers.{here as given_here}
 use Rattle.cc_linkage.specs.Linkage.{declared, is_free_for, may_be_declared, may_be_main, repeats}
 use Rattle.cc_linkage.specs.declared.linkage.DeclaredAs.{DeclaredAs}

@@ -5,7 +5,7 @@ use Rattle.std.specs.List.{list_all, list_any}
 use Rattle.std.specs.Str.{bytes_eq}
 use Rattle.cc_declarators.specs.Declarators.{derived_type}
 use Rattle.cc_declarators.specs.Located.{located}
-use Rattle.cc_external_declarations.proofs.DeclaratorNames.{declarator_name}
+use Rattle.cc_sound_typed_units.proofs.DeclaratorNames.{declarator_name}
 use Rattle.cc_linkage.specs.declared.linkage.DeclaredAs.{DeclaredAs}
 use Rattle.cc_objects.specs.Categories.{category_by, entity_of, setting_of}
 use Rattle.cc_objects.specs.Linked.{is_extern}

@@ -3,7 +3,7 @@ use Rattle.std.proofs.Common.{arith, ◌≡◌, ◌⊎◌, inl, inr, ◌+◌, �
 use Rattle.std.specs.Prelude.{is_some, nat_lt, slice_get, if◌then◌else◌}
 use Rattle.std.specs.List.{list_any}
 use Rattle.std.specs.Str.{bytes_eq}
-use Rattle.cc_external_declarations.specs.External.{AreEntries}
+use Rattle.cc_sound_typed_units.specs.External.{AreEntries}
 use Rattle.cc_linkage.specs.Linkage.{agrees, agrees_with, declared, declared_by, is_free_for, is_main_shape, is_visible, linkage_of, may_be, may_be_by, may_be_declared, may_be_main, new_declared, repeats}
 use Rattle.cc_linkage.specs.declared.linkage.DeclaredAs.{DeclaredAs}
 use Rattle.cc_linkage.specs.declared.linkage.DeclaredAs.TheVariants.{AsStatic, AsObject, AsExtern}
@@ -29,8 +29,8 @@ use Rattle.cc_sound_typed_units.specs.Definitions.{AreApart}
 use Rattle.cc_sound_typed_units.proofs.Kept.{MayTell, Settles, changed_well, more_well, same_well}
 use Rattle.cc_sound_typed_units.proofs.Lists.{IsLinkedAt, KeepsName, has_own_name, linked_changed, linked_last, linked_there, same_some}
 use Rattle.cc_sound_typed_units.specs.Entries.{AreWell, IsAwaited, IsDone, IsSettled, IsWell, IsWellFunction, IsWellKind, IsWellObject, is_counted, is_function_kind}
-use Rattle.cc_sound_sources.specs.Units.{is_attributed, is_integer_shape, is_main_name, is_register_type}
-use Rattle.cc_sound_states.specs.Entries.{IsEntryOf}
+use Rattle.cc_relocated_units.specs.Units.{is_attributed, is_integer_shape, is_main_name, is_register_type}
+use Rattle.cc_sound_declarations.specs.Entries.{IsEntryOf}
 use Rattle.cc_specifiers.specs.Attributes.{entry_by, is_interrupt, is_said, is_signal}
 use Rattle.cc_specifiers.specs.declared.attribute.Attribute.{Attribute}
 use Rattle.cc_syntax.proofs.Prefixes.{both_true}

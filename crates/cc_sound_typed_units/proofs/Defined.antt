@@ -13,21 +13,21 @@ use Rattle.cc_program.specs.declared.types.CType.{CType}
 use Rattle.cc_program.specs.declared.types.Shape.{out-Shape}
 use Rattle.cc_program.specs.declared.types.Shape.TheOpen as shape
 use Rattle.cc_program.specs.declared.types.Sig.{Sig, out-Sig}
-use Rattle.cc_ranged_trees.specs.Ranges.{each_fits, line_in_range}
+use Rattle.cc_sound_typed_units.specs.Ranges.{each_fits, line_in_range}
 use Rattle.cc_scopes.specs.Definitions.{defined_at}
 use Rattle.cc_scopes.specs.State.{State, Name, Scope, change_name, designated, entered, left, outer_scopes, tagged, with_locals}
 use Rattle.cc_scopes.specs.declared.unit.Declared.{Declared}
 use Rattle.cc_sound_typed_units.proofs.Entries.{IsFunctionAt, functions_stay}
 use Rattle.cc_sound_typed_units.proofs.Locals.{parameters_first, parameters_lowered, parameters_behind, lowered_locals, plain_automatic, objects_behind}
 use Rattle.cc_sound_typed_units.proofs.Signatures.{function_params, parameter_kinds, result_kind, result_may_stand, signature_is}
-use Rattle.cc_sound_bodies.proofs.Functions.{function_body, known_begun, ordered_begun}
-use Rattle.cc_sound_bodies.specs.FunctionBodies.{IsFunctionBody, begun}
-use Rattle.cc_sound_bodies.specs.Scopes.{IsParameterScope}
-use Rattle.cc_sound_sources.specs.Units.{IsSoundFunction}
-use Rattle.cc_sound_states.proofs.Entries.{entries_through}
-use Rattle.cc_sound_states.proofs.Steps.{changed}
-use Rattle.cc_sound_states.specs.Declaring.{AreObjects, Declares, lowered, unconst}
-use Rattle.cc_sound_states.specs.Entries.{IsEntry}
+use Rattle.cc_sound_typed_units.proofs.FunctionBodies.{function_body, known_begun, ordered_begun}
+use Rattle.cc_sound_typed_units.specs.FunctionBodies.{IsFunctionBody, begun}
+use Rattle.cc_sound_typed_units.specs.Scopes.{IsParameterScope}
+use Rattle.cc_relocated_units.specs.Units.{IsSoundFunction}
+use Rattle.cc_sound_declarations.proofs.Entries.{entries_through}
+use Rattle.cc_sound_declarations.proofs.Steps.{changed}
+use Rattle.cc_sound_declarations.specs.Declaring.{AreObjects, Declares, lowered, unconst}
+use Rattle.cc_sound_declarations.specs.Entries.{IsEntry}
 use Rattle.cc_sound_terms.proofs.Behind.{entry_stands, knows_back, names_through}
 use Rattle.cc_sound_terms.proofs.Growth.{changed_or_not, changed_there, tag_through}
 use Rattle.cc_sound_terms.specs.Behind.{Behind, EntryKept, HasEntry, NameStands, NamesKept, SameKind, Functions}

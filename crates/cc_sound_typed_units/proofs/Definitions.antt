@@ -1,7 +1,7 @@
 -- The definition of a function keeps what is so of entries, where what is asked of bodies holds of its body.
 use Rattle.std.proofs.Common.{◌≡◌, ◌⊎◌, inl, inr, ℕ, Bool, true, false, ◌&&◌, List, [], ◌∷◌, length, Option, Some, None, Ok, refl, ap, sym, ◌∙◌, subst}
 use Rattle.std.specs.Prelude.{is_some, slice_get}
-use Rattle.cc_external_declarations.specs.External.{AreEntries}
+use Rattle.cc_sound_typed_units.specs.External.{AreEntries}
 use Rattle.cc_linkage.specs.Linkage.{declared, is_main_shape}
 use Rattle.cc_linkage.specs.declared.linkage.DeclaredAs.{DeclaredAs}
 use Rattle.cc_operands.specs.Qualified.{is_function_type}
@@ -11,7 +11,7 @@ use Rattle.cc_program.specs.declared.program.Roles.{Roles}
 use Rattle.cc_program.specs.declared.types.CType.{CType}
 use Rattle.cc_program.specs.declared.types.Shape.{out-Shape}
 use Rattle.cc_program.specs.declared.types.Sig.{out-Sig}
-use Rattle.cc_ranged_trees.specs.Ranges.{item_fits}
+use Rattle.cc_sound_typed_units.specs.Ranges.{item_fits}
 use Rattle.cc_scopes.specs.Definitions.{defined_at, entry_in}
 use Rattle.cc_scopes.specs.State.{State, Name, change_name, entered, left, with_locals}
 use Rattle.cc_scopes.specs.Verdicts.{Checked, checked}
@@ -24,7 +24,7 @@ use Rattle.cc_sound_typed_units.proofs.Declared.{attributed, function_well}
 use Rattle.cc_sound_typed_units.proofs.Kept.{MayTell, Settles, apart_of, changed_well, entries_of, extends_well, same_well}
 use Rattle.cc_sound_typed_units.proofs.Objects.{defined_counts}
 use Rattle.cc_sound_typed_units.specs.Entries.{AreWell, IsWell, IsWellFunction, IsWellKind, is_counted}
-use Rattle.cc_sound_sources.specs.Units.{is_attributed, is_main_name}
+use Rattle.cc_relocated_units.specs.Units.{is_attributed, is_main_name}
 use Rattle.cc_sound_terms.proofs.Founds.{answer_is}
 use Rattle.cc_sound_terms.specs.Behind.{EntryKept, SameKind, Objects, Devices, Functions}
 use Rattle.cc_sound_terms.specs.Ordered.{IsOrdered}

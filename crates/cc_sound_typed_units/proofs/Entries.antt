@@ -16,9 +16,9 @@ use Rattle.cc_scopes.specs.Definitions.{entry_added, with_entry}
 use Rattle.cc_scopes.specs.Linked.{linked_name}
 use Rattle.cc_scopes.specs.State.{State, Name, change_at, named_here}
 use Rattle.cc_scopes.specs.declared.unit.Declared.{Declared}
-use Rattle.cc_external_declarations.specs.External.{AreEntries}
+use Rattle.cc_sound_typed_units.specs.External.{AreEntries}
 use Rattle.cc_sound_typed_units.specs.Definitions.{AreApart}
-use Rattle.cc_sound_states.specs.Entries.{IsEntryOf}
+use Rattle.cc_sound_declarations.specs.Entries.{IsEntryOf}
 use Rattle.cc_sound_terms.proofs.Growth.{changed_there, get_last}
 use Rattle.cc_sound_terms.specs.Behind.{SameKind, Objects, Devices, Functions}
 use Rattle.cc_syntax.proofs.Prefixes.{both_true}

@@ -1,8 +1,8 @@
 -- What a function definition leaves: its specifiers and its declarator in front of what its body leaves.
 use Rattle.std.proofs.Common.{◌≡◌, ◌⊎◌, inl, inr, ◌+◌, ℕ, Bool, true, false, ◌&&◌, List, [], ◌∷◌, length, Option, Some, None, Ok, refl, ap, sym, ◌∙◌, subst}
 use Rattle.std.specs.Prelude.{slice_get}
-use Rattle.cc_external_declarations.proofs.Entries.{entries_stay}
-use Rattle.cc_external_declarations.specs.External.{AreEntries}
+use Rattle.cc_sound_typed_units.proofs.ExternalEntries.{entries_stay}
+use Rattle.cc_sound_typed_units.specs.External.{AreEntries}
 use Rattle.cc_linkage.specs.Linkage.{declared, declared_by}
 use Rattle.cc_linkage.specs.declared.linkage.DeclaredAs.{DeclaredAs}
 use Rattle.cc_num.specs.declared.target.Target.{Target}
@@ -17,13 +17,13 @@ use Rattle.cc_primary.specs.Primary.{char_type, chars_type}
 use Rattle.cc_program.specs.declared.types.Shape.TheVariants.{outs-Array, outs-Func}
 use Rattle.cc_program.specs.declared.value.Leaf.{Leaf}
 use Rattle.cc_program.specs.declared.types.Sig.{Sig, roll-Sig}
-use Rattle.cc_ranged_trees.specs.Ranges.{each_fits, item_fits, line_in_range, specs_in_range}
+use Rattle.cc_sound_typed_units.specs.Ranges.{each_fits, item_fits, line_in_range, specs_in_range}
 use Rattle.cc_scopes.specs.Linked.{linked_name}
 use Rattle.cc_scopes.specs.Definitions.{defined_at}
 use Rattle.cc_scopes.specs.State.{State, Name, Scope, KnownStructure, structures_of, layouts_of, with_locals}
 use Rattle.cc_scopes.specs.Verdicts.{Checked, checked}
 use Rattle.cc_scopes.specs.declared.unit.Declared.{Declared}
-use Rattle.cc_sound_assignments.proofs.Complete.{derived_is}
+use Rattle.cc_sound_declarations.proofs.Complete.{derived_is}
 use Rattle.cc_sound_declarations.proofs.Blocks.{sig_derived}
 use Rattle.cc_sound_declarations.proofs.Given.{behind_goes, goes_as}
 use Rattle.cc_sound_declarations.proofs.Left.{function_goes}
@@ -32,12 +32,12 @@ use Rattle.cc_sound_typed_units.proofs.Entries.{IsFunctionAt, entered_is}
 use Rattle.cc_sound_typed_units.proofs.Parts.{IsFound, IsNamed, named_is}
 use Rattle.cc_sound_typed_units.proofs.Signatures.{HasParameters, parameters_are, parameters_stand}
 use Rattle.cc_sound_typed_units.specs.Definitions.{AreApart, IsSoundAt}
-use Rattle.cc_sound_bodies.proofs.Functions.{ordered_begun}
-use Rattle.cc_sound_bodies.specs.FunctionBodies.{begun as body_begun}
-use Rattle.cc_sound_bodies.proofs.Declarators.{parameters_listed}
-use Rattle.cc_sound_bodies.specs.Scopes.{IsParameterScope}
-use Rattle.cc_sound_states.proofs.Declaring.{declares_itself, declares_through, given_less, known_behind, of_extends}
-use Rattle.cc_sound_states.specs.Declaring.{Declares, DeclaresGiven}
+use Rattle.cc_sound_typed_units.proofs.FunctionBodies.{ordered_begun}
+use Rattle.cc_sound_typed_units.specs.FunctionBodies.{begun as body_begun}
+use Rattle.cc_sound_typed_units.proofs.ParameterDeclarators.{parameters_listed}
+use Rattle.cc_sound_typed_units.specs.Scopes.{IsParameterScope}
+use Rattle.cc_sound_declarations.proofs.Declaring.{declares_itself, declares_through, given_less, known_behind, of_extends}
+use Rattle.cc_sound_declarations.specs.Declaring.{Declares, DeclaresGiven}
 use Rattle.cc_sound_terms.proofs.Behind.{known_first}
 use Rattle.cc_sound_terms.proofs.Cycle.{declr_holds}
 use Rattle.cc_sound_terms.proofs.Laws.{specifiers_stand}

@@ -1,11 +1,11 @@
 -- The definition of a function leaves each object with first values of its type.
 use Rattle.std.proofs.Common.{◌≡◌, ℕ, true, List, [], length, Option, Some, None, Ok, refl, ap, sym, ◌∙◌, subst}
-use Rattle.cc_external_declarations.specs.External.{AreEntries}
-use Rattle.cc_external_declarations.specs.Values.{AreInitial, HasContents}
-use Rattle.cc_external_declarations.proofs.InitialisedBodies.{body_initialises}
-use Rattle.cc_external_declarations.proofs.InitialisedNames.{entry_initial, one_more, one_told}
-use Rattle.cc_external_declarations.proofs.Strings.{expression_initial}
-use Rattle.cc_external_declarations.specs.Initialises.{Initialises}
+use Rattle.cc_sound_typed_units.specs.External.{AreEntries}
+use Rattle.cc_sound_typed_units.specs.Values.{AreInitial, HasContents}
+use Rattle.cc_sound_typed_units.proofs.InitialisedBodies.{body_initialises}
+use Rattle.cc_sound_typed_units.proofs.InitialisedNames.{entry_initial, one_more, one_told}
+use Rattle.cc_sound_typed_units.proofs.Strings.{expression_initial}
+use Rattle.cc_sound_typed_units.specs.Initialises.{Initialises}
 use Rattle.cc_linkage.specs.Linkage.{declared, declared_by, new_declared}
 use Rattle.cc_linkage.specs.declared.linkage.DeclaredAs.{DeclaredAs}
 use Rattle.cc_program.specs.declared.func.Entry.{Entry}
@@ -13,7 +13,7 @@ use Rattle.cc_program.specs.declared.func.Func.{Func}
 use Rattle.cc_program.specs.declared.program.Roles.{Roles}
 use Rattle.cc_program.specs.declared.types.CType.{CType}
 use Rattle.cc_program.specs.declared.types.Sig.{out-Sig}
-use Rattle.cc_ranged_trees.specs.Ranges.{item_fits}
+use Rattle.cc_sound_typed_units.specs.Ranges.{item_fits}
 use Rattle.cc_scopes.specs.Definitions.{defined_at, with_entry}
 use Rattle.cc_scopes.specs.Linked.{linked_name}
 use Rattle.cc_scopes.specs.State.{State, Name, with_locals}
@@ -22,8 +22,8 @@ use Rattle.cc_scopes.specs.declared.unit.Declared.{Declared}
 use Rattle.cc_sound_typed_units.proofs.Functions.{declared_in, definition_begins, definition_knows, derived_in, inner_fits, specified}
 use Rattle.cc_sound_typed_units.proofs.Parts.{IsFound, IsNamed, named_is}
 use Rattle.cc_sound_typed_units.specs.Definitions.{AreApart}
-use Rattle.cc_sound_bodies.proofs.Functions.{declared_begun}
-use Rattle.cc_sound_bodies.specs.FunctionBodies.{begun}
+use Rattle.cc_sound_typed_units.proofs.FunctionBodies.{declared_begun}
+use Rattle.cc_sound_typed_units.specs.FunctionBodies.{begun}
 use Rattle.cc_sound_terms.proofs.Founds.{answer_is}
 use Rattle.cc_sound_terms.specs.Ordered.{IsOrdered}
 use Rattle.cc_sound_terms.specs.Typing.{Knows}

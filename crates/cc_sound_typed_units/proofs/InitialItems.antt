@@ -2,20 +2,20 @@
 use Rattle.std.proofs.Common.{◌≡◌, ℕ, true, List, [], ◌∷◌, ◌++◌, Option, Some, None, Ok, refl, sym, subst}
 use Rattle.std.specs.Prelude.{slice_get}
 use Rattle.std.specs.List.{list_all}
-use Rattle.cc_external_declarations.proofs.DefinedNames.{defined_among}
-use Rattle.cc_external_declarations.specs.External.{AreAmong}
-use Rattle.cc_external_declarations.specs.Values.{AreInitial}
+use Rattle.cc_sound_typed_units.proofs.DefinedNames.{defined_among}
+use Rattle.cc_sound_typed_units.specs.External.{AreAmong}
+use Rattle.cc_sound_typed_units.specs.Values.{AreInitial}
 use Rattle.cc_sound_typed_units.proofs.InitialDefinitions.{definition_initial}
-use Rattle.cc_external_declarations.proofs.InitialisedDeclarations.{file_initialises}
-use Rattle.cc_external_declarations.proofs.Through.{initialises_through, own_contents}
-use Rattle.cc_external_declarations.specs.Initialises.{Initialises}
+use Rattle.cc_sound_typed_units.proofs.InitialisedDeclarations.{file_initialises}
+use Rattle.cc_sound_typed_units.proofs.Through.{initialises_through, own_contents}
+use Rattle.cc_sound_typed_units.specs.Initialises.{Initialises}
 use Rattle.cc_num.specs.declared.target.Target.{Target}
 use Rattle.cc_standing_units.proofs.OwnViews.{first_ordered}
 use Rattle.cc_standing_units.specs.Views.{view_of}
 use Rattle.cc_program.proofs.Each.{Each}
 use Rattle.cc_program.specs.declared.expr.Expr.{Expr}
 use Rattle.cc_program.specs.declared.program.Roles.{Roles}
-use Rattle.cc_ranged_trees.specs.Ranges.{item_fits, unit_fits}
+use Rattle.cc_sound_typed_units.specs.Ranges.{item_fits, unit_fits}
 use Rattle.cc_scopes.specs.State.{State, Name, at_first}
 use Rattle.cc_scopes.specs.Verdicts.{Checked, checked}
 use Rattle.cc_scopes.specs.declared.unit.Declared.{Declared}
@@ -23,8 +23,8 @@ use Rattle.cc_sound_typed_units.proofs.Parts.{found_is}
 use Rattle.cc_sound_typed_units.proofs.First.{first_well}
 use Rattle.cc_sound_typed_units.proofs.Kept.{apart_of, entries_of}
 use Rattle.cc_sound_typed_units.proofs.Items.{Any, IsItem, Well, item_is, unit_sound}
-use Rattle.cc_sound_states.proofs.Declaring.{declares_itself, declares_through}
-use Rattle.cc_sound_states.specs.Declaring.{Declares}
+use Rattle.cc_sound_declarations.proofs.Declaring.{declares_itself, declares_through}
+use Rattle.cc_sound_declarations.specs.Declaring.{Declares}
 use Rattle.cc_sound_terms.proofs.Founds.{answer_is, then_found}
 use Rattle.cc_sound_terms.specs.Ordered.{IsOrdered}
 use Rattle.cc_specifiers.specs.declared.storage.Where.TheVariants as stands

@@ -2,9 +2,9 @@
 use Rattle.std.proofs.Common.{◌≡◌, Bool, true, ◌&&◌, List, [], ◌∷◌, ◌++◌, Ok, refl, ap, sym, ◌∙◌, subst, append_assoc}
 use Rattle.std.specs.Prelude.{flat_map}
 use Rattle.std.specs.List.{list_all}
-use Rattle.cc_external_declarations.proofs.Declarations.{external_declares}
-use Rattle.cc_external_declarations.proofs.DefinedNames.{defined_among}
-use Rattle.cc_external_declarations.specs.External.{AreAmong}
+use Rattle.cc_sound_typed_units.proofs.ExternalDeclarations.{external_declares}
+use Rattle.cc_sound_typed_units.proofs.DefinedNames.{defined_among}
+use Rattle.cc_sound_typed_units.specs.External.{AreAmong}
 use Rattle.cc_num.specs.declared.target.Target.{Target}
 use Rattle.cc_standing_units.proofs.OwnViews.{all_is_known, first_ordered}
 use Rattle.cc_standing_units.specs.Views.{view_of}
@@ -13,7 +13,7 @@ use Rattle.cc_program.specs.declared.expr.Expr.{Expr}
 use Rattle.cc_program.specs.declared.func.Func.{Func}
 use Rattle.cc_program.specs.declared.program.Roles.{Roles}
 use Rattle.cc_program.specs.declared.types.CType.{CType}
-use Rattle.cc_ranged_trees.specs.Ranges.{item_fits, unit_fits}
+use Rattle.cc_sound_typed_units.specs.Ranges.{item_fits, unit_fits}
 use Rattle.cc_scopes.specs.State.{State, Name, at_first}
 use Rattle.cc_scopes.specs.Verdicts.{Checked, checked}
 use Rattle.cc_sound_typed_units.proofs.Functions.{definition_goes, definition_sound}
@@ -25,8 +25,8 @@ use Rattle.cc_sound_typed_units.proofs.Kept.{apart_of, entries_of}
 use Rattle.cc_sound_typed_units.proofs.Places.{file_keeps}
 use Rattle.cc_sound_typed_units.specs.Entries.{AreWell}
 use Rattle.cc_sound_typed_units.specs.Items.{IsSoundState}
-use Rattle.cc_sound_states.proofs.Declaring.{declares_itself, declares_through, known_before, known_behind}
-use Rattle.cc_sound_states.specs.Declaring.{Declares}
+use Rattle.cc_sound_declarations.proofs.Declaring.{declares_itself, declares_through, known_before, known_behind}
+use Rattle.cc_sound_declarations.specs.Declaring.{Declares}
 use Rattle.cc_sound_terms.proofs.Founds.{answer_is, then_found}
 use Rattle.cc_sound_terms.specs.Ordered.{IsOrdered}
 use Rattle.cc_sound_terms.specs.Typing.{Knows}

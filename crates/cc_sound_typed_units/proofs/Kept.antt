@@ -12,11 +12,11 @@ use Rattle.cc_scopes.specs.Linked.{is_linked, linked_from, linked_name}
 use Rattle.cc_scopes.specs.State.{State, Name, change_at, change_name, with_declared}
 use Rattle.cc_scopes.specs.declared.unit.Declared.{Declared}
 use Rattle.cc_sound_typed_units.proofs.Lists.{KeepsName, has_own_name, linked_changed, linked_front, linked_last, same_some}
-use Rattle.cc_external_declarations.specs.External.{AreEntries}
+use Rattle.cc_sound_typed_units.specs.External.{AreEntries}
 use Rattle.cc_sound_typed_units.specs.Definitions.{AreApart}
 use Rattle.cc_sound_typed_units.specs.Entries.{AreWell, IsDone, IsSettled, IsWell, IsWellKind, is_counted, is_function_kind}
 use Rattle.cc_primary.specs.Devices.{declared_device, device_of}
-use Rattle.cc_sound_states.proofs.Entries.{unnamed_entry}
+use Rattle.cc_sound_declarations.proofs.Entries.{unnamed_entry}
 use Rattle.cc_sound_terms.proofs.Growth.{get_front}
 use Rattle.cc_sound_terms.specs.Behind.{Extends, HasEntry, IsUnnamed, OfString, OfDevice}
 use Rattle.cc_syntax.specs.SameTypes.{is_func_shape}

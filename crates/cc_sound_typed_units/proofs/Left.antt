@@ -1,9 +1,9 @@
 -- What the unit that is left has of its last state: its structures stand, and what is sound over the state's own view is sound over that of the unit, by its numbers (C99 6.2.5, 6.7.8, 6.9.1).
 use Rattle.std.proofs.Common.{◌≡◌, ℕ, Bool, true, false, List, Option, Some, None, slice_get, subst}
-use Rattle.cc_external_declarations.specs.Values.{AreInitial, HasInitial}
-use Rattle.cc_left_names.proofs.Functions.{function_left, test_left}
-use Rattle.cc_left_names.proofs.Leaves.{values_left}
-use Rattle.cc_linked_structures.specs.Linked.{AreStanding}
+use Rattle.cc_sound_typed_units.specs.Values.{AreInitial, HasInitial}
+use Rattle.cc_sound_typed_units.proofs.LeftFunctions.{function_left, test_left}
+use Rattle.cc_sound_typed_units.proofs.Leaves.{values_left}
+use Rattle.cc_relocated_units.specs.Linked.{AreStanding}
 use Rattle.cc_num.specs.declared.target.Target.{Target}
 use Rattle.cc_numbering.specs.Names.{function_in}
 use Rattle.cc_numbering.specs.Numbers.{numbers_of}
@@ -16,7 +16,7 @@ use Rattle.cc_program.specs.declared.types.Sig.{Sig}
 use Rattle.cc_program.specs.declared.value.Leaf.{Leaf}
 use Rattle.cc_scopes.specs.State.{State}
 use Rattle.cc_scopes.specs.declared.unit.Declared.{Declared}
-use Rattle.cc_sound_sources.specs.Units.{IsOfText, IsSoundFunction, unit_view}
+use Rattle.cc_relocated_units.specs.Units.{IsOfText, IsSoundFunction, unit_view}
 use Rattle.cc_sound_terms.specs.Ordered.{IsOrdered}
 use Rattle.cc_standing_units.proofs.Standing.{left_standing}
 use Rattle.cc_standing_units.specs.Closed.{AreClosed}

@@ -7,9 +7,9 @@ use Rattle.cc_program.proofs.Each.{Each}
 use Rattle.cc_program.specs.declared.types.CType.{CType, fold_out-CType}
 use Rattle.cc_program.specs.declared.types.Shape.{Shape}
 use Rattle.cc_program.specs.declared.types.Sig.{Sig}
-use Rattle.cc_sound_assignments.proofs.Unconst.{object_stays}
+use Rattle.cc_sound_declarations.proofs.Unconst.{object_stays}
 use Rattle.cc_sound_typed_units.proofs.Consts.{object_unconst}
-use Rattle.cc_sound_states.specs.Declaring.{AreObjects, lowered, unconst}
+use Rattle.cc_sound_declarations.specs.Declaring.{AreObjects, lowered, unconst}
 use Rattle.cc_specifiers.specs.declared.derivation.Parameter.{Parameter}
 use Rattle.cc_syntax.proofs.Prefixes.{both_true}
 use Rattle.cc_syntax.proofs.SameLemmas.{compared}

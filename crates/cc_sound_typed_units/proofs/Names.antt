@@ -31,8 +31,8 @@ use Rattle.cc_scopes.specs.declared.unit.Declared.{Declared}
 use Rattle.cc_sound_typed_units.specs.Definitions.{IsSoundAt}
 use Rattle.cc_sound_typed_units.specs.Entries.{AreWell, IsAwaited, IsDone, IsSettled, IsWell, IsWellFunction, IsWellKind, IsWellObject, is_counted, is_function_kind}
 use Rattle.cc_sound_typed_units.specs.Items.{IsSoundState}
-use Rattle.cc_sound_sources.specs.Units.{HasSoundBody, IsSoundDevice, IsSoundFunctionName, IsSoundKind, IsSoundName, IsSoundObject, IsWellNamed, is_main_name, is_main_sig, is_register_type, unit_view}
-use Rattle.cc_sound_states.specs.Entries.{IsDeviceEntry, IsEntryOf}
+use Rattle.cc_relocated_units.specs.Units.{HasSoundBody, IsSoundDevice, IsSoundFunctionName, IsSoundKind, IsSoundName, IsSoundObject, IsWellNamed, is_main_name, is_main_sig, is_register_type, unit_view}
+use Rattle.cc_sound_declarations.specs.Entries.{IsDeviceEntry, IsEntryOf}
 use Rattle.cc_sound_terms.specs.Behind.{HasEntry, KindStands, NameStands}
 use Rattle.cc_sound_typed_units.proofs.Left.{IsLeft}
 use Rattle.cc_structures.proofs.WordLaws.{constant-kept, level-renumbered, renumbered_level, volatile-kept}

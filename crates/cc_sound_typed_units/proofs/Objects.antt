@@ -3,7 +3,7 @@ use Rattle.std.proofs.Common.{arith, lt-ltb, ◌<◌, ◌≡◌, ◌⊎◌, inl,
 use Rattle.std.specs.Prelude.{is_some, nat_lt, slice_get, if◌then◌else◌}
 use Rattle.std.specs.List.{list_any}
 use Rattle.std.specs.Str.{bytes_eq}
-use Rattle.cc_external_declarations.specs.External.{AreEntries}
+use Rattle.cc_sound_typed_units.specs.External.{AreEntries}
 use Rattle.cc_linkage.specs.Linkage.{agrees, agrees_with, declared_by, is_free_for, is_visible, linkage_of, may_be, may_be_by, may_be_declared, new_declared, repeats, same_element}
 use Rattle.cc_linkage.specs.declared.linkage.DeclaredAs.{DeclaredAs}
 use Rattle.cc_linkage.specs.declared.linkage.DeclaredAs.TheVariants.{AsStatic, AsObject, AsExtern}
@@ -34,8 +34,8 @@ use Rattle.cc_sound_typed_units.proofs.Declared.{asked_linked, declared_linked}
 use Rattle.cc_sound_typed_units.proofs.Kept.{MayTell, Settles, changed_well, extends_well, more_well, same_well}
 use Rattle.cc_sound_typed_units.proofs.Lists.{IsLinkedAt, KeepsName, linked_changed, linked_front, linked_there, same_some}
 use Rattle.cc_sound_typed_units.specs.Entries.{AreWell, IsAwaited, IsDone, IsSettled, IsWell, IsWellKind, IsWellObject, is_counted, is_function_kind}
-use Rattle.cc_sound_sources.specs.Units.{is_integer_shape, is_register_type}
-use Rattle.cc_sound_states.specs.Entries.{IsEntryOf}
+use Rattle.cc_relocated_units.specs.Units.{is_integer_shape, is_register_type}
+use Rattle.cc_sound_declarations.specs.Entries.{IsEntryOf}
 use Rattle.cc_sound_terms.proofs.Growth.{get_last}
 use Rattle.cc_specifiers.specs.Declarators.{is_unbounded, is_unbounded_shape}
 use Rattle.cc_specifiers.specs.Objects.{size_of}

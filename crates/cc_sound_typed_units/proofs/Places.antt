@@ -3,9 +3,9 @@ use Rattle.std.proofs.Common.{◌≡◌, ◌⊎◌, inl, inr, ℕ, Bool, true, f
 use Rattle.std.specs.Prelude.{flat_map, is_some, option_to_list, if◌then◌else◌}
 use Rattle.std.specs.List.{list_all, list_any}
 use Rattle.std.specs.Str.{bytes_eq}
-use Rattle.cc_external_declarations.proofs.Declarations.{external_function}
-use Rattle.cc_external_declarations.proofs.StorageClasses.{storage_is}
-use Rattle.cc_external_declarations.specs.External.{AreAmong}
+use Rattle.cc_sound_typed_units.proofs.ExternalDeclarations.{external_function}
+use Rattle.cc_sound_typed_units.proofs.StorageClasses.{storage_is}
+use Rattle.cc_sound_typed_units.specs.External.{AreAmong}
 use Rattle.cc_linkage.specs.declared.linkage.DeclaredAs.{DeclaredAs}
 use Rattle.cc_linkage.specs.declared.linkage.DeclaredAs.TheVariants.{AsStatic, AsObject, AsExtern}
 use Rattle.cc_objects.specs.Categories.{block_category, category_by, file_category, function_category, is_given, setting_of, storage_in}

@@ -14,7 +14,7 @@ use Rattle.cc_program.specs.declared.types.Shape.TheOpen as shape
 use Rattle.cc_program.specs.declared.types.Shape.TheVariants.{outs-Func}
 use Rattle.cc_program.specs.declared.types.Sig.{Sig, out-Sig, roll-Sig, out-roll-Sig}
 use Rattle.cc_scopes.specs.State.{Scope}
-use Rattle.cc_sound_bodies.specs.Bodies.{ResultStands}
+use Rattle.cc_sound_typed_units.specs.Bodies.{ResultStands}
 use Rattle.cc_sound_terms.specs.Standing.{DerivationsStand, IsBounded, ParameterStands}
 use Rattle.cc_specifiers.specs.Declarators.{function_to}
 use Rattle.cc_specifiers.specs.declared.derivation.Derivation.{Derivation}

@@ -7,14 +7,14 @@ use Rattle.cc_named_units.proofs.Texts.{of_text}
 use Rattle.cc_num.specs.declared.target.Target.{Target}
 use Rattle.cc_numbering.specs.Units.{unit_left}
 use Rattle.cc_program.specs.declared.program.Roles.{Roles}
-use Rattle.cc_ranged_trees.proofs.Statements.{sentence_fits}
-use Rattle.cc_ranged_trees.proofs.Texts.{text_fits}
+use Rattle.cc_sound_typed_units.proofs.Statements.{sentence_fits}
+use Rattle.cc_sound_typed_units.proofs.Texts.{text_fits}
 use Rattle.cc_scopes.specs.State.{State, at_first}
 use Rattle.cc_scopes.specs.Verdicts.{Checked, Found}
 use Rattle.cc_scopes.specs.declared.verdict.Fault.{Fault}
 use Rattle.cc_sound_typed_units.proofs.Items.{unit_sound}
 use Rattle.cc_sound_typed_units.specs.Items.{IsSoundState}
-use Rattle.cc_sound_sources.specs.Units.{IsOfText, IsSoundUnit}
+use Rattle.cc_relocated_units.specs.Units.{IsOfText, IsSoundUnit}
 use Rattle.cc_sound_typed_units.proofs.InitialItems.{unit_initial}
 use Rattle.cc_sound_typed_units.proofs.Left.{IsLeft, is_left}
 use Rattle.cc_sound_typed_units.proofs.Names.{names_named, names_sound}

@@ -12,7 +12,7 @@ use Rattle.cc_program.specs.declared.types.Sig.{Sig}
 use Rattle.cc_program.specs.declared.value.Leaf.{Leaf}
 use Rattle.cc_scopes.specs.State.{State, Name}
 use Rattle.cc_scopes.specs.declared.unit.Declared.{Declared}
-use Rattle.cc_sound_sources.specs.Units.{IsSoundFunction}
+use Rattle.cc_relocated_units.specs.Units.{IsSoundFunction}
 use Rattle.cc_syntax.specs.Views.{View}
 use Rattle.cc_unit.specs.declared.unit.UnitKind.{UnitKind}
 use Rattle.cc_unit.specs.declared.unit.UnitKind.TheVariants as kind

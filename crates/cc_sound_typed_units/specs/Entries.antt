@@ -17,8 +17,8 @@ use Rattle.cc_scopes.specs.Linked.{is_linked, linked_name}
 use Rattle.cc_scopes.specs.State.{State, Name}
 use Rattle.cc_scopes.specs.declared.unit.Declared.{Declared}
 use Rattle.cc_num.specs.declared.target.Target.{Target}
-use Rattle.cc_sound_states.specs.Entries.{IsEntry}
-use Rattle.cc_sound_sources.specs.Units.{is_attributed, is_main_name, is_register_type}
+use Rattle.cc_sound_declarations.specs.Entries.{IsEntry}
+use Rattle.cc_relocated_units.specs.Units.{is_attributed, is_main_name, is_register_type}
 use Rattle.cc_things.specs.Things.{is_external_linkage}
 use Rattle.cc_unit.specs.declared.unit.UnitKind.{UnitKind}
 use Rattle.cc_unit.specs.declared.unit.UnitKind.TheVariants as kind

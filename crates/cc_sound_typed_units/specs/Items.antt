@@ -6,7 +6,7 @@ use Rattle.cc_program.specs.declared.program.Roles.{Roles}
 use Rattle.cc_scopes.specs.State.{State, Name, at_first}
 use Rattle.cc_sound_typed_units.specs.Definitions.{IsSoundAt}
 use Rattle.cc_sound_typed_units.specs.Entries.{AreWell}
-use Rattle.cc_sound_states.specs.Declaring.{Declares}
+use Rattle.cc_sound_declarations.specs.Declaring.{Declares}
 use Rattle.cc_sound_terms.specs.Ordered.{IsOrdered}
 use Rattle.cc_sound_terms.specs.Typing.{Knows}
 

@@ -1,3 +1,11 @@
+pub mod Bodies
 pub mod Definitions
 pub mod Entries
+pub mod External
+pub mod FunctionBodies
+pub mod Initialises
 pub mod Items
+pub mod Ranges
+pub mod Scopes
+pub mod Sound
+pub mod Values

@@ -5,7 +5,7 @@ ghost use Rattle.cc_num.specs.declared.target.Target.{Target};
 ghost use Rattle.cc_program.specs.declared.program.Roles.{Roles};
 ghost use Rattle.cc_scopes.specs.State.{State, at_first};
 ghost use Rattle.cc_scopes.specs.Verdicts.{Checked};
-ghost use Rattle.cc_sound_sources.specs.Units.{IsSoundUnit};
+ghost use Rattle.cc_relocated_units.specs.Units.{IsSoundUnit};
 ghost use Rattle.cc_standing_units.specs.Closed.{AreClosed};
 ghost use Rattle.cc_tree.specs.Sentences.{IsSentence};
 ghost use Rattle.cc_tree.specs.declared.unit.Unit.{Unit as UnitTree};

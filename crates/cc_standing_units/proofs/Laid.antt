@@ -4,7 +4,7 @@ use Rattle.std.specs.Prelude.{unwrap_or}
 use Rattle.std.proofs.lemmas.Bool.{cases_lt}
 use Rattle.std.proofs.lemmas.List.{append-nil}
 use Rattle.std.proofs.lemmas.Option.{slice_get-map, slice_get_within}
-use Rattle.cc_linked_structures.specs.Linked.{structures_of as unit_structures, untagged}
+use Rattle.cc_relocated_units.specs.Linked.{structures_of as unit_structures, untagged}
 use Rattle.cc_num.specs.declared.target.Target.{Target}
 use Rattle.cc_numbering.specs.Numbers.{numbers_of, only_named, order_of, place_from}
 use Rattle.cc_numbering.specs.Structures.{all_named_in, structure_in, structures_in}

@@ -22,9 +22,9 @@ use Rattle.cc_relocated_units.proofs.Types.{object_kept}
 use Rattle.cc_relocated_units.specs.Renumbering.{MemberTypes, Renumbers, place_type_renumbered, value_renumbered}
 use Rattle.cc_scopes.specs.State.{KnownStructure, State, as_structure, members_or_none}
 use Rattle.cc_scopes.specs.declared.unit.Declared.{Declared}
-use Rattle.cc_sound_sources.specs.Units.{device_as, function_as, function_shape, static_as, unit_view}
+use Rattle.cc_relocated_units.specs.Units.{device_as, function_as, function_shape, static_as, unit_view}
 use Rattle.cc_sound_terms.specs.Ordered.{IsOrdered}
-use Rattle.cc_sound_units.specs.Reduced.{Devices, ReducedPlace}
+use Rattle.cc_operand_types.specs.Reduced.{Devices, ReducedPlace}
 use Rattle.cc_structures.proofs.WordLaws.{level-renumbered, number_by, renumbered_level}
 use Rattle.cc_syntax.specs.Expressions.{place_type}
 use Rattle.cc_syntax.specs.Layout.{layouts, nothing}

@@ -23,7 +23,7 @@ use Rattle.cc_syntax.specs.Kinds.{is_object_type}
 use Rattle.cc_syntax.specs.Types.{Named}
 use Rattle.cc_unit.specs.declared.unit.UnitKind.{UnitKind}
 use Rattle.cc_unit.specs.declared.unit.UnitKind.TheVariants as kind
-use Rattle.cc_sound_sources.specs.Units.{static_as, device_as, function_as, function_shape}
+use Rattle.cc_relocated_units.specs.Units.{static_as, device_as, function_as, function_shape}
 use Rattle.cc_standing_units.specs.Views.{known_extent, view_of}
 
 some_is : {A : Type 0} (a b : A) → Some a ≡ Some b → a ≡ b

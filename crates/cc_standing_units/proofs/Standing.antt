@@ -5,7 +5,7 @@ use Rattle.std.specs.List.{flat_map, list_all}
 use Rattle.std.proofs.lemmas.Bool.{cases_lt, lt-ltb, ltb-true}
 use Rattle.std.proofs.lemmas.List.{length-map, map-append}
 use Rattle.std.proofs.lemmas.Option.{slice_get_within}
-use Rattle.cc_linked_structures.specs.Linked.{AreStanding, HasMembers as HasSome, untagged}
+use Rattle.cc_relocated_units.specs.Linked.{AreStanding, HasMembers as HasSome, untagged}
 use Rattle.cc_num.specs.declared.target.Target.{Target}
 use Rattle.cc_numbering.specs.Structures.{all_named_in, named_in, structure_at, structure_in, structures_in}
 use Rattle.cc_numbering.specs.Units.{unit_left}
@@ -14,7 +14,7 @@ use Rattle.cc_program.proofs.Each.{Each}
 use Rattle.cc_program.specs.declared.types.Structure.{Structure}
 use Rattle.cc_relocated_units.proofs.KindsKept.{test_kept}
 use Rattle.cc_scopes.specs.State.{KnownStructure, State, members_or_none}
-use Rattle.cc_sound_sources.specs.Units.{IsOfText, are_few_names}
+use Rattle.cc_relocated_units.specs.Units.{IsOfText, are_few_names}
 use Rattle.cc_sound_terms.specs.Ordered.{AreOrdered, IsOrdered, is_among}
 use Rattle.cc_structures.proofs.Elements.{In, in-cases}
 use Rattle.cc_structures.proofs.WordLaws.{number_by}

@@ -3,7 +3,7 @@ use Rattle.std.specs.Prelude.{ℕ, Bool, nat_lt, length, Option, Some, None, sli
 use Rattle.cc_num.specs.declared.target.Target.{Target}
 use Rattle.cc_syntax.specs.Views.{View}
 use Rattle.cc_scopes.specs.State.{State, KnownStructure, members_or_none, structures_of}
-use Rattle.cc_sound_sources.specs.Units.{static_as, device_as, function_as}
+use Rattle.cc_relocated_units.specs.Units.{static_as, device_as, function_as}
 
 -- one that has members is complete
 abbrev pub has_content : KnownStructure → Bool

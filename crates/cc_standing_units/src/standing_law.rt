@@ -1,8 +1,8 @@
-ghost use Rattle.cc_linked_structures.specs.Linked.{AreStanding};
+ghost use Rattle.cc_relocated_units.specs.Linked.{AreStanding};
 ghost use Rattle.cc_num.specs.declared.target.Target.{Target};
 ghost use Rattle.cc_numbering.specs.Units.{unit_left};
 ghost use Rattle.cc_scopes.specs.State.{State};
-ghost use Rattle.cc_sound_sources.specs.Units.{IsOfText};
+ghost use Rattle.cc_relocated_units.specs.Units.{IsOfText};
 ghost use Rattle.cc_sound_terms.specs.Ordered.{IsOrdered};
 ghost use Rattle.cc_standing_units.specs.Closed.{AreClosed};
 

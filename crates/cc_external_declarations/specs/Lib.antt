@@ -1,3 +1,0 @@
-pub mod External
-pub mod Initialises
-pub mod Values

@@ -1,2 +1,0 @@
-pub mod LaterKinds
-pub mod Members

@@ -1,6 +1,0 @@
-use Rattle.cc_later_kinds.proofs.LaterKinds.{kind_stays}
-use Rattle.cc_later_kinds.proofs.Members.{members_stand}
-use Rattle.cc_later_kinds.proofs.law.kind_laws.Goals as goal
-
-pub returns : goal.returns
-returns c = record { kinds = λ target before after grow t k h. kind_stays target before after grow t k h; members = λ p h. members_stand p h }

@@ -1,5 +1,0 @@
-pub mod NamedFirst
-pub mod ProgramOrder
-pub mod Standing
-pub mod TypesKept
-pub mod UnitPlaces

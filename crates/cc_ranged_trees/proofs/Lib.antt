@@ -1,4 +1,0 @@
-pub mod Rolled
-pub mod Terms
-pub mod Statements
-pub mod Texts

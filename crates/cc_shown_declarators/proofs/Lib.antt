@@ -1,4 +1,0 @@
-pub mod Names
-pub mod Parameters
-pub mod Functions
-pub mod Forms

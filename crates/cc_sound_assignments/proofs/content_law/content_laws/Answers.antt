@@ -1,5 +1,0 @@
-use Rattle.cc_sound_assignments.proofs.Contents.{contents_same}
-use Rattle.cc_sound_assignments.proofs.content_law.content_laws.Goals as goal
-
-pub returns : goal.returns
-returns c = record { stable = contents_same }

@@ -1,5 +1,0 @@
-use Rattle.cc_sound_assignments.proofs.Assignments.{all_typed}
-use Rattle.cc_sound_assignments.proofs.typed_law.typed_laws.Goals as goal
-
-pub returns : goal.returns
-returns c = record { typed = all_typed }

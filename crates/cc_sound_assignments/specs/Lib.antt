@@ -1,4 +1,0 @@
-pub mod Assigns
-pub mod Places
-pub mod Scalars
-pub mod Values

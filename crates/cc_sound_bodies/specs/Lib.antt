@@ -1,4 +1,0 @@
-pub mod Bodies
-pub mod FunctionBodies
-pub mod Scopes
-pub mod Sound

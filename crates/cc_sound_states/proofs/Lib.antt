@@ -1,4 +1,0 @@
-pub mod Entries
-pub mod Declaring
-pub mod Reaching
-pub mod Steps

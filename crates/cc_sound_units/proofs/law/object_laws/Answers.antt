@@ -1,5 +1,0 @@
-use Rattle.cc_sound_units.proofs.WithoutConst.{reduced_const, reduced_itself}
-use Rattle.cc_sound_units.proofs.law.object_laws.Goals as goal
-
-pub returns : goal.returns
-returns c = record { without_const = λ t. reduced_const t; itself = λ t. reduced_itself t }
