@@ -1,9 +1,9 @@
 #!/usr/bin/env python3
 """What the cases of crates/cases_read give: python3 bench/linked.py < crates/cases_read/stdin
 
-Sources are read by the means of typed_units.py and linked here from C99 (6.2.2, 6.2.7, 6.9) and the documentation alone: things
-are Python's objects, structures of several sources are compared pair by pair, and names are sets of texts. What is no sentence
-is not judged: such a case is answered as it stands in crates/cases_read/stdout."""
+Translation units are answered by typed_units.py. Sources are read by its means and linked here from C99 (6.2.2, 6.2.7, 6.9)
+and the documentation alone: things are Python's objects, structures of several sources are compared pair by pair, and names
+are sets of texts. What is no sentence is not judged: such a case is answered as it stands in crates/cases_read/stdout."""
 import os
 import re
 import sys
@@ -11,7 +11,7 @@ from c_operands import Broken
 from c_sentences import sentence
 from c_types import INT, Target, kind
 from c_units import Unit
-from typed_units import written
+from typed_units import outcome as outcome_of_unit, setting, written
 
 INTRINSICS = ["irq_off", "irq_on", "irq_save", "irq_restore"]
 
@@ -341,12 +341,16 @@ def main():
     folder = os.path.join(os.path.dirname(os.path.dirname(os.path.abspath(__file__))), "crates", "cases_read")
     with open(os.path.join(folder, "stdout")) as file:
         stand = dict(line.rsplit(" => ", 1) for line in file.read().split("\n") if " => " in line)
-    cases = 0
+    settings, cases = None, 0
     for line in sys.stdin.read().split("\n")[:-1]:
-        if not line or line.startswith("== "):
+        if line.startswith("== "):
+            settings = None
+        if line.startswith("$ "):
+            settings = {} if settings is None else setting(settings, line[2:])
+        if not line or line[:2] in ("==", "$ "):
             print(line)
             continue
-        found = outcome(line)
+        found = outcome(line) if settings is None else outcome_of_unit(Target(**settings), line)
         print(f"{line} => {stand.get(line, found) if found.endswith('no tree') else found}")
         cases += 1
     print(f"cases: {cases}")

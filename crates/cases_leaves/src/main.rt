@@ -1,4 +1,4 @@
-//! Reads a script of cases for cc_bins and cc_make, and prints it with what each case gives.
+//! Reads a script of cases for cc_bins, cc_make and cc_flow, and prints it with what each case gives.
 //!
 //! The settings, and what the cases behind them may be:
 //!
@@ -7,8 +7,13 @@
 //!     $ many     `COUNT BITS THEN`: so many slots of 2 bytes, the first half of BITS bits and the others of
 //!                THEN; what is printed is how many words and fields there are, and the last of each
 //!     $ make     `SEED COUNT`
+//!     $ points   the functions of a program with `|` between them, as words of `flow/words.rt`; what is printed is
+//!                each point, `NUMBER=FUNCTION:PATH>NEXT`, and the entries
+//!     $ nests    `COUNT DEPTH`: a function of so many statements, of which each DEPTH stand in one another; what is
+//!                printed is how many points there are, and the last two of them
 #![tactic(auto)]
 
+mod flow;
 mod many;
 mod placings;
 mod sources;
@@ -25,6 +30,8 @@ enum Subject {
     Placings,
     Many,
     Sources,
+    Points,
+    Nests,
 }
 
 impl Cases for Subject {
@@ -33,6 +40,8 @@ impl Cases for Subject {
             "place" => Subject::Placings,
             "many" => Subject::Many,
             "make" => Subject::Sources,
+            "points" => Subject::Points,
+            "nests" => Subject::Nests,
             _ => Subject::Nothing,
         }
     }
@@ -43,6 +52,8 @@ impl Cases for Subject {
             Subject::Placings => placings::write_outcome(alloc, page, case),
             Subject::Many => many::write_outcome(alloc, page, case),
             Subject::Sources => sources::write_outcome(alloc, page, case),
+            Subject::Points => flow::write_points(alloc, page, case),
+            Subject::Nests => flow::write_nests(alloc, page, case),
         }
     }
 }
@@ -50,5 +61,6 @@ impl Cases for Subject {
 fn main(rt: HostRuntime) -> io::Result<()> {
     cc_bins::laws();
     cc_make::laws();
+    cc_flow::laws();
     run(&rt, Subject::Nothing)
 }

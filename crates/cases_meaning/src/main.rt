@@ -6,9 +6,17 @@
 //!     WORDS | 1 2 | 5,tick 7,tick | 100
 //!
 //! The title above it says the program in C. `bench/meaning.py` gives the same from C99 alone. Behind `$ trace` the number of
-//! turns is left out.
+//! turns is left out. Behind other settings a case is a file that a run reads, and what is printed is what the file gives:
+//!
+//!     $ profile   the text of a profile, and what is printed is what it has other than the default, or the row that
+//!                 breaks a rule, and the rule
+//!     $ default   any text, and what is printed is what the default profile has other than the profile of no rows
+//!     $ inputs    the text of inputs, and what is printed is the inputs, or the first row that gives none
+//!     $ arrivals  the text of arrivals, likewise; `rows.rt` says at which program
 #![tactic(auto)]
 
+mod profiles;
+mod rows;
 mod script;
 
 use cases_program::program_of;
@@ -18,13 +26,17 @@ use script::{Script, trace, turns_made};
 use std::alloc::Global;
 use std::io;
 
-/// Programs that are run.
+/// What the cases of a section are about.
 #[derive(Clone, Copy)]
-enum Runs {
-    /// With the trace alone.
+enum Subject {
+    /// Programs that are run, with the trace alone.
     Traced,
-    /// With the number of turns too.
+    /// Programs that are run, with the number of turns too.
     Counted,
+    Profile,
+    Default,
+    Inputs,
+    Arrivals,
 }
 
 /// The rows of a trace, each with a blank behind it.
@@ -38,7 +50,8 @@ fn put_trace(page: &mut Page, text: &[u8]) {
     }
 }
 
-fn write(alloc: Global, page: &mut Page, runs: Runs, case: &str) -> Option<()> {
+/// Writes the trace of the program of a case, and how many turns it took if they are counted.
+fn write_run(alloc: Global, page: &mut Page, is_counted: bool, case: &str) -> Option<()> {
     let script = Script::of(case)?;
     let p = program_of(alloc, "", script.words)?;
     if !is_sound(&p) {
@@ -46,29 +59,43 @@ fn write(alloc: Global, page: &mut Page, runs: Runs, case: &str) -> Option<()> {
         return Some(());
     }
     put_trace(page, &trace(alloc, &p, script)?);
-    match runs {
-        Runs::Traced => {}
-        Runs::Counted => page.show(turns_made(alloc, &p, script)?),
+    if is_counted {
+        page.show(turns_made(alloc, &p, script)?);
     }
     Some(())
 }
 
-impl Cases for Runs {
-    fn behind(setting: &str) -> Runs {
-        if setting == "trace" {
-            Runs::Traced
-        } else {
-            Runs::Counted
+fn put_run(alloc: Global, page: &mut Page, is_counted: bool, case: &str) {
+    if write_run(alloc, page, is_counted, case).is_none() {
+        page.put("unclear");
+    }
+}
+
+impl Cases for Subject {
+    fn behind(setting: &str) -> Subject {
+        match setting {
+            "trace" => Subject::Traced,
+            "profile" => Subject::Profile,
+            "default" => Subject::Default,
+            "inputs" => Subject::Inputs,
+            "arrivals" => Subject::Arrivals,
+            _ => Subject::Counted,
         }
     }
 
     fn write_outcome(self, alloc: Global, page: &mut Page, case: &str) {
-        if write(alloc, page, self, case).is_none() {
-            page.put("unclear");
+        match self {
+            Subject::Traced => put_run(alloc, page, false, case),
+            Subject::Counted => put_run(alloc, page, true, case),
+            Subject::Profile => profiles::write_read(alloc, page, case),
+            Subject::Default => profiles::write_default(alloc, page),
+            Subject::Inputs => rows::write_inputs(alloc, page, case),
+            Subject::Arrivals => rows::write_arrivals(alloc, page, case),
         }
     }
 }
 
 fn main(rt: HostRuntime) -> io::Result<()> {
-    run(&rt, Runs::Counted)
+    cc_cost::laws();
+    run(&rt, Subject::Counted)
 }

@@ -2,13 +2,17 @@
 //!
 //! A case is the texts, as a case writes bytes, with ` <> ` between them. In front of them may stand the names of handlers
 //! that the roles have, in brackets. `written.rt` says how a program and a refusal are written.
+//!
+//! Behind `$ unit` a case is one text, and what is printed is its typed unit, or the rule that it breaks; `units.rt` says
+//! more. Further settings are rows of a profile, for its target: `$ int,4,` makes `int` four bytes wide.
 #![tactic(auto)]
 
 mod spoken;
 mod texts;
+mod units;
 mod written;
 
-use cases_script::{Cases, Page, run};
+use cases_script::{Line, Page, line_of};
 use cc_discard::discard_program;
 use cc_read::read;
 use std::alloc::Global;
@@ -16,9 +20,27 @@ use std::io;
 use texts::{profile_of, texts_of};
 use written::{write_program, write_refusal};
 
-/// Texts that are read.
-#[derive(Clone, Copy)]
-struct Read;
+/// What the cases of a section are.
+#[derive(Drop)]
+enum Section {
+    Programs,
+    /// Translation units, with the rows of a profile.
+    Units(String),
+}
+
+impl Section {
+    /// The section behind a further setting.
+    fn behind(self, alloc: Global, setting: &str) -> io::Result<Section> {
+        match self {
+            Section::Programs => Ok(Section::Units(String::new(alloc))),
+            Section::Units(mut rows) => {
+                rows.push_str(setting)?;
+                rows.push_str("\n")?;
+                Ok(Section::Units(rows))
+            }
+        }
+    }
+}
 
 /// The handlers that stand in brackets, and the texts behind them.
 fn parts(case: &str) -> (&str, &str) {
@@ -28,7 +50,8 @@ fn parts(case: &str) -> (&str, &str) {
     }
 }
 
-fn write(alloc: Global, page: &mut Page, case: &str) -> Option<()> {
+/// Writes the program that texts are, or why they are none.
+fn write_read(alloc: Global, page: &mut Page, case: &str) -> Option<()> {
     let (handlers, case) = parts(case);
     let profile = profile_of(alloc, handlers)?;
     let texts = texts_of(alloc, case)?;
@@ -45,19 +68,39 @@ fn write(alloc: Global, page: &mut Page, case: &str) -> Option<()> {
     }
 }
 
-impl Cases for Read {
-    fn behind(_setting: &str) -> Read {
-        Read
-    }
-
-    fn write_outcome(self, alloc: Global, page: &mut Page, case: &str) {
-        if write(alloc, page, case).is_none() {
-            page.put("unclear");
+/// Writes what a case gives.
+fn write_outcome(alloc: Global, page: &mut Page, section: &Section, case: &str) {
+    match section {
+        Section::Units(rows) => units::write_outcome(alloc, page, rows.as_str(), case),
+        Section::Programs => {
+            if write_read(alloc, page, case).is_none() {
+                page.put("unclear");
+            }
         }
     }
 }
 
 fn main(rt: HostRuntime) -> io::Result<()> {
     cc_read::laws();
-    run(&rt, Read)
+    let alloc = rt.alloc();
+    let mut section = Section::Programs;
+    let mut count: u64 = 0;
+    for line in rt.lines(alloc) {
+        let line = line?;
+        let line = line.as_str();
+        let mut page = Page::new(alloc);
+        match line_of(line) {
+            Line::Blank => {}
+            Line::Title => section = Section::Programs,
+            Line::Setting(setting) => section = section.behind(alloc, setting)?,
+            Line::Case => {
+                page.put(" => ");
+                write_outcome(alloc, &mut page, &section, line);
+                count = count.saturating_add(1);
+            }
+        }
+        let outcome = page.finish()?;
+        println!(rt; "{line}{outcome}")?;
+    }
+    println!(rt; "cases: {count}")
 }

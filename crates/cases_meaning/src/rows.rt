@@ -15,19 +15,19 @@ const WORDS: &str =
 
 fn write_fault(page: &mut Page, fault: RowFault) {
     match fault {
-        RowFault::Row(row) => page.show(format_args!(" row {row}")),
-        RowFault::NoMemory => page.put(" no memory"),
+        RowFault::Row(row) => page.show(format_args!("row {row}")),
+        RowFault::NoMemory => page.put("no memory"),
     }
 }
 
 /// Writes the inputs of a text.
 pub fn write_inputs(alloc: Global, page: &mut Page, case: &str) {
     let Ok(text) = bytes_of(alloc, case) else {
-        return page.put(" no memory");
+        return page.put("no memory");
     };
     match read_inputs(alloc, text.as_slice()) {
         Ok(inputs) => {
-            page.put(" ok");
+            page.put("ok");
             for input in &inputs {
                 page.show(format_args!(" {input}"));
             }
@@ -38,11 +38,11 @@ pub fn write_inputs(alloc: Global, page: &mut Page, case: &str) {
 
 fn write_arrivals_of(alloc: Global, page: &mut Page, p: &Program, case: &str) {
     let Ok(text) = bytes_of(alloc, case) else {
-        return page.put(" no memory");
+        return page.put("no memory");
     };
     match read_arrivals(alloc, p, text.as_slice()) {
         Ok(arrivals) => {
-            page.put(" ok");
+            page.put("ok");
             for (turn, handler) in &arrivals {
                 page.show(format_args!(" {turn}:{handler}"));
             }
@@ -55,6 +55,6 @@ fn write_arrivals_of(alloc: Global, page: &mut Page, p: &Program, case: &str) {
 pub fn write_arrivals(alloc: Global, page: &mut Page, case: &str) {
     match program_of(alloc, "", WORDS) {
         Some(p) => write_arrivals_of(alloc, page, &p, case),
-        None => page.put(" no program"),
+        None => page.put("no program"),
     }
 }

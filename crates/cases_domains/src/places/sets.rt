@@ -15,9 +15,9 @@
 
 ghost use Rattle.std.specs.Prelude.{◌≡◌, ◌≤◌, false, IsTrue, length};
 
-use crate::lattices::{copy_of, joined, write_answer, write_below};
-use crate::words::{address_of, addresses_of, numbers_of, set_of};
-use crate::written::{write_set, write_some};
+use crate::places::lattices::{copy_of, joined, write_answer, write_below};
+use crate::places::words::{address_of, addresses_of, numbers_of, set_of};
+use crate::places::written::{write_set, write_some};
 use cases_script::{Page, split};
 use cc_lattice::IntDomain;
 use cc_places::{Addrs, are_members};

@@ -7,8 +7,8 @@
 //!     switch case .. default .. end     `case` and `default` begin a case each
 //!     |                                 ends a function, and the next one begins
 
-use crate::builder::Builder;
-use crate::outcome::write_points;
+use crate::flow::builder::Builder;
+use crate::flow::outcome::write_points;
 use cases_script::Page;
 use cc_program::{Program, Stmt};
 use std::alloc::Global;

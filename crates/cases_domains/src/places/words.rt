@@ -11,7 +11,7 @@
 //! Some of them stand between braces, as in `{0,o2@5/80}`. Numbers stand so too; `UChar` and the like are all values of
 //! that type, for an `int` of two bytes.
 
-use crate::lattices::joined;
+use crate::places::lattices::joined;
 use cc_lattice::IntDomain;
 use cc_num::{IntType, List, Target};
 use cc_places::Addrs;

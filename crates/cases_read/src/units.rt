@@ -1,4 +1,5 @@
-//! What a translation unit gives.
+//! What the type rules make of a translation unit: its typed unit, as `cases_units` writes it, or the rule that is broken and
+//! its place.
 
 use cases_script::{Page, bytes_of};
 use cases_units::write_unit;

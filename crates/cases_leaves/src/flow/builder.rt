@@ -1,6 +1,6 @@
 //! Programs that are put together statement by statement.
 
-use crate::roles::roles;
+use crate::flow::roles::roles;
 use cc_num::{Boxed, IntType, List, Target};
 use cc_program::{CType, Case, Expr, Func, Intr, Place, Program, Shape, Sig, Stmt};
 use std::alloc::Global;

@@ -8,9 +8,9 @@
 ghost use Rattle.std.specs.Prelude.{IsTrue};
 ghost use Rattle.cc_places.specs.Abstract.{AreOfOneKind};
 
-use crate::lattices::{copy_of, joined, write_answer, write_below};
-use crate::words::{address_of, numbers_of, set_of};
-use crate::written::write_abs;
+use crate::places::lattices::{copy_of, joined, write_answer, write_below};
+use crate::places::words::{address_of, numbers_of, set_of};
+use crate::places::written::write_abs;
 use cases_script::{Page, split};
 use cc_lattice::IntDomain;
 use cc_places::Abs;

@@ -5,11 +5,11 @@
 //!     below {1}|{0}|{} {1}|{0}|{0}   whether the first is below the second
 
 ghost use Rattle.std.specs.Prelude.{◌≡◌, [], ◌∷◌, IfSome, IsTrue, length};
-ghost use Rattle.cases_places.specs.Facts.{AreTwo};
+ghost use Rattle.cases_domains.specs.Facts.{AreTwo};
 
-use crate::lattices::{copy_of, joined, write_below};
-use crate::words::{numbers_of, set_of};
-use crate::written::{write_numbers, write_set};
+use crate::places::lattices::{copy_of, joined, write_below};
+use crate::places::words::{numbers_of, set_of};
+use crate::places::written::{write_numbers, write_set};
 use cases_script::{Page, split};
 use cc_lattice::{Pair, Table};
 use cc_num::List;

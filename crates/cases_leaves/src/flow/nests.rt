@@ -1,7 +1,7 @@
 //! Functions of many statements, of which a summary is written.
 
-use crate::builder::Builder;
-use crate::outcome::{write_end, write_point};
+use crate::flow::builder::Builder;
+use crate::flow::outcome::{write_end, write_point};
 use cases_script::{Page, split};
 use cc_flow::{Flow, points};
 use cc_program::Program;

@@ -69,22 +69,22 @@ fn write_profile(page: &mut Page, profile: &Profile) {
 
 fn write_fault(page: &mut Page, fault: ProfileFault) {
     match fault {
-        ProfileFault::Row { row, rule } => page.show(format_args!(" broken {rule} in row {row}")),
-        ProfileFault::NoMemory => page.put(" no memory"),
+        ProfileFault::Row { row, rule } => page.show(format_args!("broken {rule} in row {row}")),
+        ProfileFault::NoMemory => page.put("no memory"),
     }
 }
 
 /// Writes what a text gives.
 pub fn write_read(alloc: Global, page: &mut Page, case: &str) {
     let Ok(text) = bytes_of(alloc, case) else {
-        return page.put(" no memory");
+        return page.put("no memory");
     };
     if text.len() >= 0xffff_ffff {
-        return page.put(" too long");
+        return page.put("too long");
     }
     match read_profile(alloc, text.as_slice()) {
         Ok(profile) => {
-            page.put(" ok");
+            page.put("ok");
             write_profile(page, &profile);
         }
         Err(fault) => write_fault(page, fault),
@@ -95,9 +95,9 @@ pub fn write_read(alloc: Global, page: &mut Page, case: &str) {
 pub fn write_default(alloc: Global, page: &mut Page) {
     match default_profile(alloc) {
         Ok(profile) => {
-            page.put(" ok");
+            page.put("ok");
             write_profile(page, &profile);
         }
-        Err(_) => page.put(" no memory"),
+        Err(_) => page.put("no memory"),
     }
 }
