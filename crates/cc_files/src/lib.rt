@@ -5,4 +5,4 @@ mod sources;
 mod unread;
 
 pub use sources::read_sources;
-pub use unread::{Unread, read_file};
+pub use unread::{Unread, copy_name, read_file};

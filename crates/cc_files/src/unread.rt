@@ -37,7 +37,7 @@ impl<T: Drop> From<AllocFailed<T>> for Unread {
 }
 
 /// A copy of a name.
-fn copy_name(alloc: Global, name: &str) -> Result<Name, NoMemory>
+pub fn copy_name(alloc: Global, name: &str) -> Result<Name, NoMemory>
     ensures { IfOk result (λ copy. copy ≡ name.now) }
 {
     Ok(List::of(Vec::from_slice(alloc, name.as_bytes())?))

@@ -2,8 +2,9 @@
 use Rattle.std.proofs.Common.{◌≡◌, ◌≤◌, ◌<◌, ℕ, true, nat_lt, length, sym, subst, arith}
 use Rattle.std.proofs.lemmas.Bool.Decides.{nat_tests}
 use Rattle.cc_layout.specs.Seats.{ram}
-use Rattle.cc_material.specs.Programs.{IsWithin, IsAbove, ManyFunctions, MuchRam, is_over}
+use Rattle.cc_material.specs.Programs.{IsWithin, IsAbove, ManyFunctions, MuchRam}
 use Rattle.cc_program.specs.declared.program.Program.{Program}
+use Rattle.cc_status.specs.Statuses.{is_over}
 use Rattle.cc_status.specs.declared.status.What.{What}
 use Rattle.cc_status.specs.declared.status.What.TheVariants as what
 

@@ -1,6 +1,7 @@
 -- What is read for a command is one thing: its profile and its sources are read or they are not, for one cause, and a program is
 -- within the limits or above one.
 use Rattle.std.proofs.Common.{◌≡◌, ◌∙◌, ◌≤◌, ◌+◌, ◌-◌, ◌⊎◌, inl, inr, ℕ, Bool, true, ◌&&◌, ◌||◌, nat_eq, nat_le, IsTrue, List, [], ◌∷◌, ◌++◌, length, map, sum, min, Option, Some, refl, ap, sym, subst, arith}
+use Rattle.std.specs.Prelude.{slice_index_or}
 use Rattle.std.proofs.Math.Bool.{Bool-set}
 use Rattle.std.proofs.Math.Nat.{le-min}
 use Rattle.std.proofs.lemmas.List.Elements.{All-head, All-tail}
@@ -16,15 +17,16 @@ use Rattle.cc_edge.specs.Files.{Files}
 use Rattle.cc_files.specs.Unread.{IsUnread, AFault, NotThere, Long, AreWithin, IsFirstUnread}
 use Rattle.cc_files.specs.declared.unread.Unread.{Unread}
 use Rattle.cc_material.specs.Material.{IsProfile, ByDefault, ByFile, IsWrongRow, ProfileEnds, ProfileUnread, ProfileWrong}
-use Rattle.cc_material.specs.Programs.{IsProgram, IsWithin, IsAbove, ManyFunctions, MuchRam}
+use Rattle.cc_material.specs.Programs.{IsProgram, TellsRefusal, IsWithin, IsAbove, ManyFunctions, MuchRam}
 use Rattle.cc_num.specs.declared.target.Target.{Target}
 use Rattle.cc_program.specs.declared.program.Program.{Program}
 use Rattle.cc_program.specs.declared.program.Roles.{Roles}
-use Rattle.cc_read.proofs.Refused.{one_program}
-use Rattle.cc_read.specs.Refusals.{IsRefused}
+use Rattle.cc_read.proofs.Refused.{not_refused, one_cause, one_program}
+use Rattle.cc_read.specs.Refusals.{AreForOneCause, IsRefused, settled}
 use Rattle.cc_read.specs.Texts.{Reads}
 use Rattle.cc_read.specs.declared.refusal.Refusal.{Refusal}
 use Rattle.cc_rows.specs.Rows.{Row, rows_of}
+use Rattle.cc_status.specs.Settled.{settled_status}
 use Rattle.cc_status.specs.Statuses.{for_unread}
 use Rattle.cc_status.specs.declared.status.Status.{Status}
 use Rattle.cc_status.specs.declared.status.Status.TheVariants as status
@@ -244,10 +246,27 @@ one_limit p _ _ _ _ (ManyFunctions h) (MuchRam few k) = absurd (omega (arith, h,
 one_limit p _ _ _ _ (MuchRam few h) (ManyFunctions k) = absurd (omega (arith, k, few))
 one_limit p _ _ _ _ (MuchRam few h) (MuchRam less k) = refl
 
--- a profile that says the same of target and roles
+-- ---- refusals
+
+module _ (names : List (List ℕ)) (profile : Profile) (texts : List (List ℕ)) where
+  pub program_not_refused : (p : Program) (s : Status) → IsProgram profile texts p → TellsRefusal names profile texts s → ⊥
+  program_not_refused p s h k = not_refused profile.target profile.roles texts p k.refusal h.reads h.low k.refused
+
+  refused_alike : (e f : Refusal) → AreForOneCause e f → settled_status (status.Refused (slice_index_or names e.file []) e.why) ≡ settled_status (status.Refused (slice_index_or names f.file []) f.why)
+  refused_alike e f h = ap (λ n. status.Refused (slice_index_or names n []) (settled e.why)) h.file ∙ ap (λ w. status.Refused (slice_index_or names f.file []) w) h.cause
+
+  pub one_refusal : (s t : Status) → TellsRefusal names profile texts s → TellsRefusal names profile texts t → settled_status s ≡ settled_status t
+  one_refusal s t h k =
+      ap settled_status h.told ∙ (refused_alike h.refusal k.refusal (one_cause profile.target profile.roles texts h.refusal k.refusal h.refused k.refused) ∙ ap settled_status (sym k.told))
+
+-- ---- a profile that says the same of target and roles
+
 module _ (p q : Profile) (same : SaySame p q) (texts : List (List ℕ)) where
   pub program_as : (r : Program) → IsProgram q texts r → IsProgram p texts r
   program_as r h = record { reads = subst (λ t. Reads texts t p.roles r) (sym same.0) (subst (λ o. Reads texts q.target o r) (sym same.1) h.reads); low = h.low }
 
-  pub refused_as : (e : Refusal) → IsRefused q.target q.roles texts e → IsRefused p.target p.roles texts e
+  refused_as : (e : Refusal) → IsRefused q.target q.roles texts e → IsRefused p.target p.roles texts e
   refused_as e h = subst (λ t. IsRefused t p.roles texts e) (sym same.0) (subst (λ o. IsRefused q.target o texts e) (sym same.1) h)
+
+  pub refusal_as : (names : List (List ℕ)) (s : Status) → TellsRefusal names q texts s → TellsRefusal names p texts s
+  refusal_as names s h = record { refusal = h.refusal; refused = refused_as h.refusal h.refused; told = h.told }

@@ -1,8 +1,7 @@
 -- From what the parts answer to the profile of a command, or to how it ends.
 use Rattle.std.proofs.Common.{◌≡◌, ◌≤◌, ◌<◌, ℕ, zero, suc, List, [], ◌∷◌, length, Some, None, Result, Ok, Err, IfOk, IfErr, refl, ap, sym, arith}
-use Rattle.std.specs.Prelude.{◌≢◌, true, String, slice_get, slice_index_or}
+use Rattle.std.specs.Prelude.{◌≢◌, true, slice_index_or}
 use Rattle.std.specs.List.{Contains}
-use Rattle.std.specs.declared.alloc.Global.{Global}
 use Rattle.cc_cost.specs.Given.{Gives}
 use Rattle.cc_cost.specs.Outcomes.{TellsFault}
 use Rattle.cc_cost.specs.Rules.{first_fault}
@@ -11,7 +10,7 @@ use Rattle.cc_cost.specs.declared.fault.ProfileFault.TheVariants as fault
 use Rattle.cc_cost.specs.declared.profile.Profile.{Profile}
 use Rattle.cc_edge.specs.Faults.{raised}
 use Rattle.cc_edge.specs.Files.{Files}
-use Rattle.cc_files.specs.Unread.{IsUnread, IsOneOf, names_of}
+use Rattle.cc_files.specs.Unread.{IsUnread, IsOneOf}
 use Rattle.cc_files.specs.declared.unread.Unread.{Unread}
 use Rattle.cc_files.specs.declared.unread.Unread.TheVariants as unread
 use Rattle.cc_material.specs.Material.{IsProfile, ByDefault, ByFile, IsWrongRow, ProfileEnds, ProfileUnread, ProfileWrong, TellsFile, is_refusal}
@@ -128,13 +127,6 @@ raised-up n count = omega arith
 
 pub by_default : (files : Files) (p : Profile) → Gives [] p → IsProfile files None p
 by_default files p h = ByDefault p h
-
--- ---- names
-
-pub name_none : (names : List (String Global)) (k : ℕ) → slice_get names k ≡ None → slice_index_or (names_of names) k [] ≡ []
-name_none [] k e = refl
-name_none (n ∷ names) zero e = absurd (cc)
-name_none (n ∷ names) (suc k) e = name_none names k e
 
 pub ruleset of_profiles = (refusal-profile, tells-profile, profile-told)
 

@@ -1,12 +1,11 @@
-//! What the commands on programs stand on: the profile, the limits of a program, and the names and statuses that they tell.
+//! What the commands on programs stand on: the profile, the program of the sources, and its limits.
 #![tactic(auto)]
 
 mod limits;
-mod names;
 mod profile;
 mod refusal;
+mod sources;
 
 pub use limits::above;
-pub use names::{name_at, output_name};
 pub use profile::profile_of;
-pub use refusal::refused;
+pub use sources::program_of;

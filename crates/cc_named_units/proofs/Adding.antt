@@ -22,7 +22,7 @@ use Rattle.cc_specifiers.specs.Places.{JudgedAt}
 use Rattle.cc_syntax.specs.Types.{Named}
 use Rattle.cc_terms.specs.InTurn.{in_turn}
 use Rattle.cc_tree.specs.declared.at.At.{At}
-use Rattle.cc_named_units.specs.Named.{Limits, AreFewNames, IsNamedStructure, IsNamedEntry, Adds}
+use Rattle.cc_named_units.specs.Named.{Limits, AreFewMembers, IsNamedStructure, IsNamedEntry, Adds}
 
 -- ---- lists
 
@@ -168,7 +168,7 @@ module _ (most : Limits) where
       }
 
   only_named_is : (tag : Option Name) → tag_named tag ≡ true → IsNamedStructure most (only_named tag)
-  only_named_is tag h = record { tag = h; alias = refl; members = record { names = refl; few = omega arith } }
+  only_named_is tag h = record { tag = h; alias = refl; members = tt }
 
   pub structure_more : (tag : Option Name) (s : State) → tag_named tag ≡ true → Adds most 1 s (with_structures (s.structures ++ only_named tag ∷ []) s)
   structure_more tag s q =
@@ -181,10 +181,10 @@ module _ (most : Limits) where
         few_structures = omega arith;
       }
 
-  members_are : (target : Target) (ms : List Named) (s : State) → AreFewNames most.few ms → (k : KnownStructure) → IsNamedStructure most k → IsNamedStructure most (with_members target ms s k)
+  members_are : (target : Target) (ms : List Named) (s : State) → AreFewMembers most.few ms → (k : KnownStructure) → IsNamedStructure most k → IsNamedStructure most (with_members target ms s k)
   members_are target ms s few k h = record { tag = h.tag; alias = h.alias; members = few }
 
-  pub structure_completed : (target : Target) (i : ℕ) (ms : List Named) (s : State) → AreFewNames most.few ms → Adds most 1 s (completed target i ms s)
+  pub structure_completed : (target : Target) (i : ℕ) (ms : List Named) (s : State) → AreFewMembers most.few ms → Adds most 1 s (completed target i ms s)
   structure_completed target i ms s few =
       let change = with_members target ms s in
       let e = changed-length change i s.structures in

@@ -5,7 +5,7 @@ use Rattle.cc_named_units.specs.Counts.{total, declr_counts, params_counts, spec
 use Rattle.cc_designators.specs.Assignments.{assign_of, stepped_after}
 use Rattle.cc_designators.specs.Casts.{cast_of}
 use Rattle.cc_designators.specs.Postfix.{dot, arrow}
-use Rattle.cc_named_units.specs.Names.{HasNames, all_named, is_member_named, declr_names, params_names, spec_names, tree_names, enumr_names, members_names, param_names, type_name_names, declr_named, params_named, spec_named, tree_named, enumr_named, members_named, param_named, type_name_named, tag_named}
+use Rattle.cc_named_units.specs.Names.{HasNames, all_named, one_or_more, is_member_named, declr_names, params_names, spec_names, tree_names, enumr_names, members_names, param_names, type_name_names, declr_named, params_named, spec_named, tree_named, enumr_named, members_named, param_named, type_name_named, tag_named}
 use Rattle.cc_num.specs.declared.target.Target.{Target}
 use Rattle.cc_operands.specs.Choices.{choose_of, comma_of}
 use Rattle.cc_operands.specs.Operators.{operator_of}
@@ -28,7 +28,7 @@ use Rattle.cc_terms.specs.Meanings.{TreeMeaning, DeclrMeaning, ParamsMeaning, Pa
 use Rattle.cc_terms.specs.Terms.{tree_of, declr_of, params_of, param_of, spec_of, members_of, enumr_of, type_name_of}
 use Rattle.cc_named_units.specs.Named.{Limits}
 use Rattle.cc_named_units.proofs.Adding.{AreCounted, done, judged}
-use Rattle.cc_named_units.proofs.Declarators.{DeclrAdds, ParamsAdd, ParamAdds, nothing_adds, name_adds, pointer_adds, open_array_adds, array_adds, function_adds, type_name_adds, member_list_adds, empty_adds, many_add, param_adds}
+use Rattle.cc_named_units.proofs.Declarators.{DeclrAdds, NamedDeclrAdds, ParamsAdd, ParamAdds, nothing_adds, name_adds, pointer_adds, open_array_adds, array_adds, function_adds, type_name_adds, member_list_adds, empty_adds, many_add, param_adds}
 use Rattle.cc_named_units.proofs.Induction as by
 use Rattle.cc_named_units.proofs.Specifiers.{SpecAdds, EnumrAdds, MembersAdd, word_adds, type_named_adds, marked_adds, structure_tag_adds, enumeration_tag_adds, structure_adds, enumeration_adds, no_value_adds, some_value_adds}
 use Rattle.cc_named_units.proofs.TermSteps.{TreeAdds}
@@ -39,6 +39,10 @@ front_few a b n h = omega arith
 
 pub rest_few : (a b n : ℕ) → a + b ≤ n → b ≤ n
 rest_few a b n h = omega arith
+
+one_kept : {A B C : Type 0} (f : A → B) (g : A → C) (xs : List A) → one_or_more (map f xs) ≡ true → one_or_more (map g xs) ≡ true
+one_kept f g [] h = h
+one_kept f g (x ∷ xs) h = refl
 
 pub few_but_one : (a n : ℕ) → suc a ≤ n → a ≤ n
 few_but_one a n h = omega arith
@@ -157,7 +161,7 @@ type_name-counts x = fold-roll-TypeName ℕ ℕ ℕ ℕ ℕ ℕ ℕ ℕ declr_co
 
 module _ (target : Target) (roles : Roles) (most : Limits) where
   abbrev CD : Declr → DeclrMeaning → Type 0
-  CD x m = (declr_named x).0 ≡ true → declr_count x ≤ most.few → DeclrAdds target most (declr_count x) m
+  CD x m = (declr_named x).0 ≡ true → declr_count x ≤ most.few → DeclrAdds target most (declr_count x) (declr_named x).1 m
 
   abbrev CP : Params → ParamsMeaning → Type 0
   CP x m = params_named x ≡ true → params_count x ≤ most.few → ParamsAdd target most (params_count x) m
@@ -267,12 +271,14 @@ module _ (target : Target) (roles : Roles) (most : Limits) where
   declr_count_at x = record { at = x.at; node = declr_count x.node }
 
   counted_declr : (xs : List (At SomeDeclr)) → list_all is_member_named (map declr_named_at (map declr_bare_at xs)) ≡ true → total (map declr_count_at (map declr_bare_at xs)) ≤ most.few →
-      AreCounted (DeclrAdds target most) (map declr_at (map declr_bare_at xs)) (total (map declr_count_at (map declr_bare_at xs)))
+      AreCounted (NamedDeclrAdds target most) (map declr_at (map declr_bare_at xs)) (total (map declr_count_at (map declr_bare_at xs)))
   counted_declr [] h l = tt
   counted_declr (x ∷ xs) h l =
       let c = both_true (is_member_named (declr_named_at (declr_bare_at x))) (list_all is_member_named (map declr_named_at (map declr_bare_at xs))) h in
       let rest = total (map declr_count_at (map declr_bare_at xs)) in
-      (declr_count x.node.0, rest, refl, x.node.1 (both_true (declr_named x.node.0).0 (declr_named x.node.0).1 c.0).0 (front_few (declr_count x.node.0) rest most.few l), counted_declr xs c.1 (rest_few (declr_count x.node.0) rest most.few l))
+      let k = both_true (declr_named x.node.0).0 (declr_named x.node.0).1 c.0 in
+      let adds = subst (λ (b : Bool). DeclrAdds target most (declr_count x.node.0) b (declr_of target roles x.node.0)) k.1 (x.node.1 k.0 (front_few (declr_count x.node.0) rest most.few l)) in
+      (declr_count x.node.0, rest, refl, adds, counted_declr xs c.1 (rest_few (declr_count x.node.0) rest most.few l))
 
   abbrev spec_bare_at : At SomeSpec → At Spec
   spec_bare_at x = record { at = x.at; node = x.node.0 }
@@ -422,20 +428,20 @@ module _ (target : Target) (roles : Roles) (most : Limits) where
   tree_level (one.Member e x) h l = one_place target most (tree_count e.node.0) (tree_here e) (e.node.1 h l) (λ y s. dot (structures_of s) x y)
   tree_level (one.Arrow e x) h l = one_value target most (tree_count e.node.0) (tree_here e) (e.node.1 h l) (λ y s. arrow (structures_of s) x y)
 
-  declr_level : (y : one.Declr-F SomeDeclr SomeParams SomeSpec SomeTree SomeEnumr SomeMembers SomeParam SomeTypeName) → (named_declr (bare_declr y)).0 ≡ true → count_declr (bare_declr y) ≤ most.few → DeclrAdds target most (count_declr (bare_declr y)) (meant_declr y)
+  declr_level : (y : one.Declr-F SomeDeclr SomeParams SomeSpec SomeTree SomeEnumr SomeMembers SomeParam SomeTypeName) → (named_declr (bare_declr y)).0 ≡ true → count_declr (bare_declr y) ≤ most.few → DeclrAdds target most (count_declr (bare_declr y)) (named_declr (bare_declr y)).1 (meant_declr y)
   declr_level one.Nothing h l = nothing_adds target most
   declr_level (one.Declr::Named x) h l = name_adds target most x h
   declr_level (one.Declr::Paren d) h l = λ allowed at s r f. d.node.1 h l allowed d.at s r f
-  declr_level (one.Pointer words d) h l = pointer_adds target most (declr_count d.node.0) words (declr_here d) (d.node.1 h l)
+  declr_level (one.Pointer words d) h l = pointer_adds target most (declr_count d.node.0) (declr_named d.node.0).1 words (declr_here d) (d.node.1 h l)
   declr_level (one.Array d None) h l =
       let c = both_true (declr_named d.node.0).0 true h in
-      open_array_adds target most (declr_count d.node.0) (declr_here d) (d.node.1 c.0 (front_few (declr_count d.node.0) 0 most.few l))
+      open_array_adds target most (declr_count d.node.0) (declr_named d.node.0).1 (declr_here d) (d.node.1 c.0 (front_few (declr_count d.node.0) 0 most.few l))
   declr_level (one.Array d (Some k)) h l =
       let c = both_true (declr_named d.node.0).0 (tree_named k.node.0) h in
-      array_adds target most (declr_count d.node.0) (tree_count k.node.0) (declr_here d) (tree_here k) (d.node.1 c.0 (front_few (declr_count d.node.0) (tree_count k.node.0) most.few l)) (k.node.1 c.1 (rest_few (declr_count d.node.0) (tree_count k.node.0) most.few l))
+      array_adds target most (declr_count d.node.0) (tree_count k.node.0) (declr_named d.node.0).1 (declr_here d) (tree_here k) (d.node.1 c.0 (front_few (declr_count d.node.0) (tree_count k.node.0) most.few l)) (k.node.1 c.1 (rest_few (declr_count d.node.0) (tree_count k.node.0) most.few l))
   declr_level (one.Func d ps) h l =
       let c = both_true (declr_named d.node.0).0 (params_named ps.0) h in
-      function_adds target most (declr_count d.node.0) (params_count ps.0) (declr_here d) (params_of target roles ps.0) (d.node.1 c.0 (front_few (declr_count d.node.0) (params_count ps.0) most.few l))
+      function_adds target most (declr_count d.node.0) (params_count ps.0) (declr_named d.node.0).1 (declr_here d) (params_of target roles ps.0) (d.node.1 c.0 (front_few (declr_count d.node.0) (params_count ps.0) most.few l))
       (ps.1 c.1 (rest_few (declr_count d.node.0) (params_count ps.0) most.few l))
 
   params_level : (y : one.Params-F SomeDeclr SomeParams SomeSpec SomeTree SomeEnumr SomeMembers SomeParam SomeTypeName) → named_params (bare_params y) ≡ true → count_params (bare_params y) ≤ most.few → ParamsAdd target most (count_params (bare_params y)) (meant_params y)
@@ -448,9 +454,10 @@ module _ (target : Target) (roles : Roles) (most : Limits) where
   spec_level (one.Spec::Named x) h l = type_named_adds target most x
   spec_level (one.Struct tag None front behind) h l = structure_tag_adds target most tag (both_true (tag_named tag) true h).0
   spec_level (one.Struct tag (Some ds) front behind) h l =
-      let c = both_true (tag_named tag) (all_named (map members_named_at (map members_bare_at ds))) h in
+      let e = both_true (tag_named tag) (one_or_more (map members_named_at (map members_bare_at ds)) && all_named (map members_named_at (map members_bare_at ds))) h in
+      let c = both_true (one_or_more (map members_named_at (map members_bare_at ds))) (all_named (map members_named_at (map members_bare_at ds))) e.1 in
       let count = total (map members_count_at (map members_bare_at ds)) in
-      structure_adds target most tag (map members_at (map members_bare_at ds)) count (counted_members ds c.1 (few_but_one count most.few (few_but_one (suc count) most.few l))) l front behind c.0
+      structure_adds target most tag (map members_at (map members_bare_at ds)) count (counted_members ds c.1 (few_but_one count most.few (few_but_one (suc count) most.few l))) (one_kept members_named_at members_at (map members_bare_at ds) c.0) l front behind e.0
   spec_level (one.Enum tag None) h l = enumeration_tag_adds target most tag
   spec_level (one.Enum tag (Some cs)) h l = enumeration_adds target most tag (map enumr_at (map enumr_bare_at cs)) (total (map enumr_count_at (map enumr_bare_at cs))) (counted_enumr cs h l)
   spec_level (one.Attr a) h l = marked_adds target most a
@@ -465,10 +472,13 @@ module _ (target : Target) (roles : Roles) (most : Limits) where
 
   members_level : (y : one.MemberDecl-F SomeDeclr SomeParams SomeSpec SomeTree SomeEnumr SomeMembers SomeParam SomeTypeName) → named_members (bare_members y) ≡ true → count_members (bare_members y) ≤ most.few → MembersAdd target most (count_members (bare_members y)) (meant_members y)
   members_level y h l =
-      let c = both_true (all_named (map spec_named_at (map spec_bare_at y.specs))) (list_all is_member_named (map declr_named_at (map declr_bare_at y.declrs))) h in
+      let declrs = map declr_named_at (map declr_bare_at y.declrs) in
+      let c = both_true (all_named (map spec_named_at (map spec_bare_at y.specs))) (one_or_more declrs && list_all is_member_named declrs) h in
+      let e = both_true (one_or_more declrs) (list_all is_member_named declrs) c.1 in
       let front = total (map spec_count_at (map spec_bare_at y.specs)) in
       let rest = total (map declr_count_at (map declr_bare_at y.declrs)) in
-      member_list_adds target most (map spec_at (map spec_bare_at y.specs)) (map declr_at (map declr_bare_at y.declrs)) front rest (counted_spec y.specs c.0 (front_few front rest most.few l)) (counted_declr y.declrs c.1 (rest_few front rest most.few l))
+      member_list_adds target most (map spec_at (map spec_bare_at y.specs)) (map declr_at (map declr_bare_at y.declrs)) front rest (counted_spec y.specs c.0 (front_few front rest most.few l)) (counted_declr y.declrs e.1 (rest_few front rest most.few l))
+      (one_kept declr_named_at declr_at (map declr_bare_at y.declrs) e.0)
 
   param_level : (y : one.Param-F SomeDeclr SomeParams SomeSpec SomeTree SomeEnumr SomeMembers SomeParam SomeTypeName) → named_param (bare_param y) ≡ true → count_param (bare_param y) ≤ most.few → ParamAdds target most (count_param (bare_param y)) (meant_param y)
   param_level y h l =
@@ -476,17 +486,18 @@ module _ (target : Target) (roles : Roles) (most : Limits) where
       let front = total (map spec_count_at (map spec_bare_at y.specs)) in
       let rest = declr_count y.declr.node.0 in
       let few = few_but_one (front + rest) most.few l in
-      param_adds target most roles front rest (map spec_at (map spec_bare_at y.specs)) (declr_here y.declr) (counted_spec y.specs c.0 (front_few front rest most.few few)) (y.declr.node.1 c.1 (rest_few front rest most.few few))
+      param_adds target most roles front rest (declr_named y.declr.node.0).1 (map spec_at (map spec_bare_at y.specs)) (declr_here y.declr) (counted_spec y.specs c.0 (front_few front rest most.few few)) (y.declr.node.1 c.1 (rest_few front rest most.few few))
 
   type_name_level : (y : one.TypeName-F SomeDeclr SomeParams SomeSpec SomeTree SomeEnumr SomeMembers SomeParam SomeTypeName) → named_type_name (bare_type_name y) ≡ true → count_type_name (bare_type_name y) ≤ most.few → TypeNameAdds target most (count_type_name (bare_type_name y)) (meant_type_name y)
   type_name_level y h l =
       let c = both_true (all_named (map spec_named_at (map spec_bare_at y.specs))) (declr_named y.declr.node.0).0 h in
       let front = total (map spec_count_at (map spec_bare_at y.specs)) in
       let rest = declr_count y.declr.node.0 in
-      type_name_adds target most front rest (map spec_at (map spec_bare_at y.specs)) (declr_here y.declr) (counted_spec y.specs c.0 (front_few front rest most.few l)) (y.declr.node.1 c.1 (rest_few front rest most.few l))
+      type_name_adds target most front rest (declr_named y.declr.node.0).1 (map spec_at (map spec_bare_at y.specs)) (declr_here y.declr) (counted_spec y.specs c.0 (front_few front rest most.few l)) (y.declr.node.1 c.1 (rest_few front rest most.few l))
 
   made_declr : (y : one.Declr-F SomeDeclr SomeParams SomeSpec SomeTree SomeEnumr SomeMembers SomeParam SomeTypeName) → CD (roll-Declr (bare_declr y)) (meant_declr y)
-  made_declr y h l = subst (λ c. DeclrAdds target most c (meant_declr y)) (sym (declr-counts (bare_declr y))) (declr_level y (sym (ap (λ (b : HasNames). b.0) (declr-names (bare_declr y))) ∙ h) (subst (λ c. c ≤ most.few) (declr-counts (bare_declr y)) l))
+  made_declr y h l = subst (λ (b : Bool). DeclrAdds target most (declr_count (roll-Declr (bare_declr y))) b (meant_declr y)) (sym (ap (λ (b : HasNames). b.1) (declr-names (bare_declr y))))
+      (subst (λ c. DeclrAdds target most c (named_declr (bare_declr y)).1 (meant_declr y)) (sym (declr-counts (bare_declr y))) (declr_level y (sym (ap (λ (b : HasNames). b.0) (declr-names (bare_declr y))) ∙ h) (subst (λ c. c ≤ most.few) (declr-counts (bare_declr y)) l)))
 
   made_params : (y : one.Params-F SomeDeclr SomeParams SomeSpec SomeTree SomeEnumr SomeMembers SomeParam SomeTypeName) → CP (roll-Params (bare_params y)) (meant_params y)
   made_params y h l = subst (λ c. ParamsAdd target most c (meant_params y)) (sym (params-counts (bare_params y))) (params_level y (sym (params-names (bare_params y)) ∙ h) (subst (λ c. c ≤ most.few) (params-counts (bare_params y)) l))
@@ -509,7 +520,7 @@ module _ (target : Target) (roles : Roles) (most : Limits) where
   made_type_name : (y : one.TypeName-F SomeDeclr SomeParams SomeSpec SomeTree SomeEnumr SomeMembers SomeParam SomeTypeName) → CN (roll-TypeName (bare_type_name y)) (meant_type_name y)
   made_type_name y h l = subst (λ c. TypeNameAdds target most c (meant_type_name y)) (sym (type_name-counts (bare_type_name y))) (type_name_level y (sym (type_name-names (bare_type_name y)) ∙ h) (subst (λ c. c ≤ most.few) (type_name-counts (bare_type_name y)) l))
 
-  pub declr_adds : (x : Declr) → (declr_named x).0 ≡ true → declr_count x ≤ most.few → DeclrAdds target most (declr_count x) (declr_of target roles x)
+  pub declr_adds : (x : Declr) → (declr_named x).0 ≡ true → declr_count x ≤ most.few → DeclrAdds target most (declr_count x) (declr_named x).1 (declr_of target roles x)
   declr_adds x h l = by.each_declr target roles CD CP CS CT CE CM CA CN made_declr made_params made_spec made_tree made_enumr made_members made_param made_type_name x h l
 
   pub spec_adds : (x : Spec) → spec_named x ≡ true → spec_count x ≤ most.few → SpecAdds target most (spec_count x) (spec_of target roles x)

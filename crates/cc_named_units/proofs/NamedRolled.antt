@@ -37,7 +37,7 @@ use Rattle.cc_tree.specs.declared.unit.Line as line
 use Rattle.cc_tree.specs.declared.unit.Line.{Line, fold-roll-Line}
 use Rattle.cc_tree.specs.declared.unit.Line.TheOpen as one_line
 use Rattle.cc_tree.specs.declared.unit.Line.TheVariants as line_rolls
-use Rattle.cc_named_units.specs.Names.{HasNames, all_named, tag_named, declr_names, params_names, spec_names, tree_names, enumr_names, is_member_named, members_names, param_names, type_name_names, tree_named, declr_named, params_named, spec_named, enumr_named, members_named, param_named, type_name_named, each_named, maybe_named, member_named, given_names, given_named, decl_named, first_named, line_names, line_named}
+use Rattle.cc_named_units.specs.Names.{HasNames, all_named, one_or_more, content_named, tag_named, declr_names, params_names, spec_names, tree_names, enumr_names, is_member_named, members_names, param_names, type_name_names, tree_named, declr_named, params_named, spec_named, enumr_named, members_named, param_named, type_name_named, each_named, maybe_named, member_named, given_names, given_named, decl_named, first_named, line_names, line_named}
 
 -- ---- lists
 
@@ -52,9 +52,23 @@ each-mapped : {A : Type 0} (test : A → Bool) (xs : List (At A)) → all_named 
 each-mapped test [] = refl
 each-mapped test (x ∷ xs) = ap (λ b. test x.node && b) (each-mapped test xs)
 
+abbrev members_named_at : At MemberDecl → At Bool
+members_named_at x = record { at = x.at; node = members_named x.node }
+
+abbrev declr_named_at : At Declr → At HasNames
+declr_named_at x = record { at = x.at; node = declr_named x.node }
+
 members-mapped : (xs : List (At Declr)) → list_all is_member_named (map (λ (x : At Declr). record { at = x.at; node = declr_named x.node }) xs) ≡ each_named member_named xs
 members-mapped [] = refl
 members-mapped (x ∷ xs) = ap (λ b. member_named x.node && b) (members-mapped xs)
+
+pub one-mapped : {A B : Type 0} (f : A → B) (xs : List A) → one_or_more (map f xs) ≡ one_or_more xs
+one-mapped f [] = refl
+one-mapped f (x ∷ xs) = refl
+
+pub one_behind : {A : Type 0} (xs : List A) (x : A) → one_or_more (xs ++ x ∷ []) ≡ true
+one_behind [] x = refl
+one_behind (y ∷ xs) x = refl
 
 -- ---- variants
 
@@ -186,9 +200,12 @@ pub params-Many : (ps : List (At Param)) → params_named (params.Many ps) ≡ e
 unfolding tree_named declr_named params_named spec_named enumr_named members_named param_named type_name_named
 params-Many ps = ap params_named (sym (params_rolls.rolls-Many ps)) ∙ fold-roll-Params HasNames Bool Bool Bool Bool Bool Bool Bool declr_names params_names spec_names tree_names enumr_names members_names param_names type_name_names (one.Many ps) ∙ each-mapped param_named ps
 
-pub spec-Struct : (x : Option Name) (ms : List (At MemberDecl)) (a b : List (At Attr)) → spec_named (spec.Struct x (Some ms) a b) ≡ (tag_named x && each_named members_named ms)
+content-mapped : (ms : List (At MemberDecl)) → content_named (Some (map members_named_at ms)) ≡ (one_or_more ms && each_named members_named ms)
+content-mapped ms = ap (λ b. b && all_named (map members_named_at ms)) (one-mapped members_named_at ms) ∙ ap (λ b. one_or_more ms && b) (each-mapped members_named ms)
+
+pub spec-Struct : (x : Option Name) (ms : List (At MemberDecl)) (a b : List (At Attr)) → spec_named (spec.Struct x (Some ms) a b) ≡ (tag_named x && (one_or_more ms && each_named members_named ms))
 unfolding tree_named declr_named params_named spec_named enumr_named members_named param_named type_name_named
-spec-Struct x ms a b = ap spec_named (sym (spec_rolls.rolls-Struct x (Some ms) a b)) ∙ fold-roll-Spec HasNames Bool Bool Bool Bool Bool Bool Bool declr_names params_names spec_names tree_names enumr_names members_names param_names type_name_names (one.Struct x (Some ms) a b) ∙ ap (λ c. tag_named x && c) (each-mapped members_named ms)
+spec-Struct x ms a b = ap spec_named (sym (spec_rolls.rolls-Struct x (Some ms) a b)) ∙ fold-roll-Spec HasNames Bool Bool Bool Bool Bool Bool Bool declr_names params_names spec_names tree_names enumr_names members_names param_names type_name_names (one.Struct x (Some ms) a b) ∙ ap (λ c. tag_named x && c) (content-mapped ms)
 
 pub spec-NamedStruct : (x : Option Name) (a b : List (At Attr)) → spec_named (spec.Struct x None a b) ≡ (tag_named x && true)
 unfolding tree_named declr_named params_named spec_named enumr_named members_named param_named type_name_named
@@ -210,11 +227,14 @@ pub param-is : (specs : List (At Spec)) (d : At Declr) → param_named (record {
 unfolding tree_named declr_named params_named spec_named enumr_named members_named param_named type_name_named
 param-is specs d = fold-roll-Param HasNames Bool Bool Bool Bool Bool Bool Bool declr_names params_names spec_names tree_names enumr_names members_names param_names type_name_names (record { specs = specs; declr = d }) ∙ ap (λ b. b && (declr_named d.node).0) (each-mapped spec_named specs)
 
-pub members-is : (specs : List (At Spec)) (ds : List (At Declr)) → members_named (record { specs = specs; declrs = ds }) ≡ (each_named spec_named specs && each_named member_named ds)
+declrs-mapped : (ds : List (At Declr)) → (one_or_more (map declr_named_at ds) && list_all is_member_named (map declr_named_at ds)) ≡ (one_or_more ds && each_named member_named ds)
+declrs-mapped ds = ap (λ b. b && list_all is_member_named (map declr_named_at ds)) (one-mapped declr_named_at ds) ∙ ap (λ b. one_or_more ds && b) (members-mapped ds)
+
+pub members-is : (specs : List (At Spec)) (ds : List (At Declr)) → members_named (record { specs = specs; declrs = ds }) ≡ (each_named spec_named specs && (one_or_more ds && each_named member_named ds))
 unfolding tree_named declr_named params_named spec_named enumr_named members_named param_named type_name_named
 members-is specs ds =
     fold-roll-MemberDecl HasNames Bool Bool Bool Bool Bool Bool Bool declr_names params_names spec_names tree_names enumr_names members_names param_names type_name_names (record { specs = specs; declrs = ds })
-    ∙ ap (λ b. b && list_all is_member_named (map (λ (x : At Declr). record { at = x.at; node = declr_named x.node }) ds)) (each-mapped spec_named specs) ∙ ap (λ b. each_named spec_named specs && b) (members-mapped ds)
+    ∙ ap (λ b. b && (one_or_more (map declr_named_at ds) && list_all is_member_named (map declr_named_at ds))) (each-mapped spec_named specs) ∙ ap (λ b. each_named spec_named specs && b) (declrs-mapped ds)
 
 pub enumr-none : (x : Name) → enumr_named (record { name = x; value = None }) ≡ true
 unfolding tree_named declr_named params_named spec_named enumr_named members_named param_named type_name_named

@@ -23,9 +23,9 @@ use Rattle.cc_tree.specs.declared.tree.Params.{Params}
 use Rattle.cc_tree.specs.declared.tree.Spec.{Spec}
 use Rattle.cc_tree.specs.declared.tree.Tree.{Tree}
 use Rattle.cc_tree.specs.declared.tree.TypeName.{TypeName}
-use Rattle.cc_named_units.specs.Names.{HasNames, tag_named, tokens_named, tree_named, declr_named, params_named, spec_named, enumr_named, members_named, param_named, type_name_named, each_named, member_named}
+use Rattle.cc_named_units.specs.Names.{HasNames, tag_named, tokens_named, tree_named, declr_named, params_named, spec_named, enumr_named, members_named, param_named, type_name_named, one_or_more, each_named, member_named}
 use Rattle.cc_named_units.proofs.NamedRolled as rolled
-use Rattle.cc_named_units.proofs.NamedRolled.{each_more, each_one}
+use Rattle.cc_named_units.proofs.NamedRolled.{each_more, each_one, one_behind}
 
 -- ---- what has no name of interest in it
 
@@ -60,6 +60,16 @@ tag_read (ATag x s us) h = both_true (is_name x) (tokens_named us) h
 pub comma_named : {ts us : Tokens} → IsLastComma ts us → tokens_named ts ≡ true → tokens_named us ≡ true
 comma_named (NoComma ts) h = h
 comma_named (AComma s ts) h = h
+
+-- ---- lists that have one at least
+
+members_some : {scope : Scope} {ds : List (At MemberDecl)} {ts us : Tokens} → IsMembers scope ds ts us → one_or_more ds ≡ true
+members_some (FirstMember scope d ts us a) = refl
+members_some (MoreMembers scope ds d ts us vs a b) = one_behind ds d
+
+declrs_some : {scope : Scope} {ds : List (At Declr)} {ts us : Tokens} → IsDeclrs scope ds ts us → one_or_more ds ≡ true
+declrs_some (FirstDeclr scope d x ts us a i) = refl
+declrs_some (MoreDeclrs scope ds d x c ts us vs a b i) = one_behind ds d
 
 -- ---- the others
 
@@ -112,7 +122,7 @@ mutual
   spec_read (AStructure scope tag ms a b s p q t0 t1 t2 t3 t4 d e f g) h =
       let w = tag_read e (attrs_named d h) in
       let x = members_read f w.1 in
-      (rolled.spec-Struct tag ms a b ∙ and_true (tag_named tag) (each_named members_named ms) w.0 x.0, attrs_named g x.1)
+      (rolled.spec-Struct tag ms a b ∙ and_true (tag_named tag) (one_or_more ms && each_named members_named ms) w.0 (and_true (one_or_more ms) (each_named members_named ms) (members_some f) x.0), attrs_named g x.1)
   spec_read (ANamedStructure scope x s p us) h = let c = both_true (is_name x) (tokens_named us) h in (rolled.spec-NamedStruct (Some x) [] [] ∙ and_true (is_name x) true c.0 refl, c.1)
   spec_read (AnEnumeration scope tag es s p q ts us vs ws d e f) h = let x = enumrs_read e (tag_read d h).1 in (rolled.spec-Enum tag es ∙ x.0, comma_named f x.1)
   spec_read (ANamedEnumeration scope x s p us) h = (rolled.spec-NamedEnum (Some x), (both_true (is_name x) (tokens_named us) h).1)
@@ -123,7 +133,7 @@ mutual
 
   pub member_read : {scope : Scope} {d : At MemberDecl} {ts us : Tokens} → IsMember scope d ts us → tokens_named ts ≡ true → (members_named d.node ≡ true) × (tokens_named us ≡ true)
   member_read (AMemberDecl scope specs ds q ts us vs a b) h =
-      let x = specs_read a h in let y = declrs_read b x.1 in (rolled.members-is specs ds ∙ and_true (each_named spec_named specs) (each_named member_named ds) x.0 y.0, y.1)
+      let x = specs_read a h in let y = declrs_read b x.1 in (rolled.members-is specs ds ∙ and_true (each_named spec_named specs) (one_or_more ds && each_named member_named ds) x.0 (and_true (one_or_more ds) (each_named member_named ds) (declrs_some b) y.0), y.1)
 
   pub declrs_read : {scope : Scope} {ds : List (At Declr)} {ts us : Tokens} → IsDeclrs scope ds ts us → tokens_named ts ≡ true → (each_named member_named ds ≡ true) × (tokens_named us ≡ true)
   declrs_read (FirstDeclr scope d x ts us a i) h = let y = declr_read a h in (each_one member_named d (and_true (declr_named d.node).0 (declr_named d.node).1 y.0 (y.1 ∙ ap is_some i)), y.2)

@@ -1,11 +1,12 @@
 -- What specifiers add, where their parts add so much (C99 6.7.2): structures with their members, and enumerations with their constants.
-use Rattle.std.proofs.Common.{◌≡◌, ◌≤◌, ◌+◌, ℕ, suc, ℤ, pos, Bool, true, false, List, [], ◌∷◌, length, Option, Some, None, Ok, Err, refl, sym, subst, arith}
+use Rattle.std.proofs.Common.{◌≡◌, ◌≤◌, ◌+◌, ℕ, suc, ℤ, pos, Bool, true, false, true≢false, List, [], ◌∷◌, length, Option, Some, None, Ok, Err, refl, sym, subst, arith}
 use Rattle.std.specs.Prelude.{◌+ℤ◌, if◌then◌else◌, is_some, slice_get}
 use Rattle.std.specs.List.{list_all}
+use Rattle.std.proofs.lemmas.Bool.{lt-ltb}
 use Rattle.cc_declarators.specs.Located.{located}
 use Rattle.cc_declarators.specs.Names.{new_name}
 use Rattle.cc_declarators.specs.Specifiers.{begin, type_named, marked, as_type, structure_tag, enumeration_tag}
-use Rattle.cc_named_units.specs.Names.{tag_named}
+use Rattle.cc_named_units.specs.Names.{one_or_more, tag_named}
 use Rattle.cc_num.specs.declared.target.Target.{Target}
 use Rattle.cc_operands.specs.Operands.{constancy}
 use Rattle.cc_operands.specs.declared.rule.Rule.TheVariants as rule
@@ -36,11 +37,31 @@ use Rattle.cc_terms.specs.Specifiers.{specifier_found, specifiers_found, specifi
 use Rattle.cc_terms.specs.Structures.{structure_opened, members_found, structure_closed, structure_found}
 use Rattle.cc_tree.specs.declared.at.At.{At}
 use Rattle.cc_tree.specs.declared.tree.Attr.{Attr}
-use Rattle.cc_words.specs.Names.{is_name}
+use Rattle.cc_words.specs.Names.{are_distinct, is_name}
 use Rattle.cc_words.specs.declared.word.Word.{Word}
-use Rattle.cc_named_units.specs.Named.{Limits, AreFewNames, Adds}
+use Rattle.cc_named_units.specs.Named.{Limits, AreFewMembers, Adds}
 use Rattle.cc_named_units.proofs.Adding.{AreCounted, unmoved, adds_itself, adds_through, chained, behind, before, answered, done, judged, placed, in_turn_adds, bound, tag_bound, structure_more, structure_completed}
 use Rattle.cc_named_units.proofs.TermSteps.{TreeAdds, sole_value}
+
+-- members have names, and no two have the same
+pub record AreNamed (ms : List Named) : Type 0 where
+  pub names : list_all is_name (local_names ms) ≡ true
+  pub apart : are_distinct (local_names ms) ≡ true
+
+-- with so many members more, at least and at most
+pub record AreMembers (least c : ℕ) (front ms : List Named) : Type 0 where
+  pub named : AreNamed ms
+  pub few : length ms ≤ length front + c
+  pub more : length front + least ≤ length ms
+
+-- of a list of those that give one each
+abbrev pub least_of : {A : Type 0} → List A → ℕ
+least_of [] = 0
+least_of (x ∷ xs) = 1
+
+pub least-some : {A : Type 0} (xs : List A) → one_or_more xs ≡ true → least_of xs ≡ 1
+least-some [] h = absurd (true≢false (sym h))
+least-some (x ∷ xs) h = refl
 
 module _ (target : Target) (most : Limits) where
   -- a specifier that adds no more than so many, and so on
@@ -50,12 +71,9 @@ module _ (target : Target) (most : Limits) where
   abbrev pub EnumrAdds : ℕ → EnumrMeaning → Type 0
   EnumrAdds c m = (next : ℤ) (at : ℕ) (s : State) (r : ℤ × State) → m next at s ≡ Ok r → Adds most c s r.1
 
-  -- with so many members more, which have names
-  abbrev pub AreMembers : ℕ → List Named → List Named → Type 0
-  AreMembers c front ms = (list_all is_name (local_names ms) ≡ true) × (length ms ≤ length front + c)
-
+  -- a declaration of members gives one at least
   abbrev pub MembersAdd : ℕ → MembersMeaning → Type 0
-  MembersAdd c m = (front : List Named) (s : State) (r : List Named × State) → m front s ≡ Ok r → list_all is_name (local_names front) ≡ true → Adds most c s r.1 × AreMembers c front r.0
+  MembersAdd c m = (front : List Named) (s : State) (r : List Named × State) → m front s ≡ Ok r → AreNamed front → Adds most c s r.1 × AreMembers 1 c front r.0
 
   pub new_structure_adds : (x : Option Name) (s : State) → tag_named x ≡ true → Adds most 1 s (new_structure x s).1
   new_structure_adds None s q = structure_more most None s q
@@ -113,42 +131,51 @@ module _ (target : Target) (most : Limits) where
       (λ y f. placed most 0 s (attributes (entity.Structure ∷ []) front) y f)
       (λ y f. answered most 1 (is_enumeration (tagged_option x y.1), (opened x y.1).0) y.1 (opened x y.1).1 r (opened_adds x y.1 (tagged_option x y.1) q) f) h
 
-  content_by : (b : Bool) (at i : ℕ) (ms : List Named) (s : State) (r : CType × State) → AreFewNames most.few ms →
+  content_by : (b : Bool) (at i : ℕ) (ms : List Named) (s : State) (r : CType × State) → AreFewMembers most.few ms →
       (if b then whole at s (Err rule.NoObjectType) else answer (structure_type i) (completed target i ms s)) ≡ Ok r → Adds most 1 s r.1
   content_by true at i ms s r few h = absurd (cc)
   content_by false at i ms s r few h = answered most 1 (structure_type i) s (completed target i ms s) r (structure_completed most target i ms s few) h
 
-  closed_by : (clash : Bool) (at i : ℕ) (ms : List Named) (s : State) (r : CType × State) → AreFewNames most.few ms → closed target at clash i ms s ≡ Ok r → Adds most 1 s r.1
+  closed_by : (clash : Bool) (at i : ℕ) (ms : List Named) (s : State) (r : CType × State) → AreFewMembers most.few ms → closed target at clash i ms s ≡ Ok r → Adds most 1 s r.1
   closed_by true at i ms s r few h = absurd (cc)
   closed_by false at i ms s r few h = content_by (has_content (slice_get s.structures i)) at i ms s r few h
 
-  structure_closed_adds : (at : ℕ) (back : List (At Attr)) (clash : Bool) (i : ℕ) (ms : List Named) (s : State) (r : Specifier × State) → AreFewNames most.few ms → structure_closed target at back clash i ms s ≡ Ok r → Adds most 1 s r.1
+  structure_closed_adds : (at : ℕ) (back : List (At Attr)) (clash : Bool) (i : ℕ) (ms : List Named) (s : State) (r : Specifier × State) → AreFewMembers most.few ms → structure_closed target at back clash i ms s ≡ Ok r → Adds most 1 s r.1
   structure_closed_adds at back clash i ms s r few h =
       behind most 1 (located s (attributes (entity.Structure ∷ []) back)) (λ marks s. as_type (closed target at clash i ms s)) s r
       (λ y f. placed most 0 s (attributes (entity.Structure ∷ []) back) y f)
       (λ y f. as_type_adds 1 (closed target at clash i ms y.1) y.1 r (λ z g. closed_by clash at i ms y.1 z few g) f) h
 
   members_add : (ds : List (At MembersMeaning)) (c : ℕ) → AreCounted MembersAdd ds c → (front : List Named) (s : State) (r : List Named × State) → in_turn (λ d ms s. d.node ms s) ds front s ≡ Ok r →
-      list_all is_name (local_names front) ≡ true → Adds most c s r.1 × AreMembers c front r.0
-  members_add [] c g front s r h q = let e = answer_is front s r h in (unmoved most c s r.1 e.1, subst (AreMembers c front) (sym e.0) (q, omega arith))
+      AreNamed front → Adds most c s r.1 × AreMembers (least_of ds) c front r.0
+  members_add [] c g front s r h q =
+      let e = answer_is front s r h in (unmoved most c s r.1 e.1, subst (AreMembers 0 c front) (sym e.0) (record { named = q; few = omega arith; more = omega arith }))
   members_add (d ∷ ds) c g front s r h q =
       let a = then_found (d.node front s) (in_turn (λ d ms s. d.node ms s) ds) r h in
       let b = g.3 front s a.0 a.1 q in
-      let w = members_add ds g.1 g.4 a.0.0 a.0.1 r a.2 b.1.0 in
+      let w = members_add ds g.1 g.4 a.0.0 a.0.1 r a.2 b.1.named in
       let sum = g.2 in
-      let l = b.1.1 in
-      let m = w.1.1 in
-      (adds_through most g.0 g.1 c s a.0.1 r.1 (omega arith) b.0 w.0, (w.1.0, omega arith))
+      let l = b.1.few in
+      let m = w.1.few in
+      let least = b.1.more in
+      let more = w.1.more in
+      (adds_through most g.0 g.1 c s a.0.1 r.1 (omega arith) b.0 w.0, record { named = w.1.named; few = omega arith; more = omega arith })
 
-  pub structure_adds : (x : Option Name) (ds : List (At MembersMeaning)) (c : ℕ) → AreCounted MembersAdd ds c → suc (suc c) ≤ most.few → (front back : List (At Attr)) → tag_named x ≡ true →
+  -- all of a structure's, where there is one
+  all_members : (least c : ℕ) (ms : List Named) → least ≡ 1 → c ≤ most.few → AreMembers least c [] ms → AreFewMembers most.few ms
+  all_members least c ms e few h =
+      let l = h.few in
+      let m = h.more in
+      record { named = record { names = h.named.names; few = omega arith }; apart = h.named.apart; some = lt-ltb 0 (length ms) (omega arith) }
+
+  pub structure_adds : (x : Option Name) (ds : List (At MembersMeaning)) (c : ℕ) → AreCounted MembersAdd ds c → one_or_more ds ≡ true → suc (suc c) ≤ most.few → (front back : List (At Attr)) → tag_named x ≡ true →
       SpecAdds (suc (suc c)) (λ at s. structure_found target at x ds front back s)
-  structure_adds x ds c g few front back q at s r h =
+  structure_adds x ds c g some few front back q at s r h =
       chained most 1 (suc c) (suc (suc c)) (structure_opened x front s) (λ new s. and_then (members_found ds s) (λ ms s. structure_closed target at back new.0 new.1 ms s)) s r (omega arith) (λ y f. structure_opened_adds x front s y q f)
       (λ y f.
       let a = then_found (members_found ds y.1) (λ ms s. structure_closed target at back y.0.0 y.0.1 ms s) r f in
-      let b = members_add ds c g [] y.1 a.0 a.1 refl in
-      let l = b.1.1 in
-      adds_through most c 1 (suc c) y.1 a.0.1 r.1 (omega arith) b.0 (structure_closed_adds at back y.0.0 y.0.1 a.0.0 a.0.1 r (record { names = b.1.0; few = omega arith }) a.2)) h
+      let b = members_add ds c g [] y.1 a.0 a.1 (record { names = refl; apart = refl }) in
+      adds_through most c 1 (suc c) y.1 a.0.1 r.1 (omega arith) b.0 (structure_closed_adds at back y.0.0 y.0.1 a.0.0 a.0.1 r (all_members (least_of ds) c a.0.0 (least-some ds some) (omega arith) b.1) a.2)) h
 
   -- ---- enumerations
 

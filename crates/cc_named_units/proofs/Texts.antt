@@ -1,5 +1,5 @@
 -- What the typed unit of a text has.
-use Rattle.std.proofs.Common.{◌≡◌, ◌≤◌, ◌<◌, ◌^◌, ℕ, zero, suc, Bool, true, false, List, [], ◌∷◌, length, Option, Some, None, refl, subst, arith}
+use Rattle.std.proofs.Common.{◌≡◌, ◌≤◌, ◌<◌, ◌^◌, ℕ, zero, suc, Bool, true, false, List, [], ◌∷◌, length, Option, Some, None, Ok, slice_get, refl, subst, arith}
 use Rattle.cc_named_units.proofs.CountedStatements.{sentence_read}
 use Rattle.cc_named_units.proofs.CountedTexts.{text_spelled}
 use Rattle.std.specs.Prelude.{not, ◌||◌, is_some, nat_lt, slice_index_or, if◌then◌else◌}
@@ -8,7 +8,7 @@ use Rattle.std.specs.Str.{bytes_eq}
 use Rattle.std.proofs.lemmas.Slice.Eq.{bytes_eq-Decides}
 use Rattle.cc_lex.specs.Tokens.{Tokens}
 use Rattle.cc_lex.specs.declared.token.Token.{Token}
-use Rattle.cc_named_units.specs.Named.{is_own}
+use Rattle.cc_named_units.specs.Named.{AreFewMembers, HasFewMembers, IsNamedState, IsNamedStructure, Limits, is_own}
 use Rattle.cc_named_units.proofs.NamedStatements.{sentence_named}
 use Rattle.cc_named_units.proofs.NamedTexts.{text_named}
 use Rattle.cc_named_units.specs.Names.{unit_named}
@@ -16,17 +16,24 @@ use Rattle.cc_num.specs.declared.target.Target.{Target}
 use Rattle.cc_numbering.specs.Units.{ids_of}
 use Rattle.cc_program.specs.declared.expr.Intr.TheVariants as intr
 use Rattle.cc_program.specs.declared.program.Roles.{Roles}
-use Rattle.cc_scopes.specs.State.{Name}
+use Rattle.cc_program.proofs.Each.{Each}
+use Rattle.cc_scopes.specs.State.{KnownStructure, Name, State, at_first}
+use Rattle.cc_scopes.specs.Verdicts.{Checked, checked}
 use Rattle.cc_relocated_units.specs.Units.{IsOfText, is_main_name}
+use Rattle.cc_sound_terms.specs.Ordered.{HasMembers}
 use Rattle.cc_syntax.proofs.Prefixes.{both_true}
-use Rattle.cc_syntax.specs.Names.{intrinsic_names}
+use Rattle.cc_syntax.specs.Names.{intrinsic_names, local_names}
 use Rattle.cc_syntax.specs.Sound.{main_name}
+use Rattle.cc_syntax.specs.Types.{Named}
 use Rattle.cc_tree.specs.Sentences.{IsSentence}
 use Rattle.cc_tree.specs.declared.unit.Unit.{Unit as UnitTree}
+use Rattle.cc_type.specs.Defined.{defined_names}
 use Rattle.cc_type.specs.Typed.{IsTyped}
+use Rattle.cc_type.specs.Units.{items_found}
 use Rattle.cc_unit.specs.declared.unit.TypedUnit.{TypedUnit}
 use Rattle.cc_unit.specs.declared.unit.UnitName.{UnitName}
-use Rattle.cc_named_units.proofs.Units.{unit_adds, left_of_text, names_own, left_few}
+use Rattle.cc_words.specs.Names.{are_distinct}
+use Rattle.cc_named_units.proofs.Units.{items_add, unit_adds, left_of_text, names_own, left_few}
 
 named : (text : List ℕ) (ts : List Token) (u : UnitTree) → Tokens text ts → IsSentence ts u → unit_named u ≡ true
 named text ts u d s = sentence_named ts u s (text_named text ts d s.inside)
@@ -51,6 +58,26 @@ own_names text ts u target roles t d s h =
     let a = unit_adds u target roles t (length ts) (named text ts u d s) (sentence_read ts u s) h in
     let state = a.2.state (record { structures = tt; names = tt }) in
     subst (λ (v : TypedUnit). list_all (λ (n : UnitName). is_own roles n.name) v.names ≡ true) a.1 (names_own (record { few = length ts; roles = roles }) (ids_of a.0) a.0.names state.names)
+
+-- ---- members of structures
+
+each_there : {A : Type 0} (Good : A → Type 0) (xs : List A) (i : ℕ) (x : A) → slice_get xs i ≡ Some x → Each Good xs → Good x
+each_there Good [] i x e h = absurd (cc)
+each_there Good (y ∷ xs) zero x e h = subst Good (let s : y ≡ x = cc e in s) h.0
+each_there Good (y ∷ xs) (suc i) x e h = each_there Good xs i x e h.1
+
+-- a complete structure behind the last item of a text has members, no two of one name
+pub members_there : (text : List ℕ) (ts : List Token) (u : UnitTree) (target : Target) (roles : Roles) → Tokens text ts → IsSentence ts u → (r : Checked × State) → items_found target roles (defined_names u) u.items at_first ≡ Ok r →
+    (i : ℕ) (ms : List Named) → HasMembers r.1.structures i ms → (nat_lt 0 (length ms) ≡ true) × (are_distinct (local_names ms) ≡ true)
+members_there text ts u target roles d s r f i ms h =
+    let adds = items_add target (defined_names u) most u.items (named text ts u d s) (sentence_read ts u s) checked at_first r f in
+    let state = adds.state (record { structures = tt; names = tt }) in
+    let k = each_there (IsNamedStructure most) r.1.structures i h.0 h.1 state.structures in
+    let m : AreFewMembers (length ts) ms = subst (HasFewMembers (length ts)) h.2 k.members in
+    (m.some, m.apart)
+  where
+    most : Limits
+    most = record { few = length ts; roles = roles }
 
 -- ---- `main`
 

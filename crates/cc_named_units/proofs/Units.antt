@@ -9,7 +9,7 @@ use Rattle.cc_named_units.specs.Counts.{each_count, decl_count, item_count, unit
 use Rattle.cc_named_units.proofs.Declarations.{declaration_adds}
 use Rattle.cc_named_units.proofs.Adding.{adds_through, before, done}
 use Rattle.cc_named_units.proofs.Cycle.{front_few, rest_few}
-use Rattle.cc_named_units.specs.Named.{Limits, is_own, AreFewNames, IsNamedStructure, HasFewLocals, IsNamedEntry, IsNamedState, Adds}
+use Rattle.cc_named_units.specs.Named.{Limits, is_own, AreFewNames, HasFewMembers, IsNamedStructure, HasFewLocals, IsNamedEntry, IsNamedState, Adds}
 use Rattle.cc_named_units.specs.Names.{each_named, tag_named, item_named, unit_named}
 use Rattle.cc_num.specs.declared.target.Target.{Target}
 use Rattle.cc_numbering.specs.Names.{kind_in, name_in}
@@ -18,7 +18,7 @@ use Rattle.cc_numbering.specs.Structures.{named_in, all_named_in, structure_in, 
 use Rattle.cc_numbering.specs.Units.{ids_of, unit_left}
 use Rattle.cc_program.proofs.Each.{Each}
 use Rattle.cc_program.specs.declared.program.Roles.{Roles}
-use Rattle.cc_scopes.specs.State.{State, Name, KnownStructure, members_or_none, at_first}
+use Rattle.cc_scopes.specs.State.{State, Name, KnownStructure, at_first}
 use Rattle.cc_scopes.specs.Verdicts.{Found, Checked, checked}
 use Rattle.cc_scopes.specs.declared.unit.Declared.{Declared}
 use Rattle.cc_relocated_units.specs.Units.{may_name, are_few_names, has_few_locals, IsOfText}
@@ -55,7 +55,7 @@ module _ (target : Target) (defined : List Name) (most : Limits) where
       before most (decl_count d) (declaration target most.roles defined stands.AtFile d s) (λ es s. answer checked s) s r (λ x f. declaration_adds target defined most d q l stands.AtFile s x f) (λ x f. done most 0 checked x.1 r f) h
   item_adds (item.Func specs d attrs body) q l s r h = function_found_adds target defined most specs d attrs body q l s r h
 
-  items_add : (is : List (At Item)) → each_named item_named is ≡ true → each_count item_count is ≤ most.few → (b : Checked) (s : State) (r : Checked × State) → in_turn (item_next target most.roles defined) is b s ≡ Ok r →
+  pub items_add : (is : List (At Item)) → each_named item_named is ≡ true → each_count item_count is ≤ most.few → (b : Checked) (s : State) (r : Checked × State) → in_turn (item_next target most.roles defined) is b s ≡ Ok r →
       Adds most (each_count item_count is) s r.1
   items_add [] q l b s r h = done most 0 b s r h
   items_add (i ∷ is) q l b s r h =
@@ -129,9 +129,9 @@ module _ (numbers : List ℕ) (Good : KnownStructure → Type 0) (test : UnitStr
 tags_may : (numbers : List ℕ) (most : Limits) (k : KnownStructure) → IsNamedStructure most k → may_name k.tag && may_name k.alias ≡ true
 tags_may numbers most k h = and_true (may_name k.tag) (may_name k.alias) (same_test k.tag h.tag) (same_test k.alias h.alias)
 
-members_few : (numbers : List ℕ) (most : Limits) → most.few < 2 ^ 32 → (o : Option (List Named)) → AreFewNames most.few (members_or_none o) → are_few_names (unwrap_or (option_map (all_named_in numbers) o) []) ≡ true
+members_few : (numbers : List ℕ) (most : Limits) → most.few < 2 ^ 32 → (o : Option (List Named)) → HasFewMembers most.few o → are_few_names (unwrap_or (option_map (all_named_in numbers) o) []) ≡ true
 members_few numbers most small None h = refl
-members_few numbers most small (Some ms) h = few_kept most.few numbers ms small h
+members_few numbers most small (Some ms) h = few_kept most.few numbers ms small h.named
 
 pub left_of_text : (most : Limits) (s : State) → most.few < 2 ^ 32 → IsNamedState most s → IsOfText (unit_left s)
 left_of_text most s small h =

@@ -1,11 +1,11 @@
 -- States whose names may name something, and which have few members and locals; so do declarators (C99 6.4.2.1, 6.7.2.1, 6.7.5).
-use Rattle.std.specs.Prelude.{◌≡◌, ◌≤◌, ◌+◌, ℕ, Bool, true, false, not, is_some, List, [], ◌∷◌, length, Option, Some, None}
+use Rattle.std.specs.Prelude.{◌≡◌, ◌≤◌, ◌+◌, ℕ, Bool, true, false, not, is_some, nat_lt, List, [], ◌∷◌, length, Option, Some, None}
 use Rattle.std.specs.List.{list_all}
 use Rattle.cc_named_units.specs.Names.{tag_named}
 use Rattle.cc_primary.specs.Primary.{is_intrinsic}
 use Rattle.cc_program.proofs.Each.{Each}
 use Rattle.cc_program.specs.declared.program.Roles.{Roles}
-use Rattle.cc_scopes.specs.State.{State, Name, Scope, KnownStructure, members_or_none}
+use Rattle.cc_scopes.specs.State.{State, Name, Scope, KnownStructure}
 use Rattle.cc_scopes.specs.declared.unit.Declared.{Declared}
 use Rattle.cc_specifiers.specs.declared.derivation.Declarator.{Declarator}
 use Rattle.cc_specifiers.specs.declared.derivation.Derivation.{Derivation}
@@ -16,7 +16,7 @@ use Rattle.cc_syntax.specs.Types.{Named}
 use Rattle.cc_tree.specs.declared.at.At.{At}
 use Rattle.cc_unit.specs.declared.unit.UnitKind.{UnitKind}
 use Rattle.cc_unit.specs.declared.unit.UnitKind.TheVariants as kind
-use Rattle.cc_words.specs.Names.{is_name}
+use Rattle.cc_words.specs.Names.{are_distinct, is_name}
 
 -- so many members and locals at most; and the roles, which say what the intrinsics are named
 pub record Limits : Type 0 where
@@ -33,10 +33,20 @@ pub record AreFewNames (n : ℕ) (xs : List Named) : Type 0 where
   pub names : list_all is_name (local_names xs) ≡ true
   pub few : length xs ≤ n
 
+-- members of a complete structure: at least one, and no two of one name (6.7.2.1)
+pub record AreFewMembers (n : ℕ) (ms : List Named) : Type 0 where
+  pub named : AreFewNames n ms
+  pub apart : are_distinct (local_names ms) ≡ true
+  pub some : nat_lt 0 (length ms) ≡ true
+
+abbrev pub HasFewMembers : ℕ → Option (List Named) → Type 0
+HasFewMembers n None = Unit {0}
+HasFewMembers n (Some ms) = AreFewMembers n ms
+
 pub record IsNamedStructure (most : Limits) (k : KnownStructure) : Type 0 where
   pub tag : tag_named k.tag ≡ true
   pub alias : tag_named k.alias ≡ true
-  pub members : AreFewNames most.few (members_or_none k.members)
+  pub members : HasFewMembers most.few k.members
 
 abbrev pub HasFewLocals : Limits → UnitKind → Type 0
 HasFewLocals most (kind.Func by (Some f)) = AreFewNames most.few f.locals
@@ -82,10 +92,11 @@ abbrev pub IsNamedNext : Bool → ℕ → List (At (Derivation Scope)) → Type 
 IsNamedNext unnamed n [] = Unit {0}
 IsNamedNext unnamed n (d ∷ ds) = IsNamedDerivation unnamed n d.node
 
--- what a declarator adds, whose count is this, is less by one where it has a name; the flag says that its parameters need no names
-pub record AddsDeclarator (most : Limits) (count : ℕ) (unnamed : Bool) (s : State) (r : Declarator Scope × State) : Type 0 where
+-- what a declarator adds, whose count is this, is less by one where it has a name; the flags say that its tree has a name, and that its parameters need none
+pub record AddsDeclarator (most : Limits) (count : ℕ) (named unnamed : Bool) (s : State) (r : Declarator Scope × State) : Type 0 where
   pub used : ℕ
   pub within : used ≤ count
   pub adds : Adds most used s r.1
   pub name : (x : Name) → r.0.name ≡ Some x → (is_name x ≡ true) × (used + 1 ≤ count)
+  pub there : named ≡ true → is_some r.0.name ≡ true
   pub next : IsNamedNext unnamed count r.0.derivations

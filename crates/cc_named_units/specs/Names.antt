@@ -1,5 +1,5 @@
--- Trees whose declared names and tags may name something, and whose members have names; and tokens (C99 6.4.2.1, 6.7.2.1, 6.7.5).
-use Rattle.std.specs.Prelude.{Bool, true, false, ◌&&◌, List, Option, Some, None}
+-- Trees whose declared names and tags may name something, and of whose structures each has members, with names; and tokens (C99 6.4.2.1, 6.7.2.1, 6.7.5).
+use Rattle.std.specs.Prelude.{Bool, true, false, ◌&&◌, List, [], ◌∷◌, Option, Some, None}
 use Rattle.std.specs.List.{list_all}
 use Rattle.cc_lex.specs.declared.token.Kind.{Kind}
 use Rattle.cc_lex.specs.declared.token.Kind.TheVariants as kind
@@ -49,6 +49,16 @@ part_named (Some x) = x.node
 abbrev pub lists_named : Option (List (At Bool)) → Bool
 lists_named None = true
 lists_named (Some xs) = all_named xs
+
+-- at least one
+abbrev pub one_or_more : {A : Type 0} → List A → Bool
+one_or_more [] = false
+one_or_more (x ∷ xs) = true
+
+-- declarations of members, where they are there (6.7.2.1)
+abbrev pub content_named : Option (List (At Bool)) → Bool
+content_named None = true
+content_named (Some xs) = one_or_more xs && all_named xs
 
 -- nodes of trees
 abbrev pub each_named : {A : Type 0} → (A → Bool) → List (At A) → Bool
@@ -104,7 +114,7 @@ params_names (one.Many ps) = all_named ps
 abbrev pub spec_names : one.Spec-F HasNames Bool Bool Bool Bool Bool Bool Bool → Bool
 spec_names (one.Word x) = true
 spec_names (one.Spec::Named x) = true
-spec_names (one.Struct tag members front behind) = tag_named tag && lists_named members
+spec_names (one.Struct tag members front behind) = tag_named tag && content_named members
 spec_names (one.Enum tag constants) = lists_named constants
 spec_names (one.Attr a) = true
 
@@ -115,7 +125,7 @@ abbrev pub is_member_named : At HasNames → Bool
 is_member_named d = d.node.0 && d.node.1
 
 abbrev pub members_names : one.MemberDecl-F HasNames Bool Bool Bool Bool Bool Bool Bool → Bool
-members_names d = all_named d.specs && list_all is_member_named d.declrs
+members_names d = all_named d.specs && (one_or_more d.declrs && list_all is_member_named d.declrs)
 
 abbrev pub param_names : one.Param-F HasNames Bool Bool Bool Bool Bool Bool Bool → Bool
 param_names p = all_named p.specs && p.declr.node.0

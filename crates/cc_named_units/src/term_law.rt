@@ -25,7 +25,7 @@ pub fn term_laws()
     ensures specifiers { (target : Target) (roles : Roles) (most : Limits) (setting : Setting) (specs : List (At Spec)) → each_named spec_named specs ≡ true → each_count spec_count specs ≤ most.few → (s : State) (r : Specified × State) →
         specified_found setting (map (spec_here target roles) specs) s ≡ Ok r → Adds most (each_count spec_count specs) s r.1 }
 
-    // The name of a declarator may name something, and so may those of the parameters next to it.
+    // The name of a declarator may name something, and so may those of the parameters next to it; it has one where its tree does.
     ensures declarators { (target : Target) (roles : Roles) (most : Limits) (d : Declr) → (declr_named d).0 ≡ true → declr_count d ≤ most.few → (allowed : Allowed) (at : ℕ) (s : State) (r : Declarator Scope × State) →
-        declr_of target roles d allowed at s ≡ Ok r → AddsDeclarator most (declr_count d) allowed.unnamed s r }
+        declr_of target roles d allowed at s ≡ Ok r → AddsDeclarator most (declr_count d) (declr_named d).1 allowed.unnamed s r }
 {}

@@ -3,7 +3,7 @@ use Rattle.std.proofs.Common.{◌≡◌, ◌∙◌, ℕ, List, [], refl, ap, sym
 use Rattle.std.specs.Prelude.{slice_index_or}
 use Rattle.cc_cost.specs.declared.profile.Profile.{Profile}
 use Rattle.cc_edge.specs.Files.{Files}
-use Rattle.cc_material.proofs.OneCause.{same_texts, sources_read, one_first, profile_read, one_profile_end, SaySame, one_profile, same_program, not_above, one_limit, program_as, refused_as}
+use Rattle.cc_material.proofs.OneCause.{same_texts, sources_read, one_first, profile_read, one_profile_end, SaySame, one_profile, same_program, not_above, one_limit, program_not_refused, one_refusal, program_as, refusal_as}
 use Rattle.cc_material.specs.Programs.{IsProgram}
 use Rattle.cc_num.specs.declared.target.Target.{Target}
 use Rattle.cc_packing.specs.Asked.{Asked}
@@ -11,9 +11,6 @@ use Rattle.cc_packing.specs.Ends.{FilesEnd, AtProfile, AtSources, ProgramEnds, N
 use Rattle.cc_packing.specs.Headline.{AreRead, AreAsked, IsPackable}
 use Rattle.cc_program.specs.declared.program.Program.{Program}
 use Rattle.cc_program.specs.declared.program.Roles.{Roles}
-use Rattle.cc_read.proofs.Refused.{not_refused, one_cause}
-use Rattle.cc_read.specs.Refusals.{AreForOneCause, settled}
-use Rattle.cc_read.specs.declared.refusal.Refusal.{Refusal}
 use Rattle.cc_status.specs.Settled.{settled_status}
 use Rattle.cc_status.specs.Statuses.{for_unread}
 use Rattle.cc_status.specs.declared.status.Status.{Status}
@@ -66,17 +63,14 @@ module _ (names : List (List ℕ)) (profile : Profile) (texts : List (List ℕ))
   ends_of p q s e h = subst (λ r. ProgramEnds profile.target profile.roles (slice_index_or names 0 []) r s) (sym e) h
 
   no_texts_end : (p : Program) (s : Status) → IsProgram profile texts p → IsPackable profile.target profile.roles p → TextsEnd names profile texts s → ⊥
-  no_texts_end p _ h k (AreRefused e r) = not_refused profile.target profile.roles texts p e h.reads h.low r
-  no_texts_end p _ h k (NotPacked q s i r) = no_end profile.target profile.roles (slice_index_or names 0 []) p s k (ends_of p q s (same_program profile texts p q h i) r)
-
-  refused_alike : (e f : Refusal) → AreForOneCause e f → settled_status (status.Refused (slice_index_or names e.file []) e.why) ≡ settled_status (status.Refused (slice_index_or names f.file []) f.why)
-  refused_alike e f h = ap (λ n. status.Refused (slice_index_or names n []) (settled e.why)) h.file ∙ ap (λ w. status.Refused (slice_index_or names f.file []) w) h.cause
+  no_texts_end p s h k (AreRefused _ r) = program_not_refused names profile texts p s h r
+  no_texts_end p s h k (NotPacked q _ i r) = no_end profile.target profile.roles (slice_index_or names 0 []) p s k (ends_of p q s (same_program profile texts p q h i) r)
 
   one_texts_end : (s t : Status) → TextsEnd names profile texts s → TextsEnd names profile texts t → settled_status s ≡ settled_status t
-  one_texts_end _ _ (AreRefused e h) (AreRefused f k) = refused_alike e f (one_cause profile.target profile.roles texts e f h k)
-  one_texts_end _ _ (AreRefused e h) (NotPacked q t i r) = absurd (not_refused profile.target profile.roles texts q e i.reads i.low h)
-  one_texts_end _ _ (NotPacked p s h r) (AreRefused e k) = absurd (not_refused profile.target profile.roles texts p e h.reads h.low k)
-  one_texts_end _ _ (NotPacked p s h r) (NotPacked q t i o) =
+  one_texts_end s t (AreRefused _ h) (AreRefused _ k) = one_refusal names profile texts s t h k
+  one_texts_end s t (AreRefused _ h) (NotPacked q _ i r) = absurd (program_not_refused names profile texts q s i h)
+  one_texts_end s t (NotPacked p _ h r) (AreRefused _ k) = absurd (program_not_refused names profile texts p t h k)
+  one_texts_end s t (NotPacked p _ h r) (NotPacked q _ i o) =
       ap settled_status (one_program_end profile.target profile.roles (slice_index_or names 0 []) p s t r (ends_of p q t (same_program profile texts p q h i) o))
 
 module _ (names : List (List ℕ)) (p q : Profile) (same : SaySame p q) (texts : List (List ℕ)) where
@@ -84,8 +78,8 @@ module _ (names : List (List ℕ)) (p q : Profile) (same : SaySame p q) (texts :
   program_ends_as first r s h = subst (λ t. ProgramEnds t p.roles first r s) (sym same.0) (subst (λ o. ProgramEnds q.target o first r s) (sym same.1) h)
 
   texts_end_as : (s : Status) → TextsEnd names q texts s → TextsEnd names p texts s
-  texts_end_as _ (AreRefused e h) = AreRefused e (refused_as p q same texts e h)
-  texts_end_as _ (NotPacked r s h k) = NotPacked r s (program_as p q same texts r h) (program_ends_as (slice_index_or names 0 []) r s k)
+  texts_end_as s (AreRefused _ h) = AreRefused s (refusal_as p q same texts names s h)
+  texts_end_as s (NotPacked r _ h k) = NotPacked r s (program_as p q same texts r h) (program_ends_as (slice_index_or names 0 []) r s k)
 
 -- ---- all
 

@@ -8,19 +8,17 @@ use Rattle.cc_cost.specs.declared.profile.Profile.{Profile}
 use Rattle.cc_layout.specs.Seats.{ram}
 use Rattle.cc_material.proofs.LimitLaws.{lt-true, above-over}
 use Rattle.cc_material.specs.Material.{is_refusal}
-use Rattle.cc_material.specs.Programs.{IsAbove, IsWithin}
+use Rattle.cc_material.specs.Programs.{IsAbove, IsProgram, IsWithin}
 use Rattle.cc_num.specs.declared.target.Target.{Target}
-use Rattle.cc_packing.specs.Ends.{ProgramEnds, TextsEnd, AreRefused, NotPacked, AboveLimit, LongText, OtherText, is_pack_refusal}
+use Rattle.cc_packing.specs.Ends.{ProgramEnds, TextsEnd, NotPacked, AboveLimit, LongText, OtherText, is_pack_refusal}
 use Rattle.cc_packing.specs.Headline.{AreMade, IsPackable, IsPacked, IsPackedText, ReadsAlone}
 use Rattle.cc_packing.specs.declared.outputs.Texts.{Texts}
 use Rattle.cc_print.specs.Printed.{text}
 use Rattle.cc_program.specs.declared.program.Program.{Program}
 use Rattle.cc_program.specs.declared.program.Roles.{Roles}
-use Rattle.cc_read.specs.Refusals.{IsRefused}
 use Rattle.cc_read.specs.Texts.{bytes_of, IsLow, Reads}
 use Rattle.cc_read.specs.declared.refusal.ReadRefusal.{ReadRefusal}
 use Rattle.cc_read.specs.declared.refusal.ReadRefusal.TheVariants as why
-use Rattle.cc_read.specs.declared.refusal.Refusal.{Refusal}
 use Rattle.cc_status.specs.declared.status.Status.{Status}
 use Rattle.cc_status.specs.declared.status.Status.TheVariants as status
 use Rattle.cc_status.specs.declared.status.What.{What}
@@ -93,8 +91,6 @@ pack-refusal (status.Later name) h = refl
 
 pub ruleset of_programs = (sizes, above_limit, long_text, other_text, packable, packed-text, over-out, over-limit)
 
-pub ruleset of_refusals = (pack-refusal)
-
 -- ---- a text that is read alone
 
 module _ (ts : List (Vec ℕ Global)) (v : Vec ℕ Global) (one : ts ≡ v ∷ []) where
@@ -122,16 +118,11 @@ module _ (ts : List (Vec ℕ Global)) (v : Vec ℕ Global) (one : ts ≡ v ∷ [
 
 -- ---- sources
 
-module _ (names : List (List ℕ)) (profile : Profile) (texts : List (List ℕ)) where
-  module _ (p : Program) (h : Reads texts profile.target profile.roles p) (low : All IsLow texts) where
-    pub are-made : (r : Result Texts Status) → IfOk r (λ _. IsPackable profile.target profile.roles p) → IfOk r (λ t. IsPackedText profile.target profile.roles p t.out.items t.table.items) → IfOk r (λ t. AreMade profile texts t.out.items t.table.items)
-    are-made (Ok t) k o = record { read = p; is_program = record { reads = h; low = low }; packable = k; output = o }
-    are-made (Err s) k o = tt
+module _ (profile : Profile) (texts : List (List ℕ)) (p : Program) (h : IsProgram profile texts p) where
+  pub are-made : (r : Result Texts Status) → IfOk r (λ _. IsPackable profile.target profile.roles p) → IfOk r (λ t. IsPackedText profile.target profile.roles p t.out.items t.table.items) → IfOk r (λ t. AreMade profile texts t.out.items t.table.items)
+  are-made (Ok t) k o = record { read = p; is_program = h; packable = k; output = o }
+  are-made (Err s) k o = tt
 
-    pub not-packed : (r : Result Texts Status) → IfErr r (λ s. s ≢ status.NoMemory → ProgramEnds profile.target profile.roles (slice_index_or names 0 []) p s) → IfErr r (λ s. s ≢ status.NoMemory → TextsEnd names profile texts s)
-    not-packed (Ok t) e = tt
-    not-packed (Err s) e = λ n. NotPacked p s (record { reads = h; low = low }) (e n)
-
-  pub are-refused : (e : Refusal) (s : Status) → (e.why ≢ why.NoMemory → IsRefused profile.target profile.roles texts e) → (s ≢ status.NoMemory → e.why ≢ why.NoMemory) → (s ≢ status.NoMemory → s ≡ status.Refused (slice_index_or names e.file []) e.why) →
-      s ≢ status.NoMemory → TextsEnd names profile texts s
-  are-refused e s h w k n = subst (λ t. TextsEnd names profile texts t) (sym (k n)) (AreRefused e (h (w n)))
+  pub not-packed : (names : List (List ℕ)) (r : Result Texts Status) → IfErr r (λ s. s ≢ status.NoMemory → ProgramEnds profile.target profile.roles (slice_index_or names 0 []) p s) → IfErr r (λ s. s ≢ status.NoMemory → TextsEnd names profile texts s)
+  not-packed names (Ok t) e = tt
+  not-packed names (Err s) e = λ n. NotPacked p s h (e n)

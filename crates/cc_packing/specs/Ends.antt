@@ -5,16 +5,14 @@ use Rattle.cc_edge.specs.Files.{Files}
 use Rattle.cc_files.specs.Unread.{IsFirstSourceUnread}
 use Rattle.cc_files.specs.declared.unread.Unread.{Unread}
 use Rattle.cc_material.specs.Material.{IsProfile, ProfileEnds, is_refusal}
-use Rattle.cc_material.specs.Programs.{IsAbove, IsProgram, IsWithin, is_over}
+use Rattle.cc_material.specs.Programs.{IsAbove, IsProgram, IsWithin, TellsRefusal}
 use Rattle.cc_num.specs.declared.target.Target.{Target}
 use Rattle.cc_packing.specs.Asked.{Asked}
 use Rattle.cc_packing.specs.Headline.{AreRead, ReadsAlone}
 use Rattle.cc_print.specs.Printed.{text}
 use Rattle.cc_program.specs.declared.program.Program.{Program}
 use Rattle.cc_program.specs.declared.program.Roles.{Roles}
-use Rattle.cc_read.specs.Refusals.{IsRefused}
-use Rattle.cc_read.specs.declared.refusal.Refusal.{Refusal}
-use Rattle.cc_status.specs.Statuses.{for_unread}
+use Rattle.cc_status.specs.Statuses.{for_unread, is_over}
 use Rattle.cc_status.specs.declared.status.Status.{Status}
 use Rattle.cc_status.specs.declared.status.Status.TheVariants as status
 use Rattle.cc_status.specs.declared.status.What.{What}
@@ -34,9 +32,9 @@ pub data ProgramEnds (target : Target) (roles : Roles) (first : List ℕ) (p : P
   LongText : IsNormal p → IsWithin p → 16777216 < length (text p) → ProgramEnds target roles first p (status.Limit what.Out (length (text p)))
   OtherText : IsNormal p → IsWithin p → length (text p) ≤ 16777216 → (ReadsAlone target roles (text p) p → ⊥) → ProgramEnds target roles first p (status.Later first)
 
--- sources of these names are refused, with the name of the one at fault, or their program is not packed
+-- sources of these names are refused, or their program is not packed
 pub data TextsEnd (names : List (List ℕ)) (profile : Profile) (texts : List (List ℕ)) : Status → Type 0 where
-  AreRefused : (e : Refusal) → IsRefused profile.target profile.roles texts e → TextsEnd names profile texts (status.Refused (slice_index_or names e.file []) e.why)
+  AreRefused : (s : Status) → TellsRefusal names profile texts s → TextsEnd names profile texts s
   NotPacked : (p : Program) (s : Status) → IsProgram profile texts p → ProgramEnds profile.target profile.roles (slice_index_or names 0 []) p s → TextsEnd names profile texts s
 
 -- where memory did not run out; where the store's faults have risen, a file may be told not to be read

@@ -13,6 +13,7 @@ use crate::material::read_material;
 use crate::outputs::{Texts, Unwritten, write};
 use crate::texts::texts_of_sources;
 use cc_edge::Store;
+use cc_files::copy_name;
 use cc_num::{List, Name, NoMemory};
 use cc_status::Status;
 use std::alloc::Global;
@@ -25,13 +26,6 @@ pub struct Packing<'w> {
     pub out: &'w str,
     pub table: Option<&'w str>,
     pub sources: &'w [String],
-}
-
-/// A copy of a name.
-fn copy_name(alloc: Global, name: &str) -> Result<Name, NoMemory>
-    ensures { IfOk result (λ r. r ≡ name.now) }
-{
-    Ok(List::of(Vec::from_slice(alloc, name.as_bytes())?))
 }
 
 /// A copy of the table's name; nothing where it is not named.

@@ -7,13 +7,14 @@ ghost use Rattle.cc_packing.specs.Ends.{ProgramEnds, is_pack_refusal};
 ghost use Rattle.cc_packing.specs.Headline.{IsPackable, IsPackedText, ReadsAlone};
 ghost use Rattle.cc_status.specs.declared.status.Status.TheVariants as status;
 ghost use Rattle.cc_syntax.specs.Normal.{IsNormal};
+ghost use Rattle.cc_syntax.specs.Sound.{IsSound};
 
 use crate::outputs::Texts;
 use cc_cost::Profile;
 use cc_discard::discard_program;
 use cc_layout::ram;
 use cc_material::above;
-use cc_normal::is_normal;
+use cc_normal::has_normal_form;
 use cc_num::{Name, NoMemory};
 use cc_print::print;
 use cc_program::Program;
@@ -79,16 +80,17 @@ fn texts_within(alloc: Global, first: Name, profile: &Profile, p: &Program) -> R
     Ok(Texts { out, table })
 }
 
-/// The texts that are written of a program, or why none are; `first` is the name of the first of its sources.
+/// The texts that are written of a sound program, or why none are; `first` is the name of the first of its sources.
 #[tactic(auto, using(crate::proofs::ProgramTexts::of_programs))]
 pub fn texts_of(alloc: Global, first: Name, profile: &Profile, p: &Program) -> Result<Texts, Status>
+    requires { IsSound p.now }
     ensures packable { IfOk result (λ _. IsPackable profile.now.target profile.now.roles p.now) }
     ensures packed { IfOk result (λ t. IsPackedText profile.now.target profile.now.roles p.now t.out.items t.table.items) }
     ensures ends { IfErr result (λ s. s ≢ status.NoMemory → ProgramEnds profile.now.target profile.now.roles first p.now s) }
     ensures refusal { IfErr result (λ s. is_pack_refusal s ≡ true) }
     ensures no_file { IfErr result (λ s. TellsFile (λ _. ⊥) (λ _. ⊥) s) }
 {
-    if !is_normal(p) {
+    if !has_normal_form(p) {
         return Err(Status::Later(first));
     }
     match above(p) {

@@ -6,24 +6,25 @@ ghost use Rattle.cc_material.specs.Material.{TellsFile};
 ghost use Rattle.cc_packing.specs.Ends.{ProgramEnds, TextsEnd, is_pack_refusal};
 ghost use Rattle.cc_packing.specs.Headline.{AreMade, IsPackable, IsPackedText};
 ghost use Rattle.cc_status.specs.declared.status.Status.TheVariants as status;
+ghost use Rattle.cc_syntax.specs.Sound.{IsSound};
 
 use crate::outputs::Texts;
 use crate::program::texts_of;
 use cc_cost::Profile;
 use cc_discard::discard_program;
-use cc_material::{name_at, refused};
+use cc_material::program_of;
 use cc_program::Program;
-use cc_read::read;
-use cc_status::Status;
+use cc_status::{Status, name_at};
 use std::alloc::Global;
 
-/// The texts that are written of the program of sources of these names, or why none are.
+/// The texts that are written of the sound program of sources of these names, or why none are.
 fn texts_of_named(
     alloc: Global,
     names: &[String],
     profile: &Profile,
     p: &Program,
 ) -> Result<Texts, Status>
+    requires { IsSound p.now }
     ensures packable { IfOk result (λ _. IsPackable profile.now.target profile.now.roles p.now) }
     ensures packed { IfOk result (λ t. IsPackedText profile.now.target profile.now.roles p.now t.out.items t.table.items) }
     ensures ends { IfErr result (λ s. s ≢ status.NoMemory → ProgramEnds profile.now.target profile.now.roles (slice_index_or (names_of names.now) 0 []) p.now s) }
@@ -41,6 +42,7 @@ fn texts_of_program(
     profile: &Profile,
     p: Program,
 ) -> Result<Texts, Status>
+    requires { IsSound p }
     ensures packable { IfOk result (λ _. IsPackable profile.now.target profile.now.roles p) }
     ensures packed { IfOk result (λ t. IsPackedText profile.now.target profile.now.roles p t.out.items t.table.items) }
     ensures ends { IfErr result (λ s. s ≢ status.NoMemory → ProgramEnds profile.now.target profile.now.roles (slice_index_or (names_of names.now) 0 []) p s) }
@@ -53,7 +55,6 @@ fn texts_of_program(
 }
 
 /// The texts that are written of the program that sources are, or why none are.
-#[tactic(auto, using(crate::proofs::ProgramTexts::of_refusals))]
 pub fn texts_of_sources(
     alloc: Global,
     names: &[String],
@@ -67,8 +68,6 @@ pub fn texts_of_sources(
     ensures refusal { IfErr result (λ s. is_pack_refusal s ≡ true) }
     ensures no_file { IfErr result (λ s. TellsFile (λ _. ⊥) (λ _. ⊥) s) }
 {
-    match read(alloc, sources, &profile.target, &profile.roles) {
-        Err(refusal) => Err(refused(alloc, names, refusal)),
-        Ok(p) => texts_of_program(alloc, names, profile, p),
-    }
+    let p = program_of(alloc, names, profile, sources)?;
+    texts_of_program(alloc, names, profile, p)
 }

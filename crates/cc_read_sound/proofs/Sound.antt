@@ -1,4 +1,4 @@
--- Texts that together have fewer than 2^32 bytes are read as a sound program, where each typed unit of a text is sound.
+-- Texts that together have fewer than 2^32 bytes are read as a sound program.
 use Rattle.std.proofs.Common.{◌≡◌, ◌<◌, ◌≤◌, ◌^◌, ℕ, zero, suc, List, [], ◌∷◌, length, map, sum, Some, slice_get, subst, arith}
 use Rattle.std.specs.List.{AllZip}
 use Rattle.std.proofs.lemmas.List.Sums.{sum_by-cons}
@@ -10,7 +10,7 @@ use Rattle.cc_read.specs.Texts.{IsTypedText, Reads}
 use Rattle.cc_linked_programs.proofs.Whole.{sources_sound}
 use Rattle.cc_syntax.specs.Sound.{IsSound}
 use Rattle.cc_things.specs.declared.text.Text.{Text}
-use Rattle.cc_read_sound.specs.Texts.{UnitsAreSound}
+use Rattle.cc_sound_typed_units.proofs.Units.{text_sound}
 use Rattle.cc_read_sound.proofs.Few.{few-texts}
 
 -- each unit is that of a text, no longer than all of them
@@ -33,10 +33,11 @@ text-of target roles (text ∷ texts) (y ∷ units) h (suc t) x e =
     let l = r.short in
     record { text = r.text; short = omega (arith, c, l); typed = r.typed }
 
-pub reads-sound : UnitsAreSound → (texts : List (List ℕ)) (target : Target) (roles : Roles) (p : Program) → Reads texts target roles p → sum (map length texts) < 2 ^ 32 → IsSound p
-reads-sound sound texts target roles p r small =
+pub reads-sound : (texts : List (List ℕ)) (target : Target) (roles : Roles) (p : Program) → Reads texts target roles p → sum (map length texts) < 2 ^ 32 → IsSound p
+reads-sound texts target roles p r small =
     sources_sound r.units target roles p r.linked
-    (λ t x e. let y = text-of target roles texts r.units r.typed t x e in sound y.text y.typed.tokens y.typed.tree target roles x.unit y.typed.tokens_of y.typed.sentence y.typed.typed)
+    (λ t x e. let y = text-of target roles texts r.units r.typed t x e in let l = y.short in
+    text_sound y.text y.typed.tokens y.typed.tree target roles x.unit (omega (arith, l, small)) y.typed.tokens_of y.typed.sentence y.typed.typed)
     (λ t x e. let y = text-of target roles texts r.units r.typed t x e in let l = y.short in
     of_text y.text y.typed.tokens y.typed.tree target roles x.unit (omega (arith, l, small)) y.typed.tokens_of y.typed.sentence y.typed.typed)
     (λ t x e. let y = text-of target roles texts r.units r.typed t x e in own_main y.text y.typed.tokens y.typed.tree target roles x.unit y.typed.tokens_of y.typed.sentence y.typed.typed)

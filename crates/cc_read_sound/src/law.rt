@@ -5,7 +5,6 @@ ghost use Rattle.cc_program.specs.declared.program.Program.{Program};
 ghost use Rattle.cc_program.specs.declared.program.Roles.{Roles};
 ghost use Rattle.cc_linked_programs.specs.Few.{FewTexts};
 ghost use Rattle.cc_read.specs.Texts.{IsTypedText, Reads};
-ghost use Rattle.cc_read_sound.specs.Texts.{UnitsAreSound};
 ghost use Rattle.cc_syntax.specs.Sound.{IsSound};
 ghost use Rattle.cc_things.specs.declared.text.Text.{Text};
 
@@ -13,6 +12,6 @@ ghost use Rattle.cc_things.specs.declared.text.Text.{Text};
 pub fn read_laws()
     // What linking takes of them is few.
     ensures few { (target : Target) (roles : Roles) (texts : List (List ℕ)) (units : List Text) → AllZip (IsTypedText target roles) texts units → sum (map length texts) < 2 ^ 32 → FewTexts units }
-    // Where the typed unit of each text is sound, the program that they are read as is sound.
-    ensures sound { UnitsAreSound → (texts : List (List ℕ)) (target : Target) (roles : Roles) (p : Program) → Reads texts target roles p → sum (map length texts) < 2 ^ 32 → IsSound p }
+    // The program that they are read as is sound.
+    ensures sound { (texts : List (List ℕ)) (target : Target) (roles : Roles) (p : Program) → Reads texts target roles p → sum (map length texts) < 2 ^ 32 → IsSound p }
 {}

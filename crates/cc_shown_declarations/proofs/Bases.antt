@@ -1,9 +1,8 @@
 -- The words of a member's type name it, where they name a structure that is known, and one that is not: that is declared there.
-use Rattle.std.proofs.Common.{◌≡◌, ◌<◌, ℕ, Bool, true, false, List, [], ◌∷◌, ◌++◌, map, length, Option, Some, None, Ok, refl, ap, sym, ◌∙◌, subst, slice_get, nat_eq, nat_lt, arith}
+use Rattle.std.proofs.Common.{◌≡◌, ◌<◌, ℕ, Bool, true, false, List, [], ◌∷◌, ◌++◌, map, length, Option, Some, None, Ok, refl, ap, sym, ◌∙◌, subst, slice_get, nat_lt, arith}
 use Rattle.std.proofs.lemmas.Bool.Decides.{nat_tests}
 use Rattle.std.proofs.lemmas.List.{length-map, map-append}
-use Rattle.std.specs.Prelude.{if◌then◌else◌, ◌&&◌, ◌||◌}
-use Rattle.std.specs.List.{list_all}
+use Rattle.std.specs.Prelude.{if◌then◌else◌, ◌&&◌}
 use Rattle.std.specs.Str.{bytes_eq}
 use Rattle.cc_declarators.specs.Specifiers.{begin, as_type}
 use Rattle.cc_operands.specs.Qualified.{plain, further, qualified_by}
@@ -16,8 +15,8 @@ use Rattle.cc_program.specs.declared.types.Shape.TheOpen as shape
 use Rattle.cc_program.specs.declared.types.Shape.TheVariants.{outs-Struct}
 use Rattle.cc_program.specs.declared.types.Sig.{Sig}
 use Rattle.cc_program.specs.declared.types.Structure.{Structure}
-use Rattle.cc_scopes.specs.State.{State, Name, KnownStructure, only_named, find_name, with_name, tagged, or_else}
-use Rattle.cc_scopes.specs.Structures.{structure_named, structure_type}
+use Rattle.cc_scopes.specs.State.{State, Name, KnownStructure, only_named, find_name, with_name, tagged, tagged_here, or_else}
+use Rattle.cc_scopes.specs.Structures.{new_structure, structure_named, structure_type}
 use Rattle.cc_scopes.specs.Verdicts.{Found, whole, and_then}
 use Rattle.cc_scopes.specs.declared.designated.Tagged.{Tagged}
 use Rattle.cc_scopes.specs.declared.designated.Tagged.TheVariants.{StructureTag}
@@ -31,8 +30,6 @@ use Rattle.cc_specifiers.specs.declared.storage.Setting.{Setting}
 use Rattle.cc_syntax.specs.Names.{tags}
 use Rattle.cc_syntax.specs.Sound.{IsSound}
 use Rattle.cc_syntax.specs.Types.{has_members}
-use Rattle.cc_syntax.proofs.Prefixes.{both_true}
-use Rattle.cc_words.specs.Names.{is_name, are_distinct}
 use Rattle.cc_terms.specs.Specifiers.{specified_found}
 use Rattle.cc_terms.specs.Terms.{spec_of, spec_here}
 use Rattle.cc_tree.specs.declared.at.At.{At}
@@ -49,18 +46,11 @@ use Rattle.cc_shown_declarations.specs.Order.{base_of, is_among, with_first, wit
 use Rattle.cc_shown_declarations.specs.States.{tag_or_none, tag_entry, whole_structure, known_by, known_as, first_state}
 use Rattle.cc_shown_declarations.proofs.Announced.{NamesOnly}
 use Rattle.cc_shown_declarations.proofs.Namings.{base_in, base-at, named_level, named-at}
-use Rattle.cc_shown_declarations.proofs.Orders.{same, self, or-left, FirstIs, Old, New, first-is, Begins, number-new}
-use Rattle.cc_shown_declarations.proofs.Standing.{tags-differ, number_then, IsThen, program_then, base-then, same-numbers, knows-then}
+use Rattle.cc_shown_declarations.proofs.Orders.{same, FirstIs, Old, New, first-is, Begins, number-new}
+use Rattle.cc_shown_declarations.proofs.Standing.{number_then, IsThen, program_then, base-then, same-numbers, knows-then}
+use Rattle.cc_shown_declarations.proofs.Tags.{tag-new}
 
 -- ---- a name that is not there yet
-
-or-right : (a b : Bool) → b ≡ true → (a || b) ≡ true
-or-right true b h = refl
-or-right false b h = h
-
-or-false : (a b : Bool) → (a || b) ≡ false → (a ≡ false) × (b ≡ false)
-or-false false b h = (refl, h)
-or-false true b h = absurd (cc)
 
 added-by : {A : Type 0} → (x : Name) (d : A) (b : Name × A) (rest : List (Name × A)) (t : Bool) → (if t then Some b.1 else find_name x rest) ≡ None → (find_name x rest ≡ None → with_name x d rest ≡ rest ++ (x, d) ∷ []) →
     (if t then (b.0, d) ∷ rest else b ∷ with_name x d rest) ≡ b ∷ (rest ++ (x, d) ∷ [])
@@ -80,19 +70,6 @@ struct-numbered number b i e =
     (shape-of-level (Struct (number i)) (type_numbered number b).shape (outs-Struct (number i) ∙ sym (level-at number b (shape.Struct i) e)))
 
 module _ (p : Program) (sound : IsSound p) where
-  tags-apart : are_distinct (map (λ (s : Structure). s.tag) p.structures) ≡ true
-  tags-apart = (both_true (list_all is_name (tags p)) (are_distinct (tags p)) sound.tag_names).1
-
-  -- a structure that is not among these has a tag of its own
-  absent : (i : ℕ) (t : Structure) (js : List ℕ) → slice_get p.structures i ≡ Some t → is_among i js ≡ false → ((j : ℕ) → is_among j js ≡ true → (u : Structure) × (slice_get p.structures j ≡ Some u)) → find_name t.tag (map (tag_entry p) js) ≡ None
-  absent i t [] e h w = refl
-  absent i t (j ∷ js) e h w =
-      let q = or-false (nat_eq i j) (is_among i js) h in
-      let u = w j (or-left (nat_eq j j) (is_among j js) (self j)) in
-      ap (λ (b : Bool). if b then Some (StructureTag (structure_number p j)) else find_name t.tag (map (tag_entry p) js))
-      (ap (λ (o : Option Structure). bytes_eq t.tag (tag_or_none p o)) u.1 ∙ tags-differ p.structures i j t u.0 tags-apart e u.1 q.0)
-      ∙ absent i t js e q.1 (λ n l. w n (or-right (nat_eq n j) (is_among n js) l))
-
   module _ (complete : ℕ) (order : List ℕ) (before : (i : ℕ) → i < complete → is_among i order ≡ true) (within : (i : ℕ) → is_among i order ≡ true → (t : Structure) × (slice_get p.structures i ≡ Some t)) where
     abbrev now : State
     now = first_state p complete order
@@ -111,18 +88,24 @@ module _ (p : Program) (sound : IsSound p) where
     with_parts tags structures = record { scopes = record { names = []; tags = tags } ∷ []; structures = structures; completed = now.completed; names = []; locals = []; unfinished = None }
 
     -- `struct x` that declares x
-    pub new-tag : (i at : ℕ) (t : Structure) → slice_get p.structures i ≡ Some t → is_among i order ≡ false → Begins (order ++ i ∷ []) (appearance p) →
+    pub tag-absent : (i : ℕ) (t : Structure) → slice_get p.structures i ≡ Some t → is_among i order ≡ false → tagged_here t.tag now ≡ None
+    tag-absent i t e h = tag-new p sound i t order e h within
+
+    pub new-structure : (i : ℕ) (t : Structure) → slice_get p.structures i ≡ Some t → is_among i order ≡ false → Begins (order ++ i ∷ []) (appearance p) → new_structure (Some t.tag) now ≡ (structure_number p i, first_state p complete (order ++ i ∷ []))
+    new-structure i t e h b =
+        let count : length (map (known_as p complete) order) ≡ structure_number p i = length-map order (known_as p complete) ∙ sym (number-new i order (appearance p) b h) in
+        ap (λ n. (n, with_parts (with_name t.tag (StructureTag n) (map (tag_entry p) order)) (map (known_as p complete) order ++ only_named (Some t.tag) ∷ []))) count
+        ∙ ap (λ (tags : List (Name × Tagged)). (structure_number p i, with_parts tags (map (known_as p complete) order ++ only_named (Some t.tag) ∷ [])))
+        (added t.tag (StructureTag (structure_number p i)) (map (tag_entry p) order) (tag-absent i t e h)
+        ∙ ap (λ (x : Name). map (tag_entry p) order ++ (x, StructureTag (structure_number p i)) ∷ []) (sym (ap (tag_or_none p) e)) ∙ sym (map-append (tag_entry p) order (i ∷ [])))
+        ∙ ap (λ (ks : List KnownStructure). (structure_number p i, with_parts (map (tag_entry p) (order ++ i ∷ [])) ks))
+        (ap (λ (k : KnownStructure). map (known_as p complete) order ++ k ∷ []) (sym (known-new i t e h)) ∙ sym (map-append (known_as p complete) order (i ∷ [])))
+
+    new-tag : (i at : ℕ) (t : Structure) → slice_get p.structures i ≡ Some t → is_among i order ≡ false → Begins (order ++ i ∷ []) (appearance p) →
         structure_named at t.tag now (tagged t.tag now.scopes) ≡ Ok (structure_type (structure_number p i), first_state p complete (order ++ i ∷ []))
     new-tag i at t e h b =
-        let none = absent i t order e h within in
-        let count : length (map (known_as p complete) order) ≡ structure_number p i = length-map order (known_as p complete) ∙ sym (number-new i order (appearance p) b h) in
-        ap (λ (o : Option Tagged). structure_named at t.tag now (or_else o None)) none
-        ∙ ap (λ n. Ok (structure_type n, with_parts (with_name t.tag (StructureTag n) (map (tag_entry p) order)) (map (known_as p complete) order ++ only_named (Some t.tag) ∷ []))) count
-        ∙ ap (λ (tags : List (Name × Tagged)). Ok (structure_type (structure_number p i), with_parts tags (map (known_as p complete) order ++ only_named (Some t.tag) ∷ [])))
-        (added t.tag (StructureTag (structure_number p i)) (map (tag_entry p) order) none
-        ∙ ap (λ (x : Name). map (tag_entry p) order ++ (x, StructureTag (structure_number p i)) ∷ []) (sym (ap (tag_or_none p) e)) ∙ sym (map-append (tag_entry p) order (i ∷ [])))
-        ∙ ap (λ (ks : List KnownStructure). Ok (structure_type (structure_number p i), with_parts (map (tag_entry p) (order ++ i ∷ [])) ks))
-        (ap (λ (k : KnownStructure). map (known_as p complete) order ++ k ∷ []) (sym (known-new i t e h)) ∙ sym (map-append (known_as p complete) order (i ∷ [])))
+        ap (λ (o : Option Tagged). structure_named at t.tag now (or_else o None)) (tag-absent i t e h)
+        ∙ ap (λ (new : ℕ × State). Ok (structure_type new.0, new.1)) (new-structure i t e h b)
 
   -- ---- specifiers of a member
 

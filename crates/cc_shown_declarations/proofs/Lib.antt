@@ -1,5 +1,6 @@
 pub mod Addresses
 pub mod Announced
+pub mod Back
 pub mod Bases
 pub mod Closed
 pub mod Contents
@@ -7,6 +8,8 @@ pub mod Forms
 pub mod Front
 pub mod Functions
 pub mod Givens
+pub mod Items
+pub mod Left
 pub mod Located
 pub mod Members
 pub mod Names
@@ -16,4 +19,7 @@ pub mod Parameters
 pub mod Parts
 pub mod Stand
 pub mod Standing
+pub mod Structures
+pub mod Tags
+pub mod Turns
 pub mod Zeros

@@ -1,13 +1,10 @@
 -- While structures are still to come, what is known is known of a program too: the one in which those to come have no members, and
 -- those that are not named yet have the tag of one that is. A type that names none of these is the same there.
-use Rattle.std.proofs.Common.{◌≡◌, ◌<◌, ◌≤◌, ◌+◌, ℕ, zero, suc, Bool, true, false, not, ◌&&◌, ◌||◌, List, [], ◌∷◌, ◌++◌, map, length, take, Option, Some, None, refl, ap, sym, ◌∙◌, subst, slice_get, nat_eq, nat_lt, unwrap_or, arith}
+use Rattle.std.proofs.Common.{◌≡◌, ◌<◌, ◌≤◌, ◌+◌, ℕ, zero, suc, Bool, true, false, not, ◌&&◌, ◌||◌, List, [], ◌∷◌, ◌++◌, map, length, take, Option, Some, None, refl, ap, sym, ◌∙◌, subst, slice_get, nat_lt, unwrap_or, arith}
 use Rattle.std.proofs.lemmas.Bool.Decides.{nat_tests}
 use Rattle.std.proofs.lemmas.Option.{slice_get-map}
-use Rattle.std.proofs.lemmas.Slice.Eq.{bytes_eq-Decides}
 use Rattle.std.proofs.Math.Path.{fun_ext}
 use Rattle.std.specs.Prelude.{if◌then◌else◌, option_map}
-use Rattle.std.specs.List.{list_any, list_all}
-use Rattle.std.specs.Str.{bytes_eq}
 use Rattle.cc_print.specs.Units.{any_true, is_named_in}
 use Rattle.cc_program.specs.declared.program.Program.{Program}
 use Rattle.cc_program.specs.declared.types.CType.{CType}
@@ -38,7 +35,6 @@ use Rattle.cc_tree.specs.declared.tree.Params.{Params}
 use Rattle.cc_tree.specs.declared.tree.Spec as spec
 use Rattle.cc_tree.specs.declared.tree.Spec.{Spec}
 use Rattle.cc_expression_trees.specs.Types.{Core, Plain, unnamed, ShowsBase, ShowsVoid, ShowsInt, ShowsStructure, Declares, DeclaresNothing, DeclaresName, DeclaresFunction, InParens, DeclaresPointer, DeclaresArray, DeclaresFunc, ShowsParams, ShowsNone, ShowsSome, ShowsParamList, NoParam, MoreParams}
-use Rattle.cc_words.specs.Names.{is_name, are_distinct}
 use Rattle.cc_shown_expressions.specs.Known.{KnowsStructures}
 use Rattle.cc_shown_expressions.specs.Numbers.{type_numbered, sig_numbered, named_numbered, structure_numbered}
 use Rattle.cc_shown_expressions.proofs.Bases.{type-of-fields, shape-of-level}
@@ -47,53 +43,12 @@ use Rattle.cc_shown_declarations.specs.Order.{is_among, appearance, structure_nu
 use Rattle.cc_shown_declarations.specs.States.{tag_or_none, tag_at, tag_entry, whole_structure, known_by, known_as, first_state}
 use Rattle.cc_shown_declarations.proofs.Announced.{NamesOnly}
 use Rattle.cc_shown_declarations.proofs.Namings.{named-at, named-inside}
-use Rattle.cc_shown_declarations.proofs.Orders.{same, self, or-left, place-there, Begins, number-old}
-
--- ---- tags are apart
-
-or-false : (a b : Bool) → (a || b) ≡ false → (a ≡ false) × (b ≡ false)
-or-false false b h = (refl, h)
-or-false true b h = absurd (cc)
+use Rattle.cc_shown_declarations.proofs.Orders.{self, or-left, place-there, Begins, number-old}
+use Rattle.cc_shown_declarations.proofs.Tags.{tag-there}
 
 or-second : (a b : Bool) → b ≡ true → (a || b) ≡ true
 or-second true b h = refl
 or-second false b h = h
-
-not-false : (b : Bool) → not b ≡ true → b ≡ false
-not-false false h = refl
-not-false true h = absurd (cc)
-
-tag-absent : (x : Name) (ss : List Structure) (j : ℕ) (u : Structure) → list_any (bytes_eq x) (map (λ (s : Structure). s.tag) ss) ≡ false → slice_get ss j ≡ Some u → bytes_eq x u.tag ≡ false
-tag-absent x [] j u h e = absurd (cc)
-tag-absent x (s ∷ ss) zero u h e = let is : s ≡ u = cc in ap (λ (r : Structure). bytes_eq x r.tag) (sym is) ∙ (or-false (bytes_eq x s.tag) (list_any (bytes_eq x) (map (λ (s : Structure). s.tag) ss)) h).0
-tag-absent x (s ∷ ss) (suc j) u h e = tag-absent x ss j u (or-false (bytes_eq x s.tag) (list_any (bytes_eq x) (map (λ (s : Structure). s.tag) ss)) h).1 e
-
-turned-by : (x y : Name) (b : Bool) → bytes_eq y x ≡ b → bytes_eq x y ≡ false → b ≡ false
-turned-by x y false e h = refl
-turned-by x y true e h = let is = (bytes_eq-Decides y x).0 e in let g : true ≡ false = sym ((bytes_eq-Decides x y).1 (sym is)) ∙ h in absurd (cc)
-
-turned : (x y : Name) → bytes_eq x y ≡ false → bytes_eq y x ≡ false
-turned x y h = turned-by x y (bytes_eq y x) refl h
-
-pub tags-differ : (ss : List Structure) (i j : ℕ) (s u : Structure) → are_distinct (map (λ (s : Structure). s.tag) ss) ≡ true → slice_get ss i ≡ Some s → slice_get ss j ≡ Some u → nat_eq i j ≡ false → bytes_eq s.tag u.tag ≡ false
-tags-differ [] i j s u h e f n = absurd (cc)
-tags-differ (r ∷ rs) zero zero s u h e f n = absurd (let g : true ≡ false = sym (self 0) ∙ n in cc)
-tags-differ (r ∷ rs) zero (suc j) s u h e f n =
-    let is : r ≡ s = cc in
-    let q = both_true (not (list_any (bytes_eq r.tag) (map (λ (s : Structure). s.tag) rs))) (are_distinct (map (λ (s : Structure). s.tag) rs)) h in
-    subst (λ (t : Structure). bytes_eq t.tag u.tag ≡ false) is (tag-absent r.tag rs j u (not-false (list_any (bytes_eq r.tag) (map (λ (s : Structure). s.tag) rs)) q.0) f)
-tags-differ (r ∷ rs) (suc i) zero s u h e f n =
-    let is : r ≡ u = cc in
-    let q = both_true (not (list_any (bytes_eq r.tag) (map (λ (s : Structure). s.tag) rs))) (are_distinct (map (λ (s : Structure). s.tag) rs)) h in
-    turned u.tag s.tag (subst (λ (t : Structure). bytes_eq t.tag s.tag ≡ false) is (tag-absent r.tag rs i s (not-false (list_any (bytes_eq r.tag) (map (λ (s : Structure). s.tag) rs)) q.0) e))
-tags-differ (r ∷ rs) (suc i) (suc j) s u h e f n =
-    tags-differ rs i j s u (both_true (not (list_any (bytes_eq r.tag) (map (λ (s : Structure). s.tag) rs))) (are_distinct (map (λ (s : Structure). s.tag) rs)) h).1 e f (one-less i j n)
-  where
-    one-less : (i j : ℕ) → nat_eq (suc i) (suc j) ≡ false → nat_eq i j ≡ false
-    one-less i j h = grind (arith, nat_tests)
-
-tag-self : (x : Name) → bytes_eq x x ≡ true
-tag-self x = (bytes_eq-Decides x x).1 refl
 
 nothing-laid : structure [] ≡ nothing
 unfolding structure aligned
@@ -377,32 +332,11 @@ module _ (p : Program) (complete : ℕ) (order : List ℕ) (someone : ℕ) where
     abbrev now : State
     now = first_state p complete order
 
-    distinct : are_distinct (map (λ (s : Structure). s.tag) p.structures) ≡ true
-    distinct = (both_true (list_all is_name (tags p)) (are_distinct (tags p)) sound.tag_names).1
-
     tag-is : (i : ℕ) (t : Structure) → slice_get p.structures i ≡ Some t → tag_at p i ≡ t.tag
     tag-is i t e = ap (tag_or_none p) e
 
-    find-by : (i j : ℕ) (t : Structure) (js : List ℕ) (b : Bool) → nat_eq i j ≡ b → (u : Structure) → slice_get p.structures j ≡ Some u → slice_get p.structures i ≡ Some t → (b || is_among i js) ≡ true →
-        (is_among i js ≡ true → find_name t.tag (map (tag_entry p) js) ≡ Some (StructureTag (number i))) → find_name t.tag (tag_entry p j ∷ map (tag_entry p) js) ≡ Some (StructureTag (number i))
-    find-by i j t js true e u f g h next =
-        let is = same i j e in
-        ap (λ (b : Bool). if b then Some (StructureTag (number j)) else find_name t.tag (map (tag_entry p) js))
-        (ap (bytes_eq t.tag) (ap (tag_at p) (sym is) ∙ tag-is i t g) ∙ tag-self t.tag)
-        ∙ ap (λ k. Some (StructureTag (number k))) (sym is)
-    find-by i j t js false e u f g h next =
-        ap (λ (b : Bool). if b then Some (StructureTag (number j)) else find_name t.tag (map (tag_entry p) js))
-        (ap (bytes_eq t.tag) (tag-is j u f) ∙ tags-differ p.structures i j t u distinct g f e) ∙ next h
-
-    find-from : (i : ℕ) (t : Structure) (js : List ℕ) → slice_get p.structures i ≡ Some t → is_among i js ≡ true → ((j : ℕ) → is_among j js ≡ true → (u : Structure) × (slice_get p.structures j ≡ Some u)) →
-        find_name t.tag (map (tag_entry p) js) ≡ Some (StructureTag (number i))
-    find-from i t [] e h w = absurd (cc)
-    find-from i t (j ∷ js) e h w =
-        let u = w j (or-left (nat_eq j j) (is_among j js) (self j)) in
-        find-by i j t js (nat_eq i j) refl u.0 u.1 e h (λ k. find-from i t js e k (λ n l. w n (or-second (nat_eq n j) (is_among n js) l)))
-
-    pub tag-found : (i : ℕ) (t : Structure) → slice_get p.structures i ≡ Some t → is_among i order ≡ true → find_name t.tag (map (tag_entry p) order) ≡ Some (StructureTag (number i))
-    tag-found i t e h = find-from i t order e h known.within
+    tag-found : (i : ℕ) (t : Structure) → slice_get p.structures i ≡ Some t → is_among i order ≡ true → find_name t.tag (map (tag_entry p) order) ≡ Some (StructureTag (number i))
+    tag-found i t e h = tag-there p sound i t order e h known.within
 
     tagged-is : (i : ℕ) (t : Structure) → slice_get p.structures i ≡ Some t → is_among i order ≡ true → tagged t.tag now.scopes ≡ Some (StructureTag (number i))
     tagged-is i t e h = ap (λ (o : Option Tagged). or_else o None) (tag-found i t e h)

@@ -1,5 +1,6 @@
 pub mod Declared
 pub mod Known
+pub mod Left
 pub mod Numbers
 pub mod Order
 pub mod Parameters

@@ -1,20 +1,16 @@
 -- Why a simulation has one answer: each cause is looked for where no cause in front of it is there.
 use Rattle.std.proofs.Common.{◌≡◌, ◌∙◌, ◌+◌, ℕ, List, [], ◌∷◌, map, Option, Some, None, option_map, refl, ap, sym, subst, arith}
-use Rattle.std.specs.Prelude.{slice_index_or}
 use Rattle.cc_cost.specs.declared.profile.Profile.{Profile}
 use Rattle.cc_edge.specs.Files.{Files}
 use Rattle.cc_files.specs.Unread.{IsUnread}
 use Rattle.cc_files.specs.declared.unread.Unread.{Unread}
-use Rattle.cc_material.proofs.OneCause.{same_text, read_not, one_unread, same_texts, sources_read, one_first, profile_read, one_profile_end, SaySame, one_profile, same_program, not_above, one_limit, program_as, refused_as}
+use Rattle.cc_material.proofs.OneCause.{same_text, read_not, one_unread, same_texts, sources_read, one_first, profile_read, one_profile_end, SaySame, one_profile, same_program, not_above, one_limit, program_not_refused, one_refusal, program_as, refusal_as}
 use Rattle.cc_material.specs.Material.{IsThere}
 use Rattle.cc_material.specs.Programs.{IsProgram}
 use Rattle.cc_program.specs.declared.program.Program.{Program}
-use Rattle.cc_read.proofs.Refused.{not_refused, one_cause}
-use Rattle.cc_read.specs.Refusals.{AreForOneCause, settled}
-use Rattle.cc_read.specs.declared.refusal.Refusal.{Refusal}
 use Rattle.cc_run.specs.Outcomes.{first_none}
 use Rattle.cc_simulation.specs.Asked.{Asked}
-use Rattle.cc_simulation.specs.Ends.{FilesEnd, AtProfile, AtInputs, AtArrivals, AtSources, RowsEnd, WrongInput, WrongArrival, ProgramEnds, NotSound, AboveLimit, WrongRow, SourcesEnd, AreRefused, NotRun, RunEnds, ManySteps, AtFiles, AtProgram}
+use Rattle.cc_simulation.specs.Ends.{FilesEnd, AtProfile, AtInputs, AtArrivals, AtSources, RowsEnd, WrongInput, WrongArrival, ProgramEnds, AboveLimit, WrongRow, SourcesEnd, AreRefused, NotRun, RunEnds, ManySteps, AtFiles, AtProgram}
 use Rattle.cc_simulation.specs.Traces.{IsTrace, IsRunnable, AreRead, IsAsked}
 use Rattle.cc_status.specs.Settled.{settled_status}
 use Rattle.cc_status.specs.Statuses.{for_unread}
@@ -81,46 +77,36 @@ module _ (p : Program) (inputs arrivals : List ℕ) where
 
 -- ---- the program
 
-module _ (first inputs arrivals : List ℕ) (p : Program) where
-  no_end : (steps : ℕ) (text : List ℕ) (s : Status) → IsRunnable p → IsTrace p inputs arrivals steps text → ProgramEnds first inputs arrivals p s → ⊥
-  no_end steps text _ h t (NotSound k) = k h.sound
+module _ (inputs arrivals : List ℕ) (p : Program) where
+  no_end : (steps : ℕ) (text : List ℕ) (s : Status) → IsRunnable p → IsTrace p inputs arrivals steps text → ProgramEnds inputs arrivals p s → ⊥
   no_end steps text _ h t (AboveLimit n w m k) = not_above p w m h.within k
   no_end steps text s h t (WrongRow n _ k) = no_rows_end p inputs arrivals steps text s t k
 
-  one_program_end : (s t : Status) → ProgramEnds first inputs arrivals p s → ProgramEnds first inputs arrivals p t → s ≡ t
-  one_program_end _ _ (NotSound h) (NotSound k) = refl
-  one_program_end _ _ (NotSound h) (AboveLimit n w m k) = absurd (h n)
-  one_program_end _ t (NotSound h) (WrongRow n _ k) = absurd (h n.sound)
-  one_program_end _ _ (AboveLimit n w m k) (NotSound h) = absurd (h n)
+  one_program_end : (s t : Status) → ProgramEnds inputs arrivals p s → ProgramEnds inputs arrivals p t → s ≡ t
   one_program_end _ _ (AboveLimit n v l h) (AboveLimit o w m k) = one_limit p v w l m h k
   one_program_end _ t (AboveLimit n w m h) (WrongRow o _ k) = absurd (not_above p w m o.within h)
-  one_program_end s _ (WrongRow n _ k) (NotSound h) = absurd (h n.sound)
   one_program_end s _ (WrongRow n _ k) (AboveLimit o w m h) = absurd (not_above p w m n.within h)
   one_program_end s t (WrongRow n _ h) (WrongRow o _ k) = one_rows_end p inputs arrivals s t h k
 
 -- ---- the sources
 
 module _ (names : List (List ℕ)) (profile : Profile) (sources : List (List ℕ)) (inputs arrivals : List ℕ) where
-  ends_of : (p q : Program) (s : Status) → p ≡ q → ProgramEnds (slice_index_or names 0 []) inputs arrivals q s → ProgramEnds (slice_index_or names 0 []) inputs arrivals p s
-  ends_of p q s e h = subst (λ r. ProgramEnds (slice_index_or names 0 []) inputs arrivals r s) (sym e) h
+  ends_of : (p q : Program) (s : Status) → p ≡ q → ProgramEnds inputs arrivals q s → ProgramEnds inputs arrivals p s
+  ends_of p q s e h = subst (λ r. ProgramEnds inputs arrivals r s) (sym e) h
 
   no_sources_end : (p : Program) (steps : ℕ) (text : List ℕ) (s : Status) → IsProgram profile sources p → IsRunnable p → IsTrace p inputs arrivals steps text → SourcesEnd names profile sources inputs arrivals s → ⊥
-  no_sources_end p steps text _ h k t (AreRefused e r) = not_refused profile.target profile.roles sources p e h.reads h.low r
-  no_sources_end p steps text s h k t (NotRun q _ i r) = no_end (slice_index_or names 0 []) inputs arrivals p steps text s k t (ends_of p q s (same_program profile sources p q h i) r)
-
-  refused_alike : (e f : Refusal) → AreForOneCause e f → settled_status (status.Refused (slice_index_or names e.file []) e.why) ≡ settled_status (status.Refused (slice_index_or names f.file []) f.why)
-  refused_alike e f h = ap (λ n. status.Refused (slice_index_or names n []) (settled e.why)) h.file ∙ ap (λ w. status.Refused (slice_index_or names f.file []) w) h.cause
+  no_sources_end p steps text s h k t (AreRefused _ r) = program_not_refused names profile sources p s h r
+  no_sources_end p steps text s h k t (NotRun q _ i r) = no_end inputs arrivals p steps text s k t (ends_of p q s (same_program profile sources p q h i) r)
 
   one_sources_end : (s t : Status) → SourcesEnd names profile sources inputs arrivals s → SourcesEnd names profile sources inputs arrivals t → settled_status s ≡ settled_status t
-  one_sources_end _ _ (AreRefused e h) (AreRefused f k) = refused_alike e f (one_cause profile.target profile.roles sources e f h k)
-  one_sources_end _ t (AreRefused e h) (NotRun q _ i r) = absurd (not_refused profile.target profile.roles sources q e i.reads i.low h)
-  one_sources_end s _ (NotRun p _ h r) (AreRefused e k) = absurd (not_refused profile.target profile.roles sources p e h.reads h.low k)
-  one_sources_end s t (NotRun p _ h r) (NotRun q _ i o) =
-      ap settled_status (one_program_end (slice_index_or names 0 []) inputs arrivals p s t r (ends_of p q t (same_program profile sources p q h i) o))
+  one_sources_end s t (AreRefused _ h) (AreRefused _ k) = one_refusal names profile sources s t h k
+  one_sources_end s t (AreRefused _ h) (NotRun q _ i r) = absurd (program_not_refused names profile sources q s i h)
+  one_sources_end s t (NotRun p _ h r) (AreRefused _ k) = absurd (program_not_refused names profile sources p t h k)
+  one_sources_end s t (NotRun p _ h r) (NotRun q _ i o) = ap settled_status (one_program_end inputs arrivals p s t r (ends_of p q t (same_program profile sources p q h i) o))
 
 module _ (names : List (List ℕ)) (p q : Profile) (same : SaySame p q) (sources : List (List ℕ)) (inputs arrivals : List ℕ) where
   sources_end_as : (s : Status) → SourcesEnd names q sources inputs arrivals s → SourcesEnd names p sources inputs arrivals s
-  sources_end_as _ (AreRefused e h) = AreRefused e (refused_as p q same sources e h)
+  sources_end_as s (AreRefused _ h) = AreRefused s (refusal_as p q same sources names s h)
   sources_end_as s (NotRun r _ h k) = NotRun r s (program_as p q same sources r h) k
 
 -- ---- all

@@ -1,22 +1,17 @@
 -- From what the parts answer of a program and its rows to its trace, or to why there is none.
-use Rattle.std.proofs.Common.{◌≡◌, ◌∙◌, ℕ, ℤ, true, List, [], Result, Ok, Err, IfOk, IfErr, refl, ap, sym, subst}
-use Rattle.std.specs.Prelude.{◌≢◌, Vec, slice_index_or}
-use Rattle.std.specs.List.{All}
+use Rattle.std.proofs.Common.{◌≡◌, ◌∙◌, ℕ, ℤ, true, List, Result, Ok, Err, IfOk, IfErr, refl, ap}
+use Rattle.std.specs.Prelude.{◌≢◌, Vec}
 use Rattle.std.specs.declared.alloc.Global.{Global}
 use Rattle.cc_cost.specs.declared.profile.Profile.{Profile}
 use Rattle.cc_material.proofs.LimitLaws.{above-over}
 use Rattle.cc_material.specs.Material.{TellsFile, is_refusal}
-use Rattle.cc_material.specs.Programs.{IsAbove, ManyFunctions, MuchRam, IsWithin}
+use Rattle.cc_material.specs.Programs.{IsAbove, IsProgram, ManyFunctions, MuchRam, IsWithin}
 use Rattle.cc_program.specs.declared.program.Program.{Program}
-use Rattle.cc_read.specs.Refusals.{IsRefused}
-use Rattle.cc_read.specs.Texts.{IsLow, Reads}
-use Rattle.cc_read.specs.declared.refusal.ReadRefusal.TheVariants as why
-use Rattle.cc_read.specs.declared.refusal.Refusal.{Refusal}
 use Rattle.cc_run.specs.Driven.{driven}
 use Rattle.cc_run.specs.Trace.{trace_text}
 use Rattle.cc_run.specs.declared.fault.RowFault.{RowFault}
 use Rattle.cc_run.specs.declared.fault.RowFault.TheVariants as row
-use Rattle.cc_simulation.specs.Ends.{TellsInput, TellsArrival, RowsEnd, WrongInput, WrongArrival, ProgramEnds, AboveLimit, WrongRow, SourcesEnd, AreRefused, NotRun, for_inputs, for_arrivals, is_run_refusal}
+use Rattle.cc_simulation.specs.Ends.{TellsInput, TellsArrival, RowsEnd, WrongInput, WrongArrival, ProgramEnds, AboveLimit, WrongRow, SourcesEnd, NotRun, for_inputs, for_arrivals, is_run_refusal}
 use Rattle.cc_simulation.specs.Traces.{AreInputs, AreArrivals, IsTrace, IsRunnable, IsMade}
 use Rattle.cc_status.specs.declared.status.Status.{Status}
 use Rattle.cc_status.specs.declared.status.Status.TheVariants as status
@@ -62,8 +57,8 @@ is-trace p inputs arrivals steps numbers turns given text i a e h =
 pub sizes : (p : Program) → IsSound p → HasSizes p
 sizes p h = sound_sizes p h
 
-module _ (first inputs arrivals : List ℕ) (p : Program) (sound : IsSound p) where
-  pub above-limit : (w : What) (n : ℕ) → IsAbove p w n → ProgramEnds first inputs arrivals p (status.Limit w n)
+module _ (inputs arrivals : List ℕ) (p : Program) (sound : IsSound p) where
+  pub above-limit : (w : What) (n : ℕ) → IsAbove p w n → ProgramEnds inputs arrivals p (status.Limit w n)
   above-limit w n h = AboveLimit sound w n h
 
   module _ (within : IsWithin p) (r : Result (Vec ℕ Global) Status) where
@@ -74,10 +69,10 @@ module _ (first inputs arrivals : List ℕ) (p : Program) (sound : IsSound p) wh
         by_cases (Ok t) = record { sound = sound; within = within }
         by_cases (Err s) = tt
 
-    pub rows-end : IfErr r (λ s. s ≢ status.NoMemory → RowsEnd p inputs arrivals s) → IfErr r (λ s. s ≢ status.NoMemory → ProgramEnds first inputs arrivals p s)
+    pub rows-end : IfErr r (λ s. s ≢ status.NoMemory → RowsEnd p inputs arrivals s) → IfErr r (λ s. s ≢ status.NoMemory → ProgramEnds inputs arrivals p s)
     rows-end h = by_cases r h
       where
-        by_cases : (r : Result (Vec ℕ Global) Status) → IfErr r (λ s. s ≢ status.NoMemory → RowsEnd p inputs arrivals s) → IfErr r (λ s. s ≢ status.NoMemory → ProgramEnds first inputs arrivals p s)
+        by_cases : (r : Result (Vec ℕ Global) Status) → IfErr r (λ s. s ≢ status.NoMemory → RowsEnd p inputs arrivals s) → IfErr r (λ s. s ≢ status.NoMemory → ProgramEnds inputs arrivals p s)
         by_cases (Ok t) h = tt
         by_cases (Err s) h = λ n. WrongRow (record { sound = sound; within = within }) s (h n)
 
@@ -100,25 +95,17 @@ run-refusal (status.Arrivals n) h = refl
 run-refusal (status.Limit w n) h = absurd (cc)
 run-refusal (status.WriteFault name) h = h
 run-refusal status.NoMemory h = h
-run-refusal (status.Later name) h = refl
+run-refusal (status.Later name) h = h
 
-module _ (names : List (List ℕ)) (profile : Profile) (sources : List (List ℕ)) (inputs arrivals : List ℕ) where
-  module _ (p : Program) (h : Reads sources profile.target profile.roles p) (low : All IsLow sources) where
-    pub is-made : (steps : ℕ) (r : Result (Vec ℕ Global) Status) → IfOk r (λ _. IsRunnable p) → IfOk r (λ t. IsTrace p inputs arrivals steps t.items) → IfOk r (λ t. IsMade profile sources inputs arrivals steps t.items)
-    is-made steps (Ok t) k o = record { read = p; is_program = record { reads = h; low = low }; runnable = k; trace = o }
-    is-made steps (Err s) k o = tt
+module _ (profile : Profile) (sources : List (List ℕ)) (inputs arrivals : List ℕ) (p : Program) (h : IsProgram profile sources p) where
+  pub is-made : (steps : ℕ) (r : Result (Vec ℕ Global) Status) → IfOk r (λ _. IsRunnable p) → IfOk r (λ t. IsTrace p inputs arrivals steps t.items) → IfOk r (λ t. IsMade profile sources inputs arrivals steps t.items)
+  is-made steps (Ok t) k o = record { read = p; is_program = h; runnable = k; trace = o }
+  is-made steps (Err s) k o = tt
 
-    pub not-run : (r : Result (Vec ℕ Global) Status) → IfErr r (λ s. s ≢ status.NoMemory → ProgramEnds (slice_index_or names 0 []) inputs arrivals p s) →
-        IfErr r (λ s. s ≢ status.NoMemory → SourcesEnd names profile sources inputs arrivals s)
-    not-run (Ok t) e = tt
-    not-run (Err s) e = λ n. NotRun p s (record { reads = h; low = low }) (e n)
-
-  pub are-refused : (e : Refusal) (s : Status) → (e.why ≢ why.NoMemory → IsRefused profile.target profile.roles sources e) → (s ≢ status.NoMemory → e.why ≢ why.NoMemory) → (s ≢ status.NoMemory → s ≡ status.Refused (slice_index_or names e.file []) e.why) →
-      s ≢ status.NoMemory → SourcesEnd names profile sources inputs arrivals s
-  are-refused e s h w k n = subst (λ t. SourcesEnd names profile sources inputs arrivals t) (sym (k n)) (AreRefused e (h (w n)))
+  pub not-run : (names : List (List ℕ)) (r : Result (Vec ℕ Global) Status) → IfErr r (λ s. s ≢ status.NoMemory → ProgramEnds inputs arrivals p s) → IfErr r (λ s. s ≢ status.NoMemory → SourcesEnd names profile sources inputs arrivals s)
+  not-run names (Ok t) e = tt
+  not-run names (Err s) e = λ n. NotRun p s h (e n)
 
 pub ruleset of_rows = (inputs-told, arrivals-told, inputs-refusal, arrivals-refusal, inputs-no-file, arrivals-no-file, is-trace)
 
 pub ruleset of_programs = (sizes, above-limit, is-runnable, rows-end, above-refusal)
-
-pub ruleset of_refusals = (run-refusal)

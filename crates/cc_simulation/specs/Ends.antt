@@ -1,14 +1,12 @@
 -- How a simulation ends where nothing is said: the first cause, in the order in which they are looked for.
-use Rattle.std.specs.Prelude.{◌≤◌, ◌<◌, ℕ, ℤ, Bool, true, false, List, [], map, slice_index_or}
+use Rattle.std.specs.Prelude.{◌≤◌, ◌<◌, ℕ, ℤ, Bool, true, false, List, map}
 use Rattle.cc_cost.specs.declared.profile.Profile.{Profile}
 use Rattle.cc_edge.specs.Files.{Files}
 use Rattle.cc_files.specs.Unread.{IsUnread, IsFirstSourceUnread}
 use Rattle.cc_files.specs.declared.unread.Unread.{Unread}
 use Rattle.cc_material.specs.Material.{IsProfile, IsThere, ProfileEnds, is_refusal}
-use Rattle.cc_material.specs.Programs.{IsAbove, IsProgram, is_over}
+use Rattle.cc_material.specs.Programs.{IsAbove, IsProgram, TellsRefusal}
 use Rattle.cc_program.specs.declared.program.Program.{Program}
-use Rattle.cc_read.specs.Refusals.{IsRefused}
-use Rattle.cc_read.specs.declared.refusal.Refusal.{Refusal}
 use Rattle.cc_rows.specs.Rows.{rows_of}
 use Rattle.cc_run.specs.Arrivals.{written_in, arrivals_from}
 use Rattle.cc_run.specs.Inputs.{input_in}
@@ -17,7 +15,7 @@ use Rattle.cc_run.specs.declared.fault.RowFault.{RowFault}
 use Rattle.cc_run.specs.declared.fault.RowFault.TheVariants as row
 use Rattle.cc_simulation.specs.Asked.{Asked}
 use Rattle.cc_simulation.specs.Traces.{AreInputs, AreRead, IsRunnable}
-use Rattle.cc_status.specs.Statuses.{for_unread}
+use Rattle.cc_status.specs.Statuses.{for_unread, is_over}
 use Rattle.cc_status.specs.declared.status.Status.{Status}
 use Rattle.cc_status.specs.declared.status.Status.TheVariants as status
 use Rattle.cc_status.specs.declared.status.What.{What}
@@ -46,17 +44,15 @@ pub data RowsEnd (p : Program) (inputs arrivals : List ℕ) : Status → Type 0 
   WrongInput : (n : ℕ) → TellsInput inputs (row.Row n) → RowsEnd p inputs arrivals (status.Inputs n)
   WrongArrival : (numbers : List ℤ) (n : ℕ) → AreInputs inputs numbers → TellsArrival p arrivals (row.Row n) → RowsEnd p inputs arrivals (status.Arrivals n)
 
--- The program of sources, of which `first` is the name of the first, is not run: it is not sound, or above a limit, or a row of
--- what it is run over is wrong.
-pub data ProgramEnds (first : List ℕ) (inputs arrivals : List ℕ) (p : Program) : Status → Type 0 where
-  NotSound : (IsSound p → ⊥) → ProgramEnds first inputs arrivals p (status.Later first)
-  AboveLimit : IsSound p → (w : What) (n : ℕ) → IsAbove p w n → ProgramEnds first inputs arrivals p (status.Limit w n)
-  WrongRow : IsRunnable p → (s : Status) → RowsEnd p inputs arrivals s → ProgramEnds first inputs arrivals p s
+-- the program, which is sound, is not run: it is above a limit, or a row of what it is run over is wrong
+pub data ProgramEnds (inputs arrivals : List ℕ) (p : Program) : Status → Type 0 where
+  AboveLimit : IsSound p → (w : What) (n : ℕ) → IsAbove p w n → ProgramEnds inputs arrivals p (status.Limit w n)
+  WrongRow : IsRunnable p → (s : Status) → RowsEnd p inputs arrivals s → ProgramEnds inputs arrivals p s
 
--- sources of these names are refused, with the name of the one at fault, or their program is not run
+-- sources of these names are refused, or their program is not run
 pub data SourcesEnd (names : List (List ℕ)) (profile : Profile) (sources : List (List ℕ)) (inputs arrivals : List ℕ) : Status → Type 0 where
-  AreRefused : (e : Refusal) → IsRefused profile.target profile.roles sources e → SourcesEnd names profile sources inputs arrivals (status.Refused (slice_index_or names e.file []) e.why)
-  NotRun : (p : Program) (s : Status) → IsProgram profile sources p → ProgramEnds (slice_index_or names 0 []) inputs arrivals p s → SourcesEnd names profile sources inputs arrivals s
+  AreRefused : (s : Status) → TellsRefusal names profile sources s → SourcesEnd names profile sources inputs arrivals s
+  NotRun : (p : Program) (s : Status) → IsProgram profile sources p → ProgramEnds inputs arrivals p s → SourcesEnd names profile sources inputs arrivals s
 
 -- where memory did not run out; where the store's faults have risen, a file may be told not to be read
 pub data RunEnds (files : Files) (rose : Type 0) (a : Asked) : Status → Type 0 where
@@ -74,11 +70,11 @@ abbrev pub for_arrivals : RowFault → Status
 for_arrivals (row.Row n) = status.Arrivals n
 for_arrivals row.NoMemory = status.NoMemory
 
--- an answer of so few steps that they are run, where nothing is said: a number that is told is above its limit
+-- an answer of so few steps that they are run, where nothing is said: it is not Later, and a number that is told is above its
+-- limit
 abbrev pub is_run_refusal : Status → Bool
 is_run_refusal (status.Inputs n) = true
 is_run_refusal (status.Arrivals n) = true
 is_run_refusal (status.Limit what.Out n) = false
 is_run_refusal (status.Limit w n) = is_over w n
-is_run_refusal (status.Later name) = true
 is_run_refusal s = is_refusal s

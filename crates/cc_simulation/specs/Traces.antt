@@ -30,7 +30,7 @@ pub record IsTrace (p : Program) (inputs arrivals : List ℕ) (steps : ℕ) (tex
   pub arrivals_are : AreArrivals p arrivals turns
   pub is : text ≡ trace_text p (driven p numbers turns steps)
 
--- the program is one that is run today: it is sound, and within the limits
+-- the program is one that is run: it is sound, as each is that is read, and within the limits
 pub record IsRunnable (p : Program) : Type 0 where
   pub sound : IsSound p
   pub within : IsWithin p

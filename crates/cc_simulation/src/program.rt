@@ -9,10 +9,8 @@ ghost use Rattle.cc_status.specs.declared.status.Status.TheVariants as status;
 ghost use Rattle.cc_syntax.specs.Sound.{IsSound};
 
 use cc_material::above;
-use cc_num::Name;
 use cc_program::Program;
 use cc_run::{RowFault, drive, read_arrivals, read_inputs};
-use cc_sound::is_sound;
 use cc_status::Status;
 use std::alloc::Global;
 
@@ -36,9 +34,9 @@ fn for_arrivals(fault: RowFault) -> Status
     }
 }
 
-/// The text of the trace of a sound program.
+/// The text of the trace of a sound program over rows of inputs and of arrivals.
 #[tactic(auto, using(crate::proofs::ProgramTraces::of_rows))]
-fn trace_of_sound(
+fn trace_over(
     alloc: Global,
     p: &Program,
     inputs: &[u8],
@@ -62,27 +60,24 @@ fn trace_of_sound(
     Ok(drive(alloc, p, numbers, turns.as_slice(), steps)?)
 }
 
-/// The text of the trace of a program, or why there is none; `first` is the name of the first of its sources.
+/// The text of the trace of a sound program, or why there is none.
 #[tactic(auto, using(crate::proofs::ProgramTraces::of_programs))]
 pub fn trace_of(
     alloc: Global,
-    first: Name,
     p: &Program,
     inputs: &[u8],
     arrivals: &[u8],
     steps: u32,
 ) -> Result<Vec<u8>, Status>
+    requires { IsSound p.now }
     ensures runnable { IfOk result (λ _. IsRunnable p.now) }
     ensures trace { IfOk result (λ text. IsTrace p.now inputs.now arrivals.now steps text.items) }
-    ensures ends { IfErr result (λ s. s ≢ status.NoMemory → ProgramEnds first inputs.now arrivals.now p.now s) }
+    ensures ends { IfErr result (λ s. s ≢ status.NoMemory → ProgramEnds inputs.now arrivals.now p.now s) }
     ensures refusal { IfErr result (λ s. is_run_refusal s ≡ true) }
     ensures no_file { IfErr result (λ s. TellsFile (λ _. ⊥) (λ _. ⊥) s) }
 {
-    if !is_sound(p) {
-        return Err(Status::Later(first));
-    }
     match above(p) {
         Some(limit) => Err(Status::Limit(limit.0, limit.1)),
-        None => trace_of_sound(alloc, p, inputs, arrivals, steps),
+        None => trace_over(alloc, p, inputs, arrivals, steps),
     }
 }

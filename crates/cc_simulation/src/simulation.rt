@@ -13,8 +13,7 @@ ghost use Rattle.cc_status.specs.declared.status.What.TheVariants as what;
 use crate::material::read_material;
 use crate::sources::trace_of_sources;
 use cc_edge::{Sink, Store, say_whole};
-use cc_material::output_name;
-use cc_status::{Status, What};
+use cc_status::{Status, What, output_name};
 use std::alloc::Global;
 
 /// The most steps of a run.
@@ -79,6 +78,9 @@ pub fn simulate<F: Store, O: Sink>(
     ensures steps { 1000000 < asked.now.steps → result ≡ status.Limit what.Steps asked.now.steps }
     ensures ends { may_write result ≡ false → result ≢ status.NoMemory → IsTrue (F.told store.old) → RunEnds (F.files store.old) (Rose (F.faults store.old) (F.faults store.new)) (asked_of asked.now) result }
     ensures refusal { may_write result ≡ false → asked.now.steps ≤ 1000000 → is_run_refusal result ≡ true }
+
+    // Each program that is read is run, within the limits.
+    ensures not_later { (name : ListOf ℕ) → result ≢ status.Later name }
 
     // Over a store that does not tell its files, a fault names one that is read, and it comes where the store's faults rose,
     // or where more bytes were taken than a file of its kind may have.

@@ -35,6 +35,7 @@ use Rattle.cc_sound_declarations.proofs.Unconst.{lowered_reduced, object_stays}
 use Rattle.cc_sound_declarations.proofs.Left.{IsInitialised, begun, initialised_goes, initialised_stands}
 use Rattle.cc_sound_declarations.proofs.Types.{completed_is, object_pointed}
 use Rattle.cc_sound_declarations.specs.Ranges.{given_in_range}
+use Rattle.cc_sound_declarations.proofs.Braces.{behind_object}
 use Rattle.cc_sound_declarations.proofs.Declaring.{declares_through, given_less, known_before, known_behind, lowered_at, lowered_length, of_extends, wider}
 use Rattle.cc_sound_declarations.proofs.Steps.{automatic, unfinished}
 use Rattle.cc_sound_declarations.specs.Declaring.{AreDeclared, DeclaresGiven, lowered, unconst}
@@ -44,6 +45,8 @@ use Rattle.cc_sound_terms.proofs.Known.{within_known}
 use Rattle.cc_sound_terms.specs.Knowing.{KnowsStructures}
 use Rattle.cc_sound_terms.specs.Ordered.{IsOrdered}
 use Rattle.cc_sound_terms.specs.Standing.{IsDerived}
+use Rattle.cc_sound_terms.proofs.Closings.{closings_alike}
+use Rattle.cc_sound_terms.specs.Closings.{Closings}
 use Rattle.cc_sound_terms.specs.Typing.{Knows, KnowsTypes}
 use Rattle.cc_operand_types.proofs.WithoutConst.{reduced_const}
 use Rattle.cc_specifiers.specs.Declarators.{is_unbounded}
@@ -159,6 +162,10 @@ module _ (v : View) (roles : Roles) (defined : List Name) (k : ℕ) where
       ends : DeclaresGiven v defined Q middle E (with_unfinished None middle) E
       ends = unfinished v defined Q None middle E
 
+      -- what is known of closing braces behind the object, whatever is given
+      closes : Closings v P s a.1
+      closes = behind_object v defined P x u s a.1 E E (initialised_goes v roles defined P (List Expr) t u (Local n) start a E as_initialised)
+
       fills : DeclaresGiven v defined Q start E a.1 E
       fills = initialised_goes v roles defined Q (List Expr) t u (Local n) start a E as_initialised
 
@@ -213,6 +220,7 @@ module _ (v : View) (roles : Roles) (defined : List Name) (k : ℕ) where
         record {
           objects = E;
           goes = given_less v defined P (Q a.0 read) s r.1 D E stands
+              (closings_alike v P s a.0.1 r.1 (ap (λ (y : State). y.structures) z.1) (ap (λ (y : State). y.completed) z.1) (closes a.0 read))
               (subst (λ (y : State). DeclaresGiven v defined (Q a.0 read) s D y E) (sym z.1) (declares_through v defined (Q a.0 read) s start a.0.1 D E E (declares a.0 read) (fills a.0 read)));
           typed = λ L more e p w. subst (AssignsTyped v k L) (sym z.0) (all_assigned a.0 read L more e (stands p w.types) (subst (λ (y : State). Knows v D s y) z.1 w) p);
         }

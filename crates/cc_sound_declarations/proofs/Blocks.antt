@@ -61,7 +61,7 @@ use Rattle.cc_words.specs.declared.word.Word.{Word}
 use Rattle.cc_words.specs.declared.word.Word.TheVariants as w
 use Rattle.cc_sound_declarations.specs.Ranges.{value_fits, init_fits, decl_fits}
 use Rattle.cc_sound_declarations.proofs.Forms.{form_is, function_derived}
-use Rattle.cc_sound_declarations.proofs.Given.{Leaves, left_as, nothing_left, then_left, less, same_declared, behind_types}
+use Rattle.cc_sound_declarations.proofs.Given.{Leaves, left_as, nothing_left, then_left, left_from, same_declared, behind_types}
 use Rattle.cc_sound_declarations.proofs.Left.{typedef_leaves, function_leaves, linked_by_none, static_none, static_some, automatic_none, automatic_some}
 use Rattle.cc_sound_declarations.proofs.Lists.{initialised_fits}
 use Rattle.cc_sound_declarations.proofs.Names.{IsOfObject, name_is}
@@ -166,7 +166,7 @@ module _ (v : View) (roles : Roles) (defined : List Name) (k : ℕ) where
       let here = same_declared v defined k D a.0.1 b.0.1 q.grows (same_declared v defined k D s a.0.1 o.grows d) in
       behind_types v defined P (Declarator Scope) (λ y. DerivationsStand v allowed.unbounded y.derivations) D s a.0 r.1 (record { grows = o.grows; holds = λ w p. o.holds w })
       (behind_types v defined Q CType (λ t. IsDerived v false (is_some i.node.value) t) D a.0.1 b.0 r.1 (record { grows = q.grows; holds = λ w p. q.holds w p.1 p.0 })
-      (less v defined R (Derived i.node.value b.0.0) D b.0.1 r.1 (λ p w. p.1)
+      (left_from v defined R (Derived i.node.value b.0.0) D b.0.1 r.1 (λ p. p.1)
       (named_leaves i.at c b.0.0 base.specs.marks i.node a.0.0.name D b.0.1 r here
       (record {
         typedefs = λ e. plain.typedefs (declares_function (is_function_type base.ctype) i.node.declr.node) e;
@@ -237,6 +237,6 @@ module _ (v : View) (roles : Roles) (defined : List Name) (k : ℕ) where
       let plain = plain_inside set a.0.0.specs decl.inits (list_any is_given decl.inits) (specified_fit set (map (spec_here v.target roles) decl.specs) front a.0 a.1) inside refl refl in
       then_left v defined (Unit {0}) D D s front r.1 first
       (behind_types v defined (Unit {0}) Specified (λ x. Stands v x.ctype) D front a.0 r.1 (record { grows = o.grows; holds = λ w p. o.holds w })
-      (less v defined (Unit {0} × P) P D a.0.1 r.1 (λ p w. p.1)
+      (left_from v defined (Unit {0} × P) P D a.0.1 r.1 (λ p. p.1)
       (then_left v defined P D D a.0.1 next r.1 alias
       (inits_leave place a.0.0 decl.inits [] D next r start inside plain fit.1 a.2))))

@@ -116,7 +116,7 @@ module _ (v : View) (roles : Roles) (defined : List Name) (k : ℕ) where
     leaves_nothing : (c : Category) → IsAllowed v roles defined k c t value → (IsOfObject c → is_complete_or_unbounded v.target s t ≡ true) → declared_left v.target roles defined at c x t marks value s ≡ Ok r → r.0 ≡ [] →
         Gives v defined k (Typed v defined k) P D s r
     leaves_nothing c a o h e =
-        gives_less v defined k (Typed v defined k) P (Derived v roles defined k value t) D s r (λ p w. derived p)
+        gives_less v defined k (Typed v defined k) P (Derived v roles defined k value t) D s r derived
         (nothing_typed v defined k (Derived v roles defined k value t) D s r e (category_leaves v roles defined k at c x t marks value D s r has.declared a f o h))
 
   category_gives : (P : Type 0) (at : ℕ) (c : Category) (x : Name) (t : CType) (marks : List (At (List Attribute))) (value : Option (At Given)) (D : List Named) (s : State) (r : List Expr × State) → HasObjects k D s →
@@ -240,7 +240,7 @@ module _ (v : View) (roles : Roles) (defined : List Name) (k : ℕ) where
       let plain = plain_inside set a.0.0.specs decl.inits (list_any is_given decl.inits) (specified_fit set (map (spec_here v.target roles) decl.specs) front a.0 a.1) inside refl refl in
       let all = after_goes v defined k T (Unit {0}) D D s front r first
       (after_types v defined k T (Unit {0}) Specified (λ x. Stands v x.ctype) D front a.0 r (record { grows = o.grows; holds = λ w p. o.holds w })
-      (gives_less v defined k T (Unit {0} × P) P D a.0.1 r (λ p w. p.1)
+      (gives_less v defined k T (Unit {0} × P) P D a.0.1 r (λ p. p.1)
       (after_goes v defined k T P D D a.0.1 next r alias
       (inits_give place a.0.0 decl.inits [] D next r start inside plain fit.1 a.2)))) in
       record { objects = all.objects; goes = all.goes; holds = λ L more g w. all.typed L more g tt w refl }

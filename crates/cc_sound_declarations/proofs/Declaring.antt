@@ -6,10 +6,12 @@ use Rattle.cc_scopes.specs.State.{State, Name, tagged, empty, designated, entere
 use Rattle.cc_scopes.specs.declared.designated.Designated.{Designated}
 use Rattle.cc_scopes.specs.declared.designated.Designated.TheVariants as means
 use Rattle.cc_sound_terms.specs.Behind.{Adds, Extends}
+use Rattle.cc_sound_terms.specs.Closings.{Closings}
 use Rattle.cc_sound_terms.specs.Growing.{IsConstant}
 use Rattle.cc_sound_terms.specs.Knowing.{IsObject, ObjectsStand}
 use Rattle.cc_sound_terms.specs.Typing.{KnowsTypes, Knows}
-use Rattle.cc_sound_terms.proofs.Behind.{names_itself, names_through, names_more, knows_back, behind_itself, behind_through, behind_left, known_first, known_second}
+use Rattle.cc_sound_terms.proofs.Behind.{names_itself, names_through, names_more, knows_back, behind_itself, behind_through, behind_left, known_first, known_second, more_through, no_more, stands_behind}
+use Rattle.cc_sound_terms.proofs.Closings.{closings_entered, closings_given, closings_itself, closings_through}
 use Rattle.cc_sound_terms.proofs.Growth.{get_front, all_kept, structures_through, objects_stand, tag_through}
 use Rattle.cc_syntax.specs.Types.{Named}
 use Rattle.cc_sound_declarations.specs.Declaring.{unconst, lowered, AreDeclared, DeclaresGiven, Declares}
@@ -81,6 +83,8 @@ module _ (v : View) where
       names = names_itself s.names;
       entries = λ i d h. inl (d, h);
       ordered = λ h. h;
+      closed = no_more v s;
+      closings = closings_itself v Given s s refl;
       behind = λ p k. behind_itself v s k;
       front = ([], sym (append_nothing D));
       locals = λ k h. h;
@@ -95,6 +99,8 @@ module _ (v : View) where
       names = names_through s.names t.names u.names a.names b.names;
       entries = λ i e h. entries_through v.target defined s t u i e b.names (a.entries i) h (b.entries i e h);
       ordered = λ h. b.ordered (a.ordered h);
+      closed = more_through v s t u a.closed b.closed;
+      closings = closings_through v Given Given s t u a.structures b.structures b.closed.0 b.closed.1 a.ordered (λ p k. stands_behind v s t (a.behind p) k) (λ p k. p) a.closings b.closings;
       behind = λ p k. behind_through v s t u b.names (a.behind p (known_first v s t u b.structures k)) (b.behind p (known_second v s t u b.structures (a.behind p) k));
       front = (a.front.0 ++ b.front.0, b.front.1 ∙ ap (λ (xs : List Named). xs ++ b.front.0) a.front.1 ∙ append_assoc D a.front.0 b.front.0);
       locals = λ k h. b.locals k (a.locals k h);
@@ -113,6 +119,8 @@ module _ (v : View) where
       names = names_more s.names g.grows.names.0 t.names g.grows.names.1;
       entries = λ i d h. entry_added v.target defined s i d (g.added i d h);
       ordered = g.ordered;
+      closed = g.front;
+      closings = closings_given v (Unit {0}) Given s t (λ p k. tt) g.closings;
       behind = λ p k. g.behind k;
       front = ([], sym (append_nothing D));
       locals = λ k h. declared_same k D s t g.grows.locals h;
@@ -165,6 +173,8 @@ module _ (v : View) where
       ordered = λ h.
           let o = a.ordered (record { listed = h.listed; order = h.order; tags = h.tags }) in
           record { listed = o.listed; order = o.order; tags = λ x u f. tag_through s.structures t.structures u a.structures (h.tags x u (ap (tagged x) (sym a.outer) ∙ f)) };
+      closed = a.closed;
+      closings = closings_entered v Given s t a.closings;
       behind = λ p k.
           behind_left v empty s t a.outer (record { structures = k.structures; types = k.types; tags = k.tags }) (a.behind p (record { structures = k.structures; types = k.types; tags = k.tags }));
       front = a.front;
@@ -199,17 +209,23 @@ module _ (v : View) where
     leaves = leaves defined (Unit {0});
   }
 
-  -- what follows of what is known there need not be given
-  pub given_less : (defined : List Name) (P Q : Type 0) (s t : State) (D E : List Named) → (P → KnowsTypes v s t → Q) → DeclaresGiven v defined Q s D t E → DeclaresGiven v defined P s D t E
-  given_less defined P Q s t D E f a = record {
+  -- what follows of what is known there need not be given; what is known of closing braces does not wait for it
+  pub given_less : (defined : List Name) (P Q : Type 0) (s t : State) (D E : List Named) → (P → KnowsTypes v s t → Q) → Closings v P s t → DeclaresGiven v defined Q s D t E → DeclaresGiven v defined P s D t E
+  given_less defined P Q s t D E f closings a = record {
     outer = a.outer;
     structures = a.structures;
     names = a.names;
     entries = a.entries;
     ordered = a.ordered;
+    closed = a.closed;
+    closings = closings;
     behind = λ p k. a.behind (f p k) k;
     front = a.front;
     locals = a.locals;
     objects = λ p k h. a.objects (f p k) k h;
     complete = λ p k h. a.complete (f p k) k h;
   }
+
+  -- nor what follows of what is given
+  pub given_from : (defined : List Name) (P Q : Type 0) (s t : State) (D E : List Named) → (P → Q) → DeclaresGiven v defined Q s D t E → DeclaresGiven v defined P s D t E
+  given_from defined P Q s t D E f a = given_less defined P Q s t D E (λ p k. f p) (closings_given v Q P s t (λ p k. f p) a.closings) a

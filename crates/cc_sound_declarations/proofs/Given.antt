@@ -4,11 +4,13 @@ use Rattle.cc_syntax.specs.Views.{View}
 use Rattle.cc_scopes.specs.State.{State, Name}
 use Rattle.cc_sound_declarations.specs.Declaring.{AreDeclared, DeclaresGiven}
 use Rattle.cc_sound_declarations.proofs.Entries.{entries_through}
-use Rattle.cc_sound_declarations.proofs.Declaring.{declares_itself, declares_through, of_extends, given_less}
+use Rattle.cc_sound_declarations.proofs.Declaring.{declares_itself, declares_through, of_extends, given_from, given_less}
 use Rattle.cc_sound_terms.specs.Behind.{Extends}
+use Rattle.cc_sound_terms.specs.Closings.{Closings}
 use Rattle.cc_sound_terms.specs.Growing.{IsConstant}
 use Rattle.cc_sound_terms.specs.Typing.{KnowsTypes}
-use Rattle.cc_sound_terms.proofs.Behind.{behind_through, known_first, known_second, names_through}
+use Rattle.cc_sound_terms.proofs.Behind.{behind_through, known_first, known_second, names_through, more_through, stands_behind}
+use Rattle.cc_sound_terms.proofs.Closings.{closings_through}
 use Rattle.cc_sound_terms.proofs.Growth.{structures_through}
 use Rattle.cc_sound_terms.proofs.Outcomes.{Outcome}
 use Rattle.cc_syntax.specs.Types.{Named}
@@ -33,8 +35,11 @@ module _ (v : View) (defined : List Name) where
   pub then_left : (P : Type 0) (D E : List Named) (s t u : State) → DeclaresGiven v defined P s D t E → Leaves P E t u → Leaves P D s u
   then_left P D E s t u a b = (b.0, declares_through v defined P s t u D E b.0 a b.1)
 
-  pub less : (P Q : Type 0) (D : List Named) (s t : State) → (P → KnowsTypes v s t → Q) → Leaves Q D s t → Leaves P D s t
-  less P Q D s t f h = (h.0, given_less v defined P Q s t D h.0 f h.1)
+  pub less : (P Q : Type 0) (D : List Named) (s t : State) → (P → KnowsTypes v s t → Q) → Closings v P s t → Leaves Q D s t → Leaves P D s t
+  less P Q D s t f closings h = (h.0, given_less v defined P Q s t D h.0 f closings h.1)
+
+  pub left_from : (P Q : Type 0) (D : List Named) (s t : State) → (P → Q) → Leaves Q D s t → Leaves P D s t
+  left_from P Q D s t f h = (h.0, given_from v defined P Q s t D h.0 f h.1)
 
   pub same_declared : (k : ℕ) (D : List Named) (s t : State) → Extends v s t → AreDeclared k D s → AreDeclared k D t
   same_declared k D s t g d = record { enough = d.enough; locals = g.grows.locals ∙ d.locals }
@@ -54,6 +59,8 @@ module _ (v : View) (defined : List Name) where
         names = names_through s.names x.1.names t.names start.names b.names;
         entries = λ i e h. entries_through v.target defined s x.1 t i e b.names (start.entries i) h (b.entries i e h);
         ordered = λ h. b.ordered (a.grows.ordered h);
+        closed = more_through v s x.1 t a.grows.front b.closed;
+        closings = closings_through v P (P × T x.0) s x.1 t a.grows.grows.structures b.structures b.closed.0 b.closed.1 a.grows.ordered (λ p k. stands_behind v s x.1 a.grows.behind k) (λ p k. (p, a.holds k p)) start.closings b.closings;
         behind = λ p k. behind_through v s x.1 t b.names (a.grows.behind (first k)) (b.behind (p, a.holds (first k) p) (second k));
         front = b.front;
         locals = λ k d. b.locals k (start.locals k d);

@@ -6,11 +6,11 @@ use Rattle.cc_program.specs.declared.expr.Expr.{Expr}
 use Rattle.cc_scopes.specs.State.{State, Name}
 use Rattle.cc_sound_declarations.specs.Assigns.{AssignsTyped, HasObjects}
 use Rattle.cc_sound_declarations.proofs.Given.{Finds, Leaves, behind_goes}
-use Rattle.cc_sound_declarations.proofs.Declaring.{declares_through, given_less, known_before, known_behind, of_extends}
+use Rattle.cc_sound_declarations.proofs.Declaring.{declares_through, given_from, known_before, known_behind, of_extends}
 use Rattle.cc_sound_declarations.specs.Declaring.{DeclaresGiven, lowered}
 use Rattle.cc_sound_terms.proofs.Behind.{known_first}
 use Rattle.cc_sound_terms.specs.Behind.{Extends}
-use Rattle.cc_sound_terms.specs.Typing.{Knows, KnowsTypes}
+use Rattle.cc_sound_terms.specs.Typing.{Knows}
 use Rattle.cc_syntax.specs.Expressions.{type_of}
 use Rattle.cc_syntax.specs.Types.{Named}
 use Rattle.cc_syntax.specs.Views.{View}
@@ -28,8 +28,8 @@ module _ (v : View) (defined : List Name) (k : ℕ) where
   pub nothing_typed : (P : Type 0) (D : List Named) (s : State) (r : List Expr × State) → r.0 ≡ [] → Leaves v defined P D s r.1 → Gives Typed P D s r
   nothing_typed P D s r e l = record { objects = l.0; goes = l.1; typed = λ L more g p w. subst (Typed L) (sym e) refl }
 
-  pub gives_less : (T : List Named → List Expr → Type 0) (P Q : Type 0) (D : List Named) (s : State) (r : List Expr × State) → (P → KnowsTypes v s r.1 → Q) → Gives T Q D s r → Gives T P D s r
-  gives_less T P Q D s r f o = record { objects = o.objects; goes = given_less v defined P Q s r.1 D o.objects f o.goes; typed = λ L more g p w. o.typed L more g (f p w.types) w }
+  pub gives_less : (T : List Named → List Expr → Type 0) (P Q : Type 0) (D : List Named) (s : State) (r : List Expr × State) → (P → Q) → Gives T Q D s r → Gives T P D s r
+  gives_less T P Q D s r f o = record { objects = o.objects; goes = given_from v defined P Q s r.1 D o.objects f o.goes; typed = λ L more g p w. o.typed L more g (f p) w }
 
   -- behind what gives nothing
   pub after_goes : (T : List Named → List Expr → Type 0) (P : Type 0) (D E : List Named) (s t : State) (r : List Expr × State) → DeclaresGiven v defined P s D t E → Gives T P E t r → Gives T P D s r

@@ -61,7 +61,9 @@ use Rattle.cc_typed_declarations.specs.Plans.{steps_done}
 use Rattle.cc_unit.specs.Entries.{both_entries}
 use Rattle.cc_unit.specs.declared.unit.UnitKind.{UnitKind}
 use Rattle.cc_unit.specs.declared.unit.UnitKind.TheVariants as kind
+use Rattle.cc_sound_declarations.proofs.Braces.{behind_entry, behind_object}
 use Rattle.cc_sound_declarations.proofs.Given.{Leaves, goes_as, left_as, one_left, less}
+use Rattle.cc_sound_terms.proofs.Closings.{closings_alike, closings_itself}
 use Rattle.cc_sound_declarations.proofs.Initialised.{StepFits, steps_extend, broken_last}
 use Rattle.cc_sound_declarations.proofs.Types.{complete_stands, plainly_derived, given_stands, modes_stand}
 
@@ -293,6 +295,7 @@ module _ (v : View) (roles : Roles) (defined : List Name) where
         let e = answer_is [] (with_static at x t s) r h in
         less v defined (IsDerived v false false t) (is_object_type (kind_in v t) ≡ true) D s r.1
         (λ p k. complete_stands v t s (subst (λ (z : State). KnowsStructures v z.structures) e.1 k.structures) (plainly_derived v t p) c)
+        (closings_itself v (IsDerived v false false t) s r.1 (ap (λ (z : State). z.structures) e.1))
         (left_as v defined (is_object_type (kind_in v t) ≡ true) D s (with_static at x t s) r.1 e.1 (one_left v defined (is_object_type (kind_in v t) ≡ true) D s (with_static at x t s) (static_goes (is_object_type (kind_in v t) ≡ true) at x t s (λ p. p))))
 
     pub static_some : (at : ℕ) (x : Name) (t : CType) (g : At Given) (s : State) (r : List Expr × State) → ((c : Contents) → Each StepFits (initialised c (given_here g))) → static_left v.target roles at x t (Some g) s ≡ Ok r →
@@ -307,8 +310,11 @@ module _ (v : View) (roles : Roles) (defined : List Name) where
         let filled = initialised_goes Q (List Leaf) t u (Static n) start a.0 D i in
         let end = change_name n (with_values (leaves_or_none a.0.0)) a.0.1 in
         let e = answer_is [] end r a.2 in
-        less v defined (IsDerived v false true t) Q D s r.1
+        let P = IsDerived v false true t in
+        let closings = behind_entry v defined P (static_object at x u) x s a.0.1 D D (initialised_goes P (List Leaf) t u (Static n) start a.0 D i) in
+        less v defined P Q D s r.1
         (λ p k. initialised_stands (List Leaf) t g (Static n) start s a.0 i p (subst (λ (z : State). KnowsStructures v z.structures) e.1 k.structures))
+        (closings_alike v P s a.0.1 r.1 (ap (λ (z : State). z.structures) e.1) (ap (λ (z : State). z.completed) e.1) closings)
         (left_as v defined Q D s end r.1 e.1 (one_left v defined Q D s end
         (declares_through v defined Q s a.0.1 end D D D
         (declares_through v defined Q s start a.0.1 D D D (static_goes Q at x u s (λ p. p)) filled)
@@ -322,6 +328,7 @@ module _ (v : View) (roles : Roles) (defined : List Name) where
         let e = answer_is [] (with_automatic x t s) r h in
         less v defined (IsDerived v false false t) (is_object_type (kind_in v t) ≡ true) D s r.1
         (λ p w. complete_stands v t s (subst (λ (z : State). KnowsStructures v z.structures) e.1 w.structures) (plainly_derived v t p) c)
+        (closings_itself v (IsDerived v false false t) s r.1 (ap (λ (z : State). z.structures) e.1))
         (left_as v defined (is_object_type (kind_in v t) ≡ true) D s (with_automatic x t s) r.1 e.1
         (D ++ (x, t) ∷ [], automatic v defined (is_object_type (kind_in v t) ≡ true) x t s D k d (λ p w. p)))
 
@@ -336,7 +343,10 @@ module _ (v : View) (roles : Roles) (defined : List Name) where
         let i = initial_is Expr (expr_given v.target) no_expr at (Local n) t u (without_const u) g start a.0 (f (contents_in (without_const u) start)) a.1 in
         let Q = is_object_type (kind_in v u) ≡ true in
         let e = answer_is (assignments (scalars_from v.target (contents_in (without_const u) a.0.1) 0 (Local n)) a.0.0) a.0.1 r a.2 in
-        less v defined (IsDerived v false true t) Q D s r.1
+        let P = IsDerived v false true t in
+        let closings = behind_object v defined P x u s a.0.1 E E (initialised_goes P (List Expr) t u (Local n) start a.0 E i) in
+        less v defined P Q D s r.1
         (λ p w. initialised_stands (List Expr) t g (Local n) start s a.0 i p (subst (λ (z : State). KnowsStructures v z.structures) e.1 w.structures))
+        (closings_alike v P s a.0.1 r.1 (ap (λ (z : State). z.structures) e.1) (ap (λ (z : State). z.completed) e.1) closings)
         (left_as v defined Q D s a.0.1 r.1 e.1
         (E, declares_through v defined Q s start a.0.1 D E E (automatic v defined Q x u s D k d (λ p w. p)) (initialised_goes Q (List Expr) t u (Local n) start a.0 E i)))

@@ -1,6 +1,7 @@
 pub mod Assignments
 pub mod Automatic
 pub mod Blocks
+pub mod Braces
 pub mod Complete
 pub mod Contents
 pub mod Declarations

@@ -15,7 +15,8 @@ use Rattle.cc_sound_terms.specs.Growing.{Kept, StructureKept}
 use Rattle.cc_sound_terms.specs.Ordered.{HasMembers}
 use Rattle.cc_sound_terms.specs.Knowing.{Stands, IsObject, ObjectsStand}
 use Rattle.cc_sound_terms.specs.Typing.{KnowsTypes}
-use Rattle.cc_sound_terms.proofs.Behind.{entry_itself, names_itself, names_more, entry_of_one, last_or_front, bind_adds}
+use Rattle.cc_sound_terms.proofs.Behind.{entry_itself, names_itself, names_more, entry_of_one, last_or_front, bind_adds, no_more}
+use Rattle.cc_sound_terms.proofs.Closings.{closings_itself}
 use Rattle.cc_sound_terms.proofs.Completeness.{order_kept, ordered_same}
 use Rattle.cc_sound_terms.proofs.Growth.{get_last, all_kept, bind_grows, designated_kept, structures_changed, changed_or_not, tag_through}
 use Rattle.cc_syntax.specs.Kinds.{is_object_type}
@@ -51,6 +52,8 @@ module _ (v : View) (defined : List Name) (Given : Type 0) where
     names = names_more s.names (d ∷ []) (s.names ++ d ∷ []) refl;
     entries = λ i e g. entry_of_two v.target defined s d i e n (last_or_front v s.names d i e g);
     ordered = λ h. record { listed = h.listed; order = h.order; tags = h.tags };
+    closed = no_more v s;
+    closings = closings_itself v Given s (with_declared d s) refl;
     behind = λ p k. record { types = k.types; tags = k.tags; names = λ i e g. entry_of_one v s d i e (f p k) (last_or_front v s.names d i e g); structures = λ i ms g. inl g };
     front = ([], sym (append_nothing D));
     locals = λ k h. record { enough = h.enough; locals = h.locals };
@@ -70,6 +73,8 @@ module _ (v : View) (defined : List Name) (Given : Type 0) where
     names = names_changed s.names i change f;
     entries = λ j e g. inl (changed_entry s i change j e (changed_or_not s.names i change j e g));
     ordered = λ h. record { listed = h.listed; order = h.order; tags = h.tags };
+    closed = no_more v s;
+    closings = closings_itself v Given s (change_name i change s) refl;
     behind = λ p k. record { types = k.types; tags = k.tags; names = λ j e g. inl (changed_entry s i change j e (changed_or_not s.names i change j e g)); structures = λ j ms g. inl g };
     front = ([], sym (append_nothing D));
     locals = λ k h. record { enough = h.enough; locals = h.locals };
@@ -85,6 +90,8 @@ module _ (v : View) (defined : List Name) (Given : Type 0) where
     names = names_itself s.names;
     entries = λ i d g. inl (d, g);
     ordered = λ h. record { listed = h.listed; order = h.order; tags = h.tags };
+    closed = no_more v s;
+    closings = closings_itself v Given s (with_unfinished a s) refl;
     behind = λ p k. record { types = k.types; tags = k.tags; names = λ i e g. inl (e, g); structures = λ i ms g. inl g };
     front = ([], sym (append_nothing D));
     locals = λ k h. record { enough = h.enough; locals = h.locals };
@@ -112,6 +119,8 @@ module _ (v : View) (defined : List Name) (Given : Type 0) where
     names = names_itself s.names;
     entries = λ i e g. inl (e, g);
     ordered = λ h. ordered_same Anything s (bind x d s) (bind_grows Anything x d s tt) refl (λ i ms g. g) h;
+    closed = no_more v s;
+    closings = closings_itself v Given s (bind x d s) refl;
     behind = λ p k. (bind_adds v Anything x d s tt (f p)).behind k;
     front = ([], sym (append_nothing D));
     locals = λ k h. record { enough = h.enough; locals = h.locals };
@@ -147,6 +156,8 @@ module _ (v : View) (defined : List Name) (Given : Type 0) where
         names = names_itself s.names;
         entries = λ i e g. inl (e, g);
         ordered = λ h. ordered_same Anything inner (bind x object inner) (bind_grows Anything x object inner tt) refl (λ i ms g. g) (record { listed = h.listed; order = h.order; tags = h.tags });
+        closed = no_more v s;
+        closings = closings_itself v Given s (with_object x t s) refl;
         behind = λ p k.
             let b = (bind_adds v Anything x object inner tt (λ w u e. absurd (cc))).behind (record { structures = k.structures; types = k.types; tags = k.tags }) in
             record { types = b.types; tags = b.tags; names = b.names; structures = b.structures };
@@ -180,6 +191,8 @@ module _ (v : View) (defined : List Name) (Given : Type 0) where
           order = order_kept s.structures (change_at i change s.structures) [] s.completed kept h.order;
           tags = λ x u e. tag_through s.structures (change_at i change s.structures) u kept (h.tags x u e);
         };
+        closed = no_more v s;
+        closings = λ j ms h. inl (restructured_members s.structures i change j ms h.0 f h.2 (changed_or_not s.structures i change j h.0 h.1));
         behind = λ p k. record {
           types = k.types;
           tags = k.tags;

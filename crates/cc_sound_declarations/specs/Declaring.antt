@@ -7,6 +7,7 @@ use Rattle.cc_program.proofs.Each.{Each}
 use Rattle.cc_scopes.specs.State.{State, Name, outer_scopes}
 use Rattle.cc_scopes.specs.declared.unit.Declared.{Declared}
 use Rattle.cc_sound_terms.specs.Behind.{HasEntry, Behind, NamesKept}
+use Rattle.cc_sound_terms.specs.Closings.{Closings}
 use Rattle.cc_sound_terms.specs.Growing.{StructuresKept}
 use Rattle.cc_sound_terms.specs.Knowing.{ObjectsStand}
 use Rattle.cc_sound_terms.specs.Ordered.{IsOrdered}
@@ -39,6 +40,8 @@ pub record DeclaresGiven (v : View) (defined : List Name) (Given : Type 0) (s : 
   pub names : NamesKept s.names t.names
   pub entries : (i : ℕ) (d : Declared) → slice_get t.names i ≡ Some d → HasEntry s.names i ⊎ IsEntry v.target defined d
   pub ordered : IsOrdered s → IsOrdered t
+  pub closed : (more : List ℕ) × (t.completed ≡ s.completed ++ more)
+  pub closings : Closings v Given s t
   pub behind : Given → KnowsTypes v s t → Behind v s t
   pub front : (more : List Named) × (after ≡ before ++ more)
   pub locals : (parameters : ℕ) → AreDeclared parameters before s → AreDeclared parameters after t

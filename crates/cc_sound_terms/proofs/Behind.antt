@@ -1,5 +1,5 @@
 -- What stands behind a construct, and what is known behind it: from a state to itself, through states between, and by each thing that is declared.
-use Rattle.std.proofs.Common.{◌≡◌, ◌⊎◌, inl, inr, ℕ, zero, suc, List, [], ◌∷◌, ◌++◌, length, Some, None, refl, ap, sym, ◌∙◌, subst}
+use Rattle.std.proofs.Common.{◌≡◌, ◌⊎◌, inl, inr, ℕ, zero, suc, List, [], ◌∷◌, ◌++◌, length, Some, None, refl, ap, sym, ◌∙◌, subst, append_assoc}
 use Rattle.std.specs.Prelude.{slice_get, take}
 use Rattle.cc_syntax.specs.Views.{View}
 use Rattle.cc_program.specs.declared.types.CType.{CType}
@@ -13,10 +13,11 @@ use Rattle.cc_unit.specs.declared.unit.UnitKind.{UnitKind}
 use Rattle.cc_unit.specs.declared.unit.UnitKind.TheVariants as kind
 use Rattle.cc_sound_terms.specs.Behind.{HasEntry, IsUnnamed, KindStands, NameStands, Behind, Adds, Extends, SameKind, Objects, Devices, Functions, EntryKept, NamesKept}
 use Rattle.cc_sound_terms.specs.Growing.{Kept, StructuresKept, Grows, IsParameter, IsTag}
-use Rattle.cc_sound_terms.specs.Knowing.{Stands, KnowsAs, KnowsNames, TypesStand}
+use Rattle.cc_sound_terms.specs.Knowing.{Stands, KnowsAs, KnowsNames, TagsStand, TypesStand}
 use Rattle.cc_sound_terms.specs.Ordered.{HasMembers}
 use Rattle.cc_sound_terms.specs.Standing.{MembersKnown}
 use Rattle.cc_sound_terms.specs.Typing.{KnowsTypes}
+use Rattle.cc_sound_terms.proofs.Closings.{closings_alike, closings_entered, closings_itself, closings_through}
 use Rattle.cc_sound_terms.proofs.Completeness.{ordered_same}
 use Rattle.cc_sound_terms.proofs.Growth.{get_front, grows_itself, grows_through, as_parameters, bind_grows, bind_tag_grows, structure_grows, declared_grows, forgotten_grows, scope_left, designated_kept, tags_stand, knows_structures, tag_through, take_front}
 
@@ -140,19 +141,34 @@ module _ (v : View) where
       let same : d.0 ≡ e = some_entry d.0 e (sym (ap (λ (zs : List Declared). slice_get zs i) k ∙ get_front t.names more i d.0 d.1) ∙ h) in
       a e (subst (λ (x : Declared). slice_get t.names i ≡ Some x) same d.1)
 
+  pub no_more : (s : State) → (more : List ℕ) × (s.completed ≡ s.completed ++ more)
+  no_more s = ([], sym (append_nothing s.completed))
+    where
+      append_nothing : (l : List ℕ) → l ++ [] ≡ l
+      append_nothing [] = refl
+      append_nothing (x ∷ l) = ap (λ (r : List ℕ). x ∷ r) (append_nothing l)
+
+  pub more_through : (s t u : State) → (more : List ℕ) × (t.completed ≡ s.completed ++ more) → (more : List ℕ) × (u.completed ≡ t.completed ++ more) → (more : List ℕ) × (u.completed ≡ s.completed ++ more)
+  more_through s t u a b = (a.0 ++ b.0, b.1 ∙ (ap (λ (l : List ℕ). l ++ b.0) a.1 ∙ append_assoc s.completed a.0 b.0))
+
+  pub stands_behind : (s t : State) → (KnowsTypes v s t → Behind v s t) → KnowsTypes v s t → TypesStand v t × TagsStand v t
+  stands_behind s t f k = let b = f k in (b.types, b.tags)
+
   pub adds_itself : (New : Designated → Type 0) (s : State) → Adds v New s s
-  adds_itself New s = record { grows = grows_itself New s; added = λ i d g. inl (d, g); behind = behind_itself s; ordered = λ h. h }
+  adds_itself New s = record { grows = grows_itself New s; added = λ i d g. inl (d, g); behind = behind_itself s; ordered = λ h. h; front = no_more s; closings = closings_itself v (Unit {0}) s s refl }
 
   pub adds_through : (New : Designated → Type 0) (s t u : State) → Adds v New s t → Adds v New t u → Adds v New s u
   adds_through New s t u a b = record {
     grows = grows_through New s t u a.grows b.grows;
     added = λ i e h. added_behind s t u i e b.grows.names.0 b.grows.names.1 (a.added i) h (b.added i e h);
     ordered = λ h. b.ordered (a.ordered h);
+    front = more_through s t u a.front b.front;
+    closings = closings_through v (Unit {0}) (Unit {0}) s t u a.grows.structures b.grows.structures b.front.0 b.front.1 a.ordered (λ p k. stands_behind s t a.behind k) (λ p k. p) a.closings b.closings;
     behind = λ k. behind_through s t u (names_more t.names b.grows.names.0 u.names b.grows.names.1) (a.behind (known_first s t u b.grows.structures k)) (b.behind (known_second s t u b.grows.structures a.behind k));
   }
 
   pub adds_parameters : (s t : State) → Extends v s t → Adds v (IsParameter v.target) s t
-  adds_parameters s t g = record { grows = as_parameters v.target s t g.grows; added = g.added; behind = g.behind; ordered = g.ordered }
+  adds_parameters s t g = record { grows = as_parameters v.target s t g.grows; added = g.added; behind = g.behind; ordered = g.ordered; front = g.front; closings = g.closings }
 
   some_is : {A : Type 0} (a b : A) → Some a ≡ Some b → a ≡ b
   some_is a b h = cc
@@ -167,6 +183,8 @@ module _ (v : View) where
   bind_adds New x d s h f = record {
     grows = bind_grows New x d s h;
     ordered = λ o. ordered_same New s (bind x d s) (bind_grows New x d s h) refl (λ i ms g. g) o;
+    front = no_more s;
+    closings = closings_itself v (Unit {0}) s (bind x d s) refl;
     added = λ i d g. inl (d, g);
     behind = λ k. record {
       types = λ y u e. types_by s (bind x d s) d y u (f k) k.types (designated_kept (λ e. e ≡ d) s (bind x d s) y (bind_grows (λ e. e ≡ d) x d s refl)) e;
@@ -180,6 +198,8 @@ module _ (v : View) where
   bind_tag_adds New x t s h = record {
     grows = bind_tag_grows New x t s h;
     ordered = λ o. ordered_same New s (bind_tag x t s) (bind_tag_grows New x t s h) refl (λ i ms g. g) o;
+    front = no_more s;
+    closings = closings_itself v (Unit {0}) s (bind_tag x t s) refl;
     added = λ i d g. inl (d, g);
     behind = λ k. record {
       types = λ y u e. k.types y u (tag_names s x t y ∙ e);
@@ -211,6 +231,8 @@ module _ (v : View) where
   structure_adds New k s h = record {
     grows = structure_grows New k s;
     ordered = λ o. ordered_same New s (with_structures (s.structures ++ k ∷ []) s) (structure_grows New k s) refl (λ i ms g. members_before s k i ms h g.0 g.2 (last_or_front s.structures k i g.0 g.1)) o;
+    front = no_more s;
+    closings = λ i ms g. inl (members_before s k i ms h g.0 g.2 (last_or_front s.structures k i g.0 g.1));
     added = λ i d g. inl (d, g);
     behind = λ w. record {
       types = w.types;
@@ -232,6 +254,8 @@ module _ (v : View) where
   declared_adds New d s n h = record {
     grows = declared_grows New d s;
     ordered = λ o. ordered_same New s (with_declared d s) (declared_grows New d s) refl (λ i ms g. g) o;
+    front = no_more s;
+    closings = closings_itself v (Unit {0}) s (with_declared d s) refl;
     added = λ i e g. unnamed_of_one s d i e n (last_or_front s.names d i e g);
     behind = λ k. record { types = k.types; tags = k.tags; names = λ i e g. entry_of_one s d i e h (last_or_front s.names d i e g); structures = λ i ms g. inl g };
   }
@@ -242,6 +266,8 @@ module _ (v : View) where
       record {
         grows = f;
         ordered = λ h. let o = g.ordered h in record { listed = o.listed; order = o.order; tags = o.tags };
+        front = g.front;
+        closings = closings_alike v (Unit {0}) s t (with_names (take (length s.names) t.names) t) refl refl g.closings;
         added = λ i e h. inl (e, forgotten_entry s t (forgotten_names New s t g.grows) i e h);
         behind = λ k.
             let b = g.behind (record { structures = k.structures; types = k.types; tags = k.tags }) in
@@ -254,6 +280,8 @@ module _ (v : View) where
     ordered = λ h.
         let o = g.ordered (record { listed = h.listed; order = h.order; tags = h.tags }) in
         record { listed = o.listed; order = o.order; tags = λ x u f. tag_through s.structures t.structures u g.grows.structures (h.tags x u (ap (tagged x) (sym g.grows.outer) ∙ f)) };
+    front = g.front;
+    closings = closings_entered v (Unit {0}) s t g.closings;
     added = g.added;
     behind = λ k. behind_left empty s t g.grows.outer (record { structures = k.structures; types = k.types; tags = k.tags }) (g.behind (record { structures = k.structures; types = k.types; tags = k.tags }));
   }

@@ -2,6 +2,7 @@ pub mod Within
 pub mod Founds
 pub mod Growth
 pub mod Completeness
+pub mod Closings
 pub mod Behind
 pub mod Outcomes
 pub mod Known

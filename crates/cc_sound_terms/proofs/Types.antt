@@ -77,7 +77,9 @@ use Rattle.cc_sound_terms.specs.Standing.{IsDerived, ParameterStands, IsNamedTyp
 use Rattle.cc_sound_terms.specs.Typing.{KnowsTypes}
 use Rattle.cc_sound_terms.proofs.Completeness.{complete_grown, ordered_closed}
 use Rattle.cc_sound_terms.proofs.Founds.{answer, answer_is, then_found, whole_found, located_found, then_judged}
-use Rattle.cc_sound_terms.proofs.Behind.{names_itself, names_more, added_behind, behind_through, known_first, known_second, adds_itself, adds_through, bind_adds, bind_tag_adds, structure_adds}
+use Rattle.cc_sound_terms.proofs.Behind.{names_itself, names_more, added_behind, behind_through, known_first, known_second, adds_itself, adds_through, bind_adds, bind_tag_adds, structure_adds, more_through, stands_behind}
+use Rattle.cc_sound_terms.proofs.Closings.{brace_closes, closings_through}
+use Rattle.cc_sound_terms.specs.Closings.{Closings}
 use Rattle.cc_sound_terms.proofs.Growth.{get_last, tagged-opens, grows_itself, grows_through, tags_stand, structures_changed, changed_or_not, changed_place, changed_there}
 use Rattle.cc_sound_terms.proofs.TypeKinds.{sizes_known, object_stands, structure_stands, void_stands, int_stands, qualified_stands}
 use Rattle.cc_sound_terms.proofs.Known.{types_first, types_second}
@@ -437,6 +439,8 @@ module _ (v : View) where
     added : (j : ℕ) (d : Declared) → slice_get r.1.names j ≡ Some d → HasEntry s.names j ⊎ IsUnnamed v.target d
     behind : KnowsTypes v s r.1 → Behind v s r.1
     ordered : Exists s i → IsOrdered s → IsOrdered r.1
+    front : (more : List ℕ) × (r.1.completed ≡ s.completed ++ more)
+    closings : Closings v (Unit {0}) s r.1
     holds : KnowsTypes v s r.1 → IsThere v i → SpecifierStands v r.0
 
   exists_later : (s t : State) (i : ℕ) → StructuresKept s.structures t.structures → Exists s i → Exists t i
@@ -452,6 +456,8 @@ module _ (v : View) where
         behind = λ k.
             let first = known_first v s ms.1 t g.structures k in
             behind_through v s ms.1 t (names_itself t.names) (o.grows.behind first) (completed_behind i ms.0 ms.1 c.new (known_second v s ms.1 t g.structures o.grows.behind k) (o.holds first));
+        front = more_through v s ms.1 t o.grows.front (i ∷ [], refl);
+        closings = brace_closes v (Unit {0}) s ms.1 i ms.0 o.grows.grows.structures o.grows.ordered c.new all (λ p k. o.holds k) o.grows.closings;
         ordered = λ there h. completed_ordered i ms.0 ms.1 c.new (exists_later s ms.1 i o.grows.grows.structures there) all (o.grows.ordered h);
         holds = λ k d. subst (SpecifierStands v) (sym c.type) (structure_stands v i d.0 d.1);
       } in
@@ -476,6 +482,8 @@ module _ (v : View) where
           added = λ j d e. added_behind v s a.0.1 r.1 j d c.grows.names.0 c.grows.names.1 (n.grows.added j) e (c.added j d e);
           behind = λ k. behind_through v s a.0.1 r.1 (names_more a.0.1.names c.grows.names.0 r.1.names c.grows.names.1) (n.grows.behind (first k)) (c.behind (second k));
           ordered = λ o. c.ordered (structure_exists x front s a.0 a.1 o) (n.grows.ordered o);
+          front = more_through v s a.0.1 r.1 n.grows.front c.front;
+          closings = closings_through v (Unit {0}) (Unit {0}) s a.0.1 r.1 n.grows.grows.structures c.grows.structures c.front.0 c.front.1 n.grows.ordered (λ p k. stands_behind v s a.0.1 n.grows.behind k) (λ p k. p) n.grows.closings c.closings;
         };
         holds = λ k. c.holds (second k) (n.holds (first k));
       }

@@ -1,5 +1,5 @@
 -- What stands behind a construct: types of what is declared, and members of structures that are completed (C99 6.2.1, 4; 6.7, 7; 6.7.2.1, 2).
-use Rattle.std.specs.Prelude.{◌≡◌, ◌⊎◌, ◌+◌, ℕ, ℤ, Bool, true, List, length, Option, Some, slice_get}
+use Rattle.std.specs.Prelude.{◌≡◌, ◌⊎◌, ◌+◌, ℕ, ℤ, Bool, true, List, ◌++◌, length, Option, Some, slice_get}
 use Rattle.cc_designators.specs.Casts.{fits_pointer}
 use Rattle.cc_num.specs.declared.int_type.IntType.{IntType}
 use Rattle.cc_num.specs.declared.target.Target.{Target}
@@ -22,6 +22,7 @@ use Rattle.cc_syntax.specs.Kinds.{is_object_type, is_sig}
 use Rattle.cc_syntax.specs.Types.{Named}
 use Rattle.cc_unit.specs.declared.unit.UnitKind.{UnitKind}
 use Rattle.cc_unit.specs.declared.unit.UnitKind.TheVariants as kind
+use Rattle.cc_sound_terms.specs.Closings.{Closings}
 use Rattle.cc_sound_terms.specs.Growing.{Grows, IsConstant}
 use Rattle.cc_sound_terms.specs.Knowing.{TypesStand, TagsStand}
 use Rattle.cc_sound_terms.specs.Ordered.{HasMembers, IsOrdered}
@@ -68,6 +69,8 @@ module _ (v : View) where
     pub added : (i : ℕ) (d : Declared) → slice_get t.names i ≡ Some d → HasEntry s.names i ⊎ IsUnnamed v.target d
     pub behind : KnowsTypes v s t → Behind s t
     pub ordered : IsOrdered s → IsOrdered t
+    pub front : (more : List ℕ) × (t.completed ≡ s.completed ++ more)
+    pub closings : Closings v (Unit {0}) s t
 
   abbrev pub Extends : State → State → Type 0
   Extends s t = Adds (IsConstant v.target) s t

@@ -4,4 +4,5 @@ pub mod Standing
 pub mod Typing
 pub mod Ranges
 pub mod Ordered
+pub mod Closings
 pub mod Behind

@@ -20,7 +20,7 @@ use Rattle.cc_scopes.specs.declared.unit.Declared.{Declared}
 use Rattle.cc_sound_typed_units.proofs.Entries.{IsFunctionAt, functions_stay}
 use Rattle.cc_sound_typed_units.proofs.Locals.{parameters_first, parameters_lowered, parameters_behind, lowered_locals, plain_automatic, objects_behind}
 use Rattle.cc_sound_typed_units.proofs.Signatures.{function_params, parameter_kinds, result_kind, result_may_stand, signature_is}
-use Rattle.cc_sound_typed_units.proofs.FunctionBodies.{function_body, known_begun, ordered_begun}
+use Rattle.cc_sound_typed_units.proofs.FunctionBodies.{function_body, known_begun, ordered_begun, types_begun}
 use Rattle.cc_sound_typed_units.specs.FunctionBodies.{IsFunctionBody, begun}
 use Rattle.cc_sound_typed_units.specs.Scopes.{IsParameterScope}
 use Rattle.cc_relocated_units.specs.Units.{IsSoundFunction}
@@ -29,6 +29,7 @@ use Rattle.cc_sound_declarations.proofs.Steps.{changed}
 use Rattle.cc_sound_declarations.specs.Declaring.{AreObjects, Declares, lowered, unconst}
 use Rattle.cc_sound_declarations.specs.Entries.{IsEntry}
 use Rattle.cc_sound_terms.proofs.Behind.{entry_stands, knows_back, names_through}
+use Rattle.cc_sound_terms.proofs.Closings.{closings_inside}
 use Rattle.cc_sound_terms.proofs.Growth.{changed_or_not, changed_there, tag_through}
 use Rattle.cc_sound_terms.specs.Behind.{Behind, EntryKept, HasEntry, NameStands, NamesKept, SameKind, Functions}
 use Rattle.cc_sound_terms.specs.Knowing.{KnowsNames, ObjectsStand}
@@ -132,6 +133,8 @@ module _ (v : View) (roles : Roles) (defined : List Name) (at : ℕ) (x : Name) 
         ordered = λ o.
             let p = a.ordered (ordered_begun v ps scope s is o) in
             record { listed = p.listed; order = p.order; tags = λ y u h. tag_through s.structures r.1.structures u a.structures (o.tags y u (ap (tagged y) (sym a.outer) ∙ h)) };
+        closed = a.closed;
+        closings = closings_inside v (Unit {0}) s (begun ps scope s) r.1 last refl refl refl (ordered_begun v ps scope s is) (λ c kept p k. types_begun v ps scope s c is kept k) a.closings;
         behind = λ p k.
             let w = a.behind tt (b.types (known k)) in
             record {

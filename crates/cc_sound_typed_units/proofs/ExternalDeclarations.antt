@@ -36,7 +36,7 @@ use Rattle.cc_sound_declarations.proofs.Names.{IsOfObject, name_is}
 use Rattle.cc_sound_declarations.proofs.Storage.{function_typedef, function_linked, typedef_plain, specified_fit}
 use Rattle.cc_sound_declarations.proofs.Types.{complete_stands, plainly_derived}
 use Rattle.cc_sound_declarations.specs.Ranges.{value_fits, init_fits, decl_fits}
-use Rattle.cc_sound_declarations.proofs.Declaring.{declares_itself, declares_through, of_extends, given_less}
+use Rattle.cc_sound_declarations.proofs.Declaring.{declares_itself, declares_through, of_extends, given_from}
 use Rattle.cc_sound_declarations.specs.Declaring.{Declares, DeclaresGiven}
 use Rattle.cc_sound_terms.proofs.Cycle.{declr_holds}
 use Rattle.cc_sound_terms.proofs.Founds.{answer_is, then_found, whole_found, located_found}
@@ -192,7 +192,7 @@ module _ (v : View) (roles : Roles) (defined : List Name) (D : List Named) where
       let second = of_finds CType (λ t. Q → IsDerived v false (is_some i.node.value) t) a.0.1 b.0 (record { grows = q.grows; holds = λ w p. q.holds w p.1 p.0 }) first in
       behind_goes v defined P (Declarator Scope) (λ y. DerivationsStand v allowed.unbounded y.derivations) D D s a.0 r.1 (record { grows = o.grows; holds = λ w p. o.holds w })
       (behind_goes v defined Q CType (λ t. IsDerived v false (is_some i.node.value) t) D D a.0.1 b.0 r.1 (record { grows = q.grows; holds = λ w p. q.holds w p.1 p.0 })
-      (given_less v defined R (Derived v roles defined 0 i.node.value b.0.0) b.0.1 r.1 D D (λ p w. p.1)
+      (given_from v defined R (Derived v roles defined 0 i.node.value b.0.0) b.0.1 r.1 D D (λ p. p.1)
       (named_stays i.at c b.0.0 base.specs.marks i.node a.0.0.name b.0.1 r second
       (λ x e. record {
         external = external_is_linked base.specs.storage function;
@@ -241,6 +241,6 @@ external_declares v roles defined decl D s r f entries among h =
     let next_entries = entries_stay v defined P a.0.1 next D D alias found_entries in
     declares_through v defined (Unit {0}) s front r.1 D D D first
     (behind_goes v defined (Unit {0}) Specified (λ x. Stands v x.ctype) D D front a.0 r.1 (record { grows = o.grows; holds = λ w p. o.holds w })
-    (given_less v defined (Unit {0} × P) P a.0.1 r.1 D D (λ p w. p.1)
+    (given_from v defined (Unit {0} × P) P a.0.1 r.1 D D (λ p. p.1)
     (declares_through v defined P a.0.1 next r.1 D D D alias
     (inits_stay v roles defined D a.0.0 decl.inits [] next r next_entries external fit.1 a.2))))

@@ -80,7 +80,7 @@ module _ (v : View) where
     tag_there : (d : Tagged) → IsTag s.structures d → KnowsTypes v s t → StructuresKept s.structures t.structures → (i : ℕ) → d ≡ tag.StructureTag i → IsThere v i
     tag_there d h k kept i e = let c = h i e in let l = kept i c.0 c.1 in let w = k.structures i l.0 l.1 in (w.extent, w.there)
 
-    types_begun : StructuresKept s.structures t.structures → KnowsTypes v s t → KnowsTypes v begun t
+    pub types_begun : StructuresKept s.structures t.structures → KnowsTypes v s t → KnowsTypes v begun t
     types_begun kept k = record {
       structures = k.structures;
       types = λ x u h. designated_by (λ (d : Designated). d ≡ means.TypeNamed u → Stands v u) (find_name x scope.names) (designated x s.scopes)

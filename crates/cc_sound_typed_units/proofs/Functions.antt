@@ -36,7 +36,7 @@ use Rattle.cc_sound_typed_units.proofs.FunctionBodies.{ordered_begun}
 use Rattle.cc_sound_typed_units.specs.FunctionBodies.{begun as body_begun}
 use Rattle.cc_sound_typed_units.proofs.ParameterDeclarators.{parameters_listed}
 use Rattle.cc_sound_typed_units.specs.Scopes.{IsParameterScope}
-use Rattle.cc_sound_declarations.proofs.Declaring.{declares_itself, declares_through, given_less, known_behind, of_extends}
+use Rattle.cc_sound_declarations.proofs.Declaring.{declares_itself, declares_through, given_from, known_behind, of_extends}
 use Rattle.cc_sound_declarations.specs.Declaring.{Declares, DeclaresGiven}
 use Rattle.cc_sound_terms.proofs.Behind.{known_first}
 use Rattle.cc_sound_terms.proofs.Cycle.{declr_holds}
@@ -137,7 +137,7 @@ module _ (v : View) (roles : Roles) (defined : List Name) where
     pub named_goes : DeclaresGiven v defined P s [] r []
     named_goes = goes_as v defined P [] [] s (function_defined at start.0 x t (signature_of t) (length (locals_of parts.ps)) parts.inside.0 parts.inside.1) r parts.last
         (declares_through v defined P s start.1 (function_defined at start.0 x t (signature_of t) (length (locals_of parts.ps)) parts.inside.0 parts.inside.1) [] [] [] begins
-        (given_less v defined P (Unit {0}) start.1 (function_defined at start.0 x t (signature_of t) (length (locals_of parts.ps)) parts.inside.0 parts.inside.1) [] [] (λ p k. tt) ends))
+        (given_from v defined P (Unit {0}) start.1 (function_defined at start.0 x t (signature_of t) (length (locals_of parts.ps)) parts.inside.0 parts.inside.1) [] [] (λ p. tt) ends))
 
     -- the signature stands where its type does
     sig_good : (sig : Sig) → out-Shape t.shape ≡ shape.Func sig → P → is_sig v.target v.extents sig ≡ true
@@ -147,7 +147,7 @@ module _ (v : View) (roles : Roles) (defined : List Name) where
     named_knows p each w =
         let last = function_defined at start.0 x t (signature_of t) (length (locals_of parts.ps)) parts.inside.0 parts.inside.1 in
         made_knows v roles defined at x t start.0 parts.ps parts.scope start.1 scope_there start_ordered entry body fit parts.inside parts.read each
-        (known_behind v defined P s start.1 last [] [] [] begins (given_less v defined P (Unit {0}) start.1 last [] [] (λ p k. tt) ends) (p, subst (λ (z : State). Knows v [] s z) parts.last w)).1
+        (known_behind v defined P s start.1 last [] [] [] begins (given_from v defined P (Unit {0}) start.1 last [] [] (λ p. tt) ends) (p, subst (λ (z : State). Knows v [] s z) parts.last w)).1
 
     -- where its body begins
     pub body_ordered : IsOrdered (body_begun parts.ps parts.scope start.1)
@@ -162,7 +162,7 @@ module _ (v : View) (roles : Roles) (defined : List Name) where
     named_sound p each w sig e =
         let last = function_defined at start.0 x t (signature_of t) (length (locals_of parts.ps)) parts.inside.0 parts.inside.1 in
         made_sound v roles defined at x t start.0 parts.ps parts.scope start.1 scope_there start_ordered entry body fit parts.inside parts.read typed.0 typed.1 sig e (sig_good sig e p) each
-        (known_behind v defined P s start.1 last [] [] [] begins (given_less v defined P (Unit {0}) start.1 last [] [] (λ p k. tt) ends) (p, subst (λ (z : State). Knows v [] s z) parts.last w)).1
+        (known_behind v defined P s start.1 last [] [] [] begins (given_from v defined P (Unit {0}) start.1 last [] [] (λ p. tt) ends) (p, subst (λ (z : State). Knows v [] s z) parts.last w)).1
 
   -- ---- objects stay apart from functions
 
@@ -250,7 +250,7 @@ module _ (v : View) (roles : Roles) (defined : List Name) where
       stands_there p = sig_derived v roles defined 0 false type.0 is_function_here p.1
 
       level3 : DeclaresGiven v defined P3 type.1 [] r.1 []
-      level3 = given_less v defined P3 (SigStands v (out-Shape type.0.shape)) type.1 r.1 [] [] (λ p k. stands_there p)
+      level3 = given_from v defined P3 (SigStands v (out-Shape type.0.shape)) type.1 r.1 [] [] stands_there
           (named_goes d.at asked x type.0 base.0.ctype declarator.0.derivations body type.1 r.1 parts inner_fits.1 type_derived scopes there_ordered there_entries there_apart)
 
       level2 : DeclaresGiven v defined P2 declarator.1 [] r.1 []
@@ -261,7 +261,7 @@ module _ (v : View) (roles : Roles) (defined : List Name) where
 
       goes_named : Declares v defined s [] r.1 []
       goes_named = behind_goes v defined (Unit {0}) Specified (λ x. Stands v x.ctype) [] [] s base r.1 (record { grows = specified.grows; holds = λ w p. specified.holds w })
-          (given_less v defined (Unit {0} × P1) P1 base.1 r.1 [] [] (λ p w. p.1) level1)
+          (given_from v defined (Unit {0} × P1) P1 base.1 r.1 [] [] (λ p. p.1) level1)
 
       pub definition_told : (e : Declared) → slice_get parts.inside.1.names (entered_function (entry_by parts.marks) (declared x asked type.0 (kind.Func None None) type.1)).0 ≡ Some e →
           EntryKept e (defined_at d.at type.0 (kind.Func (entry_at (entered_function (entry_by parts.marks) (declared x asked type.0 (kind.Func None None) type.1)).0 (with_locals [] parts.inside.1))

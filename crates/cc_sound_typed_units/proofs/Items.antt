@@ -28,6 +28,7 @@ use Rattle.cc_sound_typed_units.specs.Items.{IsSoundState}
 use Rattle.cc_sound_declarations.proofs.Declaring.{declares_itself, declares_through, known_before, known_behind}
 use Rattle.cc_sound_declarations.specs.Declaring.{Declares}
 use Rattle.cc_sound_terms.proofs.Founds.{answer_is, then_found}
+use Rattle.cc_sound_terms.specs.Closings.{Closings}
 use Rattle.cc_sound_terms.specs.Ordered.{IsOrdered}
 use Rattle.cc_sound_terms.specs.Typing.{Knows}
 use Rattle.cc_specifiers.specs.declared.storage.Where.TheVariants as stands
@@ -124,3 +125,10 @@ unit_sound target roles u r f h =
       ordered = all.goes.ordered first_ordered;
       entries = all.sound known [] (first_well target roles defined (IsSoundAt v));
     }
+
+-- what was closed between its braces, over each view
+pub closings_of_units : (target : Target) (roles : Roles) (u : UnitTree) (r : Checked × State) → unit_fits u ≡ true → items_found target roles (defined_names u) u.items at_first ≡ Ok r → (v : View) → v.target ≡ target → Closings v (Unit {0}) at_first r.1
+closings_of_units target roles u r f h v e =
+    let defined = defined_names u in
+    (items_are v roles defined u.items checked at_first r f (defined_among u) first_ordered [] (first_well v.target roles defined (λ t f. Unit {0}))
+    (subst (λ (x : Target). items_found x roles defined u.items at_first ≡ Ok r) (sym e) h)).goes.closings

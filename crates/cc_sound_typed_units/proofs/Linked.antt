@@ -31,6 +31,7 @@ use Rattle.cc_scopes.specs.Linked.{is_linked, has_name, linked_from, linked_name
 use Rattle.cc_scopes.specs.State.{State, Name, structures_of, layouts_of, bind, with_declared, change_name}
 use Rattle.cc_scopes.specs.Verdicts.{whole, and_then}
 use Rattle.cc_scopes.specs.declared.unit.Declared.{Declared}
+use Rattle.cc_sound_declarations.proofs.Braces.{behind_entry}
 use Rattle.cc_sound_declarations.proofs.Given.{goes_as}
 use Rattle.cc_sound_declarations.proofs.Initialised.{StepFits}
 use Rattle.cc_sound_declarations.proofs.Left.{IsInitialised, object_stays, values_same, declared_goes, device_stands, object_entry, initial_is, initialised_goes, initialised_stands}
@@ -244,8 +245,11 @@ module _ (v : View) (roles : Roles) (defined : List Name) where
         let Q = is_object_type (kind_in v u) ≡ true in
         let start = (known_by None).1 in
         let d = external_definition Q None r known entries i f h in
-        given_less v defined (IsDerived v false true t) Q s r.1 D D
+        let P = IsDerived v false true t in
+        let plain = external_definition P None r known entries i f h in
+        given_less v defined P Q s r.1 D D
         (λ p w. initialised_stands v roles defined (List Leaf) t g (Static (length s.names)) start s d.values d.initial p (subst (λ (z : State). KnowsStructures v z.structures) d.last w.structures))
+        (behind_entry v defined P (new_declared x asked u (object_kind defined asked x u)) x s r.1 D D (declares_through v defined P start plain.values.1 r.1 D D D plain.filled plain.closed))
         (declares_through v defined Q s start r.1 D D D
         (declared_goes v roles defined Q D x asked u (object_kind defined asked x u) s None (object_entry v roles defined Q D asked x u) (λ e q w. device_stands v roles defined Q D x u (is_extern asked && not (list_any (bytes_eq x) defined)) (out-Shape u.shape) q))
         (declares_through v defined Q start d.values.1 r.1 D D D d.filled d.closed))

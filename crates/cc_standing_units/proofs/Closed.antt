@@ -4,7 +4,7 @@ use Rattle.std.specs.Prelude.{nat_eq, nat_lt}
 use Rattle.std.proofs.lemmas.Bool.{eq-eqb}
 use Rattle.std.proofs.lemmas.Option.{slice_get-map}
 use Rattle.cc_standing_units.proofs.Layouts.{layouts_stay}
-use Rattle.cc_standing_units.specs.Closings.{ClosedBy, Closings}
+use Rattle.cc_sound_terms.specs.Closings.{ClosedBy, Closings}
 use Rattle.cc_num.specs.declared.target.Target.{Target}
 use Rattle.cc_standing_units.proofs.OwnViews.{first_ordered}
 use Rattle.cc_standing_units.specs.Views.{has_content, view_of}
@@ -49,17 +49,17 @@ new_there all front [] more i h = ap (λ (l : List ℕ). is_among l i) (append_n
 new_there all front (j ∷ rest) more i h = ap (λ (l : List ℕ). is_among l i) (sym (append_assoc front (j ∷ []) rest)) ∙ new_there all (front ++ j ∷ []) rest more i h.1
 
 module _ (target : Target) (t : State) (ordered : IsOrdered t) (some : (i : ℕ) (ms : List Named) → HasMembers t.structures i ms → nat_lt 0 (length ms) ≡ true)
-    (apart : (i : ℕ) (ms : List Named) → HasMembers t.structures i ms → are_distinct (local_names ms) ≡ true) (closings : (v : View) → v.target ≡ target → Closings v at_first t) where
+    (apart : (i : ℕ) (ms : List Named) → HasMembers t.structures i ms → are_distinct (local_names ms) ≡ true) (closings : (v : View) → v.target ≡ target → Closings v (Unit {0}) at_first t) where
   no_members : (i : ℕ) (ms : List Named) → HasMembers at_first.structures i ms → ⊥
   no_members i ms h = by h.0 h.1
     where
       by : (k : KnownStructure) → slice_get [] i ≡ Some k → ⊥
       by k e = absurd (cc e)
 
-  closed_by : (v : View) → v.target ≡ target → (i : ℕ) (ms : List Named) → HasMembers t.structures i ms → ClosedBy v at_first t i ms
+  closed_by : (v : View) → v.target ≡ target → (i : ℕ) (ms : List Named) → HasMembers t.structures i ms → ClosedBy v (Unit {0}) at_first t i ms
   closed_by v e i ms h = by (closings v e i ms h)
     where
-      by : HasMembers at_first.structures i ms ⊎ ClosedBy v at_first t i ms → ClosedBy v at_first t i ms
+      by : HasMembers at_first.structures i ms ⊎ ClosedBy v (Unit {0}) at_first t i ms → ClosedBy v (Unit {0}) at_first t i ms
       by (inl g) = absurd (no_members i ms g)
       by (inr c) = c
 
@@ -116,7 +116,7 @@ module _ (target : Target) (t : State) (ordered : IsOrdered t) (some : (i : ℕ)
       let new : is_among front i ≡ false = new_there t.structures [] front rest i (subst (AreOrdered t.structures []) e ordered.order) in
       let other : is_among c.before.completed i ≡ false = new_there t.structures [] c.before.completed c.more i (subst (AreOrdered t.structures []) c.order ordered.order) in
       let same : c.before.completed ≡ front = split_same c.before.completed front c.more rest i (sym c.order ∙ e) other new in
-      c.known (types_known front c.before c.kept (c.ordered first_ordered) same)
+      c.known tt (types_known front c.before c.kept (c.ordered first_ordered) same)
 
   over_from : (front rest : List ℕ) → t.completed ≡ front ++ rest → AreOver target t front rest
   over_from front [] e = tt
@@ -124,7 +124,7 @@ module _ (target : Target) (t : State) (ordered : IsOrdered t) (some : (i : ℕ)
 
   -- ---- all
 
-  laid_at : (i : ℕ) (k : KnownStructure) (ms : List Named) → slice_get t.structures i ≡ Some k → k.members ≡ Some ms → ClosedBy (view_of target t) at_first t i ms
+  laid_at : (i : ℕ) (k : KnownStructure) (ms : List Named) → slice_get t.structures i ≡ Some k → k.members ≡ Some ms → ClosedBy (view_of target t) (Unit {0}) at_first t i ms
   laid_at i k ms e n = closed_by (view_of target t) refl i ms (k, e, n)
 
   pub are_closed : AreClosed target t

@@ -7,5 +7,4 @@ pub mod Lists
 pub mod OwnViews
 pub mod Places
 pub mod Standing
-pub mod Steps
 pub mod Types

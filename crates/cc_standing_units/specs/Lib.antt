@@ -1,4 +1,3 @@
 pub mod Closed
-pub mod Closings
 pub mod Laid
 pub mod Views

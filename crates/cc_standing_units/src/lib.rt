@@ -6,7 +6,7 @@ mod left_law;
 mod standing_law;
 mod view_law;
 
-pub use closing_law::{closing_laws, closing_steps};
+pub use closing_law::closing_laws;
 pub use left_law::left_unit_laws;
 pub use standing_law::standing_unit_laws;
 pub use view_law::own_view;

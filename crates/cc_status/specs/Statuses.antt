@@ -1,5 +1,5 @@
 -- The number of each status, and the line that tells it.
-use Rattle.std.specs.Prelude.{ℕ, Bool, true, false, List, [], ◌++◌, codes}
+use Rattle.std.specs.Prelude.{ℕ, Bool, true, false, nat_lt, List, [], ◌++◌, codes}
 use Rattle.std.specs.Fmt.{decimal}
 use Rattle.cc_cost.specs.declared.fault.ProfileFault.{ProfileFault}
 use Rattle.cc_cost.specs.declared.fault.ProfileFault.TheVariants as profile
@@ -80,6 +80,14 @@ is_of_programs Steps = false
 is_of_programs Functions = true
 is_of_programs Ram = true
 is_of_programs Out = true
+
+-- whether the number is above the limit of programs, or of what is printed of them
+abbrev pub is_over : What → ℕ → Bool
+is_over Functions n = nat_lt 4096 n
+is_over Ram n = nat_lt 65536 n
+is_over Out n = nat_lt 16777216 n
+is_over Count n = false
+is_over Steps n = false
 
 -- whether an answer has its cause in the files that a command reads
 abbrev pub is_of_files : Status → Bool

@@ -5,13 +5,12 @@ use Rattle.std.proofs.lemmas.Bool.Decides.{nat_tests}
 use Rattle.std.specs.Prelude.{◌≢◌}
 use Rattle.cc_cost.specs.declared.fault.ProfileFault.{ProfileFault}
 use Rattle.cc_cost.specs.declared.fault.ProfileFault.TheVariants as fault
-use Rattle.cc_material.specs.Programs.{is_over}
 use Rattle.cc_packing.specs.Ends.{is_pack_refusal}
 use Rattle.cc_read.specs.declared.refusal.ReadRefusal.{ReadRefusal}
 use Rattle.cc_read.specs.declared.refusal.ReadRefusal.TheVariants as why
 use Rattle.cc_simulation.specs.Asked.{Asked as Simulated}
 use Rattle.cc_simulation.specs.Ends.{is_run_refusal}
-use Rattle.cc_status.specs.Statuses.{may_write, is_of_files}
+use Rattle.cc_status.specs.Statuses.{may_write, is_of_files, is_over}
 use Rattle.cc_status.specs.declared.status.Status.{Status}
 use Rattle.cc_status.specs.declared.status.Status.TheVariants as status
 use Rattle.cc_status.specs.declared.status.What.{What}
@@ -68,6 +67,9 @@ module _ (a : Simulated) (s : Status) (many : 1000000 < a.steps → s ≡ status
   pub run-no-memory-of-profile : (f : ProfileFault) → s ≡ status.Profile f → f ≢ fault.NoMemory
   run-no-memory-of-profile f e m = other (status.Profile fault.NoMemory) (e ∙ ap status.Profile m) refl (λ k. absurd (cc)) (λ k. absurd (cc))
 
+  pub run-no-later : (name : List ℕ) → s ≡ status.Later name → ⊥
+  run-no-later name e = other (status.Later name) e refl (λ k. absurd (cc)) (λ k. absurd (cc))
+
   over-run : (w : What) (n : ℕ) → is_run_refusal (status.Limit w n) ≡ true → IsRunLimit a w n
   over-run what.Count n k = absurd (cc)
   over-run what.Steps n k = absurd (cc)
@@ -112,4 +114,4 @@ of-files-first s h = by_cases s h
 pub of-files-cause : (s : Status) → is_of_files s ≡ true → s ≢ status.NoMemory
 of-files-cause s h e = let k : is_of_files status.NoMemory ≡ true = ap is_of_files (sym e) ∙ h in absurd (cc)
 
-pub ruleset of_answers = (no-usage, over, no-inputs, no-arrivals, no-memory, no-memory-of-profile, run-no-usage, run-no-memory, run-no-memory-of-profile, run-limit, of-files-first, of-files-cause)
+pub ruleset of_answers = (no-usage, over, no-inputs, no-arrivals, no-memory, no-memory-of-profile, run-no-usage, run-no-memory, run-no-memory-of-profile, run-no-later, run-limit, of-files-first, of-files-cause)

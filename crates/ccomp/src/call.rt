@@ -1,12 +1,11 @@
 //! The top call.
 
-ghost use Rattle.std.specs.Prelude.{⊤, ◌≡◌, ◌≢◌, ◌≤◌, ◌<◌, ◌⊎◌, ◌++◌, ℕ, take, codes, IsTrue, IfOk, List as ListOf, true, false};
+ghost use Rattle.std.specs.Prelude.{⊤, ◌≡◌, ◌≢◌, ◌≤◌, ◌<◌, ◌⊎◌, ◌++◌, ℕ, take, codes, IsTrue, List as ListOf, true, false};
 ghost use Rattle.cc_cost.specs.declared.fault.ProfileFault.{ProfileFault as ProfileFaultOf};
 ghost use Rattle.cc_cost.specs.declared.fault.ProfileFault.TheVariants.{NoMemory as NoRoomForRows};
 ghost use Rattle.cc_edge.specs.Faults.{Rose};
 ghost use Rattle.cc_edge.specs.Files.{KeepsFiles};
 ghost use Rattle.cc_make.specs.Source.{made};
-ghost use Rattle.cc_material.specs.Programs.{is_over};
 ghost use Rattle.cc_packing.specs.Asked.{IsUntold};
 ghost use Rattle.cc_packing.specs.Ends.{PackEnds};
 ghost use Rattle.cc_packing.specs.Headline.{Packs, IsAtFault};
@@ -15,25 +14,19 @@ ghost use Rattle.cc_read.specs.declared.refusal.ReadRefusal.TheVariants.{NoMemor
 ghost use Rattle.cc_simulation.specs.Asked.{Asked as Simulated, IsUntold as IsUntoldRun};
 ghost use Rattle.cc_simulation.specs.Ends.{RunEnds};
 ghost use Rattle.cc_simulation.specs.Traces.{Says, SaysFront};
-ghost use Rattle.cc_status.specs.Statuses.{may_write, is_of_files};
+ghost use Rattle.cc_status.specs.Statuses.{may_write, is_of_files, is_over};
 ghost use Rattle.cc_status.specs.declared.status.What.{What as WhatOf};
 ghost use Rattle.ccomp.specs.Command.{Command, Run, Make, Wrong, ForEach, ForFiles, IsRunLimit, says, command_of, texts};
 
 use crate::command::{Asked, command};
 use crate::make::make;
 use cc_edge::{Sink, Store};
-use cc_num::{List, Name, NoMemory};
+use cc_files::copy_name;
+use cc_num::NoMemory;
 use cc_packing::pack;
 use cc_simulation::simulate;
 use cc_status::{Status, What};
 use std::alloc::Global;
-
-/// A copy of a name.
-fn copy_name(alloc: Global, name: &str) -> Result<Name, NoMemory>
-    ensures { IfOk result (λ r. r ≡ name.now) }
-{
-    Ok(List::of(Vec::from_slice(alloc, name.as_bytes())?))
-}
 
 /// Does what the words say. Where the store tells its files, the clauses speak of them; where it does
 /// not, of answers and their causes alone.
@@ -67,11 +60,12 @@ pub fn ccomp<F: Store, O: Sink>(
         ForEach (command_of (texts words.now)) (λ a. is_over what number ≡ true) (λ a. IsRunLimit a what number) (λ seed count. (what ≡ What.Count) × (number ≡ count) × (1000 < count)) }
 
     // Any other answer of `pack` before it writes, and of `run` before it says anything, has its cause in the files, the first
-    // in the order in which they are looked for. Inputs and Arrivals are answers of `run` alone.
+    // in the order in which they are looked for. Inputs and Arrivals are answers of `run` alone, and Later of `pack` alone.
     ensures ends { is_of_files result ≡ true → IsTrue (F.told store.old) →
         ForFiles (command_of (texts words.now)) (λ a. PackEnds (F.files store.old) (Rose (F.faults store.old) (F.faults store.new)) a result) (λ a. RunEnds (F.files store.old) (Rose (F.faults store.old) (F.faults store.new)) a result) }
     ensures inputs { (row : ℕ) → result ≡ Status.Inputs row → ForFiles (command_of (texts words.now)) (λ a. ⊥) (λ a. ⊤) }
     ensures arrivals { (row : ℕ) → result ≡ Status.Arrivals row → ForFiles (command_of (texts words.now)) (λ a. ⊥) (λ a. ⊤) }
+    ensures later { (name : ListOf ℕ) → result ≡ Status.Later name → ForFiles (command_of (texts words.now)) (λ a. ⊤) (λ a. ⊥) }
     // Over a store that does not tell its files, a fault names one that is read, and it comes where the store's faults rose, or
     // where more bytes were taken than a file of its kind may have.
     ensures untold { is_of_files result ≡ true → F.told store.old ≡ false →

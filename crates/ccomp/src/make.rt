@@ -10,8 +10,7 @@ ghost use Rattle.ccomp.specs.Make.{number_of, bounded, seed_of, count_of, steps_
 
 use crate::command::Asked;
 use cc_edge::{Sink, say_whole};
-use cc_material::output_name;
-use cc_status::{Status, What};
+use cc_status::{Status, What, output_name};
 use std::alloc::Global;
 
 /// The most counters of a made source.

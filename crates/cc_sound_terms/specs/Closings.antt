@@ -9,8 +9,8 @@ use Rattle.cc_syntax.specs.Layout.{structure, type_layout}
 use Rattle.cc_syntax.specs.Types.{Named}
 use Rattle.cc_syntax.specs.Views.{View}
 
-module _ (v : View) (s t : State) where
-  -- between s and t this structure was closed, with these members
+module _ (v : View) (Given : Type 0) (s t : State) where
+  -- between s and t this structure was closed, with these members; `Given` is what is known of the construct's parts
   pub record ClosedBy (i : ℕ) (ms : List Named) : Type 0 where
     pub before : State
     pub more : List ℕ
@@ -20,7 +20,7 @@ module _ (v : View) (s t : State) where
     pub ordered : IsOrdered s → IsOrdered before
     pub complete : AreComplete ms before
     pub laid : (k : KnownStructure) → slice_get t.structures i ≡ Some k → k.layout ≡ structure (map (λ (m : Named). type_layout v.target (layouts_of before) m.1) ms)
-    pub known : KnowsTypes v s before → MembersKnown v ms
+    pub known : Given → KnowsTypes v s before → MembersKnown v ms
 
   abbrev pub Closings : Type 0
   Closings = (i : ℕ) (ms : List Named) → HasMembers t.structures i ms → HasMembers s.structures i ms ⊎ ClosedBy i ms

@@ -3,16 +3,17 @@
 ghost use Rattle.std.specs.Prelude.{◌≡◌, [], codes, slice_index_or, IfOk};
 ghost use Rattle.cc_files.specs.Unread.{names_of};
 
+use cc_files::copy_name;
 use cc_num::{List, Name, NoMemory, at};
 use std::alloc::Global;
 
 /// The name of the source of a number; nothing where there is none.
-#[tactic(auto, using(crate::proofs::Told::name_none))]
+#[tactic(auto, using(crate::proofs::NameLaws::name_none))]
 pub fn name_at(alloc: Global, names: &[String], file: u32) -> Result<Name, NoMemory>
     ensures { IfOk result (λ name. name ≡ slice_index_or (names_of names.now) file []) }
 {
     match at(names, file as usize) {
-        Some(name) => Ok(List::of(Vec::from_slice(alloc, name.as_bytes())?)),
+        Some(name) => copy_name(alloc, name.as_str()),
         None => Ok(List::of(Vec::new(alloc))),
     }
 }
@@ -21,5 +22,5 @@ pub fn name_at(alloc: Global, names: &[String], file: u32) -> Result<Name, NoMem
 pub fn output_name(alloc: Global) -> Result<Name, NoMemory>
     ensures { IfOk result (λ name. name ≡ codes "-") }
 {
-    Ok(List::of(Vec::from_slice(alloc, b"-")?))
+    copy_name(alloc, "-")
 }
