@@ -78,13 +78,13 @@ reached d n ts t us e h a =
     let b = begins ts t us h n a in
     record { last = offset ts; chain = (subst (λ (k : ℕ). n ≤ k) (sym e) b.0, omega (arith, e)); rest = behind h (offset ts) b.1 }
 
-init-reached : (types : Bool) (scope after : Scope) (i : At Init) (ts : Tokens) (t : Token) (us : Tokens) (n : ℕ) → IsInit types scope after i ts (t ∷ us) → AscendFrom n ts → Reached n (i.node.declr.at ∷ []) (t ∷ us)
-init-reached types scope after i ts t us n h a = reached i.node.declr.at n ts t us (init-begins h) (init-ends h) a where
-  init-begins : {types : Bool} {scope after : Scope} {i : At Init} {ts us : Tokens} → IsInit types scope after i ts us → i.node.declr.at ≡ offset ts
-  init-begins (AnInit types scope d x attrs v ts us vs ws h e g k) = declr-begins h
+init-reached : (types : Bool) (scope after : Scope) (i : At Init) (ts : Tokens) (t : Token) (us : Tokens) (n : ℕ) → IsInit types scope after i ts (t ∷ us) → AscendFrom n ts → Reached n (i.at ∷ []) (t ∷ us)
+init-reached types scope after i ts t us n h a = reached i.at n ts t us (init-begins h) (init-ends h) a where
+  init-begins : {types : Bool} {scope after : Scope} {i : At Init} {ts us : Tokens} → IsInit types scope after i ts us → i.at ≡ offset ts
+  init-begins (AnInit types scope d x attrs v ts us vs ws h e g k) = refl
 
 abbrev begin_at : At Init → ℕ
-begin_at i = i.node.declr.at
+begin_at i = i.at
 
 map-more : (is : List (At Init)) (i : At Init) → map begin_at (is ++ i ∷ []) ≡ map begin_at is ++ begin_at i ∷ []
 map-more [] i = refl

@@ -6,7 +6,7 @@ use Rattle.cc_tree.specs.declared.unit.Item.TheVariants as item
 
 -- of a declaration, and of a function's definition
 abbrev pub declared_at : Item → List ℕ
-declared_at (item.Decl d) = map (λ i. i.node.declr.at) d.inits
+declared_at (item.Decl d) = map (λ i. i.at) d.inits
 declared_at (item.Func specs d attrs body) = d.at ∷ []
 
 abbrev pub all_declared_at : List (At Item) → List ℕ

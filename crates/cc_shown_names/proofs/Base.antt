@@ -1,7 +1,7 @@
 -- What is known of every state of a unit: its structures, and that names of devices, functions and objects are no intrinsic's and,
 -- but for functions, not `main`.
-use Rattle.std.proofs.Common.{arith, ◌≡◌, ◌⊎◌, inl, inr, ℕ, zero, suc, ◌+◌, Bool, true, false, cond, not, ◌||◌, List, [], ◌∷◌, ◌++◌, map, length, take, Option, Some, None, refl, ap, sym, ◌∙◌, subst, slice_get}
-use Rattle.std.specs.List.{list_any, list_all, filter}
+use Rattle.std.proofs.Common.{◌≡◌, ◌⊎◌, inl, inr, ℕ, suc, ◌+◌, true, false, cond, not, ◌||◌, List, [], ◌∷◌, ◌++◌, map, length, Option, Some, None, refl, ap, sym, ◌∙◌, slice_get}
+use Rattle.std.specs.List.{list_any, filter}
 use Rattle.std.specs.Option.{is_none}
 use Rattle.std.specs.Str.{bytes_eq}
 use Rattle.cc_primary.specs.Primary.{intrinsic_named}
@@ -22,7 +22,7 @@ use Rattle.cc_shown_definitions.proofs.Names.{mapped, names-same, no-intrinsic}
 use Rattle.cc_shown_expressions.specs.Known.{KnowsStructures}
 use Rattle.cc_shown_names.specs.Names.{device_declared}
 use Rattle.cc_shown_names.specs.States.{unit_state}
-use Rattle.cc_shown_names.proofs.Keys.{Distinct, Apart, second-there, keys-distinct, keys-own, func_names, object_names, unit_keys}
+use Rattle.cc_shown_names.proofs.Keys.{Distinct, second-there, keys-distinct, keys-own, func_names, object_names, unit_keys}
 use Rattle.cc_shown_names.proofs.Scope.{keys}
 
 pub structures-in : (p : Program) → KnowsStructures p (structure_number p) (first_state p (length p.structures) (appearance p)) → (names : List Declared) → KnowsStructures p (structure_number p) (unit_state p names)

@@ -1,10 +1,10 @@
 -- Declarations of types that no structure stands in: they show the same over no structures at all.
-use Rattle.std.proofs.Common.{◌≡◌, ℕ, Bool, true, false, List, [], ◌∷◌, Option, Some, None, refl, ap, sym, ◌∙◌, subst}
+use Rattle.std.proofs.Common.{◌≡◌, Bool, true, false, List, [], ◌∷◌, Option, refl, ap, sym, ◌∙◌, subst}
 use Rattle.cc_expression_trees.specs.Types.{Core, Plain, Function, ShowsBase, ShowsVoid, ShowsInt, ShowsStructure, Declares, DeclaresNothing, DeclaresName, DeclaresFunction, InParens, DeclaresPointer, DeclaresArray, DeclaresFunc, ShowsParams, ShowsNone, ShowsSome, ShowsParamList, NoParam, MoreParams}
 use Rattle.cc_program.specs.declared.types.CType.{CType}
 use Rattle.cc_program.specs.declared.types.Shape.{Shape, out-Shape}
 use Rattle.cc_program.specs.declared.types.Shape.TheOpen as shape
-use Rattle.cc_program.specs.declared.types.Sig.{Sig, out-Sig}
+use Rattle.cc_program.specs.declared.types.Sig.{Sig}
 use Rattle.cc_program.specs.declared.types.Structure.{Structure}
 use Rattle.cc_tree.specs.Tokens.{Name}
 use Rattle.cc_tree.specs.declared.at.At.{At}

@@ -1,11 +1,10 @@
 -- No object that a unit defines has the name of a device: each item but a device's declares another name, and a device is not
 -- defined.
-use Rattle.std.proofs.Common.{arith, ◌≡◌, ◌⊎◌, inl, inr, ◌<◌, ℕ, zero, suc, ◌+◌, Bool, true, false, not, ◌||◌, List, [], ◌∷◌, ◌++◌, map, length, Option, Some, None, refl, ap, sym, ◌∙◌, slice_get, option_to_list}
+use Rattle.std.proofs.Common.{◌≡◌, ℕ, zero, suc, ◌+◌, Bool, true, false, ◌||◌, List, [], ◌∷◌, ◌++◌, map, length, Option, Some, None, refl, ap, sym, ◌∙◌, slice_get, option_to_list}
 use Rattle.std.specs.Prelude.{if◌then◌else◌}
 use Rattle.std.specs.List.{list_any, filter, flat_map}
 use Rattle.std.specs.Str.{bytes_eq}
 use Rattle.std.proofs.lemmas.List.Folds.{list_any-append}
-use Rattle.std.proofs.lemmas.Option.{slice_get_within}
 use Rattle.cc_bodies.specs.Stmts.{intrinsic_name}
 use Rattle.cc_expression_trees.specs.Types.{Core, Plain, Function, unnamed, Declares, ShowsWords, NoWord, MoreWords}
 use Rattle.cc_expression_trees.proofs.Insides.{core_name, core-named}
@@ -26,7 +25,6 @@ use Rattle.cc_scopes.specs.State.{Name, or_else}
 use Rattle.cc_syntax.specs.Names.{with_name, device_names, intrinsic_names}
 use Rattle.cc_syntax.specs.Normal.{has_name}
 use Rattle.cc_syntax.specs.Sound.{IsSound}
-use Rattle.cc_tree.specs.Scopes.{name_of}
 use Rattle.cc_tree.specs.declared.at.At.{At}
 use Rattle.cc_tree.specs.declared.tree.Declr.{Declr}
 use Rattle.cc_tree.specs.declared.tree.Spec as spec
@@ -38,9 +36,9 @@ use Rattle.cc_tree.specs.declared.unit.Item.{Item}
 use Rattle.cc_tree.specs.declared.unit.Item.TheVariants as item
 use Rattle.cc_type.specs.Defined.{name_in, given_in, defined_with, defined_by}
 use Rattle.cc_unit_trees.specs.Externals.{External, AnIntrinsic, ATag, AStructure, ADevice, APrototype, AnObject, AValue, AFunction, intrinsics_used, announced, is_given as has_values, externals}
-use Rattle.cc_unit_trees.specs.Items.{intrinsic_result, intrinsic_parameters, ShowsIntrinsic, AnIntrinsic as AnIntrinsicItem, ShowsTag, ATag as ATagItem, ShowsStructure, OnlyNamed, WithMembers, ShowsDevice, ADevice as ADeviceItem, ShowsPrototype, APrototype as APrototypeItem, ShowsObject, AnObject as AnObjectItem, ShowsDefinition, ADefinition}
+use Rattle.cc_unit_trees.specs.Items.{intrinsic_result, intrinsic_parameters, AnIntrinsic as AnIntrinsicItem, ShowsTag, ATag as ATagItem, OnlyNamed, WithMembers, ShowsDevice, ADevice as ADeviceItem, APrototype as APrototypeItem, AnObject as AnObjectItem, ADefinition}
 use Rattle.cc_unit_trees.specs.Programs.{ShowsExternal, ShowsExternals, NoExternal, MoreExternals}
-use Rattle.cc_unit_trees.specs.Units.{ShowsDecl, ShowsOne, ShowsFunction, ShowsDefinition as ADefinedFunction}
+use Rattle.cc_unit_trees.specs.Units.{ShowsDecl, ShowsOne, ShowsDefinition as ADefinedFunction}
 use Rattle.cc_unit_trees.proofs.Each.{each-append, each-mapped, each-passing}
 use Rattle.cc_unit_trees.proofs.Lists.{each-from}
 use Rattle.cc_words.specs.declared.word.Word.{Word}
@@ -48,7 +46,7 @@ use Rattle.cc_words.specs.declared.word.Word.TheVariants as w
 use Rattle.cc_shown_definitions.proofs.Changes.{stays-there}
 use Rattle.cc_shown_definitions.proofs.Names.{mapped}
 use Rattle.cc_shown_names.proofs.Base.{apart}
-use Rattle.cc_shown_names.proofs.Keys.{Distinct, Apart, parts-apart, second-there, func_names, object_names, unit_keys, keys-own}
+use Rattle.cc_shown_names.proofs.Keys.{parts-apart, second-there, func_names, object_names, keys-own}
 use Rattle.cc_shown_names.proofs.Leads.{word-storage}
 use Rattle.cc_shown_names.proofs.One.{init_of, decl_of}
 

@@ -1,5 +1,5 @@
 -- The declarations of a program's devices that have names, one behind another.
-use Rattle.std.proofs.Common.{arith, ◌≡◌, ◌<◌, ℕ, zero, suc, ◌+◌, Bool, true, false, cond, not, ◌&&◌, ◌*◌, ◌^◌, nat_eq, nat_lt, List, [], ◌∷◌, ◌++◌, map, length, Option, Some, None, Ok, refl, ap, sym, ◌∙◌, subst, slice_get, append_assoc, length-append, eqb-true}
+use Rattle.std.proofs.Common.{arith, ◌≡◌, ℕ, suc, ◌+◌, true, false, cond, not, ◌*◌, ◌^◌, nat_eq, nat_lt, List, [], ◌∷◌, ◌++◌, map, length, Option, Some, None, Ok, refl, ap, sym, ◌∙◌, subst, slice_get, append_assoc, length-append, eqb-true}
 use Rattle.std.specs.Prelude.{if◌then◌else◌}
 use Rattle.std.specs.List.{list_any, list_all, filter}
 use Rattle.std.specs.Option.{is_none}
@@ -7,10 +7,10 @@ use Rattle.std.specs.Str.{bytes_eq}
 use Rattle.std.proofs.lemmas.List.{map-append, append-nil}
 use Rattle.cc_expression_trees.specs.Constants.{qualified}
 use Rattle.cc_expression_trees.specs.Types.{Plain}
-use Rattle.cc_linkage.specs.Linkage.{linkage_of, new_declared, declared, may_be_declared}
+use Rattle.cc_linkage.specs.Linkage.{linkage_of, new_declared}
 use Rattle.cc_linkage.specs.declared.linkage.DeclaredAs.TheVariants.{AsExtern}
 use Rattle.cc_objects.specs.Categories.{setting_of}
-use Rattle.cc_objects.specs.Linked.{device_by, object_kind, object_declared}
+use Rattle.cc_objects.specs.Linked.{device_by, object_kind}
 use Rattle.cc_objects.specs.Types.{type_given, composite_by}
 use Rattle.cc_objects.specs.declared.category.Category.TheVariants as declares
 use Rattle.cc_operands.specs.Verdicts.{Judged}
@@ -27,12 +27,11 @@ use Rattle.cc_scopes.specs.declared.unit.Declared.{Declared}
 use Rattle.cc_specifiers.specs.declared.storage.Where.TheVariants as stands
 use Rattle.cc_syntax.specs.Names.{with_name, device_names}
 use Rattle.cc_syntax.specs.Normal.{has_name}
-use Rattle.cc_syntax.specs.Sound.{IsSound, is_numbered, is_device, main_name}
+use Rattle.cc_syntax.specs.Sound.{IsSound, is_device, main_name}
 use Rattle.cc_syntax.proofs.Prefixes.{both_true}
 use Rattle.cc_terms.specs.InTurn.{in_turn}
 use Rattle.cc_tree.specs.declared.at.At.{At}
 use Rattle.cc_tree.specs.declared.tree.Declr.{Declr}
-use Rattle.cc_tree.specs.declared.tree.Spec.{Spec}
 use Rattle.cc_tree.specs.declared.unit.Decl.{Decl}
 use Rattle.cc_tree.specs.declared.unit.Item.{Item}
 use Rattle.cc_tree.specs.declared.unit.Item.TheVariants as item
@@ -40,7 +39,7 @@ use Rattle.cc_type.specs.Units.{item_found, item_next, items_found}
 use Rattle.cc_typed_declarations.specs.Declarations.{declared_left, named_found}
 use Rattle.cc_typed_declarations.specs.Objects.{linked_known, linked_as}
 use Rattle.cc_unit.specs.declared.unit.UnitKind.TheVariants as kind
-use Rattle.cc_unit_trees.specs.Externals.{External, ADevice}
+use Rattle.cc_unit_trees.specs.Externals.{ADevice}
 use Rattle.cc_unit_trees.specs.Items.{ShowsDevice, ADevice as ADeviceItem}
 use Rattle.cc_unit_trees.specs.Programs.{ShowsExternals, NoExternal, MoreExternals}
 use Rattle.cc_unit_trees.specs.Units.{ShowsDecl, ShowsOne}

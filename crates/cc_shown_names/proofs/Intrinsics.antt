@@ -1,13 +1,13 @@
 -- The prototypes of intrinsics leave known what was known in front of them, whatever that was.
-use Rattle.std.proofs.Common.{arith, ◌≡◌, ◌⊎◌, inl, inr, ℕ, zero, suc, ◌+◌, Bool, true, false, not, ◌&&◌, ◌||◌, List, [], ◌∷◌, ◌++◌, map, length, Option, Some, None, Ok, refl, ap, sym, ◌∙◌, subst, slice_get}
+use Rattle.std.proofs.Common.{arith, ◌≡◌, ◌⊎◌, inl, inr, ℕ, true, false, not, ◌&&◌, ◌||◌, List, [], ◌∷◌, ◌++◌, map, Some, None, Ok, refl, ap, sym, ◌∙◌, subst}
 use Rattle.std.specs.Prelude.{if◌then◌else◌}
 use Rattle.std.specs.List.{list_all}
 use Rattle.std.specs.Option.{is_some}
 use Rattle.std.specs.Str.{bytes_eq}
 use Rattle.cc_bodies.specs.Stmts.{intrinsic_name}
-use Rattle.cc_designators.specs.Calls.{signature, byte_type, intrinsic_signature}
-use Rattle.cc_expression_trees.specs.Constants.{qualified, plain as plainly}
-use Rattle.cc_expression_trees.specs.Types.{Function, unnamed, ShowsBase, Declares}
+use Rattle.cc_designators.specs.Calls.{byte_type, intrinsic_signature}
+use Rattle.cc_expression_trees.specs.Constants.{plain as plainly}
+use Rattle.cc_expression_trees.specs.Types.{Function, unnamed, Declares}
 use Rattle.cc_linkage.specs.Linkage.{declared}
 use Rattle.cc_linkage.specs.declared.linkage.DeclaredAs.TheVariants.{AsExtern}
 use Rattle.cc_num.specs.declared.int_type.IntType.TheVariants as int
@@ -23,7 +23,7 @@ use Rattle.cc_program.specs.declared.expr.Intr.TheVariants as intr
 use Rattle.cc_program.specs.declared.program.Program.{Program}
 use Rattle.cc_program.specs.declared.program.Roles.{Roles}
 use Rattle.cc_program.specs.declared.types.CType.{CType}
-use Rattle.cc_program.specs.declared.types.Shape.{Shape, Void, Int, Func, out-Shape, roll-Shape, out-roll-Shape}
+use Rattle.cc_program.specs.declared.types.Shape.{Shape, Void, Int, Func, roll-Shape, out-roll-Shape}
 use Rattle.cc_program.specs.declared.types.Shape.TheOpen as shape
 use Rattle.cc_program.specs.declared.types.Shape.TheVariants.{outs-Void, outs-Int}
 use Rattle.cc_program.specs.declared.types.Sig.{Sig, out-Sig, roll-Sig, out-roll-Sig, roll-out-Sig}
@@ -31,7 +31,7 @@ use Rattle.cc_scopes.specs.State.{State, Name}
 use Rattle.cc_scopes.specs.Verdicts.{Found, whole, and_then, Checked, checked}
 use Rattle.cc_specifiers.specs.declared.storage.Where.TheVariants as stands
 use Rattle.cc_syntax.specs.Kinds.{is_plain_scalar, is_result}
-use Rattle.cc_syntax.specs.Names.{device_names, intrinsic_names, file_names}
+use Rattle.cc_syntax.specs.Names.{device_names, intrinsic_names}
 use Rattle.cc_syntax.specs.Programs.{kind_in}
 use Rattle.cc_syntax.specs.SameTypes.{same_type}
 use Rattle.cc_syntax.specs.Sizes.{AreSized}
@@ -41,7 +41,6 @@ use Rattle.cc_syntax.proofs.StructureLemmas.{structures_sized}
 use Rattle.cc_terms.specs.InTurn.{in_turn}
 use Rattle.cc_tree.specs.declared.at.At.{At}
 use Rattle.cc_tree.specs.declared.tree.Declr.{Declr}
-use Rattle.cc_tree.specs.declared.tree.Spec.{Spec}
 use Rattle.cc_tree.specs.declared.unit.Decl.{Decl}
 use Rattle.cc_tree.specs.declared.unit.Item.{Item}
 use Rattle.cc_tree.specs.declared.unit.Item.TheVariants as item

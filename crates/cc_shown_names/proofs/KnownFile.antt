@@ -1,14 +1,13 @@
 -- What is known in front of a program's definitions.
-use Rattle.std.proofs.Common.{arith, ◌≡◌, ◌<◌, ◌≤◌, ℕ, zero, suc, ◌+◌, ◌-◌, Bool, true, false, cond, not, ◌&&◌, nat_eq, nat_lt, List, [], ◌∷◌, ◌++◌, map, length, position, take, Option, Some, None, option_map, Ok, refl, ap, sym, ◌∙◌, subst, slice_get, length-append}
+use Rattle.std.proofs.Common.{arith, ◌≡◌, ◌≤◌, ℕ, zero, suc, ◌+◌, ◌-◌, Bool, true, false, cond, not, ◌&&◌, nat_eq, List, [], ◌∷◌, ◌++◌, map, length, position, take, Option, Some, None, option_map, Ok, refl, ap, sym, ◌∙◌, slice_get, length-append}
 use Rattle.std.specs.Prelude.{if◌then◌else◌}
 use Rattle.std.specs.List.{filter, position_from}
 use Rattle.std.specs.Option.{is_none}
 use Rattle.std.proofs.lemmas.Bool.{lt-ltb, le-ltb}
 use Rattle.std.proofs.lemmas.Iterator.Adapters.{position_from-zero}
-use Rattle.std.proofs.lemmas.List.{length-map}
 use Rattle.std.proofs.lemmas.Option.{slice_get-map, slice_get_within}
-use Rattle.cc_designators.specs.Designators.{TypedExpr, IsPlace}
-use Rattle.cc_primary.specs.Devices.{names_device, number_of}
+use Rattle.cc_designators.specs.Designators.{IsPlace}
+use Rattle.cc_primary.specs.Devices.{names_device}
 use Rattle.cc_primary.specs.Primary.{named}
 use Rattle.cc_program.specs.declared.expr.Place.{Device as DeviceAt}
 use Rattle.cc_program.specs.declared.func.Func.{Func}
@@ -39,8 +38,8 @@ use Rattle.cc_shown_names.specs.States.{unit_state, devices_declared, functions_
 use Rattle.cc_shown_names.proofs.Base.{structures-in, own-name, device-keys}
 use Rattle.cc_shown_names.proofs.Firsts.{passing-there, none-behind, passes-before}
 use Rattle.cc_shown_names.proofs.Keys.{func_names, object_names, unit_keys}
-use Rattle.cc_shown_names.proofs.KnownStates.{IsObject, AreObjects, NoObject, MoreObjects, count-devices, count-functions, function-there, names-it, names_known, here, apart-here, function-named, object-named}
-use Rattle.cc_shown_names.proofs.Scope.{key, keys, key-there, found-here, linked-here}
+use Rattle.cc_shown_names.proofs.KnownStates.{AreObjects, NoObject, MoreObjects, count-functions, function-there, names-it, apart-here, function-named, object-named}
+use Rattle.cc_shown_names.proofs.Scope.{key-there, found-here, linked-here}
 
 -- ---- a list of which none passes a test
 

@@ -1,23 +1,19 @@
 -- What is known where all that a program names is declared, whatever first values its objects have by then.
-use Rattle.std.proofs.Common.{arith, ◌≡◌, ◌<◌, ◌≤◌, ℕ, zero, suc, ◌+◌, ◌-◌, Bool, true, false, ◌&&◌, nat_lt, List, [], ◌∷◌, ◌++◌, map, length, take, Option, Some, None, option_map, Ok, refl, ap, sym, ◌∙◌, subst, slice_get, append_assoc, length-append}
+use Rattle.std.proofs.Common.{arith, ◌≡◌, ℕ, zero, suc, ◌+◌, true, List, [], ◌∷◌, ◌++◌, map, length, Some, None, option_map, Ok, refl, ap, sym, ◌∙◌, subst, slice_get, append_assoc, length-append}
 use Rattle.std.specs.List.{filter}
 use Rattle.std.proofs.lemmas.List.{length-map, map-append}
-use Rattle.std.proofs.lemmas.Option.{slice_get-map, slice_get_within}
-use Rattle.cc_designators.specs.Designators.{TypedExpr, IsPlace, IsFunction}
+use Rattle.std.proofs.lemmas.Option.{slice_get-map}
+use Rattle.cc_designators.specs.Designators.{IsPlace, IsFunction}
 use Rattle.cc_objects.specs.Values.{object_by, object_of, objects_in}
 use Rattle.cc_primary.specs.Primary.{function_by, linked_by, linked, designates, named_by, named, intrinsic_named}
 use Rattle.cc_program.specs.declared.expr.Place.{Static}
 use Rattle.cc_program.specs.declared.func.Func.{Func}
 use Rattle.cc_program.specs.declared.object.Object.{Object}
 use Rattle.cc_program.specs.declared.program.Program.{Program}
-use Rattle.cc_program.specs.declared.types.CType.{CType}
-use Rattle.cc_program.specs.declared.types.Shape.{out-Shape}
 use Rattle.cc_program.specs.declared.types.Shape.TheVariants as shape_rolls
 use Rattle.cc_program.specs.declared.value.Leaf.{Leaf}
-use Rattle.cc_operands.specs.Verdicts.{Judged}
 use Rattle.cc_scopes.specs.Linked.{is_linked}
 use Rattle.cc_scopes.specs.State.{State, Name, name_or_none, or_else}
-use Rattle.cc_scopes.specs.declared.designated.Designated.TheVariants as means
 use Rattle.cc_scopes.specs.declared.unit.Declared.{Declared}
 use Rattle.cc_syntax.specs.Names.{device_names}
 use Rattle.cc_syntax.specs.Normal.{has_name, count_named}
@@ -28,8 +24,7 @@ use Rattle.cc_unit.specs.declared.unit.UnitKind.TheVariants as kind
 use Rattle.cc_shown_declarations.specs.Known.{KnowsStatics}
 use Rattle.cc_shown_declarations.specs.Numbers.{leaf_numbered}
 use Rattle.cc_shown_declarations.specs.Order.{appearance, structure_number}
-use Rattle.cc_shown_declarations.specs.States.{known_as, first_state}
-use Rattle.cc_shown_definitions.specs.Functions.{type_of_function}
+use Rattle.cc_shown_declarations.specs.States.{first_state}
 use Rattle.cc_shown_definitions.proofs.Changes.{stays-there}
 use Rattle.cc_shown_definitions.proofs.Names.{mapped}
 use Rattle.cc_shown_expressions.specs.Known.{KnowsStructures}

@@ -1,12 +1,11 @@
 -- What definitions leave known: each function with its body, and the devices without names that they use, in order.
-use Rattle.std.proofs.Common.{arith, ◌≡◌, ◌≤◌, ℕ, zero, suc, ◌+◌, ◌-◌, Bool, true, false, List, [], ◌∷◌, ◌++◌, map, length, take, drop, Option, Some, None, Ok, unwrap_or, refl, ap, sym, ◌∙◌, subst, slice_get, append_assoc, length-append, eqb-true, nat_eq}
-use Rattle.std.specs.List.{flat_map, filter}
+use Rattle.std.proofs.Common.{arith, ◌≡◌, ◌≤◌, ℕ, zero, suc, ◌+◌, ◌-◌, true, List, [], ◌∷◌, ◌++◌, map, length, take, drop, Option, Some, None, unwrap_or, refl, ap, sym, ◌∙◌, append_assoc, length-append, eqb-true}
+use Rattle.std.specs.List.{flat_map}
 use Rattle.std.proofs.Math.Seq.{take-add}
 use Rattle.std.proofs.lemmas.List.{map-append, append-nil, drop-drop, take_rest}
 use Rattle.cc_primary.specs.Devices.{declared_device}
 use Rattle.cc_program.specs.declared.func.Entry.{Entry}
 use Rattle.cc_program.specs.declared.func.Func.{Func}
-use Rattle.cc_program.specs.declared.object.Object.{Object}
 use Rattle.cc_program.specs.declared.program.Program.{Program}
 use Rattle.cc_scopes.specs.Definitions.{defined_at}
 use Rattle.cc_scopes.specs.State.{State, with_names, with_locals, change_at, change_name}
@@ -16,7 +15,7 @@ use Rattle.cc_syntax.specs.Normal.{has_name, count_named, devices_in, devices_in
 use Rattle.cc_syntax.proofs.Prefixes.{both_true}
 use Rattle.cc_tree.specs.declared.at.At.{At}
 use Rattle.cc_tree.specs.declared.unit.Item.{Item}
-use Rattle.cc_type.specs.Functions.{entry_of, entry_at, defined_as}
+use Rattle.cc_type.specs.Functions.{entry_of, defined_as}
 use Rattle.cc_unit.specs.declared.unit.UnitKind.TheVariants as kind
 use Rattle.cc_unit_trees.specs.Externals.{AFunction}
 use Rattle.cc_unit_trees.specs.Programs.{ShowsExternals, NoExternal, MoreExternals}
@@ -30,9 +29,9 @@ use Rattle.cc_shown_definitions.proofs.Changes.{next-parted, stays-there}
 use Rattle.cc_shown_definitions.proofs.Order.{next-least}
 use Rattle.cc_shown_names.specs.Names.{written_entry, function_declared, function_defined, object_given, placed}
 use Rattle.cc_shown_names.specs.Numbers.{unit_numbers}
-use Rattle.cc_shown_names.specs.States.{place_in, places, bound_from, unit_state, devices_declared, functions_declared, objects_given, all_defined, last_state}
+use Rattle.cc_shown_names.specs.States.{place_in, places, unit_state, devices_declared, objects_given, all_defined, last_state}
 use Rattle.cc_shown_names.proofs.KnownStates.{count-devices}
-use Rattle.cc_shown_names.proofs.Scope.{keys, changed-next, next-there, bound-same, middle-keys}
+use Rattle.cc_shown_names.proofs.Scope.{changed-next, next-there, bound-same, middle-keys}
 
 -- ---- parts of a list, one behind the other
 

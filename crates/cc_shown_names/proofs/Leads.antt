@@ -1,15 +1,14 @@
 -- What stands in front of the specifiers of a prototype: nothing, or the attribute of a handler.
-use Rattle.std.proofs.Common.{◌≡◌, ℕ, Bool, true, false, List, [], ◌∷◌, ◌++◌, map, Option, Some, None, Ok, refl, ap, ◌∙◌}
+use Rattle.std.proofs.Common.{◌≡◌, ℕ, Bool, true, false, List, [], ◌∷◌, ◌++◌, Option, Some, None, Ok, refl, ap, ◌∙◌}
 use Rattle.std.specs.Prelude.{codes}
 use Rattle.cc_declarators.specs.Specifiers.{marked}
 use Rattle.cc_expression_trees.specs.Types.{ShowsWords, NoWord, MoreWords, ShowsBase, ShowsVoid, ShowsInt, ShowsStructure, qualifier_words, int_words}
 use Rattle.cc_num.specs.declared.int_type.IntType.{IntType}
 use Rattle.cc_num.specs.declared.int_type.IntType.TheVariants as int
 use Rattle.cc_objects.specs.Categories.{storage_class, storage_at, storage_in}
-use Rattle.cc_operands.specs.Verdicts.{Judged, must}
+use Rattle.cc_operands.specs.Verdicts.{must}
 use Rattle.cc_operands.specs.declared.rule.Rule.TheVariants as rule
 use Rattle.cc_program.specs.declared.func.Entry.{Entry}
-use Rattle.cc_program.specs.declared.func.Entry.TheVariants as entry
 use Rattle.cc_program.specs.declared.program.Program.{Program}
 use Rattle.cc_program.specs.declared.types.CType.{CType}
 use Rattle.cc_program.specs.declared.types.Structure.{Structure}
@@ -22,11 +21,7 @@ use Rattle.cc_specifiers.specs.declared.attribute.Attribute.TheVariants as attri
 use Rattle.cc_specifiers.specs.declared.attribute.Entity.TheVariants as entity
 use Rattle.cc_specifiers.specs.declared.specifier.Specifier.{Specifier}
 use Rattle.cc_specifiers.specs.declared.specifier.Specifier.TheVariants as specifier
-use Rattle.cc_specifiers.specs.declared.specifier.Specs.{Specs}
 use Rattle.cc_specifiers.specs.declared.storage.Setting.{Setting}
-use Rattle.cc_terms.specs.InTurn.{in_turn}
-use Rattle.cc_terms.specs.Specifiers.{specifier_found}
-use Rattle.cc_terms.specs.Terms.{spec_of, spec_here}
 use Rattle.cc_tree.specs.declared.at.At.{At}
 use Rattle.cc_tree.specs.declared.tree.Attr.{Attr}
 use Rattle.cc_tree.specs.declared.tree.Declr.TheOpen as one
@@ -37,7 +32,7 @@ use Rattle.cc_unit_trees.specs.Items.{ShowsEntry, NoEntry, Listed, Signal, Inter
 use Rattle.cc_words.specs.declared.word.Word.{Word}
 use Rattle.cc_words.specs.declared.word.Word.TheVariants as w
 use Rattle.cc_shown_expressions.specs.Known.{KnowsStructures}
-use Rattle.cc_shown_expressions.proofs.Words.{start, spec-at}
+use Rattle.cc_shown_expressions.proofs.Words.{spec-at}
 use Rattle.cc_shown_names.specs.Names.{written_entry}
 use Rattle.cc_shown_names.proofs.One.{Leads}
 

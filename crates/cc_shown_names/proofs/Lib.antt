@@ -13,9 +13,9 @@ pub mod Many
 pub mod ObjectTypes
 pub mod Objects
 pub mod One
+pub mod Places
 pub mod Prototypes
 pub mod Scope
 pub mod Signatures
-pub mod Turns
 pub mod Units
 pub mod Values

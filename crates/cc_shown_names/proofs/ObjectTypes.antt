@@ -1,5 +1,5 @@
 -- What an object's type is: it stands, has a size, and is no array without a bound, also with a unit's numbers of structures.
-use Rattle.std.proofs.Common.{arith, ◌≡◌, ◌≤◌, ℕ, zero, suc, Bool, true, false, ◌&&◌, ◌||◌, nat_eq, nat_le, List, Option, Some, None, refl, ap, sym, ◌∙◌, eqb-true}
+use Rattle.std.proofs.Common.{◌≡◌, ℕ, zero, suc, Bool, true, false, ◌&&◌, ◌||◌, nat_eq, Option, Some, None, refl, ap, sym, ◌∙◌, eqb-true}
 use Rattle.std.specs.Option.{is_some}
 use Rattle.cc_expression_trees.specs.Constants.{qualified}
 use Rattle.cc_num.specs.Integers.{bytes_of}
@@ -8,7 +8,7 @@ use Rattle.cc_num.specs.declared.int_type.IntType.TheVariants as int
 use Rattle.cc_num.specs.declared.target.Target.{Target}
 use Rattle.cc_program.specs.declared.program.Program.{Program}
 use Rattle.cc_program.specs.declared.types.CType.{CType}
-use Rattle.cc_program.specs.declared.types.Shape.{Shape, Int, out-Shape, roll-Shape, out-roll-Shape}
+use Rattle.cc_program.specs.declared.types.Shape.{Shape, Int, out-Shape, out-roll-Shape}
 use Rattle.cc_program.specs.declared.types.Shape.TheOpen as shape
 use Rattle.cc_program.specs.declared.types.Shape.TheVariants.{outs-Int}
 use Rattle.cc_program.specs.declared.types.Sig.{Sig}

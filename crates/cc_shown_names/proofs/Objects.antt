@@ -1,15 +1,14 @@
 -- The declarations of a program's objects without their first values, one behind another.
-use Rattle.std.proofs.Common.{arith, ◌≡◌, ◌≤◌, ℕ, zero, suc, ◌+◌, Bool, true, false, not, ◌&&◌, List, [], ◌∷◌, ◌++◌, map, length, Option, Some, None, Ok, refl, ap, sym, ◌∙◌, subst, slice_get, append_assoc, length-append}
-use Rattle.std.specs.Prelude.{if◌then◌else◌}
-use Rattle.std.specs.List.{list_any, list_all}
+use Rattle.std.proofs.Common.{arith, ◌≡◌, ◌≤◌, ℕ, ◌+◌, true, false, List, [], ◌∷◌, ◌++◌, map, length, Some, None, Ok, refl, ap, sym, ◌∙◌, subst, slice_get, append_assoc, length-append}
+use Rattle.std.specs.List.{list_all}
 use Rattle.std.specs.Str.{bytes_eq}
 use Rattle.std.proofs.lemmas.List.{map-append, append-nil}
 use Rattle.std.proofs.lemmas.Option.{slice_get_within}
 use Rattle.cc_expression_trees.specs.Types.{Plain}
-use Rattle.cc_linkage.specs.Linkage.{new_declared, declared, may_be_declared}
+use Rattle.cc_linkage.specs.Linkage.{new_declared, declared}
 use Rattle.cc_linkage.specs.declared.linkage.DeclaredAs.TheVariants.{AsStatic}
 use Rattle.cc_objects.specs.Categories.{setting_of}
-use Rattle.cc_objects.specs.Linked.{device_by, object_kind}
+use Rattle.cc_objects.specs.Linked.{device_by}
 use Rattle.cc_objects.specs.Types.{type_given, composite_by}
 use Rattle.cc_objects.specs.declared.category.Category.TheVariants as declares
 use Rattle.cc_operands.specs.Verdicts.{Judged}

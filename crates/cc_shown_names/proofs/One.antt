@@ -1,5 +1,5 @@
 -- A declaration of one thing at file scope, behind words of a storage class or attributes.
-use Rattle.std.proofs.Common.{◌≡◌, ℕ, Bool, true, false, not, ◌&&◌, ◌||◌, List, [], ◌∷◌, ◌++◌, map, Option, Some, None, Ok, Err, refl, ap, sym, ◌∙◌}
+use Rattle.std.proofs.Common.{◌≡◌, ℕ, Bool, true, false, not, ◌&&◌, ◌||◌, List, [], ◌∷◌, ◌++◌, map, Option, Some, None, Ok, Err, refl, ap, ◌∙◌}
 use Rattle.std.specs.Prelude.{if◌then◌else◌}
 use Rattle.std.specs.Option.{is_some}
 use Rattle.std.specs.Str.{bytes_eq}
@@ -10,7 +10,7 @@ use Rattle.cc_declarators.specs.Specifiers.{begin}
 use Rattle.cc_linkage.specs.Linkage.{is_main_shape, may_be_main, may_be_declared}
 use Rattle.cc_linkage.specs.declared.linkage.DeclaredAs.{DeclaredAs}
 use Rattle.cc_objects.specs.Categories.{file_category, category_by, category_of, setting_of}
-use Rattle.cc_objects.specs.Names.{object_judged, linked_judged, name_judged}
+use Rattle.cc_objects.specs.Names.{object_judged, name_judged}
 use Rattle.cc_objects.specs.Tags.{is_typedef_word, defines_untagged, aliased, aliased_at, first_name}
 use Rattle.cc_objects.specs.Types.{is_complete_or_unbounded, is_object_in}
 use Rattle.cc_objects.specs.declared.category.Category.{Category}

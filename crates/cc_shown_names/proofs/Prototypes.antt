@@ -1,13 +1,13 @@
 -- The prototypes of a program's functions, one behind another.
-use Rattle.std.proofs.Common.{arith, ◌≡◌, ℕ, zero, suc, ◌+◌, Bool, true, false, not, ◌&&◌, ◌||◌, List, [], ◌∷◌, ◌++◌, map, length, Option, Some, None, Ok, Err, refl, ap, sym, ◌∙◌, subst, slice_get, append_assoc, All}
+use Rattle.std.proofs.Common.{arith, ◌≡◌, ℕ, ◌+◌, false, not, ◌&&◌, ◌||◌, List, [], ◌∷◌, ◌++◌, map, length, Option, Some, None, Ok, refl, ap, sym, ◌∙◌, subst, slice_get, append_assoc, All}
 use Rattle.std.specs.Prelude.{if◌then◌else◌}
 use Rattle.std.specs.Option.{is_some}
 use Rattle.std.proofs.lemmas.List.{map-append, append-nil}
 use Rattle.std.proofs.lemmas.List.Elements.{All-head, All-tail}
 use Rattle.cc_expression_trees.specs.Types.{Function, unnamed, ShowsBase, Declares}
-use Rattle.cc_linkage.specs.Linkage.{linkage_of, new_declared, declared, may_be_declared}
+use Rattle.cc_linkage.specs.Linkage.{new_declared, declared, may_be_declared}
 use Rattle.cc_linkage.specs.declared.linkage.DeclaredAs.TheVariants.{AsExtern}
-use Rattle.cc_objects.specs.Categories.{entity_of, setting_of, name_function, storage_in, category_of}
+use Rattle.cc_objects.specs.Categories.{entity_of, setting_of, name_function, category_of}
 use Rattle.cc_objects.specs.Names.{is_prototype, function_judged, prototype_judged}
 use Rattle.cc_objects.specs.declared.category.Category.TheVariants as declares
 use Rattle.cc_operands.specs.Qualified.{is_function_type}
@@ -27,7 +27,6 @@ use Rattle.cc_specifiers.specs.Attributes.{entry_by}
 use Rattle.cc_specifiers.specs.declared.attribute.Attribute.{Attribute}
 use Rattle.cc_specifiers.specs.declared.attribute.Entity.TheVariants as entity
 use Rattle.cc_specifiers.specs.declared.storage.Where.TheVariants as stands
-use Rattle.cc_syntax.specs.Names.{device_names}
 use Rattle.cc_syntax.specs.Sound.{IsSound, IsFunc}
 use Rattle.cc_terms.specs.InTurn.{in_turn}
 use Rattle.cc_tree.specs.declared.at.At.{At}
@@ -39,7 +38,7 @@ use Rattle.cc_type.specs.Units.{item_found, item_next, items_found}
 use Rattle.cc_typed_declarations.specs.Declarations.{declared_left, declared_with, named_found}
 use Rattle.cc_typed_declarations.specs.Functions.{with_function, function_refused, function_left}
 use Rattle.cc_unit.specs.declared.unit.UnitKind.TheVariants as kind
-use Rattle.cc_unit_trees.specs.Externals.{External, APrototype}
+use Rattle.cc_unit_trees.specs.Externals.{APrototype}
 use Rattle.cc_unit_trees.specs.Items.{ShowsEntry, ShowsPrototype, APrototype as APrototypeItem}
 use Rattle.cc_unit_trees.specs.Programs.{ShowsExternals, NoExternal, MoreExternals}
 use Rattle.cc_shown_declarations.specs.Order.{appearance, structure_number}
@@ -56,7 +55,7 @@ use Rattle.cc_shown_names.proofs.Keys.{Distinct, second-there, func_names, objec
 use Rattle.cc_shown_names.proofs.Leads.{entry-storage, entry-found}
 use Rattle.cc_shown_names.proofs.One.{init_of, decl_of, behind-found, one-found}
 use Rattle.cc_shown_names.proofs.Scope.{key, keys, IsNew, next-new, declared-next, may-be-new, change-there}
-use Rattle.cc_shown_names.proofs.Signatures.{declares-one, function-category, function-declarator}
+use Rattle.cc_shown_names.proofs.Signatures.{function-category, function-declarator}
 
 module _ (p : Program) (sound : IsSound p) (known : KnowsStructures p (structure_number p) (first_state p (length p.structures) (appearance p))) (defined : List Name) where
   -- ---- one more

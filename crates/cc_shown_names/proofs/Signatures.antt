@@ -1,9 +1,9 @@
 -- The declarator of a prototype gives its function, and declares one by its form.
-use Rattle.std.proofs.Common.{◌≡◌, ℕ, Bool, true, false, not, ◌||◌, List, [], ◌∷◌, map, Option, Some, None, Ok, refl, ap, sym, ◌∙◌, subst, slice_get}
+use Rattle.std.proofs.Common.{◌≡◌, ℕ, Bool, true, false, not, List, [], ◌∷◌, map, Option, Some, None, refl, ap, sym, ◌∙◌}
 use Rattle.std.specs.List.{list_all}
 use Rattle.cc_expression_trees.specs.Types.{Function, unnamed, Declares}
 use Rattle.cc_objects.specs.Categories.{function_category, category_by, category_of}
-use Rattle.cc_operands.specs.Qualified.{plain, unqualified, is_function_type}
+use Rattle.cc_operands.specs.Qualified.{plain, unqualified}
 use Rattle.cc_primary.specs.Primary.{is_intrinsic}
 use Rattle.cc_program.specs.declared.program.Program.{Program}
 use Rattle.cc_program.specs.declared.types.CType.{CType}

@@ -1,9 +1,8 @@
 -- A unit that shows a program is found to have what the program declares.
-use Rattle.std.proofs.Common.{arith, ◌≡◌, ◌≤◌, ℕ, zero, suc, Bool, true, false, List, [], ◌∷◌, ◌++◌, map, length, drop, Option, Some, None, Ok, refl, ap, sym, ◌∙◌, subst, slice_get, append_assoc}
+use Rattle.std.proofs.Common.{arith, ◌≡◌, ℕ, suc, false, List, [], ◌∷◌, ◌++◌, map, length, drop, Some, Ok, refl, ap, sym, ◌∙◌, subst, slice_get, append_assoc}
 use Rattle.std.specs.List.{list_any, filter, flat_map}
 use Rattle.std.specs.Str.{bytes_eq}
 use Rattle.std.proofs.lemmas.List.{length-map}
-use Rattle.cc_program.specs.declared.func.Func.{Func}
 use Rattle.cc_program.specs.declared.object.Device.{Device}
 use Rattle.cc_program.specs.declared.program.Program.{Program}
 use Rattle.cc_scopes.specs.State.{State, Name, at_first}
@@ -18,6 +17,8 @@ use Rattle.cc_unit_trees.specs.Externals.{External, AnIntrinsic, ATag, AStructur
 use Rattle.cc_unit_trees.specs.Programs.{ShowsExternals, NoExternal, MoreExternals}
 use Rattle.cc_shown_declarations.specs.Order.{appearance, structure_number}
 use Rattle.cc_shown_declarations.specs.States.{first_state}
+use Rattle.cc_shown_declarations.proofs.Items.{structure-items}
+use Rattle.cc_shown_declarations.proofs.Turns.{ShownApart, shown-apart, found-behind}
 use Rattle.cc_shown_definitions.proofs.Definitions.{all-found}
 use Rattle.cc_shown_expressions.specs.Known.{KnowsStructures}
 use Rattle.cc_shown_names.specs.Names.{object_given, placed}
@@ -33,7 +34,6 @@ use Rattle.cc_shown_names.proofs.KnownStates.{placed-given}
 use Rattle.cc_shown_names.proofs.Last.{shown-functions, all-used, last-is}
 use Rattle.cc_shown_names.proofs.Objects.{objects-found}
 use Rattle.cc_shown_names.proofs.Prototypes.{functions-found}
-use Rattle.cc_shown_names.proofs.Turns.{InParts, in-parts, found-behind}
 use Rattle.cc_shown_names.proofs.Values.{TypesObjects, values-found}
 
 as-many : (p : Program) (es : List External) (xs : List (At Item)) → ShowsExternals p es xs → length xs ≡ length es
@@ -69,9 +69,6 @@ module _ (p : Program) (normal : IsNormal p) (known : KnowsStructures p (structu
   abbrev of_structures : List External
   of_structures = map ATag (announced p.structures 0 p.structures) ++ map AStructure p.structures
 
-  abbrev pub DeclaresStructures : Type 0
-  DeclaresStructures = (xs : List (At Item)) → ShowsExternals p of_structures xs → found xs at_first (first_state p (length p.structures) (appearance p))
-
   assoc-four : (vs ws xs ys zs : List (At Item)) → (vs ++ (ws ++ (xs ++ ys))) ++ zs ≡ vs ++ (ws ++ (xs ++ (ys ++ zs)))
   assoc-four vs ws xs ys zs =
       append_assoc vs (ws ++ (xs ++ ys)) zs ∙ ap (λ us. vs ++ us) (append_assoc ws (xs ++ ys) zs ∙ ap (λ us. ws ++ us) (append_assoc xs ys zs))
@@ -80,24 +77,24 @@ module _ (p : Program) (normal : IsNormal p) (known : KnowsStructures p (structu
     pub parts : HasParts p xs
     pub is : found xs at_first (last_state p (places parts.objects) (places parts.functions))
 
-  module _ (structures : DeclaresStructures) (extern : (i : ℕ) (d : Device) (x : Name) → slice_get p.devices i ≡ Some d → d.name ≡ Some x → list_any (bytes_eq x) defined ≡ false) (xs : List (At Item)) (shown : ShowsExternals p (externals p) xs) where
-    a : InParts p (map AnIntrinsic (intrinsics_used p)) (map ATag (announced p.structures 0 p.structures) ++ (map AStructure p.structures ++ kinds_behind)) xs
-    a = in-parts p (map AnIntrinsic (intrinsics_used p)) (map ATag (announced p.structures 0 p.structures) ++ (map AStructure p.structures ++ kinds_behind)) xs shown
+  module _ (extern : (i : ℕ) (d : Device) (x : Name) → slice_get p.devices i ≡ Some d → d.name ≡ Some x → list_any (bytes_eq x) defined ≡ false) (xs : List (At Item)) (shown : ShowsExternals p (externals p) xs) where
+    a : ShownApart p (map AnIntrinsic (intrinsics_used p)) (map ATag (announced p.structures 0 p.structures) ++ (map AStructure p.structures ++ kinds_behind)) xs
+    a = shown-apart p (map AnIntrinsic (intrinsics_used p)) (map ATag (announced p.structures 0 p.structures) ++ (map AStructure p.structures ++ kinds_behind)) xs shown
 
-    b : InParts p of_structures kinds_behind a.behind
-    b = in-parts p of_structures kinds_behind a.behind (subst (λ es. ShowsExternals p es a.behind) (sym (append_assoc (map ATag (announced p.structures 0 p.structures)) (map AStructure p.structures) kinds_behind)) a.second)
+    b : ShownApart p of_structures kinds_behind a.behind
+    b = shown-apart p of_structures kinds_behind a.behind (subst (λ es. ShowsExternals p es a.behind) (sym (append_assoc (map ATag (announced p.structures 0 p.structures)) (map AStructure p.structures) kinds_behind)) a.second)
 
-    c : InParts p (map ADevice (filter has_name p.devices)) (map APrototype p.funcs ++ (map AnObject p.objects ++ (map AValue (filter is_given p.objects) ++ map AFunction p.funcs))) b.behind
-    c = in-parts p (map ADevice (filter has_name p.devices)) (map APrototype p.funcs ++ (map AnObject p.objects ++ (map AValue (filter is_given p.objects) ++ map AFunction p.funcs))) b.behind b.second
+    c : ShownApart p (map ADevice (filter has_name p.devices)) (map APrototype p.funcs ++ (map AnObject p.objects ++ (map AValue (filter is_given p.objects) ++ map AFunction p.funcs))) b.behind
+    c = shown-apart p (map ADevice (filter has_name p.devices)) (map APrototype p.funcs ++ (map AnObject p.objects ++ (map AValue (filter is_given p.objects) ++ map AFunction p.funcs))) b.behind b.second
 
-    d : InParts p (map APrototype p.funcs) (map AnObject p.objects ++ (map AValue (filter is_given p.objects) ++ map AFunction p.funcs)) c.behind
-    d = in-parts p (map APrototype p.funcs) (map AnObject p.objects ++ (map AValue (filter is_given p.objects) ++ map AFunction p.funcs)) c.behind c.second
+    d : ShownApart p (map APrototype p.funcs) (map AnObject p.objects ++ (map AValue (filter is_given p.objects) ++ map AFunction p.funcs)) c.behind
+    d = shown-apart p (map APrototype p.funcs) (map AnObject p.objects ++ (map AValue (filter is_given p.objects) ++ map AFunction p.funcs)) c.behind c.second
 
-    e : InParts p (map AnObject p.objects) (map AValue (filter is_given p.objects) ++ map AFunction p.funcs) d.behind
-    e = in-parts p (map AnObject p.objects) (map AValue (filter is_given p.objects) ++ map AFunction p.funcs) d.behind d.second
+    e : ShownApart p (map AnObject p.objects) (map AValue (filter is_given p.objects) ++ map AFunction p.funcs) d.behind
+    e = shown-apart p (map AnObject p.objects) (map AValue (filter is_given p.objects) ++ map AFunction p.funcs) d.behind d.second
 
-    f : InParts p (map AValue (filter is_given p.objects)) (map AFunction p.funcs) e.behind
-    f = in-parts p (map AValue (filter is_given p.objects)) (map AFunction p.funcs) e.behind e.second
+    f : ShownApart p (map AValue (filter is_given p.objects)) (map AFunction p.funcs) e.behind
+    f = shown-apart p (map AValue (filter is_given p.objects)) (map AFunction p.funcs) e.behind e.second
 
     many-objects : length e.front ≡ length p.objects
     many-objects = as-many p (map AnObject p.objects) e.front e.first ∙ length-map p.objects AnObject
@@ -129,7 +126,7 @@ module _ (p : Program) (normal : IsNormal p) (known : KnowsStructures p (structu
     from-structures : found a.behind at_first (last_state p (places e.front) (places f.behind))
     from-structures =
         ap (λ ys. items_found p.target p.roles defined ys at_first) b.is
-        ∙ turn b.front b.behind at_first (unit_state p []) (last_state p (places e.front) (places f.behind)) (structures b.front b.first) from-devices
+        ∙ turn b.front b.behind at_first (unit_state p []) (last_state p (places e.front) (places f.behind)) (structure-items p sound p.roles defined b.front b.first) from-devices
 
     from-first : found xs at_first (last_state p (places e.front) (places f.behind))
     from-first =
@@ -149,6 +146,8 @@ module _ (p : Program) (normal : IsNormal p) (known : KnowsStructures p (structu
         values = f.front;
         functions = f.behind;
         whole = whole-is;
+        show_objects = e.first;
+        show_functions = f.second;
         many_objects = many-objects;
         many_functions = as-many p (map AFunction p.funcs) f.behind f.second ∙ length-map p.funcs AFunction;
       };

@@ -1,25 +1,24 @@
 -- The declarations of a program's objects with their first values, one behind another.
-use Rattle.std.proofs.Common.{arith, ◌≡◌, ◌≤◌, ℕ, zero, suc, ◌+◌, Bool, true, false, cond, not, ◌&&◌, ◌||◌, List, [], ◌∷◌, ◌++◌, map, length, Option, Some, None, Ok, refl, ap, sym, ◌∙◌, subst, slice_get, append_assoc, length-append}
+use Rattle.std.proofs.Common.{arith, ◌≡◌, ◌≤◌, ℕ, zero, suc, ◌+◌, Bool, true, false, cond, not, ◌&&◌, ◌||◌, List, [], ◌∷◌, ◌++◌, map, length, Some, None, Ok, refl, ap, sym, ◌∙◌, subst, slice_get, append_assoc}
 use Rattle.std.specs.Prelude.{if◌then◌else◌}
-use Rattle.std.specs.List.{list_any, list_all, filter}
+use Rattle.std.specs.List.{filter}
 use Rattle.std.specs.Str.{bytes_eq}
-use Rattle.std.proofs.lemmas.List.{map-append, append-nil}
+use Rattle.std.proofs.lemmas.List.{append-nil}
 use Rattle.cc_expression_trees.specs.Types.{ShowsWords, ShowsBase, Declares, Plain}
 use Rattle.cc_initialisers.specs.Contents.{contents}
 use Rattle.cc_initialisers.specs.Initialisers.{here as given_here, initialised, bound_given}
-use Rattle.cc_linkage.specs.Linkage.{is_visible, same_element, may_be_by, may_be, may_be_declared}
+use Rattle.cc_linkage.specs.Linkage.{is_visible, same_element, may_be_by}
 use Rattle.cc_linkage.specs.declared.linkage.DeclaredAs.TheVariants.{AsStatic}
 use Rattle.cc_objects.specs.Categories.{setting_of}
 use Rattle.cc_objects.specs.Linked.{object_kind}
 use Rattle.cc_print.specs.Values.{has_leaves}
-use Rattle.cc_objects.specs.Types.{contents_in, with_bound, element_type, type_given, given_incomplete, bound_fits, completed_type, is_object_in, type_agrees, composite_of, composite_by, composite}
+use Rattle.cc_objects.specs.Types.{contents_in, with_bound, element_type, type_given, completed_type, is_object_in, type_agrees, composite_of, composite_by, composite}
 use Rattle.cc_objects.specs.Values.{leaf_given, no_leaf}
 use Rattle.cc_objects.specs.declared.category.Category.TheVariants as declares
 use Rattle.cc_operands.specs.Verdicts.{Judged, must, judge_then}
 use Rattle.cc_operands.specs.declared.rule.Rule.TheVariants as rule
 use Rattle.cc_primary.specs.Primary.{intrinsic_named, leaves_or_none}
 use Rattle.cc_program.specs.Qualifiers.{is_const}
-use Rattle.cc_program.specs.declared.expr.Expr.{Expr}
 use Rattle.cc_program.specs.declared.expr.Place.{Static}
 use Rattle.cc_program.specs.declared.object.Object.{Object}
 use Rattle.cc_program.specs.declared.program.Program.{Program}
@@ -39,9 +38,7 @@ use Rattle.cc_syntax.specs.Initial.{bound_shape}
 use Rattle.cc_syntax.specs.Kinds.{is_object_type}
 use Rattle.cc_syntax.specs.Names.{device_names}
 use Rattle.cc_syntax.specs.Programs.{kind_in}
-use Rattle.cc_syntax.specs.SameTypes.{same_type}
 use Rattle.cc_syntax.specs.Sound.{IsSound, is_object, main_name}
-use Rattle.cc_syntax.proofs.Prefixes.{both_true}
 use Rattle.cc_syntax.proofs.SameLemmas.{compared}
 use Rattle.cc_terms.specs.InTurn.{in_turn}
 use Rattle.cc_tree.specs.declared.at.At.{At}
@@ -54,7 +51,6 @@ use Rattle.cc_type.specs.Units.{item_found, item_next, items_found}
 use Rattle.cc_typed_declarations.specs.Declarations.{declared_left, named_found}
 use Rattle.cc_typed_declarations.specs.Objects.{leaves_found, linked_defined, linked_known, linked_as}
 use Rattle.cc_typed_declarations.specs.Plans.{steps_done}
-use Rattle.cc_unit.specs.declared.unit.UnitKind.{UnitKind}
 use Rattle.cc_unit.specs.declared.unit.UnitKind.TheVariants as kind
 use Rattle.cc_unit_trees.specs.Externals.{AValue, is_given}
 use Rattle.cc_unit_trees.specs.Items.{ShowsDefinition, ADefinition}

@@ -1,5 +1,5 @@
 -- What is known behind the structures of a program's text, where these names are declared, and behind the whole text.
-use Rattle.std.specs.Prelude.{◌≡◌, ℕ, suc, List, [], ◌∷◌, ◌++◌, map, length, take, drop, None}
+use Rattle.std.specs.Prelude.{ℕ, suc, List, [], ◌∷◌, ◌++◌, map, length, take, drop, None, slice_get, unwrap_or}
 use Rattle.std.specs.List.{filter}
 use Rattle.cc_primary.specs.Devices.{declared_device}
 use Rattle.cc_program.specs.declared.program.Program.{Program}
@@ -32,6 +32,10 @@ place_in (item.Func specs d attrs body) = d.at
 
 abbrev pub places : List (At Item) → List ℕ
 places xs = map (λ x. place_in x.node) xs
+
+-- that of the i-th
+abbrev pub place_at : List ℕ → ℕ → ℕ
+place_at offsets i = unwrap_or (slice_get offsets i) 0
 
 module _ (p : Program) where
   abbrev pub unit_state : List Declared → State

@@ -18,7 +18,7 @@ ghost use Rattle.cc_type.specs.Units.{items_found};
 ghost use Rattle.cc_unit_trees.specs.Externals.{ADevice, APrototype, AValue, AnObject, is_given};
 ghost use Rattle.cc_unit_trees.specs.Programs.{ShowsExternals};
 
-use cc_shown_declarations::{structures_are_declared, values_are_typed};
+use cc_shown_declarations::values_are_typed;
 
 /// What holds of the items that show what a sound program declares by name, behind those of its structures (C99 6.7, 6.9.2):
 /// each kind leaves known what was known in front of it, and the names that it declares. The call does nothing.
@@ -38,6 +38,5 @@ pub fn names_are_declared()
     // All that definitions name is known behind them.
     ensures file { (p : Program) → IsNormal p → (offsets : List ℕ) → length offsets ≡ length p.objects → KnowsFile p (unit_numbers p) (count_named p.devices) (unit_state p (objects_given p offsets)) }
 {
-    structures_are_declared();
     values_are_typed();
 }

@@ -1,0 +1,5 @@
+pub mod Devices
+pub mod LeftUnit
+pub mod Lists
+pub mod Names
+pub mod Programs
