@@ -5,12 +5,10 @@ use Rattle.cc_cost.specs.declared.profile.Profile.{Profile}
 use Rattle.cc_edge.specs.Files.{Files}
 use Rattle.cc_material.proofs.OneCause.{same_texts, sources_read, one_first, profile_read, one_profile_end, SaySame, one_profile, same_program, not_above, one_limit, program_not_refused, one_refusal, program_as, refusal_as}
 use Rattle.cc_material.specs.Programs.{IsProgram}
-use Rattle.cc_num.specs.declared.target.Target.{Target}
 use Rattle.cc_packing.specs.Asked.{Asked}
-use Rattle.cc_packing.specs.Ends.{FilesEnd, AtProfile, AtSources, ProgramEnds, NotNormal, AboveLimit, LongText, OtherText, TextsEnd, AreRefused, NotPacked, PackEnds, AtFiles, AtTexts}
+use Rattle.cc_packing.specs.Ends.{FilesEnd, AtProfile, AtSources, ProgramEnds, NotNormal, AboveLimit, LongText, TextsEnd, AreRefused, NotPacked, PackEnds, AtFiles, AtTexts}
 use Rattle.cc_packing.specs.Headline.{AreRead, AreAsked, IsPackable}
 use Rattle.cc_program.specs.declared.program.Program.{Program}
-use Rattle.cc_program.specs.declared.program.Roles.{Roles}
 use Rattle.cc_status.specs.Settled.{settled_status}
 use Rattle.cc_status.specs.Statuses.{for_unread}
 use Rattle.cc_status.specs.declared.status.Status.{Status}
@@ -31,55 +29,44 @@ module _ (files : Files) where
 
 -- ---- the program
 
-module _ (target : Target) (roles : Roles) (first : List ℕ) (p : Program) where
-  no_end : (s : Status) → IsPackable target roles p → ProgramEnds target roles first p s → ⊥
+module _ (first : List ℕ) (p : Program) where
+  no_end : (s : Status) → IsPackable p → ProgramEnds first p s → ⊥
   no_end _ h (NotNormal k) = k h.normal
   no_end _ h (AboveLimit n w m k) = not_above p w m h.within k
   no_end _ h (LongText n within k) = omega (arith, h.short, k)
-  no_end _ h (OtherText n within short k) = k h.reads_back
 
-  one_program_end : (s t : Status) → ProgramEnds target roles first p s → ProgramEnds target roles first p t → s ≡ t
+  one_program_end : (s t : Status) → ProgramEnds first p s → ProgramEnds first p t → s ≡ t
   one_program_end _ _ (NotNormal h) (NotNormal k) = refl
   one_program_end _ _ (NotNormal h) (AboveLimit n w m k) = absurd (h n)
   one_program_end _ _ (NotNormal h) (LongText n within k) = absurd (h n)
-  one_program_end _ _ (NotNormal h) (OtherText n within short k) = refl
   one_program_end _ _ (AboveLimit n w m k) (NotNormal h) = absurd (h n)
   one_program_end _ _ (AboveLimit n v l h) (AboveLimit o w m k) = one_limit p v w l m h k
   one_program_end _ _ (AboveLimit n w m h) (LongText o within k) = absurd (not_above p w m within h)
-  one_program_end _ _ (AboveLimit n w m h) (OtherText o within short k) = absurd (not_above p w m within h)
   one_program_end _ _ (LongText n within k) (NotNormal h) = absurd (h n)
   one_program_end _ _ (LongText n within k) (AboveLimit o w m h) = absurd (not_above p w m within h)
   one_program_end _ _ (LongText n within h) (LongText o other k) = refl
-  one_program_end _ _ (LongText n within h) (OtherText o other short k) = absurd (omega (arith, h, short))
-  one_program_end _ _ (OtherText n within short k) (NotNormal h) = refl
-  one_program_end _ _ (OtherText n within short k) (AboveLimit o w m h) = absurd (not_above p w m within h)
-  one_program_end _ _ (OtherText n within short h) (LongText o other k) = absurd (omega (arith, k, short))
-  one_program_end _ _ (OtherText n within short h) (OtherText o other brief k) = refl
 
 -- ---- the texts
 
 module _ (names : List (List ℕ)) (profile : Profile) (texts : List (List ℕ)) where
-  ends_of : (p q : Program) (s : Status) → p ≡ q → ProgramEnds profile.target profile.roles (slice_index_or names 0 []) q s → ProgramEnds profile.target profile.roles (slice_index_or names 0 []) p s
-  ends_of p q s e h = subst (λ r. ProgramEnds profile.target profile.roles (slice_index_or names 0 []) r s) (sym e) h
+  ends_of : (p q : Program) (s : Status) → p ≡ q → ProgramEnds (slice_index_or names 0 []) q s → ProgramEnds (slice_index_or names 0 []) p s
+  ends_of p q s e h = subst (λ r. ProgramEnds (slice_index_or names 0 []) r s) (sym e) h
 
-  no_texts_end : (p : Program) (s : Status) → IsProgram profile texts p → IsPackable profile.target profile.roles p → TextsEnd names profile texts s → ⊥
+  no_texts_end : (p : Program) (s : Status) → IsProgram profile texts p → IsPackable p → TextsEnd names profile texts s → ⊥
   no_texts_end p s h k (AreRefused _ r) = program_not_refused names profile texts p s h r
-  no_texts_end p s h k (NotPacked q _ i r) = no_end profile.target profile.roles (slice_index_or names 0 []) p s k (ends_of p q s (same_program profile texts p q h i) r)
+  no_texts_end p s h k (NotPacked q _ i r) = no_end (slice_index_or names 0 []) p s k (ends_of p q s (same_program profile texts p q h i) r)
 
   one_texts_end : (s t : Status) → TextsEnd names profile texts s → TextsEnd names profile texts t → settled_status s ≡ settled_status t
   one_texts_end s t (AreRefused _ h) (AreRefused _ k) = one_refusal names profile texts s t h k
   one_texts_end s t (AreRefused _ h) (NotPacked q _ i r) = absurd (program_not_refused names profile texts q s i h)
   one_texts_end s t (NotPacked p _ h r) (AreRefused _ k) = absurd (program_not_refused names profile texts p t h k)
   one_texts_end s t (NotPacked p _ h r) (NotPacked q _ i o) =
-      ap settled_status (one_program_end profile.target profile.roles (slice_index_or names 0 []) p s t r (ends_of p q t (same_program profile texts p q h i) o))
+      ap settled_status (one_program_end (slice_index_or names 0 []) p s t r (ends_of p q t (same_program profile texts p q h i) o))
 
 module _ (names : List (List ℕ)) (p q : Profile) (same : SaySame p q) (texts : List (List ℕ)) where
-  program_ends_as : (first : List ℕ) (r : Program) (s : Status) → ProgramEnds q.target q.roles first r s → ProgramEnds p.target p.roles first r s
-  program_ends_as first r s h = subst (λ t. ProgramEnds t p.roles first r s) (sym same.0) (subst (λ o. ProgramEnds q.target o first r s) (sym same.1) h)
-
   texts_end_as : (s : Status) → TextsEnd names q texts s → TextsEnd names p texts s
   texts_end_as s (AreRefused _ h) = AreRefused s (refusal_as p q same texts names s h)
-  texts_end_as s (NotPacked r _ h k) = NotPacked r s (program_as p q same texts r h) (program_ends_as (slice_index_or names 0 []) r s k)
+  texts_end_as s (NotPacked r _ h k) = NotPacked r s (program_as p q same texts r h) k
 
 -- ---- all
 

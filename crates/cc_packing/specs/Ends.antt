@@ -1,17 +1,15 @@
 -- How packing ends where nothing is written: the first cause, in the order in which they are looked for.
-use Rattle.std.specs.Prelude.{◌≤◌, ◌<◌, ℕ, Bool, true, List, [], length, slice_index_or}
+use Rattle.std.specs.Prelude.{◌<◌, ℕ, Bool, true, List, [], length, slice_index_or}
 use Rattle.cc_cost.specs.declared.profile.Profile.{Profile}
 use Rattle.cc_edge.specs.Files.{Files}
 use Rattle.cc_files.specs.Unread.{IsFirstSourceUnread}
 use Rattle.cc_files.specs.declared.unread.Unread.{Unread}
 use Rattle.cc_material.specs.Material.{IsProfile, ProfileEnds, is_refusal}
 use Rattle.cc_material.specs.Programs.{IsAbove, IsProgram, IsWithin, TellsRefusal}
-use Rattle.cc_num.specs.declared.target.Target.{Target}
 use Rattle.cc_packing.specs.Asked.{Asked}
-use Rattle.cc_packing.specs.Headline.{AreRead, ReadsAlone}
+use Rattle.cc_packing.specs.Headline.{AreRead}
 use Rattle.cc_print.specs.Printed.{text}
 use Rattle.cc_program.specs.declared.program.Program.{Program}
-use Rattle.cc_program.specs.declared.program.Roles.{Roles}
 use Rattle.cc_status.specs.Statuses.{for_unread, is_over}
 use Rattle.cc_status.specs.declared.status.Status.{Status}
 use Rattle.cc_status.specs.declared.status.Status.TheVariants as status
@@ -25,17 +23,16 @@ pub data FilesEnd (files : Files) (rose : Type 0) (a : Asked) : Status → Type 
   AtSources : (profile : Profile) (u : Unread) → IsProfile files a.profile profile → IsFirstSourceUnread files rose a.sources u → FilesEnd files rose a (for_unread u)
 
 -- The program of sources, of which `first` is the name of the first, is not packed: it is not in normal form, or above a
--- limit, or its printed text does not read as it.
-pub data ProgramEnds (target : Target) (roles : Roles) (first : List ℕ) (p : Program) : Status → Type 0 where
-  NotNormal : (IsNormal p → ⊥) → ProgramEnds target roles first p (status.Later first)
-  AboveLimit : IsNormal p → (w : What) (n : ℕ) → IsAbove p w n → ProgramEnds target roles first p (status.Limit w n)
-  LongText : IsNormal p → IsWithin p → 16777216 < length (text p) → ProgramEnds target roles first p (status.Limit what.Out (length (text p)))
-  OtherText : IsNormal p → IsWithin p → length (text p) ≤ 16777216 → (ReadsAlone target roles (text p) p → ⊥) → ProgramEnds target roles first p (status.Later first)
+-- limit, or its printed text is.
+pub data ProgramEnds (first : List ℕ) (p : Program) : Status → Type 0 where
+  NotNormal : (IsNormal p → ⊥) → ProgramEnds first p (status.Later first)
+  AboveLimit : IsNormal p → (w : What) (n : ℕ) → IsAbove p w n → ProgramEnds first p (status.Limit w n)
+  LongText : IsNormal p → IsWithin p → 16777216 < length (text p) → ProgramEnds first p (status.Limit what.Out (length (text p)))
 
 -- sources of these names are refused, or their program is not packed
 pub data TextsEnd (names : List (List ℕ)) (profile : Profile) (texts : List (List ℕ)) : Status → Type 0 where
   AreRefused : (s : Status) → TellsRefusal names profile texts s → TextsEnd names profile texts s
-  NotPacked : (p : Program) (s : Status) → IsProgram profile texts p → ProgramEnds profile.target profile.roles (slice_index_or names 0 []) p s → TextsEnd names profile texts s
+  NotPacked : (p : Program) (s : Status) → IsProgram profile texts p → ProgramEnds (slice_index_or names 0 []) p s → TextsEnd names profile texts s
 
 -- where memory did not run out; where the store's faults have risen, a file may be told not to be read
 pub data PackEnds (files : Files) (rose : Type 0) (a : Asked) : Status → Type 0 where

@@ -12,7 +12,7 @@ use Rattle.cc_packing.specs.Outputs.{AreWritten, IsOutLeft, IsTableLeft}
 use Rattle.cc_print.specs.Printed.{text}
 use Rattle.cc_program.specs.declared.program.Program.{Program}
 use Rattle.cc_program.specs.declared.program.Roles.{Roles}
-use Rattle.cc_read.specs.Texts.{IsLow, Reads}
+use Rattle.cc_read.specs.Texts.{Reads}
 use Rattle.cc_steps.specs.Runs.{Follows, Answers}
 use Rattle.cc_syntax.specs.Normal.{IsNormal}
 use Rattle.cc_table.specs.Table.{table_text}
@@ -23,24 +23,19 @@ pub record IsPacked (q p : Program) : Type 0 where
   pub answers : Answers q p
   pub ram : ram q ≤ ram p
 
--- the text alone reads as the program
-pub record ReadsAlone (target : Target) (roles : Roles) (bytes : List ℕ) (p : Program) : Type 0 where
-  pub reads : Reads (bytes ∷ []) target roles p
-  pub low : IsLow bytes
-
--- the program is one that is packed today: it is in normal form, within the limits, and its printed text reads as it
-pub record IsPackable (target : Target) (roles : Roles) (p : Program) : Type 0 where
+-- the program is one that is packed today: it is in normal form, and it and its printed text are within the limits
+pub record IsPackable (p : Program) : Type 0 where
   pub normal : IsNormal p
   pub within : IsWithin p
   pub short : length (text p) ≤ 16777216
-  pub reads_back : ReadsAlone target roles (text p) p
 
--- the bytes are the printed text of a packed program in normal form, as which they read; the rows tell the RAM of both
+-- the bytes are the printed text of a packed program in normal form, as which they alone read, with this target and these
+-- roles; the rows tell the RAM of both
 pub record IsPackedText (target : Target) (roles : Roles) (p : Program) (bytes rows : List ℕ) : Type 0 where
   pub packed : Program
   pub normal : IsNormal packed
   pub printed : bytes ≡ text packed
-  pub reads_back : ReadsAlone target roles bytes packed
+  pub reads_back : Reads (bytes ∷ []) target roles packed
   pub is_packed : IsPacked packed p
   pub tabled : rows ≡ table_text (ram p) (ram packed)
 
@@ -48,7 +43,7 @@ pub record IsPackedText (target : Target) (roles : Roles) (p : Program) (bytes r
 pub record AreMade (profile : Profile) (texts : List (List ℕ)) (bytes rows : List ℕ) : Type 0 where
   pub read : Program
   pub is_program : IsProgram profile texts read
-  pub packable : IsPackable profile.target profile.roles read
+  pub packable : IsPackable read
   pub output : IsPackedText profile.target profile.roles read bytes rows
 
 -- what is read, as it stands in the files

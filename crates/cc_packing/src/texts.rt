@@ -21,35 +21,33 @@ use std::alloc::Global;
 fn texts_of_named(
     alloc: Global,
     names: &[String],
-    profile: &Profile,
     p: &Program,
 ) -> Result<Texts, Status>
     requires { IsSound p.now }
-    ensures packable { IfOk result (λ _. IsPackable profile.now.target profile.now.roles p.now) }
-    ensures packed { IfOk result (λ t. IsPackedText profile.now.target profile.now.roles p.now t.out.items t.table.items) }
-    ensures ends { IfErr result (λ s. s ≢ status.NoMemory → ProgramEnds profile.now.target profile.now.roles (slice_index_or (names_of names.now) 0 []) p.now s) }
+    ensures packable { IfOk result (λ _. IsPackable p.now) }
+    ensures packed { IfOk result (λ t. IsPackedText p.now.target p.now.roles p.now t.out.items t.table.items) }
+    ensures ends { IfErr result (λ s. s ≢ status.NoMemory → ProgramEnds (slice_index_or (names_of names.now) 0 []) p.now s) }
     ensures refusal { IfErr result (λ s. is_pack_refusal s ≡ true) }
     ensures no_file { IfErr result (λ s. TellsFile (λ _. ⊥) (λ _. ⊥) s) }
 {
     let first = name_at(alloc, names, 0)?;
-    texts_of(alloc, first, profile, p)
+    texts_of(alloc, first, p)
 }
 
 /// The same; the program is let go.
 fn texts_of_program(
     alloc: Global,
     names: &[String],
-    profile: &Profile,
     p: Program,
 ) -> Result<Texts, Status>
     requires { IsSound p }
-    ensures packable { IfOk result (λ _. IsPackable profile.now.target profile.now.roles p) }
-    ensures packed { IfOk result (λ t. IsPackedText profile.now.target profile.now.roles p t.out.items t.table.items) }
-    ensures ends { IfErr result (λ s. s ≢ status.NoMemory → ProgramEnds profile.now.target profile.now.roles (slice_index_or (names_of names.now) 0 []) p s) }
+    ensures packable { IfOk result (λ _. IsPackable p) }
+    ensures packed { IfOk result (λ t. IsPackedText p.target p.roles p t.out.items t.table.items) }
+    ensures ends { IfErr result (λ s. s ≢ status.NoMemory → ProgramEnds (slice_index_or (names_of names.now) 0 []) p s) }
     ensures refusal { IfErr result (λ s. is_pack_refusal s ≡ true) }
     ensures no_file { IfErr result (λ s. TellsFile (λ _. ⊥) (λ _. ⊥) s) }
 {
-    let texts = texts_of_named(alloc, names, profile, &p);
+    let texts = texts_of_named(alloc, names, &p);
     discard_program(p);
     texts
 }
@@ -69,5 +67,5 @@ pub fn texts_of_sources(
     ensures no_file { IfErr result (λ s. TellsFile (λ _. ⊥) (λ _. ⊥) s) }
 {
     let p = program_of(alloc, names, profile, sources)?;
-    texts_of_program(alloc, names, profile, p)
+    texts_of_program(alloc, names, p)
 }

@@ -3,5 +3,4 @@ use Rattle.cc_packing.proofs.program.texts_within.Goals as goal
 
 pub returns-clause-packed : goal.returns-clause-packed
 returns-clause-packed c =
-    packed-text c.args.profile.now.target c.args.profile.now.roles c.args.p.now c.requires.normal c.in_ok-out.out.items c.in_ok-table.table.items c.ram-bytes.result c.in_ok-out.ensures.canonical
-    (c.in_ok-reads_as.ensures.yes c.if-not-branch.false) c.ram-bytes.ensures c.in_ok-table.ensures
+    packed-text c.args.p.now c.requires.normal (c.programs_read.ensures.reads c.args.p.now c.requires.normal) c.in_ok-out.out.items c.in_ok-table.table.items c.ram-bytes.result c.in_ok-out.ensures.canonical c.ram-bytes.ensures c.in_ok-table.ensures
