@@ -18,11 +18,7 @@ use cc_status::{Status, name_at};
 use std::alloc::Global;
 
 /// The texts that are written of the sound program of sources of these names, or why none are.
-fn texts_of_named(
-    alloc: Global,
-    names: &[String],
-    p: &Program,
-) -> Result<Texts, Status>
+fn texts_of_named(alloc: Global, names: &[String], p: &Program) -> Result<Texts, Status>
     requires { IsSound p.now }
     ensures packable { IfOk result (λ _. IsPackable p.now) }
     ensures packed { IfOk result (λ t. IsPackedText p.now.target p.now.roles p.now t.out.items t.table.items) }
@@ -35,11 +31,7 @@ fn texts_of_named(
 }
 
 /// The same; the program is let go.
-fn texts_of_program(
-    alloc: Global,
-    names: &[String],
-    p: Program,
-) -> Result<Texts, Status>
+fn texts_of_program(alloc: Global, names: &[String], p: Program) -> Result<Texts, Status>
     requires { IsSound p }
     ensures packable { IfOk result (λ _. IsPackable p) }
     ensures packed { IfOk result (λ t. IsPackedText p.target p.roles p t.out.items t.table.items) }
