@@ -1,6 +1,6 @@
 -- While structures are still to come, what is known is known of a program too: the one in which those to come have no members, and
 -- those that are not named yet have the tag of one that is. A type that names none of these is the same there.
-use Rattle.std.proofs.Common.{◌≡◌, ◌<◌, ◌≤◌, ◌+◌, ℕ, zero, suc, Bool, true, false, not, ◌&&◌, ◌||◌, List, [], ◌∷◌, ◌++◌, map, length, take, Option, Some, None, refl, ap, sym, ◌∙◌, subst, slice_get, nat_lt, unwrap_or, arith}
+use Rattle.std.proofs.Common.{◌≡◌, ◌<◌, ◌≤◌, ◌+◌, ℕ, zero, suc, Bool, true, false, ◌&&◌, ◌||◌, List, [], ◌∷◌, ◌++◌, map, length, take, Option, Some, None, refl, ap, sym, ◌∙◌, subst, slice_get, nat_lt, unwrap_or, arith}
 use Rattle.std.proofs.lemmas.Bool.Decides.{nat_tests}
 use Rattle.std.proofs.lemmas.Option.{slice_get-map}
 use Rattle.std.proofs.Math.Path.{fun_ext}
@@ -20,7 +20,6 @@ use Rattle.cc_scopes.specs.declared.designated.Tagged.{Tagged}
 use Rattle.cc_scopes.specs.declared.designated.Tagged.TheVariants.{StructureTag}
 use Rattle.cc_syntax.specs.Kinds.{extent_with, extent_in, kind_of}
 use Rattle.cc_syntax.specs.Layout.{nothing, aligned, structure, type_layout, next_layout, layouts}
-use Rattle.cc_syntax.specs.Names.{tags}
 use Rattle.cc_syntax.specs.Programs.{kind_in}
 use Rattle.cc_syntax.specs.Sizes.{AreSized}
 use Rattle.cc_syntax.specs.Sound.{IsSound, is_structure, are_structures}

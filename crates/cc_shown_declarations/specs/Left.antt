@@ -1,5 +1,5 @@
 -- Structures as the unit that is left has them: with the members of the program's, and none of one that is only named.
-use Rattle.std.specs.Prelude.{Option, Some, None, if◌then◌else◌}
+use Rattle.std.specs.Prelude.{Some, None, if◌then◌else◌}
 use Rattle.cc_program.specs.declared.types.Structure.{Structure}
 use Rattle.cc_syntax.specs.Types.{has_members}
 use Rattle.cc_unit.specs.declared.unit.UnitStructure.{UnitStructure}
