@@ -27,6 +27,7 @@ use Rattle.cc_program.specs.declared.value.Root.{Root}
 use Rattle.cc_program.specs.declared.value.Root.TheVariants as root
 use Rattle.cc_scopes.specs.State.{State}
 use Rattle.cc_scopes.specs.declared.unit.Declared.{Declared}
+use Rattle.cc_shown_declarations.specs.Entries.{written_entry}
 use Rattle.cc_shown_declarations.specs.Numbers.{root_numbered, leaf_numbered}
 use Rattle.cc_shown_declarations.proofs.Left.{number-left, structures-left}
 use Rattle.cc_shown_effects.specs.Numbers.{stmt_numbered}
@@ -35,10 +36,11 @@ use Rattle.cc_shown_expressions.specs.OperationNumbers.{Numbers}
 use Rattle.cc_shown_expressions.proofs.Identity.{stays}
 use Rattle.cc_shown_expressions.proofs.Stand.{tested-at, types-stand}
 use Rattle.cc_shown_expressions.proofs.Standing.{Stands}
-use Rattle.cc_shown_names.specs.Names.{written_entry, device_declared, placed, function_defined, object_given}
-use Rattle.cc_shown_names.specs.Numbers.{unit_numbers as read_numbers}
+use Rattle.cc_shown_names.specs.Names.{device_declared, placed, function_defined, object_given}
+use Rattle.cc_shown_names.specs.Numbers.{read_numbers}
 use Rattle.cc_shown_names.specs.States.{devices_declared, last_state, place_at}
-use Rattle.cc_shown_programs.specs.Numbers.{first_function, first_object, unit_numbers}
+use Rattle.cc_shown_declarations.specs.UnitNumbers.{first_function, first_object}
+use Rattle.cc_shown_programs.specs.Numbers.{unit_numbers}
 use Rattle.cc_shown_programs.specs.Returning.{Returns, HoldsOfNames}
 use Rattle.cc_shown_programs.specs.Units.{structure_shown, device_linkage, device_shown, positioned_from, function_shown, object_shown, names_shown, unit_shown}
 use Rattle.cc_shown_programs.proofs.Lists.{get-left, get-right, get-map}
@@ -62,7 +64,7 @@ use Rattle.cc_unit.specs.declared.unit.UnitName.{UnitName}
 use Rattle.cc_unit.specs.declared.unit.UnitStructure.{UnitStructure}
 use Rattle.cc_printed_programs.proofs.Devices.{none-dropped, numbered-behind}
 use Rattle.cc_printed_programs.proofs.Lists.{get-there, placed-there, placed-length, own-at, four-mapped, mapped-all}
-use Rattle.cc_printed_programs.proofs.Names.{count-one, same-entry, linkage-named, no-name, object-some, sig-own, int-stays, function-type, same-structures}
+use Rattle.cc_printed_programs.proofs.Names.{count-one, linkage-named, no-name, object-some, sig-own, int-stays, function-type, same-structures}
 
 module _ (p : Program) (normal : IsNormal p) (objects functions : List ℕ) (many_objects : length objects ≡ length p.objects) (many_functions : length functions ≡ length p.funcs) where
   abbrev read : Numbers
@@ -225,7 +227,6 @@ module _ (p : Program) (normal : IsNormal p) (objects functions : List ℕ) (man
       ∙ ap (λ (s : Sig). function_with at f (plain (FuncShape s)) (written_entry f.entry) s locals body) (sig-left i f e)
       ∙ ap (λ (ls : List Named). function_with at f (plain (FuncShape f.sig)) (written_entry f.entry) f.sig ls body) (locals-left i f e 0 f.locals (λ n l g. let z : 0 + n ≡ n = omega arith in ap (slice_get f.locals) z ∙ g))
       ∙ ap (λ (ss : List Stmt). function_with at f (plain (FuncShape f.sig)) (written_entry f.entry) f.sig f.locals ss) (body-left i f e)
-      ∙ ap (λ (x : Option Entry). function_with at f (plain (FuncShape f.sig)) x f.sig f.locals (map (stmt_numbered own) f.body)) (same-entry f.entry)
 
   root-same : (r : Root) → root_numbered read r ≡ root_numbered own r
   root-same (root.Static i) = refl

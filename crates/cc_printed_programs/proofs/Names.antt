@@ -6,8 +6,6 @@ use Rattle.std.specs.Option.{is_none}
 use Rattle.cc_num.specs.declared.int_type.IntType.{IntType}
 use Rattle.cc_numbering.specs.Names.{count_of}
 use Rattle.cc_operands.specs.Qualified.{plain}
-use Rattle.cc_program.specs.declared.func.Entry.{Entry}
-use Rattle.cc_program.specs.declared.func.Entry.TheVariants as entry
 use Rattle.cc_program.specs.declared.types.CType.{CType}
 use Rattle.cc_program.specs.declared.types.Shape.{Int, out-Shape, Func as FuncShape}
 use Rattle.cc_program.specs.declared.types.Shape.TheOpen as shape
@@ -19,8 +17,7 @@ use Rattle.cc_shown_expressions.specs.Numbers.{sig_numbered}
 use Rattle.cc_shown_expressions.proofs.Bases.{type-of-fields, shape-of-level}
 use Rattle.cc_shown_expressions.proofs.Identity.{stays}
 use Rattle.cc_shown_expressions.proofs.Numbering.{level-at}
-use Rattle.cc_shown_names.specs.Names.{written_entry}
-use Rattle.cc_shown_programs.specs.Units.{members_shown, structure_shown, device_linkage, entry_shown}
+use Rattle.cc_shown_programs.specs.Units.{members_shown, structure_shown, device_linkage}
 use Rattle.cc_structures.proofs.WordLaws.{level-renumbered}
 use Rattle.cc_structures.proofs.WordLaws as words
 use Rattle.cc_syntax.specs.Kinds.{Kind, is_object_type}
@@ -32,12 +29,6 @@ use Rattle.cc_unit.specs.declared.unit.UnitStructure.{UnitStructure}
 pub count-one : (b : Bool) → count_of true (if b then 1 else 0) ≡ 1
 count-one true = refl
 count-one false = refl
-
-pub same-entry : (e : Option Entry) → written_entry e ≡ entry_shown e
-same-entry None = refl
-same-entry (Some entry.Listed) = refl
-same-entry (Some entry.Signal) = refl
-same-entry (Some entry.Interrupt) = refl
 
 pub linkage-named : (x : Option (List ℕ)) → not (is_none x) ≡ true → device_linkage x ≡ linkage.External
 linkage-named None h = absurd (cc)

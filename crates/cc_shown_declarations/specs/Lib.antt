@@ -1,7 +1,9 @@
 pub mod Declared
+pub mod Entries
 pub mod Known
 pub mod Left
 pub mod Numbers
 pub mod Order
 pub mod Parameters
 pub mod States
+pub mod UnitNumbers

@@ -56,7 +56,7 @@ use Rattle.cc_shown_effects.specs.Numbers.{stmt_numbered, case_numbered}
 use Rattle.cc_shown_effects.proofs.Lines.{stmt-at}
 use Rattle.cc_shown_expressions.specs.OperationNumbers.{Numbers}
 use Rattle.cc_shown_expressions.specs.Typed.{IsTypedAs, operand_of}
-use Rattle.cc_shown_definitions.proofs.Levels.{case-numbered}
+use Rattle.cc_shown_effects.proofs.Levels.{case-numbered}
 use Rattle.cc_shown_definitions.proofs.Lines.{is_statement, in_scope, scoped-found, meaning, meant, meaning-at, line-at, AreTyped, NoneTyped, MoreTyped, value-is}
 
 -- ---- labels apart from one another

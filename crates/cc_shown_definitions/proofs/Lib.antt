@@ -7,7 +7,6 @@ pub mod Functions
 pub mod Known
 pub mod KnownOutside
 pub mod Labels
-pub mod Levels
 pub mod Lines
 pub mod Locals
 pub mod Main

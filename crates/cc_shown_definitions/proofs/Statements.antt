@@ -53,7 +53,7 @@ use Rattle.cc_shown_expressions.specs.Numbers.{type_numbered, value_numbered}
 use Rattle.cc_shown_expressions.proofs.Kept.{void-numbered, scalar-at}
 use Rattle.cc_shown_definitions.specs.Devices.{DevicesFrom}
 use Rattle.cc_shown_definitions.proofs.Labels.{HaveLabels, settled, labels-behind, items, empty-case, full-case, switch-line}
-use Rattle.cc_shown_definitions.proofs.Levels.{some-is, condition-is, labels-are, assigned-is, devices_in_case, devices-at, case-devices, all_normal, all_sound, normal_in, sound_in, normal-at, sound-at, case-normal, case-labels, case-sound, operand-has, one-has, case-numbered}
+use Rattle.cc_shown_effects.proofs.Levels.{some-is, condition-is, labels-are, assigned-is, devices_in_case, devices-at, case-devices, all_normal, all_sound, normal_in, sound_in, normal-at, sound-at, case-normal, case-labels, case-sound, operand-has, one-has, case-numbered}
 use Rattle.cc_shown_definitions.proofs.Lines.{is_statement, in_scope, meaning, AreTyped, NoneTyped, MoreTyped, if-line, else-line, while-line}
 use Rattle.cc_shown_definitions.proofs.Uses.{names-inside, uses-inside, uses-parted, steps-used, names-used}
 

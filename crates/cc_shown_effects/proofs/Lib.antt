@@ -4,5 +4,6 @@ pub mod Calls
 pub mod Devices
 pub mod Effects
 pub mod Intrinsics
+pub mod Levels
 pub mod Lines
 pub mod Normal

@@ -24,6 +24,7 @@ use Rattle.cc_syntax.specs.Sound.{IsSound, is_numbered, is_same_device}
 use Rattle.cc_syntax.specs.Types.{Named}
 use Rattle.cc_syntax.specs.Values.{DevicePlace}
 use Rattle.cc_syntax.proofs.Prefixes.{both_true}
+use Rattle.cc_shown_declarations.specs.Entries.{written_entry}
 use Rattle.cc_shown_declarations.specs.Order.{appearance, structure_number}
 use Rattle.cc_shown_declarations.specs.States.{first_state}
 use Rattle.cc_shown_definitions.specs.Bodies.{first_locals}
@@ -32,8 +33,9 @@ use Rattle.cc_shown_definitions.specs.Devices.{KnowsDevices}
 use Rattle.cc_shown_definitions.proofs.Changes.{stays-there}
 use Rattle.cc_shown_expressions.specs.Known.{KnowsStructures}
 use Rattle.cc_shown_expressions.specs.KnownNames.{KnowsNames}
-use Rattle.cc_shown_names.specs.Names.{written_entry, device_declared, function_declared}
-use Rattle.cc_shown_names.specs.Numbers.{device_number, unit_numbers}
+use Rattle.cc_shown_names.specs.Names.{device_declared, function_declared}
+use Rattle.cc_shown_declarations.specs.UnitNumbers.{device_number}
+use Rattle.cc_shown_names.specs.Numbers.{read_numbers}
 use Rattle.cc_shown_names.specs.States.{unit_state, devices_declared, functions_declared}
 use Rattle.cc_shown_names.proofs.Base.{structures-in, own-name, device-keys}
 use Rattle.cc_shown_names.proofs.Firsts.{passing-there, none-behind, passes-before}
@@ -106,7 +108,7 @@ module _ (p : Program) (normal : IsNormal p) (known : KnowsStructures p (structu
   no-locals [] i l h = cc
   no-locals (m ∷ ls) i l h = cc
 
-  pub names-known : (f : Func) → KnowsNames p (first_locals 0 f) (unit_numbers p) now
+  pub names-known : (f : Func) → KnowsNames p (first_locals 0 f) (read_numbers p) now
   names-known f = record {
     structures = structures-in p known (functions_declared p ++ ds);
     locals = λ i l e at. absurd (no-locals f.locals i l e);
@@ -115,12 +117,12 @@ module _ (p : Program) (normal : IsNormal p) (known : KnowsStructures p (structu
     funcs = λ i g e at. function-named p sound known ds objects i g e at;
   }
 
-  pub function-known : (i : ℕ) (g : Func) → slice_get p.funcs i ≡ Some g → IsKnownFunction (unit_numbers p) now g ((unit_numbers p).func i)
+  pub function-known : (i : ℕ) (g : Func) → slice_get p.funcs i ≡ Some g → IsKnownFunction (read_numbers p) now g ((read_numbers p).func i)
   function-known i g h =
       let apart = apart-here p sound known ds objects in
       let there = function-there p ds i g h in record {
-        linked = linked-here p (functions_declared p ++ ds) ((unit_numbers p).func i) (function_declared p g) g.name apart there refl refl;
-        here = found-here p (functions_declared p ++ ds) ((unit_numbers p).func i) (function_declared p g) g.name apart there refl refl;
+        linked = linked-here p (functions_declared p ++ ds) ((read_numbers p).func i) (function_declared p g) g.name apart there refl refl;
+        here = found-here p (functions_declared p ++ ds) ((read_numbers p).func i) (function_declared p g) g.name apart there refl refl;
         declared = function_declared p g;
         there = there;
         linkage = refl;
@@ -183,7 +185,7 @@ module _ (p : Program) (normal : IsNormal p) (known : KnowsStructures p (structu
       let d : length p.funcs + (length p.objects + i) ≡ length (functions_declared p ++ ds) + (i - count_named p.devices) = omega (arith, a, b, c, l) in
       ap (λ b. if b then i else length p.funcs + (length p.objects + i)) (le-ltb i (count_named p.devices) l) ∙ d
 
-  pub devices-known : KnowsDevices p (unit_numbers p) (count_named p.devices) (functions_declared p ++ ds)
+  pub devices-known : KnowsDevices p (read_numbers p) (count_named p.devices) (functions_declared p ++ ds)
   devices-known = record {
     nameless = λ i d h l. not-named d.name (none-behind has_name p.devices i d in-order.0 h l);
     known = λ i d h none l. absurd (let g : true ≡ false = sym (passes-before has_name p.devices i d in-order.0 h l) ∙ ap (λ (o : Option Name). not (is_none o)) none in cc);
@@ -191,5 +193,5 @@ module _ (p : Program) (normal : IsNormal p) (known : KnowsStructures p (structu
     next = λ i d h l. next-number i l;
   }
 
-  pub file-known : KnowsFile p (unit_numbers p) (count_named p.devices) now
+  pub file-known : KnowsFile p (read_numbers p) (count_named p.devices) now
   file-known = record { names = names-known; functions = function-known; devices = devices-known }

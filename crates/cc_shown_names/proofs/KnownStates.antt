@@ -30,7 +30,7 @@ use Rattle.cc_shown_definitions.proofs.Names.{mapped}
 use Rattle.cc_shown_expressions.specs.Known.{KnowsStructures}
 use Rattle.cc_shown_expressions.specs.Numbers.{type_numbered, sig_numbered}
 use Rattle.cc_shown_names.specs.Names.{device_declared, function_declared, object_declared, object_given, placed}
-use Rattle.cc_shown_names.specs.Numbers.{unit_numbers}
+use Rattle.cc_shown_names.specs.Numbers.{read_numbers}
 use Rattle.cc_shown_names.specs.States.{unit_state, devices_declared, functions_declared}
 use Rattle.cc_shown_names.proofs.Base.{structures-in, apart, own-name, device-keys}
 use Rattle.cc_shown_names.proofs.Keys.{Distinct, second-there, func_names, object_names, unit_keys}
@@ -77,7 +77,7 @@ module _ (p : Program) where
   declared-is at o = record { name = refl; linkage = refl; ctype = refl; leaves = []; kind = refl }
 
   pub given-object : (at : ℕ) (o : Object) → IsObject o (object_given p at o)
-  given-object at o = record { name = refl; linkage = refl; ctype = refl; leaves = map (leaf_numbered (unit_numbers p)) o.init; kind = refl }
+  given-object at o = record { name = refl; linkage = refl; ctype = refl; leaves = map (leaf_numbered (read_numbers p)) o.init; kind = refl }
 
   pub placed-declared : (ats : List ℕ) (os : List Object) → length ats ≡ length os → AreObjects os (placed (object_declared p) ats os)
   placed-declared ats [] e = NoObject
@@ -110,18 +110,18 @@ module _ (p : Program) where
       length-append (devices_declared p) (map (function_declared p) p.funcs) ∙ ap (λ m. m + length (map (function_declared p) p.funcs)) count-devices
       ∙ ap (λ m. count_named p.devices + m) (length-map p.funcs (function_declared p))
 
-  pub function-there : (ds : List Declared) (i : ℕ) (g : Func) → slice_get p.funcs i ≡ Some g → slice_get (functions_declared p ++ ds) ((unit_numbers p).func i) ≡ Some (function_declared p g)
+  pub function-there : (ds : List Declared) (i : ℕ) (g : Func) → slice_get p.funcs i ≡ Some g → slice_get (functions_declared p ++ ds) ((read_numbers p).func i) ≡ Some (function_declared p g)
   function-there ds i g h =
       let n = count-devices in
-      let m : (unit_numbers p).func i ≡ length (devices_declared p) + i = omega (arith, n) in
-      stays-there (functions_declared p) ds ((unit_numbers p).func i) (function_declared p g)
-      (second-there (devices_declared p) (map (function_declared p) p.funcs) ((unit_numbers p).func i) i m ∙ slice_get-map (function_declared p) p.funcs i ∙ ap (option_map (function_declared p)) h)
+      let m : (read_numbers p).func i ≡ length (devices_declared p) + i = omega (arith, n) in
+      stays-there (functions_declared p) ds ((read_numbers p).func i) (function_declared p g)
+      (second-there (devices_declared p) (map (function_declared p) p.funcs) ((read_numbers p).func i) i m ∙ slice_get-map (function_declared p) p.funcs i ∙ ap (option_map (function_declared p)) h)
 
-  pub objects-behind : (ds : List Declared) (i : ℕ) → slice_get (functions_declared p ++ ds) ((unit_numbers p).object i) ≡ slice_get ds i
+  pub objects-behind : (ds : List Declared) (i : ℕ) → slice_get (functions_declared p ++ ds) ((read_numbers p).object i) ≡ slice_get ds i
   objects-behind ds i =
       let n = count-functions in
-      let m : (unit_numbers p).object i ≡ length (functions_declared p) + i = omega (arith, n) in
-      second-there (functions_declared p) ds ((unit_numbers p).object i) i m
+      let m : (read_numbers p).object i ≡ length (functions_declared p) + i = omega (arith, n) in
+      second-there (functions_declared p) ds ((read_numbers p).object i) i m
 
   pub func-key : (i : ℕ) (g : Func) → slice_get p.funcs i ≡ Some g → slice_get (unit_keys p) (length (device_names p.devices) + i) ≡ Some g.name
   func-key i g h =
@@ -152,10 +152,10 @@ module _ (p : Program) (sound : IsSound p) (known : KnowsStructures p (structure
   pub apart-here : Distinct (keys names_known)
   apart-here = subst Distinct (sym (all-keys p ds objects)) (apart p sound)
 
-  pub function-named : (i : ℕ) (g : Func) → slice_get p.funcs i ≡ Some g → (at : ℕ) → named p.roles at g.name here ≡ Ok (IsFunction ((unit_numbers p).func i) (sig_numbered (structure_number p) g.sig))
+  pub function-named : (i : ℕ) (g : Func) → slice_get p.funcs i ≡ Some g → (at : ℕ) → named p.roles at g.name here ≡ Ok (IsFunction ((read_numbers p).func i) (sig_numbered (structure_number p) g.sig))
   function-named i g h at =
-      names-it p names_known ((unit_numbers p).func i) (function_declared p g) g.name apart-here (function-there p ds i g h) refl refl (own-name p sound (length (device_names p.devices) + i) g.name (func-key p i g h)) at
-      ∙ ap (function_by ((unit_numbers p).func i)) (shape_rolls.outs-Func (sig_numbered (structure_number p) g.sig))
+      names-it p names_known ((read_numbers p).func i) (function_declared p g) g.name apart-here (function-there p ds i g h) refl refl (own-name p sound (length (device_names p.devices) + i) g.name (func-key p i g h)) at
+      ∙ ap (function_by ((read_numbers p).func i)) (shape_rolls.outs-Func (sig_numbered (structure_number p) g.sig))
 
   object-linked : (o : Object) (d : Declared) → IsObject p o d → is_linked d.linkage ≡ true
   object-linked o d is = ap is_linked is.linkage
@@ -163,19 +163,19 @@ module _ (p : Program) (sound : IsSound p) (known : KnowsStructures p (structure
   object-is : (k : ℕ) (o : Object) (d : Declared) → IsObject p o d → linked_by k d.ctype d.kind ≡ Ok (IsPlace (Static k) (object_place (type_numbered (structure_number p) o.ctype)))
   object-is k o d is = ap (linked_by k d.ctype) is.kind ∙ ap (λ t. Ok (IsPlace (Static k) (object_place t))) is.ctype
 
-  pub object-named : (i : ℕ) (o : Object) → slice_get p.objects i ≡ Some o → (at : ℕ) → named p.roles at o.name here ≡ Ok (IsPlace (Static ((unit_numbers p).object i)) (object_place (type_numbered (structure_number p) o.ctype)))
+  pub object-named : (i : ℕ) (o : Object) → slice_get p.objects i ≡ Some o → (at : ℕ) → named p.roles at o.name here ≡ Ok (IsPlace (Static ((read_numbers p).object i)) (object_place (type_numbered (structure_number p) o.ctype)))
   object-named i o h at =
       let q = object-there p p.objects ds objects i o h in
-      names-it p names_known ((unit_numbers p).object i) q.declared o.name apart-here (objects-behind p ds i ∙ q.there) q.is.name (object-linked o q.declared q.is)
+      names-it p names_known ((read_numbers p).object i) q.declared o.name apart-here (objects-behind p ds i ∙ q.there) q.is.name (object-linked o q.declared q.is)
       (own-name p sound (length (device_names p.devices) + (length (func_names p) + i)) o.name (object-key p i o h)) at
-      ∙ object-is ((unit_numbers p).object i) o q.declared q.is
+      ∙ object-is ((read_numbers p).object i) o q.declared q.is
 
-  object-type : (i : ℕ) (o : Object) → slice_get p.objects i ≡ Some o → objects_in here ((unit_numbers p).object i) ≡ Some (type_numbered (structure_number p) o.ctype)
+  object-type : (i : ℕ) (o : Object) → slice_get p.objects i ≡ Some o → objects_in here ((read_numbers p).object i) ≡ Some (type_numbered (structure_number p) o.ctype)
   object-type i o h =
       let q = object-there p p.objects ds objects i o h in
       ap object_of (objects-behind p ds i ∙ q.there) ∙ ap (object_by q.declared.ctype) q.is.kind ∙ ap (λ t. Some t) q.is.ctype
 
-  pub statics : KnowsStatics p (unit_numbers p) here
+  pub statics : KnowsStatics p (read_numbers p) here
   statics = record {
     structures = structures-in p known names_known;
     many = many-structures p sound names_known;

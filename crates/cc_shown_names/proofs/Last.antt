@@ -20,6 +20,7 @@ use Rattle.cc_unit.specs.declared.unit.UnitKind.TheVariants as kind
 use Rattle.cc_unit_trees.specs.Externals.{AFunction}
 use Rattle.cc_unit_trees.specs.Programs.{ShowsExternals, NoExternal, MoreExternals}
 use Rattle.cc_unit_trees.specs.Units.{ShowsFunction, ShowsDefinition}
+use Rattle.cc_shown_declarations.specs.Entries.{written_entry}
 use Rattle.cc_shown_declarations.specs.Order.{appearance}
 use Rattle.cc_shown_declarations.specs.States.{tag_entry}
 use Rattle.cc_shown_definitions.specs.Definitions.{ShowsFunctions, NoFunction, MoreFunctions, place_of, devices_behind, with_definitions}
@@ -27,8 +28,8 @@ use Rattle.cc_shown_definitions.specs.Devices.{between, with_devices}
 use Rattle.cc_shown_definitions.specs.Functions.{type_of_function, func_numbered}
 use Rattle.cc_shown_definitions.proofs.Changes.{next-parted, stays-there}
 use Rattle.cc_shown_definitions.proofs.Order.{next-least}
-use Rattle.cc_shown_names.specs.Names.{written_entry, function_declared, function_defined, object_given, placed}
-use Rattle.cc_shown_names.specs.Numbers.{unit_numbers}
+use Rattle.cc_shown_names.specs.Names.{function_declared, function_defined, object_given, placed}
+use Rattle.cc_shown_names.specs.Numbers.{read_numbers}
 use Rattle.cc_shown_names.specs.States.{place_in, places, unit_state, devices_declared, objects_given, all_defined, last_state}
 use Rattle.cc_shown_names.proofs.KnownStates.{count-devices}
 use Rattle.cc_shown_names.proofs.Scope.{changed-next, next-there, bound-same, middle-keys}
@@ -58,10 +59,10 @@ module _ (p : Program) where
   used a b = map declared_device (between a b p.devices)
 
   abbrev one_defined : ℕ → ℕ → Func → State → State
-  one_defined at i f s = defined_as at ((unit_numbers p).func i) (type_of_function (unit_numbers p) f) (func_numbered (unit_numbers p) f) s
+  one_defined at i f s = defined_as at ((read_numbers p).func i) (type_of_function (read_numbers p) f) (func_numbered (read_numbers p) f) s
 
   abbrev made : ℕ → Func → Option Entry → Declared → Declared
-  made at f e d = defined_at at (type_of_function (unit_numbers p) f) (kind.Func e (Some (func_numbered (unit_numbers p) f))) d
+  made at f e d = defined_at at (type_of_function (read_numbers p) f) (kind.Func e (Some (func_numbered (read_numbers p) f))) d
 
   behind-uses : (a b : ℕ) (names more : List Declared) → with_locals [] (with_devices p a b (loose names more)) ≡ loose names (more ++ used a b)
   behind-uses a b names more = ap (λ ds. with_names ds (unit_state p names)) (append_assoc names more (used a b))
@@ -73,10 +74,10 @@ module _ (p : Program) where
       ∙ changed-next pre k (made at f (written_entry f.entry)) (function_declared p f) (rest ++ more) e
       ∙ sym (append_assoc pre (function_defined p at f ∷ rest) more)
 
-  one-is : (at i : ℕ) (f : Func) (pre rest more : List Declared) → (unit_numbers p).func i ≡ length pre →
+  one-is : (at i : ℕ) (f : Func) (pre rest more : List Declared) → (read_numbers p).func i ≡ length pre →
       one_defined at i f (loose (pre ++ (function_declared p f ∷ rest)) more) ≡ loose (pre ++ (function_defined p at f ∷ rest)) more
   one-is at i f pre rest more e =
-      let k = (unit_numbers p).func i in
+      let k = (read_numbers p).func i in
       let names = pre ++ (function_declared p f ∷ rest) in
       let s = loose names more in
       let u = unit_state p names in
@@ -91,8 +92,8 @@ module _ (p : Program) where
   behind-is : (a b : ℕ) (f : Func) → next_of a (devices_in f.body) ≡ Some b → devices_behind a f ≡ b
   behind-is a b f h = ap (λ o. unwrap_or o a) h
 
-  definitions-are : (fs : List Func) (xs : List (At Item)) (i a m : ℕ) (pre post more : List Declared) → ShowsFunctions p fs xs → (unit_numbers p).func i ≡ length pre → next_of a (flat_map (λ (f : Func). devices_in f.body) fs) ≡ Some m →
-      with_definitions p (unit_numbers p) fs xs i a (loose (names_with pre fs post) more) ≡ loose (pre ++ (placed (function_defined p) (places xs) fs ++ post)) (more ++ used a m)
+  definitions-are : (fs : List Func) (xs : List (At Item)) (i a m : ℕ) (pre post more : List Declared) → ShowsFunctions p fs xs → (read_numbers p).func i ≡ length pre → next_of a (flat_map (λ (f : Func). devices_in f.body) fs) ≡ Some m →
+      with_definitions p (read_numbers p) fs xs i a (loose (names_with pre fs post) more) ≡ loose (pre ++ (placed (function_defined p) (places xs) fs ++ post)) (more ++ used a m)
   definitions-are _ _ i a m pre post more NoFunction e next =
       let same : a ≡ m = cc in
       let none : m - a ≡ zero = omega (arith, same) in
@@ -106,13 +107,13 @@ module _ (p : Program) where
       let names = names_with pre (f ∷ fs) post in
       let rest = map (function_declared p) fs ++ post in
       let longer = pre ++ d ∷ [] in
-      let n : (unit_numbers p).func (suc i) ≡ length longer = let k = length-append pre (d ∷ []) in omega (arith, e, k) in
+      let n : (read_numbers p).func (suc i) ≡ length longer = let k = length-append pre (d ∷ []) in omega (arith, e, k) in
       let first = next-least (devices_in f.body) a b q.1 in
       let second = next-least rest_uses b m q.2 in
-      ap (λ b. with_definitions p (unit_numbers p) fs xs (suc i) b (one_defined (place_of x.node) i f (with_locals [] (with_devices p a b (loose names more))))) (behind-is a b f q.1)
-      ∙ ap (λ at. with_definitions p (unit_numbers p) fs xs (suc i) b (one_defined at i f (with_locals [] (with_devices p a b (loose names more))))) (shows-place p f x.node h)
-      ∙ ap (λ s. with_definitions p (unit_numbers p) fs xs (suc i) b (one_defined at i f s)) (behind-uses a b names more)
-      ∙ ap (λ s. with_definitions p (unit_numbers p) fs xs (suc i) b s) (one-is at i f pre rest (more ++ used a b) e ∙ ap (λ ns. loose ns (more ++ used a b)) (sym (append_assoc pre (d ∷ []) rest)))
+      ap (λ b. with_definitions p (read_numbers p) fs xs (suc i) b (one_defined (place_of x.node) i f (with_locals [] (with_devices p a b (loose names more))))) (behind-is a b f q.1)
+      ∙ ap (λ at. with_definitions p (read_numbers p) fs xs (suc i) b (one_defined at i f (with_locals [] (with_devices p a b (loose names more))))) (shows-place p f x.node h)
+      ∙ ap (λ s. with_definitions p (read_numbers p) fs xs (suc i) b (one_defined at i f s)) (behind-uses a b names more)
+      ∙ ap (λ s. with_definitions p (read_numbers p) fs xs (suc i) b s) (one-is at i f pre rest (more ++ used a b) e ∙ ap (λ ns. loose ns (more ++ used a b)) (sym (append_assoc pre (d ∷ []) rest)))
       ∙ definitions-are fs xs (suc i) b m longer post (more ++ used a b) r n q.2
       ∙ ap (λ ns. loose ns ((more ++ used a b) ++ used b m)) (append_assoc pre (d ∷ []) (placed (function_defined p) (places xs) fs ++ post))
       ∙ ap (λ ds. loose (pre ++ (d ∷ (placed (function_defined p) (places xs) fs ++ post))) ds)
@@ -131,14 +132,14 @@ module _ (p : Program) where
         (both_true (come_first has_name p.devices) (is_count (length p.devices) (next_of (count_named p.devices) (devices_in_text p))) normal.devices).1
 
     pub last-is : (objects : List ℕ) (xs : List (At Item)) → ShowsFunctions p p.funcs xs →
-        with_definitions p (unit_numbers p) p.funcs xs 0 (count_named p.devices) (unit_state p (objects_given p objects)) ≡ last_state p objects (places xs)
+        with_definitions p (read_numbers p) p.funcs xs 0 (count_named p.devices) (unit_state p (objects_given p objects)) ≡ last_state p objects (places xs)
     last-is objects xs h =
         let post = placed (object_given p) objects p.objects in
         let c = count_named p.devices in
         let whole = append_assoc (devices_declared p) (map (function_declared p) p.funcs) post in
-        let n : (unit_numbers p).func 0 ≡ length (devices_declared p) = let k = count-devices p in omega (arith, k) in
-        ap (λ ns. with_definitions p (unit_numbers p) p.funcs xs 0 c (unit_state p ns)) whole
-        ∙ ap (λ ds. with_definitions p (unit_numbers p) p.funcs xs 0 c (with_names ds (unit_state p (names_with (devices_declared p) p.funcs post)))) (sym (append-nil (names_with (devices_declared p) p.funcs post)))
+        let n : (read_numbers p).func 0 ≡ length (devices_declared p) = let k = count-devices p in omega (arith, k) in
+        ap (λ ns. with_definitions p (read_numbers p) p.funcs xs 0 c (unit_state p ns)) whole
+        ∙ ap (λ ds. with_definitions p (read_numbers p) p.funcs xs 0 c (with_names ds (unit_state p (names_with (devices_declared p) p.funcs post)))) (sym (append-nil (names_with (devices_declared p) p.funcs post)))
         ∙ definitions-are p.funcs xs 0 c (length p.devices) (devices_declared p) post [] h n all-used
         ∙ ap (λ ns. loose ns (used c (length p.devices))) (sym (append_assoc (devices_declared p) (placed (function_defined p) (places xs) p.funcs) post))
         ∙ ap (λ ds. loose (all_defined p objects (places xs)) (map declared_device ds)) (take_rest p.devices c)

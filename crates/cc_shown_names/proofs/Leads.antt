@@ -31,9 +31,9 @@ use Rattle.cc_tree.specs.declared.tree.Spec.TheVariants as spec_rolls
 use Rattle.cc_unit_trees.specs.Items.{ShowsEntry, NoEntry, Listed, Signal, Interrupt}
 use Rattle.cc_words.specs.declared.word.Word.{Word}
 use Rattle.cc_words.specs.declared.word.Word.TheVariants as w
+use Rattle.cc_shown_declarations.specs.Entries.{written_entry}
 use Rattle.cc_shown_expressions.specs.Known.{KnowsStructures}
 use Rattle.cc_shown_expressions.proofs.Words.{spec-at}
-use Rattle.cc_shown_names.specs.Names.{written_entry}
 use Rattle.cc_shown_names.proofs.One.{Leads}
 
 -- ---- the specifiers of a type have no storage class

@@ -41,14 +41,15 @@ use Rattle.cc_unit.specs.declared.unit.UnitKind.TheVariants as kind
 use Rattle.cc_unit_trees.specs.Externals.{APrototype}
 use Rattle.cc_unit_trees.specs.Items.{ShowsEntry, ShowsPrototype, APrototype as APrototypeItem}
 use Rattle.cc_unit_trees.specs.Programs.{ShowsExternals, NoExternal, MoreExternals}
+use Rattle.cc_shown_declarations.specs.Entries.{written_entry}
 use Rattle.cc_shown_declarations.specs.Order.{appearance, structure_number}
 use Rattle.cc_shown_declarations.specs.States.{first_state}
 use Rattle.cc_shown_definitions.specs.Functions.{type_of_function}
 use Rattle.cc_shown_definitions.proofs.Main.{main-fits}
 use Rattle.cc_shown_expressions.specs.Known.{KnowsStructures}
 use Rattle.cc_shown_expressions.specs.Numbers.{type_numbered}
-use Rattle.cc_shown_names.specs.Names.{written_entry, function_declared}
-use Rattle.cc_shown_names.specs.Numbers.{unit_numbers}
+use Rattle.cc_shown_names.specs.Names.{function_declared}
+use Rattle.cc_shown_names.specs.Numbers.{read_numbers}
 use Rattle.cc_shown_names.specs.States.{unit_state, devices_declared, functions_declared}
 use Rattle.cc_shown_names.proofs.Base.{structures-in, sized, apart, own-name, device-keys}
 use Rattle.cc_shown_names.proofs.Keys.{Distinct, second-there, func_names, object_names, unit_keys}
@@ -68,7 +69,7 @@ module _ (p : Program) (sound : IsSound p) (known : KnowsStructures p (structure
     structures = structures-in p known names
 
     abbrev type : CType
-    type = type_of_function (unit_numbers p) f
+    type = type_of_function (read_numbers p) f
 
     abbrev behind : State
     behind = unit_state p (names ++ function_declared p f ∷ [])
@@ -76,7 +77,7 @@ module _ (p : Program) (sound : IsSound p) (known : KnowsStructures p (structure
     judged-is : (e : Option Entry) → prototype_judged p.roles AsExtern f.name type e now ≡ Ok type
     judged-is e =
         ap (λ o. if is_some o then must (is_prototype type o && not (false || is_some e)) rule.MainOrIntrinsic (Ok type) else function_judged AsExtern f.name type now) own
-        ∙ ap (λ b. must b rule.MainOrIntrinsic (must (may_be_declared AsExtern f.name type now) rule.DeclaredTwice (Ok type))) (main-fits (unit_numbers p) f good.form)
+        ∙ ap (λ b. must b rule.MainOrIntrinsic (must (may_be_declared AsExtern f.name type now) rule.DeclaredTwice (Ok type))) (main-fits (read_numbers p) f good.form)
         ∙ ap (λ b. must b rule.DeclaredTwice (Ok type)) (may-be-new p names f.name new AsExtern type)
 
     left-is : (marks : List (At (List Attribute))) → entry_by marks ≡ written_entry f.entry → function_left p.target p.roles AsExtern f.name type marks None now ≡ Ok ([], behind)

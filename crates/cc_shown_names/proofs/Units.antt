@@ -22,7 +22,7 @@ use Rattle.cc_shown_declarations.proofs.Turns.{ShownApart, shown-apart, found-be
 use Rattle.cc_shown_definitions.proofs.Definitions.{all-found}
 use Rattle.cc_shown_expressions.specs.Known.{KnowsStructures}
 use Rattle.cc_shown_names.specs.Names.{object_given, placed}
-use Rattle.cc_shown_names.specs.Numbers.{unit_numbers}
+use Rattle.cc_shown_names.specs.Numbers.{read_numbers}
 use Rattle.cc_shown_names.specs.Parts.{HasParts}
 use Rattle.cc_shown_names.specs.States.{place_in, places, unit_state, devices_declared, functions_declared, objects_declared, objects_given, last_state}
 use Rattle.cc_shown_names.proofs.Base.{sized}
@@ -55,7 +55,7 @@ module _ (p : Program) (normal : IsNormal p) (known : KnowsStructures p (structu
   definitions-found objects xs long h =
       let fs = shown-functions p p.funcs xs h in
       let file = file-known p normal known (placed (object_given p) objects p.objects) (placed-given p objects p.objects long) in
-      all-found p (unit_numbers p) sound (sized p sound) normal.bodies defined p.funcs xs fs 0 (count_named p.devices) (length p.devices) (unit_state p (objects_given p objects)) (drop-none p.funcs) file (all-used p normal) (omega arith)
+      all-found p (read_numbers p) sound (sized p sound) normal.bodies defined p.funcs xs fs 0 (count_named p.devices) (length p.devices) (unit_state p (objects_given p objects)) (drop-none p.funcs) file (all-used p normal) (omega arith)
       ∙ ap (λ s. Ok (checked, s)) (last-is p normal objects xs fs)
 
   -- ---- one part behind another

@@ -66,7 +66,7 @@ use Rattle.cc_shown_expressions.specs.Numbers.{type_numbered}
 use Rattle.cc_shown_expressions.proofs.Stand.{tested-at}
 use Rattle.cc_shown_expressions.proofs.Words.{start, words-found}
 use Rattle.cc_shown_names.specs.Names.{object_declared, object_given, placed}
-use Rattle.cc_shown_names.specs.Numbers.{unit_numbers}
+use Rattle.cc_shown_names.specs.Numbers.{read_numbers}
 use Rattle.cc_shown_names.specs.States.{unit_state, functions_declared, objects_declared, objects_given}
 use Rattle.cc_shown_names.proofs.Base.{structures-in, sized, own-name}
 use Rattle.cc_shown_names.proofs.Keys.{Distinct, second-there, func_names}
@@ -78,8 +78,8 @@ use Rattle.cc_shown_names.proofs.Scope.{keys, next-there, linked-here, declared-
 
 -- the first values of objects are typed wherever their names are known
 abbrev pub TypesObjects : Program → Type 0
-TypesObjects p = (s : State) → KnowsStatics p (unit_numbers p) s → (i : ℕ) (o : Object) → slice_get p.objects i ≡ Some o → (g : At Given) → ShowsInitial p o g.node →
-    (leaves : List Leaf) × (leaves_or_none leaves ≡ map (leaf_numbered (unit_numbers p)) o.init)
+TypesObjects p = (s : State) → KnowsStatics p (read_numbers p) s → (i : ℕ) (o : Object) → slice_get p.objects i ≡ Some o → (g : At Given) → ShowsInitial p o g.node →
+    (leaves : List Leaf) × (leaves_or_none leaves ≡ map (leaf_numbered (read_numbers p)) o.init)
     × (steps_done p.target p.roles Leaf (leaf_given p.target) no_leaf (initialised (contents (structures_of s) (type_numbered (structure_number p) o.ctype) false) (given_here g)) s ≡ Ok (leaves, s))
 
 chosen : {A : Type 0} → (v : Bool) (a b : A) → (if v && false then a else b) ≡ b
@@ -100,7 +100,7 @@ module _ (p : Program) (sound : IsSound p) (known : KnowsStructures p (structure
   -- ---- one more, which is declared so far
 
   module _ (names rest : List Declared) (i first : ℕ) (o : Object) (fits : is_object_type (kind_in p o.ctype) ≡ true) (own : intrinsic_named p.roles o.name ≡ None) (other : bytes_eq o.name main_name ≡ false)
-      (there : slice_get p.objects i ≡ Some o) (given : is_given o ≡ true) (apart : Distinct (keys (names ++ (object_declared p first o ∷ rest)))) (knows : KnowsStatics p (unit_numbers p) (unit_state p (names ++ (object_declared p first o ∷ rest)))) where
+      (there : slice_get p.objects i ≡ Some o) (given : is_given o ≡ true) (apart : Distinct (keys (names ++ (object_declared p first o ∷ rest)))) (knows : KnowsStatics p (read_numbers p) (unit_state p (names ++ (object_declared p first o ∷ rest)))) where
     abbrev before : Declared
     before = object_declared p first o
 
@@ -149,10 +149,10 @@ module _ (p : Program) (sound : IsSound p) (known : KnowsStructures p (structure
     agrees-is : type_agrees type (slice_get all number) ≡ Ok type
     agrees-is = ap (type_agrees type) at-number ∙ ap (λ b. must b rule.DeclaredTwice (Ok type)) (compared type).itself
 
-    changed-is : (at : ℕ) → change_name number (defined_at at type (kind.Object (map (leaf_numbered (unit_numbers p)) o.init))) now ≡ behind
+    changed-is : (at : ℕ) → change_name number (defined_at at type (kind.Object (map (leaf_numbered (read_numbers p)) o.init))) now ≡ behind
     changed-is at =
-        change-there p names rest number before (object_given p first o) (defined_at at type (kind.Object (map (leaf_numbered (unit_numbers p)) o.init))) refl
-        (ap (λ b. record { name = Some o.name; linkage = before.linkage; ctype = type; first = Some first; tentative = true; definitions = if b then 1 else 0; kind = kind.Object (map (leaf_numbered (unit_numbers p)) o.init) }) (sym given)) refl
+        change-there p names rest number before (object_given p first o) (defined_at at type (kind.Object (map (leaf_numbered (read_numbers p)) o.init))) refl
+        (ap (λ b. record { name = Some o.name; linkage = before.linkage; ctype = type; first = Some first; tentative = true; definitions = if b then 1 else 0; kind = kind.Object (map (leaf_numbered (read_numbers p)) o.init) }) (sym given)) refl
 
     defined-is : (at : ℕ) (g : At Given) → ShowsInitial p o g.node → linked_defined p.target p.roles at type type number g now ≡ Ok ([], behind)
     defined-is at g shown =
@@ -201,10 +201,10 @@ module _ (p : Program) (sound : IsSound p) (known : KnowsStructures p (structure
   -- an object without first values of its own stays as it is
   nothing-given : (at : ℕ) (o : Object) → is_given o ≡ false → object_given p at o ≡ object_declared p at o
   nothing-given at o h =
-      ap (λ b. record { name = Some o.name; linkage = (object_declared p at o).linkage; ctype = type_numbered (structure_number p) o.ctype; first = Some at; tentative = true; definitions = if b then 1 else 0; kind = kind.Object (map (leaf_numbered (unit_numbers p)) o.init) }) h
+      ap (λ b. record { name = Some o.name; linkage = (object_declared p at o).linkage; ctype = type_numbered (structure_number p) o.ctype; first = Some at; tentative = true; definitions = if b then 1 else 0; kind = kind.Object (map (leaf_numbered (read_numbers p)) o.init) }) h
       ∙ ap (λ ls. record { name = Some o.name; linkage = (object_declared p at o).linkage; ctype = type_numbered (structure_number p) o.ctype; first = Some at; tentative = true; definitions = 0; kind = kind.Object ls }) (no-leaves o.init (is_const o.ctype) h)
     where
-      no-leaves : (ls : List Leaf) (c : Bool) → has_leaves ls || c ≡ false → map (leaf_numbered (unit_numbers p)) ls ≡ []
+      no-leaves : (ls : List Leaf) (c : Bool) → has_leaves ls || c ≡ false → map (leaf_numbered (read_numbers p)) ls ≡ []
       no-leaves [] c h = refl
       no-leaves (l ∷ ls) c h = absurd (cc)
 
@@ -248,7 +248,7 @@ module _ (p : Program) (sound : IsSound p) (known : KnowsStructures p (structure
         item-found (front done) rest place at o fits (own-name p sound (length (device_names p.devices) + (length (func_names p) + place)) o.name k)
         (object-other p sound known defined (length (device_names p.devices) + (length (func_names p) + place)) o.name n k) there given
         (subst (λ ns. Distinct (keys ns)) joined (apart-here p sound known (done ++ (object_declared p at o ∷ rest)) all-declared))
-        (subst (λ ns. KnowsStatics p (unit_numbers p) (unit_state p ns)) joined (statics p sound known (done ++ (object_declared p at o ∷ rest)) all-declared)) c h
+        (subst (λ ns. KnowsStatics p (read_numbers p) (unit_state p ns)) joined (statics p sound known (done ++ (object_declared p at o ∷ rest)) all-declared)) c h
 
     abbrev after : List Object
     after = before ++ o ∷ []

@@ -1,28 +1,20 @@
 -- What a translation unit that shows a program knows of each name: where it is declared only, and where it is defined, at an
 -- offset of the text (C99 6.2.2, 6.9).
-use Rattle.std.specs.Prelude.{ℕ, true, false, List, [], ◌∷◌, map, Option, Some, None, if◌then◌else◌}
-use Rattle.cc_program.specs.declared.func.Entry.{Entry}
-use Rattle.cc_program.specs.declared.func.Entry.TheVariants as entry
+use Rattle.std.specs.Prelude.{ℕ, true, false, List, [], ◌∷◌, map, Some, None, if◌then◌else◌}
 use Rattle.cc_program.specs.declared.func.Func.{Func}
 use Rattle.cc_program.specs.declared.object.Device.{Device}
 use Rattle.cc_program.specs.declared.object.Object.{Object}
 use Rattle.cc_program.specs.declared.program.Program.{Program}
 use Rattle.cc_program.specs.declared.types.Shape.{Int}
 use Rattle.cc_scopes.specs.declared.unit.Declared.{Declared}
+use Rattle.cc_shown_declarations.specs.Entries.{written_entry}
 use Rattle.cc_shown_declarations.specs.Numbers.{leaf_numbered}
 use Rattle.cc_shown_definitions.specs.Functions.{type_of_function, func_numbered}
 use Rattle.cc_shown_expressions.specs.Numbers.{type_numbered}
-use Rattle.cc_shown_names.specs.Numbers.{unit_numbers}
+use Rattle.cc_shown_names.specs.Numbers.{read_numbers}
 use Rattle.cc_unit.specs.declared.unit.Linkage.TheVariants as linkage
 use Rattle.cc_unit.specs.declared.unit.UnitKind.TheVariants as kind
 use Rattle.cc_unit_trees.specs.Externals.{is_given}
-
--- as the attribute says it; a handler that the roles alone name has none
-abbrev pub written_entry : Option Entry → Option Entry
-written_entry None = None
-written_entry (Some entry.Listed) = None
-written_entry (Some entry.Signal) = Some entry.Signal
-written_entry (Some entry.Interrupt) = Some entry.Interrupt
 
 abbrev pub device_declared : Device → Declared
 device_declared d = record {
@@ -47,7 +39,7 @@ module _ (p : Program) where
   function_declared f = record {
     name = Some f.name;
     linkage = linkage.External;
-    ctype = type_of_function (unit_numbers p) f;
+    ctype = type_of_function (read_numbers p) f;
     first = None;
     tentative = false;
     definitions = 0;
@@ -58,11 +50,11 @@ module _ (p : Program) where
   function_defined at f = record {
     name = Some f.name;
     linkage = linkage.External;
-    ctype = type_of_function (unit_numbers p) f;
+    ctype = type_of_function (read_numbers p) f;
     first = Some at;
     tentative = false;
     definitions = 1;
-    kind = kind.Func (written_entry f.entry) (Some (func_numbered (unit_numbers p) f));
+    kind = kind.Func (written_entry f.entry) (Some (func_numbered (read_numbers p) f));
   }
 
   -- by its tentative definition, and by its first values where the text has some
@@ -70,7 +62,7 @@ module _ (p : Program) where
   object_declared at o = record {
     name = Some o.name;
     linkage = linkage.Internal;
-    ctype = type_numbered (unit_numbers p).structure o.ctype;
+    ctype = type_numbered (read_numbers p).structure o.ctype;
     first = Some at;
     tentative = true;
     definitions = 0;
@@ -81,9 +73,9 @@ module _ (p : Program) where
   object_given at o = record {
     name = Some o.name;
     linkage = linkage.Internal;
-    ctype = type_numbered (unit_numbers p).structure o.ctype;
+    ctype = type_numbered (read_numbers p).structure o.ctype;
     first = Some at;
     tentative = true;
     definitions = if is_given o then 1 else 0;
-    kind = kind.Object (map (leaf_numbered (unit_numbers p)) o.init);
+    kind = kind.Object (map (leaf_numbered (read_numbers p)) o.init);
   }

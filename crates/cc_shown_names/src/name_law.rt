@@ -8,7 +8,7 @@ ghost use Rattle.cc_program.specs.declared.program.Program.{Program};
 ghost use Rattle.cc_scopes.specs.State.{Name};
 ghost use Rattle.cc_scopes.specs.Verdicts.{checked};
 ghost use Rattle.cc_shown_definitions.specs.Definitions.{KnowsFile};
-ghost use Rattle.cc_shown_names.specs.Numbers.{unit_numbers};
+ghost use Rattle.cc_shown_names.specs.Numbers.{read_numbers};
 ghost use Rattle.cc_shown_names.specs.States.{devices_declared, functions_declared, objects_declared, objects_given, places, unit_state};
 ghost use Rattle.cc_syntax.specs.Normal.{IsNormal, count_named, has_name};
 ghost use Rattle.cc_syntax.specs.Sound.{IsSound};
@@ -36,7 +36,7 @@ pub fn names_are_declared()
     ensures values { (p : Program) → IsSound p → (defined : List Name) → (offsets : List ℕ) (xs : List (At Item)) → length offsets ≡ length p.objects → ShowsExternals p (map AValue (filter is_given p.objects)) xs →
         items_found p.target p.roles defined xs (unit_state p (objects_declared p offsets)) ≡ Ok (checked, unit_state p (objects_given p offsets)) }
     // All that definitions name is known behind them.
-    ensures file { (p : Program) → IsNormal p → (offsets : List ℕ) → length offsets ≡ length p.objects → KnowsFile p (unit_numbers p) (count_named p.devices) (unit_state p (objects_given p offsets)) }
+    ensures file { (p : Program) → IsNormal p → (offsets : List ℕ) → length offsets ≡ length p.objects → KnowsFile p (read_numbers p) (count_named p.devices) (unit_state p (objects_given p offsets)) }
 {
     values_are_typed();
 }

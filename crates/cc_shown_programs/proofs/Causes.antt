@@ -19,9 +19,10 @@ use Rattle.cc_program.specs.declared.program.Program.{Program}
 use Rattle.cc_program.specs.declared.types.Shape.{out-Shape, Func as FuncShape}
 use Rattle.cc_program.specs.declared.types.Shape.TheVariants.{outs-Func}
 use Rattle.cc_program.specs.declared.types.Sig.{out-Sig}
+use Rattle.cc_shown_declarations.specs.Entries.{written_entry}
 use Rattle.cc_shown_programs.specs.Kept.{AreKept}
-use Rattle.cc_shown_programs.specs.Numbers.{first_function}
-use Rattle.cc_shown_programs.specs.Units.{entry_shown, function_shown, names_shown}
+use Rattle.cc_shown_declarations.specs.UnitNumbers.{first_function}
+use Rattle.cc_shown_programs.specs.Units.{function_shown, names_shown}
 use Rattle.cc_shown_programs.proofs.Identities.{device_part, function_part, object_part, names-apart}
 use Rattle.cc_shown_programs.proofs.Lists.{get-map, get-unmap, get-in, in-get, within, get-inside, find-none}
 use Rattle.cc_shown_programs.proofs.Naming.{parted, among-in}
@@ -66,7 +67,7 @@ undefined-none true false false (inr h) = absurd (true≢false (sym h))
 undefined-none false d e h = refl
 
 -- by attributes, or because the roles name it
-entry-kept : (e : Option Entry) (listed : Bool) → (e ≡ None → listed ≡ false) → (e ≡ Some entry.Listed → listed ≡ true) → entry_by (entry_shown e) listed ≡ e
+entry-kept : (e : Option Entry) (listed : Bool) → (e ≡ None → listed ≡ false) → (e ≡ Some entry.Listed → listed ≡ true) → entry_by (written_entry e) listed ≡ e
 entry-kept None listed h k = ap (entry_by None) (h refl)
 entry-kept (Some entry.Signal) listed h k = refl
 entry-kept (Some entry.Interrupt) listed h k = refl
@@ -187,7 +188,7 @@ module _ (p : Program) (function_at object_at : ℕ → ℕ) (identifiers : List
         let listed = listed-by k n f.name there refl refl in
         let fits = (own-function i f e).entry in
         ap (λ (t : Thing). entry_by (entry_given t) (is_listed all p.roles name_of k)) (thing-is p function_at object_at identifiers sound order k n there)
-        ∙ (ap (entry_by (entry_shown f.entry)) listed
+        ∙ (ap (entry_by (written_entry f.entry)) listed
         ∙ entry-kept f.entry (is_among f.name p.roles.handlers)
         (λ h. negated (is_handler_name p f.name) (subst (λ (o : Option Entry). entry_fits p f o ≡ true) h fits))
         (λ h. subst (λ (o : Option Entry). entry_fits p f o ≡ true) h fits))

@@ -26,7 +26,8 @@ use Rattle.cc_shown_expressions.proofs.Numbering.{level-at}
 use Rattle.cc_shown_expressions.proofs.Stand.{types-stand}
 use Rattle.cc_shown_expressions.proofs.Standing.{Stands}
 use Rattle.cc_shown_programs.specs.Kept.{AreKept}
-use Rattle.cc_shown_programs.specs.Numbers.{first_function, device_number, unit_numbers, own_numbers}
+use Rattle.cc_shown_declarations.specs.UnitNumbers.{first_function, device_number}
+use Rattle.cc_shown_programs.specs.Numbers.{unit_numbers, own_numbers}
 use Rattle.cc_shown_programs.specs.Returning.{Returns, HoldsOfNames}
 use Rattle.cc_shown_programs.specs.Units.{names_shown}
 use Rattle.cc_shown_programs.proofs.Lists.{get-in, within}

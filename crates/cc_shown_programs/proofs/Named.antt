@@ -10,7 +10,7 @@ use Rattle.cc_program.specs.declared.func.Func.{Func}
 use Rattle.cc_program.specs.declared.object.Device.{Device}
 use Rattle.cc_program.specs.declared.object.Object.{Object}
 use Rattle.cc_program.specs.declared.program.Program.{Program}
-use Rattle.cc_shown_programs.specs.Numbers.{first_object}
+use Rattle.cc_shown_declarations.specs.UnitNumbers.{first_object}
 use Rattle.cc_shown_programs.specs.Units.{device_linkage, device_shown, function_shown, object_shown, functions_shown, objects_shown, names_shown}
 use Rattle.cc_shown_programs.proofs.Identities.{name_or_none, has-a-name, has-no-name, shown_names, device_part, function_part, object_part, names-apart}
 use Rattle.cc_shown_programs.proofs.Lists.{get-left, get-right, get-split, get-map, get-unmap, get-in, within, position-some}

@@ -18,7 +18,7 @@ use Rattle.cc_program.specs.declared.value.Leaf.{Leaf}
 use Rattle.cc_program.specs.declared.value.Leaf.TheVariants as leaf
 use Rattle.cc_program.specs.declared.value.Root.TheVariants as root
 use Rattle.cc_shown_declarations.specs.Numbers.{leaf_numbered}
-use Rattle.cc_shown_definitions.proofs.Levels.{case-numbered}
+use Rattle.cc_shown_effects.proofs.Levels.{case-numbered}
 use Rattle.cc_shown_effects.specs.Numbers.{stmt_numbered, case_numbered, stmt_step}
 use Rattle.cc_shown_effects.proofs.Lines.{stmt-at}
 use Rattle.cc_shown_expressions.proofs.Identity.{stays}

@@ -29,7 +29,8 @@ use Rattle.cc_shown_declarations.specs.Numbers.{leaf_numbered}
 use Rattle.cc_shown_effects.specs.Numbers.{stmt_numbered}
 use Rattle.cc_shown_programs.specs.Ascending.{Ascend}
 use Rattle.cc_shown_programs.specs.Kept.{AreKept}
-use Rattle.cc_shown_programs.specs.Numbers.{first_function, first_object, device_number, unit_numbers, own_numbers}
+use Rattle.cc_shown_declarations.specs.UnitNumbers.{first_function, first_object, device_number}
+use Rattle.cc_shown_programs.specs.Numbers.{unit_numbers, own_numbers}
 use Rattle.cc_shown_programs.specs.Returning.{Returns}
 use Rattle.cc_shown_programs.specs.Units.{structure_shown, body_shown, device_shown, function_shown, object_shown, names_shown, unit_shown}
 use Rattle.cc_shown_programs.proofs.Causes.{no-cause-of-things, no-bad-handler, entry-is, runs-first, main-function}

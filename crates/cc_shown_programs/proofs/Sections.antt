@@ -13,7 +13,7 @@ use Rattle.cc_program.specs.declared.object.Device.{Device}
 use Rattle.cc_program.specs.declared.object.Object.{Object}
 use Rattle.cc_program.specs.declared.program.Program.{Program}
 use Rattle.cc_shown_programs.specs.Ascending.{Ascend}
-use Rattle.cc_shown_programs.specs.Numbers.{first_function, first_object, device_number}
+use Rattle.cc_shown_declarations.specs.UnitNumbers.{first_function, first_object, device_number}
 use Rattle.cc_shown_programs.specs.Units.{device_shown, function_shown, object_shown, functions_shown, objects_shown, names_shown, unit_shown}
 use Rattle.cc_shown_programs.proofs.Identities.{identities-apart}
 use Rattle.cc_shown_programs.proofs.Lists.{get-split, within, get-inside, position-some, place-behind, place-in-front, Rises, filter-order}

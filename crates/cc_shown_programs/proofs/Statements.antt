@@ -12,7 +12,7 @@ use Rattle.cc_program.specs.declared.stmt.Stmt.{Stmt, Do, If, While, DoWhile, Sw
 use Rattle.cc_program.specs.declared.stmt.Stmt.TheOpen as is
 use Rattle.cc_program.specs.declared.stmt.Stmt.TheVariants as stmts
 use Rattle.cc_program.specs.declared.types.Sig.{out-Sig}
-use Rattle.cc_shown_definitions.proofs.Levels.{condition-is, labels-are, assigned-is, sound_in, sound-at, case-sound, case-numbered}
+use Rattle.cc_shown_effects.proofs.Levels.{condition-is, labels-are, assigned-is, sound_in, sound-at, case-sound, case-numbered}
 use Rattle.cc_shown_effects.proofs.Lines.{stmt-at}
 use Rattle.cc_shown_effects.specs.Numbers.{stmt_numbered, case_numbered, stmt_step}
 use Rattle.cc_shown_expressions.specs.OperationNumbers.{Numbers, expr_numbered}

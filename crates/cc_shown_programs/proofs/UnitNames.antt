@@ -5,7 +5,7 @@ use Rattle.cc_program.specs.declared.func.Func.{Func}
 use Rattle.cc_program.specs.declared.object.Device.{Device}
 use Rattle.cc_program.specs.declared.object.Object.{Object}
 use Rattle.cc_program.specs.declared.program.Program.{Program}
-use Rattle.cc_shown_programs.specs.Numbers.{first_function, first_object, device_number}
+use Rattle.cc_shown_declarations.specs.UnitNumbers.{first_function, first_object, device_number}
 use Rattle.cc_shown_programs.specs.Units.{positioned_from, device_shown, function_shown, object_shown, functions_shown, objects_shown, names_shown}
 use Rattle.cc_shown_programs.proofs.Lists.{get-left, get-right, get-split, get-map, get-unmap, within, first-then, filter-same}
 use Rattle.cc_structures.proofs.Elements.{In, length-map_of}

@@ -7,7 +7,8 @@ use Rattle.cc_program.specs.declared.program.Program.{Program}
 use Rattle.cc_program.specs.declared.types.Structure.{Structure}
 use Rattle.cc_shown_declarations.specs.Numbers.{leaf_numbered}
 use Rattle.cc_shown_effects.specs.Numbers.{stmt_numbered}
-use Rattle.cc_shown_programs.specs.Numbers.{unit_numbers, first_function}
+use Rattle.cc_shown_declarations.specs.UnitNumbers.{first_function}
+use Rattle.cc_shown_programs.specs.Numbers.{unit_numbers}
 use Rattle.cc_structures.proofs.Elements.{In}
 use Rattle.cc_syntax.specs.Operators.{is_handler}
 use Rattle.cc_syntax.specs.Types.{Named}

@@ -2,14 +2,13 @@
 -- defined once, at an offset; whether the roles name a function as a handler the unit does not say (C99 6.2.2, 6.9).
 use Rattle.std.specs.Prelude.{ℕ, suc, true, List, [], ◌∷◌, ◌++◌, map, filter, Option, Some, None}
 use Rattle.cc_operands.specs.Qualified.{plain}
-use Rattle.cc_program.specs.declared.func.Entry.{Entry}
-use Rattle.cc_program.specs.declared.func.Entry.TheVariants as entry
 use Rattle.cc_program.specs.declared.func.Func.{Func}
 use Rattle.cc_program.specs.declared.object.Device.{Device}
 use Rattle.cc_program.specs.declared.object.Object.{Object}
 use Rattle.cc_program.specs.declared.program.Program.{Program}
 use Rattle.cc_program.specs.declared.types.Shape.{Int, Func as FuncShape}
 use Rattle.cc_program.specs.declared.types.Structure.{Structure}
+use Rattle.cc_shown_declarations.specs.Entries.{written_entry}
 use Rattle.cc_shown_declarations.specs.Numbers.{leaf_numbered}
 use Rattle.cc_shown_effects.specs.Numbers.{stmt_numbered}
 use Rattle.cc_shown_programs.specs.Numbers.{unit_numbers}
@@ -46,13 +45,6 @@ device_shown d = record {
   kind = kind.Device d;
 }
 
--- by attributes alone
-abbrev pub entry_shown : Option Entry → Option Entry
-entry_shown None = None
-entry_shown (Some entry.Signal) = Some entry.Signal
-entry_shown (Some entry.Interrupt) = Some entry.Interrupt
-entry_shown (Some entry.Listed) = None
-
 -- each element with its position, from one on
 abbrev pub positioned_from : {A B : Type 0} → (ℕ → A → B) → ℕ → List A → List B
 positioned_from f i [] = []
@@ -60,7 +52,7 @@ positioned_from f i (x ∷ xs) = f i x ∷ positioned_from f (suc i) xs
 
 module _ (p : Program) where
   abbrev pub body_shown : Func → Func
-  body_shown f = record { name = f.name; sig = f.sig; entry = entry_shown f.entry; params = f.params; locals = f.locals; body = map (stmt_numbered (unit_numbers p)) f.body }
+  body_shown f = record { name = f.name; sig = f.sig; entry = written_entry f.entry; params = f.params; locals = f.locals; body = map (stmt_numbered (unit_numbers p)) f.body }
 
   -- defined at an offset
   abbrev pub function_shown : ℕ → Func → UnitName
@@ -70,7 +62,7 @@ module _ (p : Program) where
     ctype = plain (FuncShape f.sig);
     first = Some at;
     count = 1;
-    kind = kind.Func (entry_shown f.entry) (Some (body_shown f));
+    kind = kind.Func (written_entry f.entry) (Some (body_shown f));
   }
 
   abbrev pub object_shown : ℕ → Object → UnitName
