@@ -40,12 +40,12 @@ use Rattle.cc_shown_names.specs.Names.{device_declared, placed, function_defined
 use Rattle.cc_shown_names.specs.Numbers.{read_numbers}
 use Rattle.cc_shown_names.specs.States.{devices_declared, last_state, place_at}
 use Rattle.cc_shown_declarations.specs.UnitNumbers.{first_function, first_object}
-use Rattle.cc_shown_programs.specs.Numbers.{unit_numbers}
-use Rattle.cc_shown_programs.specs.Returning.{Returns, HoldsOfNames}
-use Rattle.cc_shown_programs.specs.Units.{structure_shown, device_linkage, device_shown, positioned_from, function_shown, object_shown, names_shown, unit_shown}
-use Rattle.cc_shown_programs.proofs.Lists.{get-left, get-right, get-map}
-use Rattle.cc_shown_programs.proofs.Statements.{body-comes}
-use Rattle.cc_shown_programs.proofs.Types.{comes, sig-back}
+use Rattle.cc_printed_programs.specs.Numbers.{unit_numbers}
+use Rattle.cc_printed_programs.specs.Returning.{Returns, HoldsOfNames}
+use Rattle.cc_printed_programs.specs.Units.{structure_shown, device_linkage, device_shown, positioned_from, function_shown, object_shown, names_shown, unit_shown}
+use Rattle.cc_printed_programs.proofs.ShownLists.{get-left, get-right, get-map}
+use Rattle.cc_printed_programs.proofs.Statements.{body-comes}
+use Rattle.cc_printed_programs.proofs.Types.{comes, sig-back}
 use Rattle.cc_syntax.proofs.Parts.{all_at}
 use Rattle.cc_syntax.proofs.Prefixes.{both_true}
 use Rattle.cc_syntax.specs.Kinds.{is_sig, is_plain_scalar, extent_in}

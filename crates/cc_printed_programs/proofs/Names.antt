@@ -17,7 +17,7 @@ use Rattle.cc_shown_expressions.specs.Numbers.{sig_numbered}
 use Rattle.cc_shown_expressions.proofs.Bases.{type-of-fields, shape-of-level}
 use Rattle.cc_shown_expressions.proofs.Identity.{stays}
 use Rattle.cc_shown_expressions.proofs.Numbering.{level-at}
-use Rattle.cc_shown_programs.specs.Units.{members_shown, structure_shown, device_linkage}
+use Rattle.cc_printed_programs.specs.Units.{members_shown, structure_shown, device_linkage}
 use Rattle.cc_structures.proofs.WordLaws.{level-renumbered}
 use Rattle.cc_structures.proofs.WordLaws as words
 use Rattle.cc_syntax.specs.Kinds.{Kind, is_object_type}

@@ -12,8 +12,8 @@ use Rattle.cc_scopes.specs.State.{State, at_first}
 use Rattle.cc_scopes.specs.Verdicts.{checked}
 use Rattle.cc_shown_names.specs.Parts.{HasParts}
 use Rattle.cc_shown_names.specs.States.{last_state, place_at, place_in, places}
-use Rattle.cc_shown_programs.specs.Ascending.{Ascend}
-use Rattle.cc_shown_programs.specs.Units.{unit_shown}
+use Rattle.cc_printed_programs.specs.Ascending.{Ascend}
+use Rattle.cc_printed_programs.specs.Units.{unit_shown}
 use Rattle.cc_things.specs.declared.text.Text.{Text}
 use Rattle.cc_tree.specs.declared.at.At.{At}
 use Rattle.cc_tree.specs.declared.unit.Item.{Item}

@@ -6,9 +6,9 @@ ghost use Rattle.cc_program.specs.declared.program.Program.{Program};
 ghost use Rattle.cc_read.specs.Texts.{Reads};
 ghost use Rattle.cc_syntax.specs.Normal.{IsNormal};
 
+use crate::link_law::shown_programs_link;
 use cc_read::laws;
 use cc_shown_names::units_are_typed;
-use cc_shown_programs::shown_programs_link;
 use cc_unit_trees::programs_read_back;
 
 /// The printed text of a program in normal form is read as that program (C99 5.1.1.2, 6.9), and as no other: with the

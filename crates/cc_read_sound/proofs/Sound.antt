@@ -10,7 +10,7 @@ use Rattle.cc_read.specs.Texts.{IsTypedText, Reads}
 use Rattle.cc_linked_programs.proofs.Whole.{sources_sound}
 use Rattle.cc_syntax.specs.Sound.{IsSound}
 use Rattle.cc_things.specs.declared.text.Text.{Text}
-use Rattle.cc_sound_typed_units.proofs.Units.{text_sound}
+use Rattle.cc_read_sound.proofs.Units.{text_sound}
 use Rattle.cc_read_sound.proofs.Few.{few-texts}
 
 -- each unit is that of a text, no longer than all of them

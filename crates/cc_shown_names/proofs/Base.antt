@@ -17,8 +17,8 @@ use Rattle.cc_syntax.specs.Sound.{IsSound, is_main, is_main_there, main_name}
 use Rattle.cc_syntax.proofs.StructureLemmas.{structures_sized}
 use Rattle.cc_shown_declarations.specs.Order.{appearance, structure_number}
 use Rattle.cc_shown_declarations.specs.States.{first_state}
-use Rattle.cc_shown_definitions.proofs.Changes.{stays-there}
-use Rattle.cc_shown_definitions.proofs.Names.{mapped, names-same, no-intrinsic}
+use Rattle.cc_shown_names.proofs.Changes.{stays-there}
+use Rattle.cc_shown_names.proofs.Names.{mapped, names-same, no-intrinsic}
 use Rattle.cc_shown_expressions.specs.Known.{KnowsStructures}
 use Rattle.cc_shown_names.specs.Names.{device_declared}
 use Rattle.cc_shown_names.specs.States.{unit_state}

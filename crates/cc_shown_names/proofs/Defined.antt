@@ -43,8 +43,8 @@ use Rattle.cc_unit_trees.proofs.Each.{each-append, each-mapped, each-passing}
 use Rattle.cc_unit_trees.proofs.Lists.{each-from}
 use Rattle.cc_words.specs.declared.word.Word.{Word}
 use Rattle.cc_words.specs.declared.word.Word.TheVariants as w
-use Rattle.cc_shown_definitions.proofs.Changes.{stays-there}
-use Rattle.cc_shown_definitions.proofs.Names.{mapped}
+use Rattle.cc_shown_names.proofs.Changes.{stays-there}
+use Rattle.cc_shown_names.proofs.Names.{mapped}
 use Rattle.cc_shown_names.proofs.Base.{apart}
 use Rattle.cc_shown_names.proofs.Keys.{parts-apart, second-there, func_names, object_names, keys-own}
 use Rattle.cc_shown_names.proofs.Leads.{word-storage}

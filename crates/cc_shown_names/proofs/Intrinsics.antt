@@ -58,7 +58,7 @@ use Rattle.cc_shown_expressions.proofs.Bases.{type-of-fields, shape-of-level}
 use Rattle.cc_shown_expressions.proofs.Numbering.{level-at, constant-kept, volatile-kept, sig-level}
 use Rattle.cc_shown_expressions.proofs.Standing.{kind-at}
 use Rattle.cc_shown_expressions.proofs.Words.{start, words-found}
-use Rattle.cc_shown_definitions.proofs.Names.{name-itself}
+use Rattle.cc_shown_names.proofs.Names.{name-itself}
 use Rattle.cc_shown_names.proofs.Basic.{IsBasic, AllBasic, base-same, base-alone, function-alone}
 use Rattle.cc_shown_names.proofs.Keys.{Distinct, back, distinct_file, object_names, func_names}
 use Rattle.cc_shown_names.proofs.One.{init_of, decl_of, behind-found, one-found}

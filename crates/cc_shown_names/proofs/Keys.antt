@@ -10,8 +10,8 @@ use Rattle.cc_scopes.specs.State.{Name}
 use Rattle.cc_syntax.specs.Names.{device_names, intrinsic_names, file_names, are_names}
 use Rattle.cc_syntax.proofs.Prefixes.{both_true}
 use Rattle.cc_words.specs.Names.{is_name, are_distinct}
-use Rattle.cc_shown_definitions.proofs.Changes.{stays-there}
-use Rattle.cc_shown_definitions.proofs.Names.{neither, names-turned}
+use Rattle.cc_shown_names.proofs.Changes.{stays-there}
+use Rattle.cc_shown_names.proofs.Names.{neither, names-turned}
 
 -- ---- positions in two lists
 

@@ -27,10 +27,10 @@ use Rattle.cc_syntax.proofs.Prefixes.{both_true}
 use Rattle.cc_shown_declarations.specs.Entries.{written_entry}
 use Rattle.cc_shown_declarations.specs.Order.{appearance, structure_number}
 use Rattle.cc_shown_declarations.specs.States.{first_state}
-use Rattle.cc_shown_definitions.specs.Bodies.{first_locals}
-use Rattle.cc_shown_definitions.specs.Definitions.{IsKnownFunction, KnowsFile}
-use Rattle.cc_shown_definitions.specs.Devices.{KnowsDevices}
-use Rattle.cc_shown_definitions.proofs.Changes.{stays-there}
+use Rattle.cc_shown_names.specs.Bodies.{first_locals}
+use Rattle.cc_shown_names.specs.Definitions.{IsKnownFunction, KnowsFile}
+use Rattle.cc_shown_names.specs.Devices.{KnowsDevices}
+use Rattle.cc_shown_names.proofs.Changes.{stays-there}
 use Rattle.cc_shown_expressions.specs.Known.{KnowsStructures}
 use Rattle.cc_shown_expressions.specs.KnownNames.{KnowsNames}
 use Rattle.cc_shown_names.specs.Names.{device_declared, function_declared}

@@ -25,8 +25,8 @@ use Rattle.cc_shown_declarations.specs.Known.{KnowsStatics}
 use Rattle.cc_shown_declarations.specs.Numbers.{leaf_numbered}
 use Rattle.cc_shown_declarations.specs.Order.{appearance, structure_number}
 use Rattle.cc_shown_declarations.specs.States.{first_state}
-use Rattle.cc_shown_definitions.proofs.Changes.{stays-there}
-use Rattle.cc_shown_definitions.proofs.Names.{mapped}
+use Rattle.cc_shown_names.proofs.Changes.{stays-there}
+use Rattle.cc_shown_names.proofs.Names.{mapped}
 use Rattle.cc_shown_expressions.specs.Known.{KnowsStructures}
 use Rattle.cc_shown_expressions.specs.Numbers.{type_numbered, sig_numbered}
 use Rattle.cc_shown_names.specs.Names.{device_declared, function_declared, object_declared, object_given, placed}

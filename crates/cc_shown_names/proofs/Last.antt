@@ -23,11 +23,11 @@ use Rattle.cc_unit_trees.specs.Units.{ShowsFunction, ShowsDefinition}
 use Rattle.cc_shown_declarations.specs.Entries.{written_entry}
 use Rattle.cc_shown_declarations.specs.Order.{appearance}
 use Rattle.cc_shown_declarations.specs.States.{tag_entry}
-use Rattle.cc_shown_definitions.specs.Definitions.{ShowsFunctions, NoFunction, MoreFunctions, place_of, devices_behind, with_definitions}
-use Rattle.cc_shown_definitions.specs.Devices.{between, with_devices}
-use Rattle.cc_shown_definitions.specs.Functions.{type_of_function, func_numbered}
-use Rattle.cc_shown_definitions.proofs.Changes.{next-parted, stays-there}
-use Rattle.cc_shown_definitions.proofs.Order.{next-least}
+use Rattle.cc_shown_names.specs.Definitions.{ShowsFunctions, NoFunction, MoreFunctions, place_of, devices_behind, with_definitions}
+use Rattle.cc_shown_names.specs.Devices.{between, with_devices}
+use Rattle.cc_shown_names.specs.Functions.{type_of_function, func_numbered}
+use Rattle.cc_shown_names.proofs.Changes.{next-parted, stays-there}
+use Rattle.cc_shown_names.proofs.Order.{next-least}
 use Rattle.cc_shown_names.specs.Names.{function_declared, function_defined, object_given, placed}
 use Rattle.cc_shown_names.specs.Numbers.{read_numbers}
 use Rattle.cc_shown_names.specs.States.{place_in, places, unit_state, devices_declared, objects_given, all_defined, last_state}

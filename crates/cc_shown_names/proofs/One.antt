@@ -56,7 +56,7 @@ use Rattle.cc_type.specs.Units.{item_found}
 use Rattle.cc_typed_declarations.specs.Declarations.{init_allowed, named_found, init_found, inits_found, declaration}
 use Rattle.cc_words.specs.declared.word.Word.{Word}
 use Rattle.cc_shown_names.proofs.ObjectTypes.{object-kind, object-stands}
-use Rattle.cc_shown_definitions.proofs.Forms.{no-function}
+use Rattle.cc_shown_names.proofs.Forms.{no-function}
 use Rattle.cc_shown_expressions.specs.Known.{KnowsStructures}
 use Rattle.cc_shown_expressions.specs.Numbers.{type_numbered}
 use Rattle.cc_shown_expressions.proofs.Bases.{base-found}

@@ -44,8 +44,8 @@ use Rattle.cc_unit_trees.specs.Programs.{ShowsExternals, NoExternal, MoreExterna
 use Rattle.cc_shown_declarations.specs.Entries.{written_entry}
 use Rattle.cc_shown_declarations.specs.Order.{appearance, structure_number}
 use Rattle.cc_shown_declarations.specs.States.{first_state}
-use Rattle.cc_shown_definitions.specs.Functions.{type_of_function}
-use Rattle.cc_shown_definitions.proofs.Main.{main-fits}
+use Rattle.cc_shown_names.specs.Functions.{type_of_function}
+use Rattle.cc_shown_names.proofs.Main.{main-fits}
 use Rattle.cc_shown_expressions.specs.Known.{KnowsStructures}
 use Rattle.cc_shown_expressions.specs.Numbers.{type_numbered}
 use Rattle.cc_shown_names.specs.Names.{function_declared}

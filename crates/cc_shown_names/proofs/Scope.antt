@@ -13,7 +13,7 @@ use Rattle.cc_scopes.specs.declared.designated.Designated.{Designated}
 use Rattle.cc_scopes.specs.declared.designated.Designated.TheVariants as means
 use Rattle.cc_scopes.specs.declared.unit.Declared.{Declared}
 use Rattle.cc_unit.specs.declared.unit.UnitKind.{UnitKind}
-use Rattle.cc_shown_definitions.proofs.Names.{name-itself, names-turned}
+use Rattle.cc_shown_names.proofs.Names.{name-itself, names-turned}
 use Rattle.cc_shown_declarations.specs.Order.{appearance}
 use Rattle.cc_shown_declarations.specs.States.{tag_entry}
 use Rattle.cc_shown_names.specs.States.{bound_from, unit_state}

@@ -19,7 +19,7 @@ use Rattle.cc_shown_declarations.specs.Order.{appearance, structure_number}
 use Rattle.cc_shown_declarations.specs.States.{first_state}
 use Rattle.cc_shown_declarations.proofs.Items.{structure-items}
 use Rattle.cc_shown_declarations.proofs.Turns.{ShownApart, shown-apart, found-behind}
-use Rattle.cc_shown_definitions.proofs.Definitions.{all-found}
+use Rattle.cc_shown_names.proofs.Definitions.{all-found}
 use Rattle.cc_shown_expressions.specs.Known.{KnowsStructures}
 use Rattle.cc_shown_names.specs.Names.{object_given, placed}
 use Rattle.cc_shown_names.specs.Numbers.{read_numbers}

@@ -9,7 +9,7 @@ use Rattle.cc_program.specs.declared.types.Shape.{Int}
 use Rattle.cc_scopes.specs.declared.unit.Declared.{Declared}
 use Rattle.cc_shown_declarations.specs.Entries.{written_entry}
 use Rattle.cc_shown_declarations.specs.Numbers.{leaf_numbered}
-use Rattle.cc_shown_definitions.specs.Functions.{type_of_function, func_numbered}
+use Rattle.cc_shown_names.specs.Functions.{type_of_function, func_numbered}
 use Rattle.cc_shown_expressions.specs.Numbers.{type_numbered}
 use Rattle.cc_shown_names.specs.Numbers.{read_numbers}
 use Rattle.cc_unit.specs.declared.unit.Linkage.TheVariants as linkage

@@ -7,7 +7,7 @@ ghost use Rattle.cc_program.specs.declared.object.Device.{Device};
 ghost use Rattle.cc_program.specs.declared.program.Program.{Program};
 ghost use Rattle.cc_scopes.specs.State.{Name};
 ghost use Rattle.cc_scopes.specs.Verdicts.{checked};
-ghost use Rattle.cc_shown_definitions.specs.Definitions.{KnowsFile};
+ghost use Rattle.cc_shown_names.specs.Definitions.{KnowsFile};
 ghost use Rattle.cc_shown_names.specs.Numbers.{read_numbers};
 ghost use Rattle.cc_shown_names.specs.States.{devices_declared, functions_declared, objects_declared, objects_given, places, unit_state};
 ghost use Rattle.cc_syntax.specs.Normal.{IsNormal, count_named, has_name};

@@ -1,4 +1,0 @@
-pub mod Bodies
-pub mod Definitions
-pub mod Devices
-pub mod Functions

@@ -1,5 +1,0 @@
-use Rattle.cc_shown_programs.proofs.Links.{program-links}
-use Rattle.cc_shown_programs.proofs.laws.shown_programs_link.Goals as goal
-
-pub returns : goal.returns
-returns c = record { links = λ p sound devices function_at object_at functions_ascend objects_ascend identifiers. program-links p sound devices function_at object_at functions_ascend objects_ascend identifiers }

@@ -1,5 +1,0 @@
-use Rattle.cc_sound_typed_units.proofs.Units.{text_sound}
-use Rattle.cc_sound_typed_units.proofs.unit_law.unit_laws.Goals as goal
-
-pub returns : goal.returns
-returns c = record { sound = λ text ts u target roles t small spelled sentence h. text_sound text ts u target roles t small spelled sentence h }
