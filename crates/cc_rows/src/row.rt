@@ -23,12 +23,12 @@ pub fn lines_of<R: FromRow>(alloc: Global, text: &[u8]) -> Result<Vec<R>, NoMemo
     ensures lines { IfOk result (λ lines. lines.items ≡ map R.said_by (rows_of text.now)) }
     ensures few { IfOk result (λ lines. length lines.items ≤ length text.now) }
 {
-    let reader = ReaderBuilder::new()
+    let mut reader = ReaderBuilder::new()
         .has_headers(false)
         .flexible(true)
         .from_reader(alloc, text);
     let mut lines = Vec::new(alloc);
-    for row in reader.into_byte_records() {
+    for row in reader.byte_records() {
         match row {
             Err(_) => return Err(NoMemory),
             Ok(row) => lines.push(R::from_row(alloc, &row)?)?,

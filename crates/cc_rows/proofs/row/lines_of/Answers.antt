@@ -15,8 +15,8 @@ loop-row-init g c =
     let e = c.has_headers.ensures in
     let f = c.flexible.ensures in
     let start = c.into_iter-row-iterator.ensures.into_iter_gives ∙ refl in
-    let rdr = c.into_byte_records-row-items.ensures.rdr in
-    let left = c.into_byte_records-row-items.ensures.left in
+    let rdr = c.byte_records-row-items.ensures.rdr in
+    let left = c.byte_records-row-items.ensures.left in
     rw (start, rdr, c.new-lines.ensures.items) (
       rw (f, e) at fr.trim ∙ c.new.ensures.trim,
       inr (inr (rw (f, e) at fr.has_headers, fr.headers)),
@@ -35,7 +35,7 @@ loop-row-preserved g c =
     let s = rw (c.in-Some.is, c.in-Ok.is) at ((c.next.ensures.steps inv.2 inv.0).0 inv.1) in
     let good : is_ok c.push.result ≡ true = search rules in
     let items = rw good at c.push.ensures.items in
-    let m = rows-more (λ (s : Bor (List ℕ)). Some s.now) c.loop-row.row-iterator.rdr c.next.new.self.rdr (fields_of c.in-Ok.row) default_config st.StartRecord (strip_bom c.args.text.now) inv.4 inv.6 inv.3 inv.5 inv.7 s.0 in (
+    let m = rows-more (λ (s : Bor (List ℕ)). Some s.now) c.loop-row.row-iterator.rdr.now c.next.new.self.rdr.now (fields_of c.in-Ok.row) default_config st.StartRecord (strip_bom c.args.text.now) inv.4 inv.6 inv.3 inv.5 inv.7 s.0 in (
       s.0.3 ∙ inv.0,
       inl s.1,
       s.2,
@@ -52,7 +52,7 @@ returns g c =
     let inv = c.loop-row.invariant in
     let s = rw c.in-None.is at ((c.next.ensures.steps inv.2 inv.0).0 inv.1) in
     let all : AreRecords default_config st.StartRecord (strip_bom c.args.text.now) inv.6 =
-    (c.loop-row.row-iterator.rdr.state, inv.4, inv.7, rows-end (λ (s : Bor (List ℕ)). Some s.now) c.loop-row.row-iterator.rdr c.next.new.self.rdr [] default_config inv.4 inv.3 inv.5 s) in
+    (c.loop-row.row-iterator.rdr.now.state, inv.4, inv.7, rows-end (λ (s : Bor (List ℕ)). Some s.now) c.loop-row.row-iterator.rdr.now c.next.new.self.rdr.now [] default_config inv.4 inv.3 inv.5 s) in
     record {
       lines = inv.8 ∙ ap (map g.R.FromRow.said_by) (sym (rows-are c.args.text.now inv.6 all));
       few = lines-few c.args.text.now inv.6 c.loop-row.lines.items g.R.FromRow.said_by (rows-few c.args.text.now inv.6 all) inv.8;

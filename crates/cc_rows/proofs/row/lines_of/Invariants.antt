@@ -6,7 +6,7 @@ use Rattle.cc_rows.specs.Rows.{Row}
 use Rattle.cc_rows.proofs.row.lines_of.Given as goal
 
 abbrev pub invariant-loop-row : goal.invariant-loop-row
-invariant-loop-row g l = (l.row-iterator.rdr.trim ≡ trim.None) × Ready l.row-iterator.rdr × (0 < l.row-iterator.left) × (l.row-iterator.rdr.config ≡ default_config)
-    × (y : List ℕ) × (source_of (λ s. Some s.now) l.row-iterator.rdr ≡ Some y)
-    × (rows : List Row) × Reached default_config st.StartRecord (strip_bom l.fn.text) rows l.row-iterator.rdr.state y
+invariant-loop-row g l = (l.row-iterator.rdr.now.trim ≡ trim.None) × Ready l.row-iterator.rdr.now × (0 < l.row-iterator.left) × (l.row-iterator.rdr.now.config ≡ default_config)
+    × (y : List ℕ) × (source_of (λ s. Some s.now) l.row-iterator.rdr.now ≡ Some y)
+    × (rows : List Row) × Reached default_config st.StartRecord (strip_bom l.fn.text) rows l.row-iterator.rdr.now.state y
     × (l.lines.items ≡ map g.R.FromRow.said_by rows)
