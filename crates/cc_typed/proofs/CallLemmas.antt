@@ -1,5 +1,5 @@
 -- The type of a call, from those of what is called and of the arguments.
-use Rattle.std.proofs.Common.{◌≡◌, List, map, ap, sym, ◌∙◌, Option, Some}
+use Rattle.std.proofs.Common.{◌≡◌, List, map, ap, sym, ◌∙◌, Option}
 use Rattle.cc_program.specs.declared.expr.Expr.{Expr, Call, fold-roll-Expr}
 use Rattle.cc_program.specs.declared.expr.Expr.TheVariants.{rolls-Call}
 use Rattle.cc_program.specs.declared.expr.Expr.TheOpen as one
@@ -16,7 +16,6 @@ module _ (p : Program) (locals : List Named) where
   unfolding typing.type_of
   call-rolls f args = ap (type_of p locals) (sym (rolls-Call f args)) ∙ fold-roll-Expr (Option ValueType) (Option PlaceType) (expr_step p locals) (place_step p locals) (one.Call f args)
 
-  pub call_typed : (e f g : Expr) (args : List Expr) (v : ValueType) (r : Option ValueType) → e ≡ Call f args → g ≡ f → type_of p locals g ≡ Some v → r ≡ call_type v (map (type_of p locals) args) → r ≡ type_of p locals e
-  call_typed e f g args v r is same h k =
-      let known : type_of p locals f ≡ Some v = ap (type_of p locals) (sym same) ∙ h in
-      k ∙ sym (ap (type_of p locals) is ∙ call-rolls f args ∙ ap (λ (o : Option ValueType). of_one o (λ v. call_type v (map (type_of p locals) args))) known)
+  pub call_typed : (e f g : Expr) (args : List Expr) (o r : Option ValueType) → e ≡ Call f args → g ≡ f → o ≡ type_of p locals g → r ≡ of_one o (λ v. call_type v (map (type_of p locals) args)) → r ≡ type_of p locals e
+  call_typed e f g args o r is same h k =
+      k ∙ (ap (λ (o : Option ValueType). of_one o (λ v. call_type v (map (type_of p locals) args))) (h ∙ ap (type_of p locals) same) ∙ sym (ap (type_of p locals) is ∙ call-rolls f args))

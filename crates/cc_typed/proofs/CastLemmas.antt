@@ -1,5 +1,5 @@
 -- The type of a null and of a cast that adds qualifiers, from the type that is written.
-use Rattle.std.proofs.Common.{◌≡◌, List, ap, sym, ◌∙◌, Option, Some}
+use Rattle.std.proofs.Common.{◌≡◌, List, ap, sym, ◌∙◌, Option}
 use Rattle.cc_program.specs.declared.expr.Expr.{Expr, Null, Qualify, fold-roll-Expr}
 use Rattle.cc_program.specs.declared.expr.Expr.TheVariants.{rolls-Null, rolls-Qualify}
 use Rattle.cc_program.specs.declared.expr.Expr.TheOpen as one
@@ -23,7 +23,6 @@ module _ (p : Program) (locals : List Named) where
   pub null_typed : (e : Expr) (t u : CType) (r : Option ValueType) → e ≡ Null t → u ≡ t → r ≡ null_type p u → r ≡ type_of p locals e
   null_typed e t u r is same h = h ∙ (ap (null_type p) same ∙ sym (ap (type_of p locals) is ∙ null-rolls t))
 
-  pub qualify_typed : (e a b : Expr) (t u : CType) (v : ValueType) (r : Option ValueType) → e ≡ Qualify t a → u ≡ t → b ≡ a → type_of p locals b ≡ Some v → r ≡ qualified_type p u v → r ≡ type_of p locals e
-  qualify_typed e a b t u v r is same part h k =
-      let known : type_of p locals a ≡ Some v = ap (type_of p locals) (sym part) ∙ h in
-      k ∙ (ap (λ w. qualified_type p w v) same ∙ sym (ap (type_of p locals) is ∙ (qualify-rolls t a ∙ ap (λ (o : Option ValueType). of_one o (qualified_type p t)) known)))
+  pub qualify_typed : (e a b : Expr) (t u : CType) (o r : Option ValueType) → e ≡ Qualify t a → u ≡ t → b ≡ a → o ≡ type_of p locals b → r ≡ of_one o (qualified_type p u) → r ≡ type_of p locals e
+  qualify_typed e a b t u o r is same part h k =
+      k ∙ (ap (λ w. of_one o (qualified_type p w)) same ∙ (ap (λ (o : Option ValueType). of_one o (qualified_type p t)) (h ∙ ap (type_of p locals) part) ∙ sym (ap (type_of p locals) is ∙ qualify-rolls t a)))

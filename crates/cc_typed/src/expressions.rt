@@ -1,18 +1,22 @@
 //! The type of each expression and each place of a program.
 
-ghost use Rattle.std.specs.Prelude.{◌≡◌, option_map, map, slice_get, length};
+ghost use Rattle.std.specs.Prelude.{◌≡◌, option_map, map, slice_get, length, None as NoneOf, Some as SomeOf};
 ghost use Rattle.std.specs.Option.{option_copied};
 ghost use Rattle.cc_program.specs.declared.expr.Expr.{out-Expr};
-ghost use Rattle.cc_syntax.specs.Expressions.{of_one, of_two};
+ghost use Rattle.cc_syntax.specs.Expressions.{of_one};
 ghost use Rattle.cc_syntax.specs.Programs.{type_of as type_of_of, place_type as place_type_of, null_type as null_type_of, pointer_type as pointer_type_of, qualified_type as qualified_type_of};
-ghost use Rattle.cc_syntax.specs.Operators.{pointer_in as pointer_in_of, void_pointer_in as void_pointer_in_of, is_unqualified as is_unqualified_of, call_type as call_type_of, intrinsic_type as intrinsic_type_of, unary_type, binary_type, conversion_type, moved_type, gap_type, comparison_type, logical_type, choice_type, assignment_type, change_type, after_type, subscript_type};
-ghost use Rattle.cc_syntax.specs.Values.{are_assignable, result_value as result_value_of, is_assignable_some as is_assignable_some_of, read_from, written_to, address_of, pointed_to, member_of, object_place as object_place_of};
+ghost use Rattle.cc_syntax.specs.Operators.{pointer_in as pointer_in_of, void_pointer_in as void_pointer_in_of, is_unqualified as is_unqualified_of, call_type as call_type_of, intrinsic_type as intrinsic_type_of};
+ghost use Rattle.cc_syntax.specs.Values.{are_assignable, result_value as result_value_of, is_assignable_some as is_assignable_some_of, object_place as object_place_of};
 ghost use Rattle.cc_syntax.specs.Types.{Named};
 ghost use Rattle.cc_syntax.specs.Sizes.{AreSized};
 ghost use Rattle.cc_typed.specs.View.{value_view, place_view};
 
 use crate::kinds::{is_plain_scalar, kind_in};
 use crate::operators::{constant_type, function_type};
+use crate::parts::{
+    address, assigned, binary, changed, chosen, compared, converted, gap, logical, member, moved,
+    pointed_to, read, second, stepped, subscripted, unary,
+};
 use crate::values::{
     PlaceType, ValueType, is_void, object_place, pointer_to, result_value, scalar_value,
 };
@@ -83,13 +87,13 @@ fn null_type<'p>(p: &Program, t: &'p CType) -> Option<ValueType<'p>>
 }
 
 /// A cast of a pointer that adds qualifiers (C99 6.5.4).
-fn qualified_type<'p>(p: &Program, t: &'p CType, a: ValueType) -> Option<ValueType<'p>>
+fn qualified_type<'p>(p: &Program, t: &'p CType, a: Option<ValueType>) -> Option<ValueType<'p>>
     requires { AreSized p.now.structures p.now.target }
-    ensures { option_map value_view result ≡ qualified_type_of p.now t.now (value_view a.entry) }
+    ensures { option_map value_view result ≡ of_one (option_map value_view a.entry) (qualified_type_of p.now t.now) }
 {
-    match pointer_type(p, t) {
-        None => None,
-        Some(to) => { if to.is_assignable(a) { Some(to) } else { None } }
+    match (pointer_type(p, t), a) {
+        (Some(to), Some(a)) => to.assigned(a),
+        _ => None,
     }
 }
 
@@ -103,35 +107,30 @@ pub fn is_assignable_some(to: Option<ValueType>, from: Option<ValueType>) -> boo
     }
 }
 
-/// A call of an intrinsic.
-fn intrinsic_type(i: Intr, operand: Option<Option<ValueType<'_>>>) -> Option<ValueType<'static>>
-    ensures { option_map value_view result ≡ intrinsic_type_of i (option_map (option_map value_view) operand.entry) }
+/// A call of an intrinsic that takes nothing.
+fn intrinsic_type(i: Intr) -> Option<ValueType<'static>>
+    ensures { option_map value_view result ≡ intrinsic_type_of i NoneOf }
 {
     match i {
-        Intr::Off | Intr::On => {
-            if operand.is_none() {
+        Intr::Off | Intr::On => Some(ValueType::NoValue),
+        Intr::Save => Some(ValueType::Integer(IntType::UChar)),
+        Intr::Restore => None,
+    }
+}
+
+/// A call of an intrinsic that takes this.
+fn intrinsic_type_with(i: Intr, a: Option<ValueType>) -> Option<ValueType<'static>>
+    ensures { option_map value_view result ≡ intrinsic_type_of i (SomeOf (option_map value_view a.entry)) }
+{
+    match (i, a) {
+        (Intr::Restore, Some(a)) => {
+            if a.is_of(IntType::UChar) {
                 Some(ValueType::NoValue)
             } else {
                 None
             }
         }
-        Intr::Save => {
-            if operand.is_none() {
-                Some(ValueType::Integer(IntType::UChar))
-            } else {
-                None
-            }
-        }
-        Intr::Restore => match operand {
-            Some(Some(a)) => {
-                if a.is_of(IntType::UChar) {
-                    Some(ValueType::NoValue)
-                } else {
-                    None
-                }
-            }
-            _ => None,
-        },
+        _ => None,
     }
 }
 
@@ -148,77 +147,48 @@ impl<'p> Scope<'p> {
             Expr::Const(n, t) => constant_type(*n, *t, &p.target),
             Expr::Null(t) => null_type(p, t.get()),
             Expr::FuncAddr(f) => function_type(at(p.funcs.all(), *f as usize)),
-            Expr::Load(a) => self.place_type(a.get())?.read(),
-            Expr::AddrOf(a) => self.place_type(a.get())?.address(),
-            Expr::Un(op, t, a) => self.type_of(a.get())?.unary(*op, *t, &p.target),
+            Expr::Load(a) => read(self.place_type(a.get())),
+            Expr::AddrOf(a) => address(self.place_type(a.get())),
+            Expr::Un(op, t, a) => unary(p, *op, *t, self.type_of(a.get())),
             Expr::Bin(op, t, a, b) => {
-                let a = self.type_of(a.get())?;
-                a.binary(*op, *t, self.type_of(b.get())?, &p.target)
+                binary(p, *op, *t, self.type_of(a.get()), self.type_of(b.get()))
             }
-            Expr::Conv(t, a) => self.type_of(a.get())?.converted(*t),
-            Expr::Qualify(t, a) => qualified_type(p, t.get(), self.type_of(a.get())?),
-            Expr::Move(a, b, _) => {
-                let a = self.type_of(a.get())?;
-                a.moved(self.type_of(b.get())?, p.structures.all())
-            }
-            Expr::Gap(a, b) => {
-                let a = self.type_of(a.get())?;
-                a.gap(self.type_of(b.get())?, p.structures.all(), &p.target)
-            }
+            Expr::Conv(t, a) => converted(*t, self.type_of(a.get())),
+            Expr::Qualify(t, a) => qualified_type(p, t.get(), self.type_of(a.get())),
+            Expr::Move(a, b, _) => moved(p, self.type_of(a.get()), self.type_of(b.get())),
+            Expr::Gap(a, b) => gap(p, self.type_of(a.get()), self.type_of(b.get())),
             Expr::Compare(op, a, b) => {
-                let a = self.type_of(a.get())?;
-                a.compared(*op, self.type_of(b.get())?)
+                compared(*op, self.type_of(a.get()), self.type_of(b.get()))
             }
-            Expr::Both(a, b) => {
-                let a = self.type_of(a.get())?;
-                a.logical(self.type_of(b.get())?)
-            }
-            Expr::Either(a, b) => {
-                let a = self.type_of(a.get())?;
-                a.logical(self.type_of(b.get())?)
-            }
-            Expr::Choose(c, a, b) => {
-                let c = self.type_of(c.get())?;
-                let a = self.type_of(a.get())?;
-                a.chosen(c, self.type_of(b.get())?, &p.target)
-            }
-            Expr::Assign(a, b) => {
-                let to = self.place_type(a.get())?.written()?;
-                to.assigned(self.type_of(b.get())?)
-            }
+            Expr::Both(a, b) => logical(self.type_of(a.get()), self.type_of(b.get())),
+            Expr::Either(a, b) => logical(self.type_of(a.get()), self.type_of(b.get())),
+            Expr::Choose(c, a, b) => chosen(
+                p,
+                self.type_of(c.get()),
+                self.type_of(a.get()),
+                self.type_of(b.get()),
+            ),
+            Expr::Assign(a, b) => assigned(self.place_type(a.get()), self.type_of(b.get())),
             Expr::Change(a, op, t, b) => {
-                let to = self.place_type(a.get())?.written()?;
-                to.changed(
-                    *op,
-                    *t,
-                    self.type_of(b.get())?,
-                    p.structures.all(),
-                    &p.target,
-                )
+                changed(p, self.place_type(a.get()), *op, *t, self.type_of(b.get()))
             }
-            Expr::After(a, _) => self
-                .place_type(a.get())?
-                .written()?
-                .stepped(p.structures.all()),
-            Expr::Call(f, args) => self.call_type(self.type_of(f.get())?, args),
-            Expr::Intr(i, None) => intrinsic_type(*i, None),
-            Expr::Intr(i, Some(a)) => intrinsic_type(*i, Some(self.type_of(a.get()))),
-            Expr::Seq(a, b) => {
-                self.type_of(a.get())?;
-                self.type_of(b.get())
-            }
+            Expr::After(a, _) => stepped(p, self.place_type(a.get())),
+            Expr::Call(f, args) => self.call_type(self.type_of(f.get()), args),
+            Expr::Intr(i, None) => intrinsic_type(*i),
+            Expr::Intr(i, Some(a)) => intrinsic_type_with(*i, self.type_of(a.get())),
+            Expr::Seq(a, b) => second(self.type_of(a.get()), self.type_of(b.get())),
         }
     }
 
     /// The type of a call (C99 6.5.2.2).
     #[cycle(types)]
     #[tactic(auto, using(crate::proofs::PairLemmas::of_second_pairs))]
-    fn call_type(self, f: ValueType<'p>, args: &'p List<Expr>) -> Option<ValueType<'p>>
+    fn call_type(self, f: Option<ValueType<'p>>, args: &'p List<Expr>) -> Option<ValueType<'p>>
         requires { AreSized self.program.now.structures self.program.now.target }
-        ensures { option_map value_view result ≡ call_type_of (value_view f.entry) (map (type_of_of self.entry.program.now self.entry.locals.now) args.now) }
+        ensures { option_map value_view result ≡ of_one (option_map value_view f.entry) (λ f. call_type_of f (map (type_of_of self.entry.program.now self.entry.locals.now) args.now)) }
     {
         match f {
-            ValueType::ToFunction(sig) => {
+            Some(ValueType::ToFunction(sig)) => {
                 let params = sig.params.all();
                 if params.len() != args.all().len() {
                     return None;
@@ -230,9 +200,7 @@ impl<'p> Scope<'p> {
                 }
                 result_value(&sig.result)
             }
-            ValueType::NoValue => None,
-            ValueType::Integer(_) => None,
-            ValueType::ToObject(_, _, _) => None,
+            _ => None,
         }
     }
 
@@ -245,19 +213,22 @@ impl<'p> Scope<'p> {
     {
         let p = self.program;
         match a {
-            Place::Local(r) => match at(self.locals, *r as usize) {
-                None => None,
-                Some((_, t)) => Some(object_place(t)),
-            },
+            Place::Local(r) => local_type(self.locals, *r),
             Place::Static(i) => static_type(p.objects.all(), *i),
             Place::Device(d) => device_type(p.devices.all(), *d),
-            Place::Element(a, i) => {
-                let a = self.place_type(a.get())?;
-                a.subscripted(self.type_of(i.get())?)
-            }
-            Place::Member(a, m) => self.place_type(a.get())?.member(p.structures.all(), *m),
-            Place::Deref(e) => self.type_of(e.get())?.pointed_to(),
+            Place::Element(a, i) => subscripted(self.place_type(a.get()), self.type_of(i.get())),
+            Place::Member(a, m) => member(p, self.place_type(a.get()), *m),
+            Place::Deref(e) => pointed_to(self.type_of(e.get())),
         }
+    }
+}
+
+fn local_type(locals: &[(Name, CType)], local: u32) -> Option<PlaceType<'_>>
+    ensures { option_map place_view result ≡ option_map (λ l. object_place_of l.1) (slice_get locals.now local) }
+{
+    match at(locals, local as usize) {
+        None => None,
+        Some((_, t)) => Some(object_place(t)),
     }
 }
 

@@ -4,6 +4,7 @@
 mod expressions;
 mod kinds;
 mod operators;
+mod parts;
 mod paths;
 mod registers;
 mod same;
