@@ -16,8 +16,6 @@ joined-more f bs xs x =
     append_assoc bs (flat_map (λ l. l) (map f xs)) (f x)
     ∙ ap (λ l. bs ++ l) (sym (ap (flat_map (λ l. l)) (map-append f xs (x ∷ [])) ∙ (flat_map-append (λ l. l) (map f xs) (f x ∷ []) ∙ ap (λ l. flat_map (λ l. l) (map f xs) ++ l) (append-nil (f x)))))
 
-pub ruleset of_words = (append_assoc, append-nil, joined-more)
-
 pub names-more : (ns : List (Bor (List ℕ))) (n : Bor (List ℕ)) → names_of (ns ++ n ∷ []) ≡ names_of ns ++ n.now ∷ []
 unfolding names_of
 names-more ns n = map-append (λ (b : Bor (List ℕ)). b.now) ns (n ∷ [])

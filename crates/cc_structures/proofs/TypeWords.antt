@@ -1,5 +1,5 @@
 -- Types with the same words and parts are the same: the words of a type end by themselves, and so do its parts.
-use Rattle.std.proofs.Common.{rules, ◌≡◌, ◌∙◌, ℕ, Bool, List, [], ◌∷◌, ◌++◌, length, map, flat_map, refl, ap, sym, append_assoc, arith}
+use Rattle.std.proofs.Common.{rules, ◌≡◌, ◌∙◌, ℕ, Bool, false, true≢false, List, [], ◌∷◌, ◌++◌, length, map, flat_map, refl, ap, sym, append_assoc, arith}
 use Rattle.std.proofs.lemmas.Bool.{eq-eqb}
 use denote.Enum.Bare.{same_true}
 use Rattle.cc_num.specs.contracts.int_type.IntType as int_type
@@ -10,6 +10,10 @@ use Rattle.cc_program.specs.declared.types.Shape.TheOpen as shape
 use Rattle.cc_program.specs.declared.types.Sig.{Sig, out-Sig, roll-Sig, out-roll-Sig, roll-out-Sig}
 use Rattle.cc_program.proofs.Each.{Each}
 use Rattle.cc_program.proofs.TypeInduction.{with_shape, TypeParts, SigParts, by_type}
+use denote.Enum.Declared.{tag_of}
+use Rattle.cc_structures.specs.View.{same_kind}
+use Rattle.cc_structures.specs.contracts.words.Kind as kind
+use Rattle.cc_structures.specs.declared.words.Kind.{Kind}
 use Rattle.cc_structures.specs.Words.{SigWords, words_step, parts_step, type_words, sig_words, type_parts, sig_parts}
 use Rattle.cc_structures.specs.declared.words.Word.{Word}
 use Rattle.cc_structures.proofs.Elements.{length-map_of}
@@ -31,6 +35,9 @@ volatile-same e = ap (λ (x : Word). x.volatile) (first-same e)
 kind-same : {a b : Word} {fs bs : List Word} → a ∷ fs ≡ b ∷ bs → a.kind ≡ b.kind
 kind-same e = ap (λ (x : Word). x.kind) (first-same e)
 
+kinds-apart : {A : Type 0} {k l : Kind} → same_kind k l ≡ false → k ≡ l → A
+kinds-apart apart e = absurd (true≢false (sym (eq-eqb _ _ (ap (tag_of kind.the_type) e)) ∙ apart))
+
 number-same : {a b : Word} {fs bs : List Word} → a ∷ fs ≡ b ∷ bs → a.number ≡ b.number
 number-same e = ap (λ (x : Word). x.number) (first-same e)
 
@@ -49,44 +56,44 @@ level_same : (x y : shape.Shape-F Shape CType Sig) (c v d w : Bool) → TypePart
     words_step (words_in x) c v ++ r ≡ words_step (words_in y) d w ++ u → parts_step (parts_in x) ++ q ≡ parts_step (parts_in y) ++ k →
     (c ≡ d) × ((v ≡ w) × ((x ≡ y) × ((r ≡ u) × (q ≡ k))))
 level_same shape.Void shape.Void c v d w h r u q k e f = (constant-same e, (volatile-same e, (refl, (rest-same e, f))))
-level_same shape.Void (shape.Int t) c v d w h r u q k e f = let z = kind-same e in absurd (cc)
-level_same shape.Void (shape.Pointer of) c v d w h r u q k e f = let z = kind-same e in absurd (cc)
-level_same shape.Void (shape.Array of m) c v d w h r u q k e f = let z = kind-same e in absurd (cc)
-level_same shape.Void (shape.Struct j) c v d w h r u q k e f = let z = kind-same e in absurd (cc)
-level_same shape.Void (shape.Func t) c v d w h r u q k e f = let z = kind-same e in absurd (cc)
-level_same (shape.Int s) shape.Void c v d w h r u q k e f = let z = kind-same e in absurd (cc)
+level_same shape.Void (shape.Int t) c v d w h r u q k e f = kinds-apart refl (kind-same e)
+level_same shape.Void (shape.Pointer of) c v d w h r u q k e f = kinds-apart refl (kind-same e)
+level_same shape.Void (shape.Array of m) c v d w h r u q k e f = kinds-apart refl (kind-same e)
+level_same shape.Void (shape.Struct j) c v d w h r u q k e f = kinds-apart refl (kind-same e)
+level_same shape.Void (shape.Func t) c v d w h r u q k e f = kinds-apart refl (kind-same e)
+level_same (shape.Int s) shape.Void c v d w h r u q k e f = kinds-apart refl (kind-same e)
 level_same (shape.Int s) (shape.Int t) c v d w h r u q k e f = (constant-same e, (volatile-same e, (ap (λ (x : IntType). shape.Int x) (position-same s t (number-same e)), (rest-same e, f))))
-level_same (shape.Int s) (shape.Pointer of) c v d w h r u q k e f = let z = kind-same e in absurd (cc)
-level_same (shape.Int s) (shape.Array of m) c v d w h r u q k e f = let z = kind-same e in absurd (cc)
-level_same (shape.Int s) (shape.Struct j) c v d w h r u q k e f = let z = kind-same e in absurd (cc)
-level_same (shape.Int s) (shape.Func t) c v d w h r u q k e f = let z = kind-same e in absurd (cc)
-level_same (shape.Pointer to) shape.Void c v d w h r u q k e f = let z = kind-same e in absurd (cc)
-level_same (shape.Pointer to) (shape.Int t) c v d w h r u q k e f = let z = kind-same e in absurd (cc)
+level_same (shape.Int s) (shape.Pointer of) c v d w h r u q k e f = kinds-apart refl (kind-same e)
+level_same (shape.Int s) (shape.Array of m) c v d w h r u q k e f = kinds-apart refl (kind-same e)
+level_same (shape.Int s) (shape.Struct j) c v d w h r u q k e f = kinds-apart refl (kind-same e)
+level_same (shape.Int s) (shape.Func t) c v d w h r u q k e f = kinds-apart refl (kind-same e)
+level_same (shape.Pointer to) shape.Void c v d w h r u q k e f = kinds-apart refl (kind-same e)
+level_same (shape.Pointer to) (shape.Int t) c v d w h r u q k e f = kinds-apart refl (kind-same e)
 level_same (shape.Pointer to) (shape.Pointer of) c v d w h r u q k e f =
     let g = h of r u q k (rest-same e) f in
     (constant-same e, (volatile-same e, (ap (λ (x : CType). shape.Pointer x) g.0, g.1)))
-level_same (shape.Pointer to) (shape.Array of m) c v d w h r u q k e f = let z = kind-same e in absurd (cc)
-level_same (shape.Pointer to) (shape.Struct j) c v d w h r u q k e f = let z = kind-same e in absurd (cc)
-level_same (shape.Pointer to) (shape.Func t) c v d w h r u q k e f = let z = kind-same e in absurd (cc)
-level_same (shape.Array to n) shape.Void c v d w h r u q k e f = let z = kind-same e in absurd (cc)
-level_same (shape.Array to n) (shape.Int t) c v d w h r u q k e f = let z = kind-same e in absurd (cc)
-level_same (shape.Array to n) (shape.Pointer of) c v d w h r u q k e f = let z = kind-same e in absurd (cc)
+level_same (shape.Pointer to) (shape.Array of m) c v d w h r u q k e f = kinds-apart refl (kind-same e)
+level_same (shape.Pointer to) (shape.Struct j) c v d w h r u q k e f = kinds-apart refl (kind-same e)
+level_same (shape.Pointer to) (shape.Func t) c v d w h r u q k e f = kinds-apart refl (kind-same e)
+level_same (shape.Array to n) shape.Void c v d w h r u q k e f = kinds-apart refl (kind-same e)
+level_same (shape.Array to n) (shape.Int t) c v d w h r u q k e f = kinds-apart refl (kind-same e)
+level_same (shape.Array to n) (shape.Pointer of) c v d w h r u q k e f = kinds-apart refl (kind-same e)
 level_same (shape.Array to n) (shape.Array of m) c v d w h r u q k e f =
     let g = h of r u q k (rest-same e) f in
     (constant-same e, (volatile-same e, (ap (λ (x : CType). shape.Array x n) g.0 ∙ ap (λ (x : ℕ). shape.Array of x) (number-same e), g.1)))
-level_same (shape.Array to n) (shape.Struct j) c v d w h r u q k e f = let z = kind-same e in absurd (cc)
-level_same (shape.Array to n) (shape.Func t) c v d w h r u q k e f = let z = kind-same e in absurd (cc)
-level_same (shape.Struct i) shape.Void c v d w h r u q k e f = let z = kind-same e in absurd (cc)
-level_same (shape.Struct i) (shape.Int t) c v d w h r u q k e f = let z = kind-same e in absurd (cc)
-level_same (shape.Struct i) (shape.Pointer of) c v d w h r u q k e f = let z = kind-same e in absurd (cc)
-level_same (shape.Struct i) (shape.Array of m) c v d w h r u q k e f = let z = kind-same e in absurd (cc)
+level_same (shape.Array to n) (shape.Struct j) c v d w h r u q k e f = kinds-apart refl (kind-same e)
+level_same (shape.Array to n) (shape.Func t) c v d w h r u q k e f = kinds-apart refl (kind-same e)
+level_same (shape.Struct i) shape.Void c v d w h r u q k e f = kinds-apart refl (kind-same e)
+level_same (shape.Struct i) (shape.Int t) c v d w h r u q k e f = kinds-apart refl (kind-same e)
+level_same (shape.Struct i) (shape.Pointer of) c v d w h r u q k e f = kinds-apart refl (kind-same e)
+level_same (shape.Struct i) (shape.Array of m) c v d w h r u q k e f = kinds-apart refl (kind-same e)
 level_same (shape.Struct i) (shape.Struct j) c v d w h r u q k e f = (constant-same e, (volatile-same e, (ap (λ (x : ℕ). shape.Struct x) (first-same f), (rest-same e, rest-same f))))
-level_same (shape.Struct i) (shape.Func t) c v d w h r u q k e f = let z = kind-same e in absurd (cc)
-level_same (shape.Func s) shape.Void c v d w h r u q k e f = let z = kind-same e in absurd (cc)
-level_same (shape.Func s) (shape.Int t) c v d w h r u q k e f = let z = kind-same e in absurd (cc)
-level_same (shape.Func s) (shape.Pointer of) c v d w h r u q k e f = let z = kind-same e in absurd (cc)
-level_same (shape.Func s) (shape.Array of m) c v d w h r u q k e f = let z = kind-same e in absurd (cc)
-level_same (shape.Func s) (shape.Struct j) c v d w h r u q k e f = let z = kind-same e in absurd (cc)
+level_same (shape.Struct i) (shape.Func t) c v d w h r u q k e f = kinds-apart refl (kind-same e)
+level_same (shape.Func s) shape.Void c v d w h r u q k e f = kinds-apart refl (kind-same e)
+level_same (shape.Func s) (shape.Int t) c v d w h r u q k e f = kinds-apart refl (kind-same e)
+level_same (shape.Func s) (shape.Pointer of) c v d w h r u q k e f = kinds-apart refl (kind-same e)
+level_same (shape.Func s) (shape.Array of m) c v d w h r u q k e f = kinds-apart refl (kind-same e)
+level_same (shape.Func s) (shape.Struct j) c v d w h r u q k e f = kinds-apart refl (kind-same e)
 level_same (shape.Func s) (shape.Func t) c v d w h r u q k e f =
     let g = h t r u q k (number-same e) (rest-same e) f in
     (constant-same e, (volatile-same e, (ap (λ (x : Sig). shape.Func x) g.0, g.1)))

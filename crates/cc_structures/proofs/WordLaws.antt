@@ -1,6 +1,6 @@
 -- Words and parts of types, opened at a level; and types with other numbers of structures have the same words, and parts of those numbers.
 use Rattle.std.proofs.Common.{◌≡◌, ◌∙◌, ℕ, Bool, List, [], ◌∷◌, ◌++◌, length, map, flat_map, slice_get, refl, ap, sym, take, ◌≤◌, append_assoc}
-use Rattle.std.proofs.lemmas.List.{map-append, take_all}
+use Rattle.std.proofs.lemmas.List.{length-map, map-append, take_all}
 use Rattle.cc_program.specs.declared.types.CType.{CType, fold_out-CType}
 use Rattle.cc_program.specs.declared.types.Shape.{Shape, map-Shape, fold_out-Shape, out-Shape, roll-Shape, out-roll-Shape}
 use Rattle.cc_program.specs.declared.types.Shape.TheOpen as shape
@@ -43,6 +43,23 @@ shape_parts-opens s = fold_out-Shape (List ℕ) (List ℕ) (List ℕ) parts_step
 pub sig_parts-opens : (s : Sig) → sig_parts s ≡ parts_sig (record { result = type_parts (out-Sig s).result; params = map type_parts (out-Sig s).params })
 unfolding type_parts shape_parts sig_parts
 sig_parts-opens s = fold_out-Sig (List ℕ) (List ℕ) (List ℕ) parts_step parts_type parts_sig s
+
+-- as the code puts them behind others
+module _ (s : Shape) (x : shape.Shape-F Shape CType Sig) (e : out-Shape s ≡ x) where
+  pub shape_words-put : (c v : Bool) (old new : List Word) → new ≡ old ++ words_step (words_in x) c v → new ≡ old ++ shape_words s c v
+  shape_words-put c v old new h = h ∙ ap (λ (f : ShapeWords). old ++ f c v) (sym (shape_words-opens s ∙ ap (λ y. words_step (words_in y)) e))
+
+  pub shape_parts-put : (old new : List ℕ) → new ≡ old ++ parts_step (parts_in x) → new ≡ old ++ shape_parts s
+  shape_parts-put old new h = h ∙ ap (λ l. old ++ l) (sym (shape_parts-opens s ∙ ap (λ y. parts_step (parts_in y)) e))
+
+pub type_words-put : (t : CType) (old new : List Word) → new ≡ old ++ shape_words t.shape t.constant t.volatile → new ≡ old ++ type_words t
+type_words-put t old new h = h ∙ ap (λ l. old ++ l) (sym (type_words-opens t))
+
+pub type_parts-put : (t : CType) (old new : List ℕ) → new ≡ old ++ shape_parts t.shape → new ≡ old ++ type_parts t
+type_parts-put t old new h = h ∙ ap (λ l. old ++ l) (sym (type_parts-opens t))
+
+pub first-put : {A : Type 0} (a : A) (old mid new rest other : List A) → mid ≡ old ++ a ∷ [] → rest ≡ other → new ≡ mid ++ rest → new ≡ old ++ a ∷ other
+first-put a old mid new rest other front same h = h ∙ (ap (λ l. l ++ rest) front ∙ (append_assoc old (a ∷ []) rest ∙ ap (λ l. old ++ a ∷ l) same))
 
 -- of a type whose shape is known
 pub words-at : (t : CType) (x : shape.Shape-F Shape CType Sig) → out-Shape t.shape ≡ x → type_words t ≡ words_step (words_in x) t.constant t.volatile
@@ -181,3 +198,14 @@ sig_parts-joined s params i old first last front are past put =
     ∙ (ap (λ ps. first ++ flat_map (λ qs. qs) (map type_parts ps)) (take_all i params past ∙ are)
     ∙ (ap (λ (l : List ℕ). l ++ flat_map (λ qs. qs) (map type_parts (out-Sig s).params)) front
     ∙ (append_assoc old (type_parts (out-Sig s).result) (flat_map (λ qs. qs) (map type_parts (out-Sig s).params)) ∙ ap (λ l. old ++ l) (sym (sig_parts-opens s)))))
+
+pub sig_words-joined : (s : Sig) (params : List CType) (i : ℕ) (old first last : List Word) → first ≡ old ++ type_words (out-Sig s).result → params ≡ (out-Sig s).params → length params ≤ i →
+    last ≡ first ++ flat_map (λ ws. ws) (map type_words (take i params)) → last ≡ old ++ (sig_words s).words
+sig_words-joined s params i old first last front are past put =
+    put
+    ∙ (ap (λ ps. first ++ flat_map (λ qs. qs) (map type_words ps)) (take_all i params past ∙ are)
+    ∙ (ap (λ (l : List Word). l ++ flat_map (λ qs. qs) (map type_words (out-Sig s).params)) front
+    ∙ (append_assoc old (type_words (out-Sig s).result) (flat_map (λ qs. qs) (map type_words (out-Sig s).params)) ∙ ap (λ (z : SigWords). old ++ z.words) (sym (sig_words-opens s)))))
+
+pub sig_words-count : (s : Sig) → length (out-Sig s).params ≡ (sig_words s).count
+sig_words-count s = sym (ap (λ (z : SigWords). z.count) (sig_words-opens s) ∙ length-map (out-Sig s).params type_words)

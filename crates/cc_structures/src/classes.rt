@@ -1,6 +1,8 @@
 //! Classes of equal keys.
 
-ghost use Rattle.std.specs.Prelude.{◌≡◌, suc, IfOk, length};
+ghost use Rattle.std.specs.Prelude.{◌≡◌, ◌++◌, ◌∷◌, [], suc, IfOk, OnOk, length};
+ghost use Rattle.std.specs.List.{position_or_len};
+ghost use Rattle.indexmap.specs.IndexSet.{insert_key};
 ghost use Rattle.cc_structures.specs.Classes.{class_numbers as class_numbers_of, distinct};
 
 use cc_num::NoMemory;
@@ -25,18 +27,47 @@ fn number_of(index: usize) -> Result<u32, NoMemory>
     index.checked_add(1).ok_or(NoMemory)
 }
 
-/// The classes of keys.
+/// Puts the number of a key's class behind others.
 #[tactic(auto, using(crate::proofs::ClassLemmas::of_classes))]
+fn put_number<K: Eq + Hash + Drop>(
+    key: K,
+    found: &mut IndexSet<K>,
+    numbers: &mut Vec<u32>,
+) -> Result<(), NoMemory>
+    ensures numbers { OnOk result (numbers.new.items ≡ numbers.old.items ++ suc (position_or_len (K.eq key) found.old.keys) ∷ []) }
+    ensures found { OnOk result (found.new.keys ≡ insert_key K.eq found.old.keys key) }
+{
+    let (index, _) = found.insert_full(key)?;
+    numbers.push(number_of(index)?)?;
+    Ok(())
+}
+
+/// Puts the numbers of the classes of keys, where no key is found so far.
+#[tactic(auto, using(crate::proofs::ClassLemmas::of_classes))]
+fn put_numbers<K: Eq + Hash + Drop>(
+    keys: Vec<K>,
+    found: &mut IndexSet<K>,
+    numbers: &mut Vec<u32>,
+) -> Result<(), NoMemory>
+    requires found { found.old.keys ≡ [] }
+    requires numbers { numbers.old.items ≡ [] }
+    ensures numbers { OnOk result (numbers.new.items ≡ class_numbers_of K.eq keys.items) }
+    ensures found { OnOk result (found.new.keys ≡ distinct K.eq keys.items) }
+{
+    for key in keys {
+        put_number(key, found, numbers)?;
+    }
+    Ok(())
+}
+
+/// The classes of keys.
 pub fn class_numbers<K: Eq + Hash + Drop>(alloc: Global, keys: Vec<K>) -> Result<Classes, NoMemory>
     ensures numbers { IfOk result (λ r. r.numbers.items ≡ class_numbers_of K.eq keys.items) }
     ensures count { IfOk result (λ r. r.count ≡ length (distinct K.eq keys.items)) }
 {
     let mut found: IndexSet<K> = IndexSet::new(alloc);
     let mut numbers = Vec::new(alloc);
-    for key in keys {
-        let (index, _) = found.insert_full(key)?;
-        numbers.push(number_of(index)?)?;
-    }
+    put_numbers(keys, &mut found, &mut numbers)?;
     let count = found.len();
     Ok(Classes { numbers, count })
 }

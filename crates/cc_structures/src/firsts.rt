@@ -41,8 +41,28 @@ fn first_key_of(alloc: Global, s: &Known<'_>, number: u32, seen: bool) -> Result
     Ok(key)
 }
 
+/// Puts the keys of structures, where none is seen so far.
+fn put_first_keys(
+    alloc: Global,
+    knowns: &[Known<'_>],
+    numbers: &[List<u32>],
+    seen: &mut IndexSet<Seen>,
+    keys: &mut Vec<Vec<u32>>,
+) -> Result<(), NoMemory>
+    requires seen { seen.old.keys ≡ [] }
+    requires keys { keys.old.items ≡ [] }
+    ensures { OnOk result (lists_of keys.new.items ≡ first_keys_behind numbers.now [] (knowns_of knowns.now)) }
+{
+    for s in knowns {
+        let text = s.text;
+        let number = number_at(numbers, text, s.position);
+        let was_seen = see(seen, Seen { text, number })?;
+        keys.push(first_key_of(alloc, s, number, was_seen)?)?;
+    }
+    Ok(())
+}
+
 /// Keys that the first structures of a class in their sources share, and no others.
-#[tactic(auto, using(crate::proofs::FirstLemmas::of_first_keys))]
 pub fn first_keys(
     alloc: Global,
     knowns: &[Known<'_>],
@@ -52,11 +72,6 @@ pub fn first_keys(
 {
     let mut seen = IndexSet::new(alloc);
     let mut keys = Vec::new(alloc);
-    for s in knowns {
-        let text = s.text;
-        let number = number_at(numbers, text, s.position);
-        let was_seen = see(&mut seen, Seen { text, number })?;
-        keys.push(first_key_of(alloc, s, number, was_seen)?)?;
-    }
+    put_first_keys(alloc, knowns, numbers, &mut seen, &mut keys)?;
     Ok(keys)
 }

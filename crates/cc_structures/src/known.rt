@@ -19,7 +19,6 @@ pub struct Known<'t> {
 }
 
 /// Puts the structures of a source behind others.
-#[tactic(auto, using(crate::proofs::KnownLemmas::of_knowns))]
 fn put_knowns<'t>(text: u32, x: &'t Text, knowns: &mut Vec<Known<'t>>) -> Result<(), NoMemory>
     ensures { OnOk result (knowns_of knowns.new.items ≡ knowns_of knowns.old.items ++ known_in text 0 x.now.unit.structures) }
 {
@@ -37,7 +36,6 @@ fn put_knowns<'t>(text: u32, x: &'t Text, knowns: &mut Vec<Known<'t>>) -> Result
 }
 
 /// All structures, source by source.
-#[tactic(auto, using(crate::proofs::KnownLemmas::of_knowns))]
 pub fn knowns<'t>(alloc: Global, texts: &'t [Text]) -> Result<Vec<Known<'t>>, NoMemory>
     ensures { IfOk result (λ r. knowns_of r.items ≡ structures (units_of texts.now)) }
 {

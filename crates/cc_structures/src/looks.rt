@@ -54,7 +54,6 @@ fn members_of<'t>(s: &'t UnitStructure) -> &'t [(Name, CType)]
 }
 
 /// Puts the names of members, and the words and the structures of their types, behind others.
-#[tactic(auto, using(crate::proofs::Behind::of_members))]
 fn put_members<'t>(
     members: &'t [(Name, CType)],
     names: &mut Vec<&'t [u8]>,

@@ -32,7 +32,6 @@ fn put_if<'t>(belongs: bool, s: &Known<'t>, order: &mut Vec<Known<'t>>) -> Resul
 }
 
 /// Puts the structures that are only named behind others.
-#[tactic(auto, using(crate::proofs::OrderLemmas::of_order))]
 fn put_named<'t>(knowns: &[Known<'t>], order: &mut Vec<Known<'t>>) -> Result<(), NoMemory>
     ensures { OnOk result (knowns_of order.new.items ≡ knowns_of order.old.items ++ filter (λ s. not (is_complete s)) (knowns_of knowns.now)) }
 {
@@ -43,7 +42,6 @@ fn put_named<'t>(knowns: &[Known<'t>], order: &mut Vec<Known<'t>>) -> Result<(),
 }
 
 /// Puts those with members behind others.
-#[tactic(auto, using(crate::proofs::OrderLemmas::of_order))]
 fn put_complete<'t>(knowns: &[Known<'t>], order: &mut Vec<Known<'t>>) -> Result<(), NoMemory>
     ensures { OnOk result (knowns_of order.new.items ≡ knowns_of order.old.items ++ filter is_complete (knowns_of knowns.now)) }
 {
@@ -55,7 +53,7 @@ fn put_complete<'t>(knowns: &[Known<'t>], order: &mut Vec<Known<'t>>) -> Result<
 
 /// All structures, those that are only named in front.
 #[tactic(auto, using(crate::proofs::OrderLemmas::of_order))]
-pub fn in_order<'t>(alloc: Global, knowns: &[Known<'t>]) -> Result<Vec<Known<'t>>, NoMemory>
+fn in_order<'t>(alloc: Global, knowns: &[Known<'t>]) -> Result<Vec<Known<'t>>, NoMemory>
     ensures { IfOk result (λ order. knowns_of order.items ≡ filter (λ s. not (is_complete s)) (knowns_of knowns.now) ++ filter is_complete (knowns_of knowns.now)) }
 {
     let mut order = Vec::new(alloc);
@@ -81,9 +79,26 @@ fn put_first<'t>(
     Ok(())
 }
 
+/// Puts the first structures of classes, where no class is found so far.
+fn put_firsts<'t>(
+    order: &[Known<'t>],
+    numbers: &[List<u32>],
+    found: &mut IndexSet<u32>,
+    firsts: &mut Vec<Known<'t>>,
+) -> Result<(), NoMemory>
+    requires found { found.old.keys ≡ [] }
+    requires firsts { firsts.old.items ≡ [] }
+    ensures found { OnOk result (found.new.keys ≡ fold (insert_key nat_eq) [] (classes_of numbers.now (knowns_of order.now))) }
+    ensures firsts { OnOk result (knowns_of firsts.new.items ≡ firsts_behind numbers.now [] (knowns_of order.now)) }
+{
+    for s in order {
+        put_first(s, number_at(numbers, s.text, s.position), found, firsts)?;
+    }
+    Ok(())
+}
+
 /// The first structures of classes.
-#[tactic(auto, using(crate::proofs::OrderLemmas::of_order))]
-pub fn firsts_of<'t>(
+fn firsts_of<'t>(
     alloc: Global,
     order: &[Known<'t>],
     numbers: &[List<u32>],
@@ -93,15 +108,21 @@ pub fn firsts_of<'t>(
 {
     let mut found = IndexSet::new(alloc);
     let mut firsts = Vec::new(alloc);
-    for s in order {
-        put_first(
-            s,
-            number_at(numbers, s.text, s.position),
-            &mut found,
-            &mut firsts,
-        )?;
-    }
+    put_firsts(order, numbers, &mut found, &mut firsts)?;
     Ok(Firsts { found, firsts })
+}
+
+/// The first structures of classes, those that are only named in front.
+pub fn firsts_in_order<'t>(
+    alloc: Global,
+    knowns: &[Known<'t>],
+    numbers: &[List<u32>],
+) -> Result<Firsts<'t>, NoMemory>
+    ensures found { IfOk result (λ r. r.found.keys ≡ fold (insert_key nat_eq) [] (classes_of numbers.now (filter (λ s. not (is_complete s)) (knowns_of knowns.now) ++ filter is_complete (knowns_of knowns.now)))) }
+    ensures firsts { IfOk result (λ r. knowns_of r.firsts.items ≡ firsts_behind numbers.now [] (filter (λ s. not (is_complete s)) (knowns_of knowns.now) ++ filter is_complete (knowns_of knowns.now))) }
+{
+    let order = in_order(alloc, knowns)?;
+    firsts_of(alloc, order.as_slice(), numbers)
 }
 
 /// The position of a number among those found, or how many there are.
@@ -120,7 +141,6 @@ fn position_in(found: &IndexSet<u32>, number: u32) -> Result<u32, NoMemory>
 }
 
 /// The positions of the numbers of all structures among those found.
-#[tactic(auto, using(crate::proofs::OrderLemmas::of_order))]
 pub fn positions(
     alloc: Global,
     found: &IndexSet<u32>,

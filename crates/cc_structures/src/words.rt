@@ -30,7 +30,6 @@ pub struct Word {
 
 /// Puts the words of a type behind others, and so its structures.
 #[cycle(words)]
-#[tactic(auto, using(crate::proofs::Behind::of_words), unfolding(crate::specs::Words::type_words, crate::specs::Words::shape_words, crate::specs::Words::sig_words, crate::specs::Words::type_parts, crate::specs::Words::shape_parts, crate::specs::Words::sig_parts))]
 pub fn put_type(t: &CType, words: &mut Vec<Word>, parts: &mut Vec<u32>) -> Result<(), NoMemory>
     ensures words { OnOk result (words.new.items ≡ words.old.items ++ type_words t.now) }
     ensures parts { OnOk result (parts.new.items ≡ parts.old.items ++ type_parts t.now) }
@@ -39,7 +38,6 @@ pub fn put_type(t: &CType, words: &mut Vec<Word>, parts: &mut Vec<u32>) -> Resul
 }
 
 #[cycle(words)]
-#[tactic(auto, using(crate::proofs::Behind::of_words), unfolding(crate::specs::Words::type_words, crate::specs::Words::shape_words, crate::specs::Words::sig_words, crate::specs::Words::type_parts, crate::specs::Words::shape_parts, crate::specs::Words::sig_parts))]
 fn put_shape(
     s: &Shape,
     constant: bool,
@@ -98,7 +96,6 @@ fn put_word(
 }
 
 #[cycle(words)]
-#[tactic(auto, using(crate::proofs::Behind::of_words), unfolding(crate::specs::Words::type_words, crate::specs::Words::shape_words, crate::specs::Words::sig_words, crate::specs::Words::type_parts, crate::specs::Words::shape_parts, crate::specs::Words::sig_parts))]
 fn put_sig(sig: &Sig, words: &mut Vec<Word>, parts: &mut Vec<u32>) -> Result<(), NoMemory>
     ensures words { OnOk result (words.new.items ≡ words.old.items ++ (sig_words sig.now).words) }
     ensures parts { OnOk result (parts.new.items ≡ parts.old.items ++ sig_parts sig.now) }

@@ -34,3 +34,5 @@ module _ (eq : IdentityOf → IdentityOf → Bool) (is : (x y : IdentityOf) → 
 pub identities-empty : (s : IdentitySet) → s.keys ≡ [] → identities_of s ≡ []
 unfolding identities_of
 identities-empty s h = ap (map identity_view) h
+
+pub ruleset of_identities = (identities-empty)

@@ -3,6 +3,7 @@
 
 mod facts;
 mod identity;
+mod lists;
 mod mention;
 mod text;
 mod thing;

@@ -5,6 +5,7 @@ ghost use Rattle.std.specs.List.{list_any};
 ghost use Rattle.cc_things.specs.Mentions.{mentions_of, mentions as all_mentions};
 ghost use Rattle.cc_things.specs.View.{views_of};
 
+use crate::lists::push;
 use crate::text::Text;
 use cc_num::NoMemory;
 use cc_unit::{UnitName, mentioned};
@@ -60,19 +61,22 @@ fn put_mentions<'t>(
     let used = flags(alloc, names.len(), numbers.as_slice())?;
     let mut position: u32 = 0;
     for name in names {
-        mentions.push(Mention {
-            text,
-            position,
-            used: used[position as usize],
-            name,
-        })?;
+        let used = used[position as usize];
+        push(
+            mentions,
+            Mention {
+                text,
+                position,
+                used,
+                name,
+            },
+        )?;
         position = position.checked_add(1).ok_or(NoMemory)?;
     }
     Ok(())
 }
 
 /// All mentions, in order of appearance.
-#[tactic(auto, using(crate::proofs::Counted::of_mentions))]
 pub fn mentions<'t>(alloc: Global, texts: &'t [Text]) -> Result<Vec<Mention<'t>>, NoMemory>
     ensures { IfOk result (λ mentions. views_of mentions.items ≡ all_mentions texts.now) }
 {

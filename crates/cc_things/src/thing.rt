@@ -1,11 +1,12 @@
 //! Things: all mentions of one object, device or function.
 
-ghost use Rattle.std.specs.Prelude.{◌≡◌, IfOk, OnOk, map};
+ghost use Rattle.std.specs.Prelude.{◌≡◌, [], ◌∷◌, IfOk, OnOk, map};
 ghost use Rattle.std.specs.List.{position_or_len};
 ghost use Rattle.cc_things.specs.Things.{same_identity, with_identity, things_in, numbers_in};
 ghost use Rattle.cc_things.specs.View.{view_of, views_of, identity_view, identities_of, thing_view, added};
 
 use crate::identity::{Identity, identity_of};
+use crate::lists::push;
 use crate::mention::Mention;
 use cc_num::NoMemory;
 use indexmap::IndexSet;
@@ -38,13 +39,12 @@ fn put<'t>(
     ensures { OnOk result (map thing_view things.new.items ≡ added (map thing_view things.old.items) number (identity_view identity.entry) (view_of m.entry)) }
 {
     if number < things.len() {
-        things[number].mentions.push(m)?;
+        push(&mut things[number].mentions, m)
     } else {
         let mut mentions = Vec::new(alloc);
-        mentions.push(m)?;
-        things.push(Thing { identity, mentions })?;
+        push(&mut mentions, m)?;
+        push(things, Thing { identity, mentions })
     }
-    Ok(())
 }
 
 /// The number of an identity, which is added where it is new.
@@ -59,8 +59,31 @@ fn number_of<'t>(
     Ok(number)
 }
 
+/// Adds all mentions, where nothing is mentioned so far.
+fn put_all<'t>(
+    alloc: Global,
+    mentions: &[Mention<'t>],
+    identities: &mut IndexSet<Identity<'t>>,
+    things: &mut Vec<Thing<'t>>,
+    numbers: &mut Vec<usize>,
+) -> Result<(), NoMemory>
+    requires identities { identities_of identities.old ≡ [] }
+    requires things { things.old.items ≡ [] }
+    requires numbers { numbers.old.items ≡ [] }
+    ensures things { OnOk result (map thing_view things.new.items ≡ things_in (views_of mentions.now)) }
+    ensures numbers { OnOk result (numbers.new.items ≡ numbers_in (views_of mentions.now)) }
+{
+    for m in mentions {
+        let identity = identity_of(m);
+        let number = number_of(identities, identity)?;
+        put(alloc, things, number, identity, *m)?;
+        push(numbers, number)?;
+    }
+    Ok(())
+}
+
 /// The things that are mentioned.
-#[tactic(auto, using(crate::proofs::OneMore::of_things))]
+#[tactic(auto, using(crate::proofs::IdentitySets::of_identities))]
 pub fn things_of<'t>(alloc: Global, mentions: &[Mention<'t>]) -> Result<Things<'t>, NoMemory>
     ensures things { IfOk result (λ r. map thing_view r.things.items ≡ things_in (views_of mentions.now)) }
     ensures numbers { IfOk result (λ r. r.numbers.items ≡ numbers_in (views_of mentions.now)) }
@@ -68,11 +91,6 @@ pub fn things_of<'t>(alloc: Global, mentions: &[Mention<'t>]) -> Result<Things<'
     let mut identities: IndexSet<Identity<'t>> = IndexSet::new(alloc);
     let mut things = Vec::new(alloc);
     let mut numbers = Vec::new(alloc);
-    for m in mentions {
-        let identity = identity_of(m);
-        let number = number_of(&mut identities, identity)?;
-        put(alloc, &mut things, number, identity, *m)?;
-        numbers.push(number)?;
-    }
+    put_all(alloc, mentions, &mut identities, &mut things, &mut numbers)?;
     Ok(Things { things, numbers })
 }

@@ -1,6 +1,6 @@
 use Rattle.std.proofs.Common.{◌≡◌}
 use Rattle.cc_structures.specs.Classes.{class_numbers, distinct}
-use Rattle.cc_structures.proofs.classes.class_numbers.Given as goal
+use Rattle.cc_structures.proofs.classes.put_numbers.Given as goal
 
 abbrev pub invariant-loop-key : goal.invariant-loop-key
 invariant-loop-key g l = record {

@@ -2,7 +2,7 @@ use Rattle.std.proofs.Common.{◌≡◌, [], take}
 use Rattle.cc_structures.specs.Ordered.{first_keys_behind}
 use Rattle.cc_structures.specs.View.{knowns_of, lists_of}
 use Rattle.cc_structures.proofs.FirstLemmas.{seen_in}
-use Rattle.cc_structures.proofs.firsts.first_keys.Given as goal
+use Rattle.cc_structures.proofs.firsts.put_first_keys.Given as goal
 
 abbrev pub invariant-loop-s : goal.invariant-loop-s
 invariant-loop-s l = record {

@@ -2,7 +2,7 @@ use Rattle.std.proofs.Common.{◌≡◌, [], take, fold, nat_eq}
 use Rattle.indexmap.specs.IndexSet.{insert_key}
 use Rattle.cc_structures.specs.Ordered.{firsts_behind, classes_of}
 use Rattle.cc_structures.specs.View.{knowns_of}
-use Rattle.cc_structures.proofs.ordered.firsts_of.Given as goal
+use Rattle.cc_structures.proofs.ordered.put_firsts.Given as goal
 
 abbrev pub invariant-loop-s : goal.invariant-loop-s
 invariant-loop-s l = record {

@@ -1,13 +1,21 @@
-use Rattle.std.proofs.Common.{◌∙◌, ap, ◌++◌, ◌∷◌, [], cond, ℕ, Bool, List}
+use Rattle.std.proofs.Common.{◌∙◌, ap, sym, ◌++◌, ◌∷◌, [], cond, ℕ, Bool, List}
 use Rattle.std.specs.List.{list_any}
+use Rattle.std.proofs.lemmas.List.{take_all}
 use Rattle.indexmap.specs.IndexSet.{insert_key}
 use Rattle.cc_structures.specs.Ordered.{same_seen, seen_of, first_key, first_keys_behind}
 use Rattle.cc_structures.specs.View.{known_of, knowns_of, lists_of}
 use Rattle.cc_structures.specs.declared.firsts.Seen.{Seen}
-use Rattle.cc_structures.proofs.FirstLemmas.{seen_in, seen_in-more, first_keys-more}
-use Rattle.cc_structures.proofs.KeyLemmas.{lists-more}
+use Rattle.cc_structures.specs.declared.known.Known.{Known as KnownOf}
+use Rattle.cc_structures.proofs.FirstLemmas.{seen_in, seen_in-more, seen_in-nil, first_keys-more, first_keys-nil}
+use Rattle.cc_structures.proofs.KeyLemmas.{lists-more, lists-nil}
 use Rattle.cc_structures.proofs.Steps.{stepped}
-use Rattle.cc_structures.proofs.firsts.first_keys.Goals as goal
+use Rattle.cc_structures.proofs.firsts.put_first_keys.Goals as goal
+
+pub loop-s-init : goal.loop-s-init
+loop-s-init c = record {
+  seen = c.requires.seen ∙ sym (seen_in-nil c.args.numbers.now);
+  keys = ap lists_of c.requires.keys ∙ (lists-nil ∙ sym (first_keys-nil c.args.numbers.now));
+}
 
 pub loop-s-preserved : goal.loop-s-preserved
 loop-s-preserved c =
@@ -27,3 +35,8 @@ loop-s-preserved c =
           ∙ (ap (λ (m : ℕ). list_any (same_seen (record { text = s.text; number = m })) c.loop-s.seen.keys) c.number_at-number.ensures
           ∙ ap (λ (f : List Seen). list_any (same_seen (seen_of n (known_of s))) f) c.loop-s.invariant.seen)))))) c.loop-s.invariant.keys;
     }
+
+pub returns : goal.returns
+returns c =
+    c.loop-s.invariant.keys
+    ∙ ap (λ (ks : List KnownOf). first_keys_behind c.args.numbers.now [] (knowns_of ks)) (take_all c.loop-s.s-index c.args.knowns.now c.loop-s-test.false)

@@ -1,7 +1,7 @@
 use Rattle.std.proofs.Common.{◌≡◌, take, map}
 use Rattle.cc_things.specs.Things.{identities, things_in, numbers_in}
 use Rattle.cc_things.specs.View.{views_of, identities_of, thing_view}
-use Rattle.cc_things.proofs.thing.things_of.Given as goal
+use Rattle.cc_things.proofs.thing.put_all.Given as goal
 
 abbrev pub invariant-loop-m : goal.invariant-loop-m
 invariant-loop-m l = record {
