@@ -1,6 +1,6 @@
 //! The names that linking gives.
 
-ghost use Rattle.std.specs.Prelude.{◌≡◌, ◌++◌, ℕ, List, [], None, IfOk, map, nat_eq, position, slice_index_or};
+ghost use Rattle.std.specs.Prelude.{◌≡◌, ◌++◌, ℕ, List, [], None, IfOk, OnOk, map, nat_eq, position, slice_index_or};
 ghost use Rattle.std.specs.Option.{option_copied};
 ghost use Rattle.cc_definitions.specs.Definitions.{functions as functions_of, named as named_of, thing_at as thing_at_of};
 ghost use Rattle.cc_linked_names.specs.Given.{tags as tags_of, local_names as local_names_of, locals_for, tag_wish as tag_wish_of, thing_wish as thing_wish_of, given_name, name_at as name_at_of, reserved_names};
@@ -11,7 +11,7 @@ ghost use Rattle.cc_structures.specs.View.{knowns_of};
 ghost use Rattle.cc_syntax.specs.Names.{intrinsic_names};
 ghost use Rattle.cc_things.specs.View.{thing_view};
 
-use crate::reserved::none_given;
+use crate::reserved::reserve;
 use crate::wishes::{local_wishes, tag_wishes, thing_wishes};
 use cc_definitions::named;
 use cc_names::{Names, Taken, inner_names_for, names_for};
@@ -65,16 +65,16 @@ impl Given {
     }
 }
 
-/// The names of the file's space before any is given.
-fn intrinsics(alloc: Global, roles: &Roles) -> Result<Names, NoMemory>
-    ensures { IfOk result (λ names. HaveSame names (intrinsic_names roles.now)) }
+/// Adds the names of the intrinsics to a space that has none.
+fn add_intrinsics(alloc: Global, space: &mut Names, roles: &Roles) -> Result<(), NoMemory>
+    requires { space.old ≡ [] }
+    ensures { OnOk result (HaveSame space.new (intrinsic_names roles.now)) }
 {
-    let mut names = Names::new(alloc);
-    names.add(alloc, roles.off.all())?;
-    names.add(alloc, roles.on.all())?;
-    names.add(alloc, roles.save.all())?;
-    names.add(alloc, roles.restore.all())?;
-    Ok(names)
+    space.add(alloc, roles.off.all())?;
+    space.add(alloc, roles.on.all())?;
+    space.add(alloc, roles.save.all())?;
+    space.add(alloc, roles.restore.all())?;
+    Ok(())
 }
 
 /// The names of the locals of functions, one function after the other.
@@ -106,18 +106,21 @@ fn tag_names(alloc: Global, taken: &mut Taken, firsts: &[Known<'_>]) -> Result<V
     names_for(alloc, taken, &mut space, wishes.as_slice())
 }
 
-/// The names of things, in a space that has some names.
+/// The names of things, in a space with those of the intrinsics that has none before.
 fn thing_names(
     alloc: Global,
     taken: &mut Taken,
     space: &mut Names,
+    roles: &Roles,
     things: &[Thing<'_>],
     named: &[usize],
 ) -> Result<Vec<Name>, NoMemory>
-    ensures names { IfOk result (λ names. (reserved given had : List (List ℕ)) → Holds taken.old reserved given → HaveSame space.old had → names.items ≡ names_for_wishes reserved given had (map (λ k. thing_wish_of (thing_at_of (map thing_view things.now) k)) named.now)) }
+    requires { space.old ≡ [] }
+    ensures names { IfOk result (λ names. (reserved given : List (List ℕ)) → Holds taken.old reserved given → names.items ≡ names_for_wishes reserved given (intrinsic_names roles.now) (map (λ k. thing_wish_of (thing_at_of (map thing_view things.now) k)) named.now)) }
     ensures taken { IfOk result (λ names. (reserved given : List (List ℕ)) → Holds taken.old reserved given → Holds taken.new reserved (given ++ names.items)) }
-    ensures space { IfOk result (λ names. (had : List (List ℕ)) → HaveSame space.old had → HaveSame space.new (had ++ names.items)) }
+    ensures space { IfOk result (λ names. HaveSame space.new (intrinsic_names roles.now ++ names.items)) }
 {
+    add_intrinsics(alloc, space, roles)?;
     let wishes = thing_wishes(alloc, things, named)?;
     names_for(alloc, taken, space, wishes.as_slice())
 }
@@ -134,15 +137,37 @@ fn file_names(
     ensures space { IfOk result (λ file. HaveSame file.space (intrinsic_names roles.now ++ file.names.items)) }
     ensures positions { IfOk result (λ file. (k : ℕ) → slice_index_or file.positions.items k None ≡ position (nat_eq k) (named_of (map thing_view things.now))) }
 {
-    let mut space = intrinsics(alloc, roles)?;
     let named = named(alloc, things)?;
-    let names = thing_names(alloc, taken, &mut space, things, named.as_slice())?;
     let positions = first_positions(alloc, things.len(), named.as_slice())?;
+    let mut space = Names::new(alloc);
+    let names = thing_names(alloc, taken, &mut space, roles, things, named.as_slice())?;
     Ok(FileNames {
         space,
         names,
         positions,
     })
+}
+
+/// All names of a program of these things, structures and functions, where none is taken before.
+fn give_all(
+    alloc: Global,
+    taken: &mut Taken,
+    texts: &[Text],
+    roles: &Roles,
+    things: &[Thing<'_>],
+    firsts: &[Known<'_>],
+    functions: &[usize],
+) -> Result<Given, NoMemory>
+    requires { Holds taken.old [] [] }
+    ensures tags { IfOk result (λ given. given.tags.items ≡ tags_of (map thing_view things.now) (reserved_names texts.now roles.now) roles.now (knowns_of firsts.now)) }
+    ensures names { IfOk result (λ given. (k : ℕ) → given_name given k ≡ name_at_of (map thing_view things.now) (reserved_names texts.now roles.now) roles.now (knowns_of firsts.now) k) }
+    ensures locals { IfOk result (λ given. functions.now ≡ functions_of (map thing_view things.now) → given.locals.items ≡ local_names_of (map thing_view things.now) (reserved_names texts.now roles.now) roles.now (knowns_of firsts.now)) }
+{
+    reserve(alloc, taken, texts, roles)?;
+    let tags = tag_names(alloc, taken, firsts)?;
+    let file = file_names(alloc, taken, roles, things)?;
+    let locals = locals(alloc, taken, &file.space, things, functions)?;
+    Ok(Given { tags, file, locals })
 }
 
 /// All names of a program of these things, structures and functions.
@@ -158,9 +183,6 @@ pub fn given_names(
     ensures names { IfOk result (λ given. (k : ℕ) → given_name given k ≡ name_at_of (map thing_view things.now) (reserved_names texts.now roles.now) roles.now (knowns_of firsts.now) k) }
     ensures locals { IfOk result (λ given. functions.now ≡ functions_of (map thing_view things.now) → given.locals.items ≡ local_names_of (map thing_view things.now) (reserved_names texts.now roles.now) roles.now (knowns_of firsts.now)) }
 {
-    let mut taken = none_given(alloc, texts, roles)?;
-    let tags = tag_names(alloc, &mut taken, firsts)?;
-    let file = file_names(alloc, &mut taken, roles, things)?;
-    let locals = locals(alloc, &mut taken, &file.space, things, functions)?;
-    Ok(Given { tags, file, locals })
+    let mut taken = Taken::new(alloc);
+    give_all(alloc, &mut taken, texts, roles, things, firsts, functions)
 }

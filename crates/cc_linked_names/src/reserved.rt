@@ -1,6 +1,6 @@
 //! What no new name is.
 
-ghost use Rattle.std.specs.Prelude.{◌≡◌, ◌++◌, ℕ, List, [], IfOk, OnOk, flat_map};
+ghost use Rattle.std.specs.Prelude.{◌≡◌, ◌++◌, ℕ, List, [], OnOk, flat_map};
 ghost use Rattle.cc_linked_names.specs.Given.{reserved_names};
 ghost use Rattle.cc_names.specs.Holds.{Holds};
 ghost use Rattle.cc_syntax.specs.Names.{intrinsic_names};
@@ -39,12 +39,17 @@ fn reserve_intrinsics(alloc: Global, taken: &mut Taken, roles: &Roles) -> Result
     Ok(())
 }
 
-/// Nothing is given yet, and no new name is an identifier of a source or the name of an intrinsic.
-pub fn none_given(alloc: Global, texts: &[Text], roles: &Roles) -> Result<Taken, NoMemory>
-    ensures { IfOk result (λ taken. Holds taken (reserved_names texts.now roles.now) []) }
+/// From now on no new name is an identifier of a source or the name of an intrinsic. None is reserved before.
+pub fn reserve(
+    alloc: Global,
+    taken: &mut Taken,
+    texts: &[Text],
+    roles: &Roles,
+) -> Result<(), NoMemory>
+    requires { Holds taken.old [] [] }
+    ensures { OnOk result (Holds taken.new (reserved_names texts.now roles.now) []) }
 {
-    let mut taken = Taken::new(alloc);
-    reserve_identifiers(alloc, &mut taken, texts)?;
-    reserve_intrinsics(alloc, &mut taken, roles)?;
-    Ok(taken)
+    reserve_identifiers(alloc, taken, texts)?;
+    reserve_intrinsics(alloc, taken, roles)?;
+    Ok(())
 }

@@ -3,7 +3,7 @@
 ghost use Rattle.std.specs.Prelude.{◌≡◌, ◌++◌, ◌||◌, ℕ, List, [], ◌∷◌, IfOk};
 ghost use Rattle.cc_names.specs.Holds.{Holds};
 ghost use Rattle.cc_names.specs.Names.{name_for as name_for_wish, names_for as names_for_wishes};
-ghost use Rattle.cc_names.specs.View.{HaveSame, has_wished as has_wished_name, wish_of, wishes_of};
+ghost use Rattle.cc_names.specs.View.{HaveSame, has_wished as has_wished_name, with_name, wish_of, wishes_of};
 
 use crate::taken::{Names, Taken};
 use crate::wish::Wish;
@@ -49,6 +49,23 @@ fn name_for(
     }
 }
 
+/// The next name, which is taken and in its space from now on, where the one that is wished for is there already or not.
+fn next_name(
+    alloc: Global,
+    taken: &mut Taken,
+    space: &mut Names,
+    is_there: bool,
+    wish: Wish<'_>,
+) -> Result<Name, NoMemory>
+    ensures name { IfOk result (λ name. (reserved given names : List (List ℕ)) → Holds taken.old reserved given → is_there ≡ has_wished_name names (wish_of wish.entry) → name ≡ name_for_wish reserved given names (wish_of wish.entry)) }
+    ensures taken { IfOk result (λ name. (reserved given : List (List ℕ)) → Holds taken.old reserved given → Holds taken.new reserved (given ++ name ∷ [])) }
+    ensures space { IfOk result (λ name. space.new ≡ with_name space.old name) }
+{
+    let name = name_for(alloc, taken, is_there, wish)?;
+    space.add(alloc, name.as_slice())?;
+    Ok(ListOf::of(name))
+}
+
 /// The names for wishes, one after the other, in a space that has some names.
 pub fn names_for(
     alloc: Global,
@@ -63,9 +80,29 @@ pub fn names_for(
     let mut names = Vec::new(alloc);
     for wish in wishes {
         let is_there = has_wished(space, *wish);
-        let name = name_for(alloc, taken, is_there, *wish)?;
-        space.add(alloc, name.as_slice())?;
-        names.push(ListOf::of(name))?;
+        let name = next_name(alloc, taken, space, is_there, *wish)?;
+        names.push(name)?;
+    }
+    Ok(names)
+}
+
+/// The names for wishes, one after the other, in a space that has none before, inside one that has some names.
+fn names_inside(
+    alloc: Global,
+    taken: &mut Taken,
+    outer: &Names,
+    space: &mut Names,
+    wishes: &[Wish<'_>],
+) -> Result<Vec<Name>, NoMemory>
+    requires { space.old ≡ [] }
+    ensures names { IfOk result (λ names. (reserved given had : List (List ℕ)) → Holds taken.old reserved given → HaveSame outer.now had → names.items ≡ names_for_wishes reserved given had (wishes_of wishes.now)) }
+    ensures taken { IfOk result (λ names. (reserved given : List (List ℕ)) → Holds taken.old reserved given → Holds taken.new reserved (given ++ names.items)) }
+{
+    let mut names = Vec::new(alloc);
+    for wish in wishes {
+        let is_there = either_has_wished(outer, space, *wish);
+        let name = next_name(alloc, taken, space, is_there, *wish)?;
+        names.push(name)?;
     }
     Ok(names)
 }
@@ -82,12 +119,5 @@ pub fn inner_names_for(
     ensures taken { IfOk result (λ names. (reserved given : List (List ℕ)) → Holds taken.old reserved given → Holds taken.new reserved (given ++ names.items)) }
 {
     let mut inner = Names::new(alloc);
-    let mut names = Vec::new(alloc);
-    for wish in wishes {
-        let is_there = either_has_wished(outer, &inner, *wish);
-        let name = name_for(alloc, taken, is_there, *wish)?;
-        inner.add(alloc, name.as_slice())?;
-        names.push(ListOf::of(name))?;
-    }
-    Ok(names)
+    names_inside(alloc, taken, outer, &mut inner, wishes)
 }

@@ -1,7 +1,7 @@
 use cc_num::List;
 
 /// What a name of one source is in the program, by its id there.
-#[derive(Clone, Copy, Debug, PartialEq, Eq)]
+#[derive(Clone, Copy)]
 pub enum Id {
     Object(u32),
     Device(u32),

@@ -23,7 +23,7 @@ pub struct UnitStructure {
 }
 
 /// Whether declarations of one name speak of one object or function (C99 6.2.2).
-#[derive(Clone, Copy, Debug, PartialEq, Eq)]
+#[derive(Clone, Copy)]
 pub enum Linkage {
     /// In all sources.
     External,

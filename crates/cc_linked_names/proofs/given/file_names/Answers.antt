@@ -13,17 +13,17 @@ pub returns-clause-names : goal.returns-clause-names
 returns-clause-names c = λ r g h.
     let ts = map thing_view c.args.things.now in
     let intrinsics = intrinsic_names c.args.roles.now in
-    c.in_ok-names.ensures.names r g intrinsics h c.in_ok-space.ensures
-    ∙ ap (λ l. names_for r g intrinsics (map (λ k. thing_wish (thing_at ts k)) l)) (c.as_slice.ensures.value ∙ c.in_ok-named.ensures)
+    c.in_ok-names.ensures.names r g h
+    ∙ ap (λ l. names_for r g intrinsics (map (λ k. thing_wish (thing_at ts k)) l)) (c.as_slice-2.ensures.value ∙ c.in_ok-named.ensures)
 
 pub returns-clause-taken : goal.returns-clause-taken
 returns-clause-taken c = c.in_ok-names.ensures.taken
 
 pub returns-clause-space : goal.returns-clause-space
-returns-clause-space c = c.in_ok-names.ensures.space (intrinsic_names c.args.roles.now) c.in_ok-space.ensures
+returns-clause-space c = c.in_ok-names.ensures.space
 
 pub returns-clause-positions : goal.returns-clause-positions
 returns-clause-positions c =
     position_kept (map thing_view c.args.things.now) (length c.args.things.now) c.in_ok-positions.positions.items c.in_ok-positions.ensures.count
     (sym (length-map c.args.things.now thing_view))
-    (λ k h. c.in_ok-positions.ensures.positions k h ∙ ap (position (nat_eq k)) (c.as_slice-2.ensures.value ∙ c.in_ok-named.ensures))
+    (λ k h. c.in_ok-positions.ensures.positions k h ∙ ap (position (nat_eq k)) (c.as_slice.ensures.value ∙ c.in_ok-named.ensures))

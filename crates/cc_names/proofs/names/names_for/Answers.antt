@@ -2,7 +2,7 @@ use Rattle.std.proofs.Common.{◌≡◌, ◌∙◌, ◌++◌, ◌+◌, [], ◌�
 use Rattle.std.proofs.lemmas.List.{append-nil}
 use Rattle.cc_names.specs.Holds.{Holds}
 use Rattle.cc_names.specs.Names.{is_among, names_for}
-use Rattle.cc_names.specs.View.{with_name, wishes_of}
+use Rattle.cc_names.specs.View.{wishes_of}
 use Rattle.cc_names.proofs.Takings.{same-with}
 use Rattle.cc_names.proofs.Wishes.{wished-same, wishes-next, wishes-done, names-next, names-none, names-start}
 use Rattle.cc_names.proofs.names.names_for.Goals as goal
@@ -19,12 +19,11 @@ loop-wish-init c =
 pub loop-wish-preserved : goal.loop-wish-preserved
 loop-wish-preserved c =
     let done = c.loop-wish.names.items in
-    let x = c.in_ok-name.name.items in
-    let p : c.push.new.self.items ≡ done ++ x ∷ [] = c.in_ok-push.ensures.items ∙ ap (λ v. done ++ v ∷ []) c.of.ensures in
-    let a = c.in_ok-add.ensures ∙ ap (with_name c.loop-wish.space) c.as_slice.ensures.value in
+    let x = c.in_ok-name.name in
+    let p : c.push.new.self.items ≡ done ++ x ∷ [] = c.in_ok-push.ensures.items in
     record {
-      taken = λ r g h. subst (Holds c.name_for.new.taken r) (append_assoc g done (x ∷ []) ∙ ap (λ l. g ++ l) (sym p)) (c.in_ok-name.ensures.taken r (g ++ done) (c.loop-wish.invariant.taken r g h));
-      space = λ had h y. ap (is_among y) a ∙ (same-with c.loop-wish.space (had ++ done) x (c.loop-wish.invariant.space had h) y ∙ ap (is_among y) (append_assoc had done (x ∷ []) ∙ ap (λ l. had ++ l) (sym p)));
+      taken = λ r g h. subst (Holds c.next_name.new.taken r) (append_assoc g done (x ∷ []) ∙ ap (λ l. g ++ l) (sym p)) (c.in_ok-name.ensures.taken r (g ++ done) (c.loop-wish.invariant.taken r g h));
+      space = λ had h y. ap (is_among y) c.in_ok-name.ensures.space ∙ (same-with c.loop-wish.space (had ++ done) x (c.loop-wish.invariant.space had h) y ∙ ap (is_among y) (append_assoc had done (x ∷ []) ∙ ap (λ l. had ++ l) (sym p)));
       names = λ r g had h k.
           c.loop-wish.invariant.names r g had h k
           ∙ (ap (λ ws. done ++ names_for r (g ++ done) (had ++ done) ws) (wishes-next c.args.wishes.now c.loop-wish.wish-index _ c.loop-wish-test.true)
