@@ -1,12 +1,12 @@
 -- Bytes that are read or written a piece at a time. What has been read is the first bytes of the
 -- file, and what has been written is the first bytes of those to be written; each step takes the
 -- next few, and at the end nothing is left.
-use Rattle.std.proofs.Common.{◌≡◌, ◌≤◌, ◌<◌, ◌+◌, ◌-◌, ℕ, List, ◌++◌, take, drop, length, arith, refl, ap, sym, ◌∙◌, Option, Some, None, option_map, length-append, length-drop, length-take, append_assoc, append-nil, subst, [], IsSome, IsSomeAnd}
+use Rattle.std.proofs.Common.{◌≡◌, ◌≤◌, ◌<◌, ◌+◌, ◌-◌, ℕ, List, ◌++◌, take, drop, length, arith, refl, ap, sym, ◌∙◌, Option, Some, None, option_map, length-append, length-drop, length-take, append_assoc, append-nil, subst, [], IsSome, IsSomeAnd, ◌⊎◌, inl, inr}
 use Rattle.std.proofs.Math.Seq.{take-add}
 use Rattle.std.proofs.lemmas.List.{take_all, length-take-le, drop-drop, take_rest, take-take}
 use Rattle.cc_edge.specs.declared.store.Got.TheVariants as got
 use Rattle.cc_edge.specs.declared.store.Put.TheVariants as put
-use Rattle.cc_edge.specs.Faults.{raised}
+use Rattle.cc_edge.specs.Faults.{Rose, raised}
 use Rattle.cc_edge.specs.Files.{Gives, appended, HoldsPrefix}
 
 -- the first bytes of a file; nothing, where it is not there
@@ -31,6 +31,11 @@ pub IsStart-long : (xs : List ℕ) (file : Option (List ℕ)) (limit : ℕ) → 
     IsSomeAnd file (λ bytes. limit < length bytes)
 IsStart-long xs None limit s h = absurd (omega arith)
 IsStart-long xs (Some bytes) limit s h = omega arith
+
+-- a fault of the last of some reads, since the first of them
+pub fault-since : {A B : Type 0} (first last now : ℕ) → first ≤ last → Rose last now ⊎ A → (A → B) → Rose first now ⊎ B
+fault-since first last now h (inl rose) k = inl (omega arith)
+fault-since first last now h (inr a) k = inr (k a)
 
 -- a count that is raised again and again
 pub raised-none : (count : ℕ) → raised 0 count ≡ count

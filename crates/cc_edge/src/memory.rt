@@ -15,7 +15,7 @@ use std::alloc::{AllocError, Global};
 ///
 /// A call has a fault where its number is in `failing`, or where memory refuses to grow; a read of a name that is not
 /// there fails without one. Calls are counted from 1, over all calls of the store. Both counts stay at their last value.
-#[derive(Debug, Drop)]
+#[derive(Drop)]
 pub struct MemoryStore {
     /// The files, each with its name.
     pub files: Vec<(Name, Vec<u8>)>,

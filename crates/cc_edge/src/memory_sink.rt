@@ -12,7 +12,7 @@ use std::alloc::Global;
 ///
 /// A call has a fault where its number is in `failing`, or where memory refuses to grow. Calls are
 /// counted from 1. Both counts stay at their last value.
-#[derive(Debug, Drop)]
+#[derive(Drop)]
 pub struct MemorySink {
     /// The bytes said so far.
     pub said: Vec<u8>,

@@ -7,7 +7,7 @@ use std::alloc::Global;
 use thiserror::Error;
 
 /// Why a file was not read whole.
-#[derive(Clone, Copy, Debug, PartialEq, Eq, Drop, Error)]
+#[derive(Clone, Copy, Debug, Drop, Error)]
 pub enum ReadEnd {
     /// The store had a fault, or the file is not there.
     #[error("read fault")]

@@ -6,7 +6,7 @@ ghost use Rattle.cc_edge.specs.Files.{KeepsFiles, KeepsOthers, IsReadWithin, Giv
 pub(crate) const PIECE: usize = 4096;
 
 /// What a read gave.
-#[derive(Clone, Copy, Debug, PartialEq, Eq)]
+#[derive(Clone, Copy)]
 pub enum Got {
     /// So many bytes, at the start of the piece; at least one.
     Bytes(usize),
@@ -17,7 +17,7 @@ pub enum Got {
 }
 
 /// Whether a file was made.
-#[derive(Clone, Copy, Debug, PartialEq, Eq)]
+#[derive(Clone, Copy, PartialEq, Eq)]
 pub enum Made {
     /// The file is there, and empty.
     Done,
@@ -26,7 +26,7 @@ pub enum Made {
 }
 
 /// What was taken of a piece.
-#[derive(Clone, Copy, Debug, PartialEq, Eq)]
+#[derive(Clone, Copy, PartialEq, Eq)]
 pub enum Put {
     /// So many bytes from its start; at least one.
     Bytes(usize),

@@ -7,7 +7,7 @@ use crate::store::{Made, PIECE, Put, Store};
 use thiserror::Error;
 
 /// Not all bytes were written.
-#[derive(Clone, Copy, Debug, PartialEq, Eq, Drop, Error)]
+#[derive(Clone, Copy, Debug, Drop, Error)]
 #[error("write fault")]
 pub struct WriteFault;
 

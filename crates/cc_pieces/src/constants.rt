@@ -1,11 +1,11 @@
 //! How a value of an integer type is written (C99 6.4.4.1).
 
-ghost use Rattle.std.specs.Prelude.{◌≡◌, ◌∷◌, OnOk};
-ghost use Rattle.cc_pieces.specs.Constants.{has_unsigned_letter as has_unsigned_letter_of, long_letters_of, of_type, is_narrow as is_narrow_of, negative, least, constant};
-ghost use Rattle.cc_pieces.specs.View.{pieces_of};
+ghost use Rattle.std.specs.Prelude.{◌≡◌, OnOk};
+ghost use Rattle.cc_pieces.specs.Constants.{has_unsigned_letter as has_unsigned_letter_of, long_letters_of, of_type as of_type_of, is_narrow as is_narrow_of, negative, least, constant};
+ghost use Rattle.cc_pieces.specs.View.{piece_of, pieces_of};
 
 use crate::piece::Piece;
-use crate::puts::{mark, number, spaced_mark};
+use crate::puts::{number_piece, put, put_all};
 use cc_lex::Mark;
 use cc_num::{IntType, NoMemory, Target};
 
@@ -63,30 +63,42 @@ pub fn is_narrow(t: IntType) -> bool
     }
 }
 
-fn put_of_type(out: &mut Vec<Piece>, t: IntType, n: u128) -> Result<(), NoMemory>
-    ensures { OnOk result (pieces_of out.new.items ≡ of_type t n ∷ pieces_of out.old.items) }
+fn of_type<'p>(t: IntType, n: u128) -> Piece<'p>
+    ensures { piece_of result ≡ of_type_of t n }
 {
-    number(out, n, has_unsigned_letter(t), long_letters(t))
+    number_piece(n, has_unsigned_letter(t), long_letters(t))
 }
 
 fn put_negative(out: &mut Vec<Piece>, t: IntType, n: u128) -> Result<(), NoMemory>
     ensures { OnOk result (pieces_of out.new.items ≡ negative t n (pieces_of out.old.items)) }
 {
-    mark(out, Mark::RParen)?;
-    put_of_type(out, t, n)?;
-    mark(out, Mark::Minus)?;
-    mark(out, Mark::LParen)
+    put_all(
+        out,
+        &[
+            Piece::Punct(Mark::LParen),
+            Piece::Punct(Mark::Minus),
+            of_type(t, n),
+            Piece::Punct(Mark::RParen),
+        ],
+    )
 }
 
 fn put_least(out: &mut Vec<Piece>, t: IntType, n: u128) -> Result<(), NoMemory>
     ensures { OnOk result (pieces_of out.new.items ≡ least t n (pieces_of out.old.items)) }
 {
-    mark(out, Mark::RParen)?;
-    number(out, 1, false, 0)?;
-    spaced_mark(out, Mark::Minus)?;
-    put_of_type(out, t, n)?;
-    mark(out, Mark::Minus)?;
-    mark(out, Mark::LParen)
+    put_all(
+        out,
+        &[
+            Piece::Punct(Mark::LParen),
+            Piece::Punct(Mark::Minus),
+            of_type(t, n),
+            Piece::Space,
+            Piece::Punct(Mark::Minus),
+            Piece::Space,
+            number_piece(1, false, 0),
+            Piece::Punct(Mark::RParen),
+        ],
+    )
 }
 
 /// Puts a value of a type in front.
@@ -107,6 +119,6 @@ pub fn put_constant(
             put_negative(out, t, size)
         }
     } else {
-        put_of_type(out, t, size)
+        put(out, of_type(t, size))
     }
 }

@@ -1,6 +1,6 @@
 //! A text is made from its end: each piece is put in front of those that follow it, as the definitions have it.
 
-ghost use Rattle.std.specs.Prelude.{◌≡◌, ◌∷◌, OnOk};
+ghost use Rattle.std.specs.Prelude.{◌≡◌, ◌∷◌, ◌++◌, map, OnOk};
 ghost use Rattle.cc_pieces.specs.Declarators.{two_words as two_words_of};
 ghost use Rattle.cc_pieces.specs.Pieces.{punct, keyword, ident, number as number_of, space, opening, closing};
 ghost use Rattle.cc_pieces.specs.View.{piece_of, pieces_of};
@@ -19,6 +19,18 @@ pub fn put<'p>(out: &mut Vec<Piece<'p>>, piece: Piece<'p>) -> Result<(), NoMemor
     Ok(())
 }
 
+/// Puts pieces in front, which are given in the order of the text.
+pub fn put_all<'p>(out: &mut Vec<Piece<'p>>, pieces: &[Piece<'p>]) -> Result<(), NoMemory>
+    ensures { OnOk result (pieces_of out.new.items ≡ map piece_of pieces.now ++ pieces_of out.old.items) }
+{
+    let mut left = pieces.len();
+    while left > 0 {
+        left -= 1;
+        put(out, pieces[left])?;
+    }
+    Ok(())
+}
+
 /// Puts a mark in front.
 pub fn mark(out: &mut Vec<Piece>, mark: Mark) -> Result<(), NoMemory>
     ensures { OnOk result (pieces_of out.new.items ≡ punct mark ∷ pieces_of out.old.items) }
@@ -30,9 +42,7 @@ pub fn mark(out: &mut Vec<Piece>, mark: Mark) -> Result<(), NoMemory>
 pub fn spaced_mark(out: &mut Vec<Piece>, mark: Mark) -> Result<(), NoMemory>
     ensures { OnOk result (pieces_of out.new.items ≡ space ∷ punct mark ∷ space ∷ pieces_of out.old.items) }
 {
-    put(out, Piece::Space)?;
-    put(out, Piece::Punct(mark))?;
-    put(out, Piece::Space)
+    put_all(out, &[Piece::Space, Piece::Punct(mark), Piece::Space])
 }
 
 /// Puts a keyword in front.
@@ -46,9 +56,10 @@ pub fn word(out: &mut Vec<Piece>, word: Word) -> Result<(), NoMemory>
 pub fn two_words(out: &mut Vec<Piece>, first: Word, second: Word) -> Result<(), NoMemory>
     ensures { OnOk result (pieces_of out.new.items ≡ two_words_of first second (pieces_of out.old.items)) }
 {
-    put(out, Piece::Keyword(second))?;
-    put(out, Piece::Space)?;
-    put(out, Piece::Keyword(first))
+    put_all(
+        out,
+        &[Piece::Keyword(first), Piece::Space, Piece::Keyword(second)],
+    )
 }
 
 /// Puts an identifier in front.
@@ -58,16 +69,23 @@ pub fn name<'p>(out: &mut Vec<Piece<'p>>, name: &'p [u8]) -> Result<(), NoMemory
     put(out, Piece::Name(name))
 }
 
-/// Puts a number in front, with the letters of its suffix: whether it has `u`, and how often `l`.
-pub fn number(out: &mut Vec<Piece>, number: u128, unsigned: bool, longs: u8) -> Result<(), NoMemory>
-    ensures { OnOk result (pieces_of out.new.items ≡ number_of number unsigned longs ∷ pieces_of out.old.items) }
+/// A number, with the letters of its suffix: whether it has `u`, and how often `l`.
+pub fn number_piece<'p>(number: u128, unsigned: bool, longs: u8) -> Piece<'p>
+    ensures { piece_of result ≡ number_of number unsigned longs }
 {
     let suffix = Suffix {
         decimal: number != 0,
         unsigned,
         longs,
     };
-    put(out, Piece::Number(number, suffix))
+    Piece::Number(number, suffix)
+}
+
+/// Puts a number in front, with the letters of its suffix: whether it has `u`, and how often `l`.
+pub fn number(out: &mut Vec<Piece>, number: u128, unsigned: bool, longs: u8) -> Result<(), NoMemory>
+    ensures { OnOk result (pieces_of out.new.items ≡ number_of number unsigned longs ∷ pieces_of out.old.items) }
+{
+    put(out, number_piece(number, unsigned, longs))
 }
 
 /// Puts an opening parenthesis in front, where there is one.

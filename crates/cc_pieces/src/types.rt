@@ -4,12 +4,13 @@ ghost use Rattle.std.specs.Prelude.{◌≡◌, ◌∷◌, OnOk, map, slice_get};
 ghost use Rattle.std.specs.Option.{option_copied};
 ghost use Rattle.cc_pieces.specs.Declarators.{gap, is_pointer as is_pointer_of, int_name, word_if, qualifiers, pointer_qualifiers, tag, further, parameters, declarator, signature, type_name, declaration, cast, int_cast};
 ghost use Rattle.cc_pieces.specs.View.{pieces_of};
-ghost use Rattle.cc_pieces.specs.Pieces.{keyword, space};
+ghost use Rattle.cc_pieces.specs.Pieces.{keyword, plain_number, punct, space};
+ghost use Rattle.cc_lex.specs.declared.token.Mark.TheVariants as m;
 ghost use Rattle.cc_program.specs.declared.types.Sig.{out-Sig};
 ghost use Rattle.cc_words.specs.declared.word.Word.TheVariants as w;
 
 use crate::piece::Piece;
-use crate::puts::{close, mark, name, number, open, put, two_words, word};
+use crate::puts::{close, mark, name, number_piece, open, put, put_all, two_words, word};
 use cc_lex::Mark;
 use cc_num::{IntType, NoMemory, at};
 use cc_program::{CType, Shape, Sig, Structure};
@@ -129,8 +130,7 @@ fn put_struct<'p>(
     ensures { OnOk result (pieces_of out.new.items ≡ keyword w.Struct ∷ space ∷ tag (slice_get structures.now id) (pieces_of out.old.items)) }
 {
     put_tag(out, at(structures, id as usize))?;
-    put(out, Piece::Space)?;
-    word(out, Word::Struct)
+    put_all(out, &[Piece::Keyword(Word::Struct), Piece::Space])
 }
 
 /// Puts in front what a type writes in front of the declared name.
@@ -175,6 +175,20 @@ pub fn put_front<'p>(
     }
 }
 
+/// Puts the bound of an array in front.
+fn put_bound(out: &mut Vec<Piece>, n: u32) -> Result<(), NoMemory>
+    ensures { OnOk result (pieces_of out.new.items ≡ punct m.LBracket ∷ plain_number n ∷ punct m.RBracket ∷ pieces_of out.old.items) }
+{
+    put_all(
+        out,
+        &[
+            Piece::Punct(Mark::LBracket),
+            number_piece(u128::from(n), false, 0),
+            Piece::Punct(Mark::RBracket),
+        ],
+    )
+}
+
 /// Puts in front what a type writes behind the declared name.
 #[cycle(declarators)]
 #[tactic(auto, unfolding(crate::specs::Declarators::declarator, crate::specs::Declarators::signature))]
@@ -193,9 +207,7 @@ pub fn put_behind<'p>(
         Shape::Pointer(to) => put_behind(out, structures, to.get(), Inside::Pointer),
         Shape::Array(of, n) => {
             put_behind(out, structures, of.get(), Inside::Name)?;
-            mark(out, Mark::RBracket)?;
-            number(out, u128::from(*n), false, 0)?;
-            mark(out, Mark::LBracket)?;
+            put_bound(out, *n)?;
             close(out, is_pointer(inside))
         }
         Shape::Func(sig) => {
@@ -237,8 +249,7 @@ fn put_parameter_list<'p>(
     while left > 1 {
         left -= 1;
         put_type_name(out, structures, &params[left])?;
-        put(out, Piece::Space)?;
-        mark(out, Mark::Comma)?;
+        put_all(out, &[Piece::Punct(Mark::Comma), Piece::Space])?;
     }
     put_type_name(out, structures, &params[0])?;
     Ok(())

@@ -12,7 +12,7 @@ use cc_bodies::{Context, put_closed, put_ended, put_opened, put_stmts};
 use cc_lex::Mark;
 use cc_num::{Name, NoMemory};
 use cc_pieces::{
-    Inside, Piece, mark, name, put, put_behind, put_declaration, put_front, put_int_name,
+    Inside, Piece, mark, name, put_all, put_behind, put_declaration, put_front, put_int_name,
     put_parameters, put_qualifiers, word,
 };
 use cc_program::{CType, Device, Entry, Func, Object, Program, Structure};
@@ -29,12 +29,10 @@ fn put_device_named<'p>(
         None => Ok(()),
         Some(x) => {
             put_ended(out)?;
-            name(out, x.all())?;
-            put(out, Piece::Space)?;
+            put_all(out, &[Piece::Space, Piece::Name(x.all())])?;
             put_int_name(out, device.int)?;
             put_qualifiers(out, device.constant, true)?;
-            put(out, Piece::Space)?;
-            word(out, Word::Extern)
+            put_all(out, &[Piece::Keyword(Word::Extern), Piece::Space])
         }
     }
 }
@@ -60,13 +58,18 @@ pub fn put_device_lines<'p>(out: &mut Vec<Piece<'p>>, devices: &'p [Device]) -> 
 fn put_attribute<'p>(out: &mut Vec<Piece<'p>>, text: &'p [u8]) -> Result<(), NoMemory>
     ensures { OnOk result (pieces_of out.new.items ≡ attribute text.now (pieces_of out.old.items)) }
 {
-    put(out, Piece::Space)?;
-    mark(out, Mark::RParen)?;
-    mark(out, Mark::RParen)?;
-    name(out, text)?;
-    mark(out, Mark::LParen)?;
-    mark(out, Mark::LParen)?;
-    word(out, Word::Attribute)
+    put_all(
+        out,
+        &[
+            Piece::Keyword(Word::Attribute),
+            Piece::Punct(Mark::LParen),
+            Piece::Punct(Mark::LParen),
+            Piece::Name(text),
+            Piece::Punct(Mark::RParen),
+            Piece::Punct(Mark::RParen),
+            Piece::Space,
+        ],
+    )
 }
 
 fn put_entry_attribute(out: &mut Vec<Piece>, entry: Option<Entry>) -> Result<(), NoMemory>
@@ -129,8 +132,7 @@ fn put_named_parameters<'p>(
     while left > 1 {
         left -= 1;
         put_declaration(out, structures, &params[left].1, params[left].0.all())?;
-        put(out, Piece::Space)?;
-        mark(out, Mark::Comma)?;
+        put_all(out, &[Piece::Punct(Mark::Comma), Piece::Space])?;
     }
     put_declaration(out, structures, &params[0].1, params[0].0.all())?;
     Ok(())
@@ -145,8 +147,7 @@ fn put_object_line<'p>(
 {
     put_ended(out)?;
     put_declaration(out, structures, &o.ctype, o.name.all())?;
-    put(out, Piece::Space)?;
-    word(out, Word::Static)
+    put_all(out, &[Piece::Keyword(Word::Static), Piece::Space])
 }
 
 /// Puts the declarations of static objects in front, without their first values.

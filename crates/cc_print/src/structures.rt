@@ -1,7 +1,9 @@
 //! Structures (C99 6.7.2.1).
 
-ghost use Rattle.std.specs.Prelude.{◌≡◌, OnOk, take};
+ghost use Rattle.std.specs.Prelude.{◌≡◌, ◌∷◌, OnOk, take};
+ghost use Rattle.cc_pieces.specs.Pieces.{ident, keyword, space};
 ghost use Rattle.cc_pieces.specs.View.{pieces_of};
+ghost use Rattle.cc_words.specs.declared.word.Word.TheVariants as w;
 ghost use Rattle.cc_print.specs.Units.{each, is_base as is_base_of, is_named_in as is_named_in_of, is_named_by as is_named_by_of, any_true, naming as naming_of, or_else, member_naming as member_naming_of, first_naming as first_naming_of, is_in_parameters as is_in_parameters_of, tag_line, line_if, announcements, member_line, structure_of, structure};
 ghost use Rattle.std.specs.Prelude.{map};
 ghost use Rattle.cc_program.specs.declared.types.Sig.{out-Sig};
@@ -9,7 +11,7 @@ ghost use Rattle.cc_program.specs.declared.types.Sig.{out-Sig};
 use cc_bodies::{put_ended, put_opened};
 use cc_lex::Mark;
 use cc_num::{Name, NoMemory};
-use cc_pieces::{Piece, mark, name, put, put_declaration, word};
+use cc_pieces::{Piece, mark, put, put_all, put_declaration};
 use cc_program::{CType, Shape, Sig, Structure};
 use cc_words::Word;
 
@@ -112,13 +114,24 @@ fn is_in_parameters(found: Option<bool>) -> bool
     }
 }
 
+fn put_tag<'p>(out: &mut Vec<Piece<'p>>, s: &'p Structure) -> Result<(), NoMemory>
+    ensures { OnOk result (pieces_of out.new.items ≡ keyword w.Struct ∷ space ∷ ident s.now.tag ∷ pieces_of out.old.items) }
+{
+    put_all(
+        out,
+        &[
+            Piece::Keyword(Word::Struct),
+            Piece::Space,
+            Piece::Name(s.tag.all()),
+        ],
+    )
+}
+
 fn put_tag_line<'p>(out: &mut Vec<Piece<'p>>, s: &'p Structure) -> Result<(), NoMemory>
     ensures { OnOk result (pieces_of out.new.items ≡ tag_line s.now (pieces_of out.old.items)) }
 {
     put_ended(out)?;
-    name(out, s.tag.all())?;
-    put(out, Piece::Space)?;
-    word(out, Word::Struct)
+    put_tag(out, s)
 }
 
 fn put_line_if<'p>(
@@ -194,9 +207,7 @@ fn put_structure<'p>(
     mark(out, Mark::RBrace)?;
     put_member_lines(out, structures, s.members.all())?;
     put_opened(out)?;
-    name(out, s.tag.all())?;
-    put(out, Piece::Space)?;
-    word(out, Word::Struct)?;
+    put_tag(out, s)?;
     Ok(())
 }
 

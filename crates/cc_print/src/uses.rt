@@ -11,7 +11,7 @@ ghost use Rattle.std.specs.List.{list_any};
 use cc_bodies::{intrinsic_name, put_ended};
 use cc_lex::Mark;
 use cc_num::{IntType, NoMemory};
-use cc_pieces::{Piece, mark, name, put, put_int_name, word};
+use cc_pieces::{Piece, mark, put_all, put_int_name, word};
 use cc_program::{Case, Expr, Intr, Program, Stmt};
 use cc_words::Word;
 
@@ -124,9 +124,14 @@ fn put_intrinsic_line<'p>(out: &mut Vec<Piece<'p>>, p: &'p Program, i: Intr) -> 
     put_ended(out)?;
     mark(out, Mark::RParen)?;
     put_intrinsic_parameter(out, i)?;
-    mark(out, Mark::LParen)?;
-    name(out, intrinsic_name(&p.roles, i).all())?;
-    put(out, Piece::Space)?;
+    put_all(
+        out,
+        &[
+            Piece::Space,
+            Piece::Name(intrinsic_name(&p.roles, i).all()),
+            Piece::Punct(Mark::LParen),
+        ],
+    )?;
     put_intrinsic_result(out, i)
 }
 

@@ -13,7 +13,9 @@ ghost use Rattle.cc_typed.specs.View.{place_view};
 use cc_bodies::{func_name, member_name, put_ended, put_named};
 use cc_lex::Mark;
 use cc_num::{IntType, Name, NoMemory, at};
-use cc_pieces::{Piece, mark, number, put, put_constant, put_declaration, spaced_mark, word};
+use cc_pieces::{
+    Piece, mark, number, number_piece, put_all, put_constant, put_declaration, spaced_mark,
+};
 use cc_program::{Address, CType, Leaf, Object, Part, Program, Root, Shape, Structure};
 use cc_typed::{PlaceType, alike, object_place, step_into};
 use cc_words::Word;
@@ -49,17 +51,29 @@ fn has_elements(to: &CType, a: Option<PlaceType>) -> bool
 fn put_index(out: &mut Vec<Piece>, index: u32) -> Result<(), NoMemory>
     ensures { OnOk result (pieces_of out.new.items ≡ punct m.LBracket ∷ plain_number index ∷ punct m.RBracket ∷ pieces_of out.old.items) }
 {
-    mark(out, Mark::RBracket)?;
-    number(out, u128::from(index), false, 0)?;
-    mark(out, Mark::LBracket)
+    put_all(
+        out,
+        &[
+            Piece::Punct(Mark::LBracket),
+            number_piece(u128::from(index), false, 0),
+            Piece::Punct(Mark::RBracket),
+        ],
+    )
 }
 
 fn put_one_past(out: &mut Vec<Piece>, is_past: bool) -> Result<(), NoMemory>
     ensures { OnOk result (pieces_of out.new.items ≡ one_past is_past (pieces_of out.old.items)) }
 {
     if is_past {
-        number(out, 1, false, 0)?;
-        spaced_mark(out, Mark::Plus)
+        put_all(
+            out,
+            &[
+                Piece::Space,
+                Piece::Punct(Mark::Plus),
+                Piece::Space,
+                number_piece(1, false, 0),
+            ],
+        )
     } else {
         Ok(())
     }
@@ -282,8 +296,7 @@ fn put_pointer<'p>(
 fn put_separator(out: &mut Vec<Piece>) -> Result<(), NoMemory>
     ensures { OnOk result (pieces_of out.new.items ≡ punct m.Comma ∷ space ∷ pieces_of out.old.items) }
 {
-    put(out, Piece::Space)?;
-    mark(out, Mark::Comma)
+    put_all(out, &[Piece::Punct(Mark::Comma), Piece::Space])
 }
 
 /// Puts a value of a type in front, with the last of so many leaves that are left, and gives how many are left then.
@@ -299,14 +312,8 @@ fn put_value<'p>(
     ensures { IfOk result (λ r. filled r (pieces_of out.new.items) ≡ filler source.entry.program.now source.entry.leaves.now structures.now t.now (filled left (pieces_of out.old.items))) }
 {
     match &t.shape {
-        Shape::Int(i) => {
-            let left = put_int(out, source, *i, left)?;
-            Ok(left)
-        }
-        Shape::Pointer(to) => {
-            let left = put_pointer(out, source, to.get(), left)?;
-            Ok(left)
-        }
+        Shape::Int(i) => put_int(out, source, *i, left),
+        Shape::Pointer(to) => put_pointer(out, source, to.get(), left),
         Shape::Array(of, n) => {
             mark(out, Mark::RBrace)?;
             let left = put_elements(out, source, structures, left, of.get(), *n)?;
@@ -411,8 +418,7 @@ fn put_definition_line<'p>(
     put_object_value(out, p, o)?;
     spaced_mark(out, Mark::Assign)?;
     put_declaration(out, p.structures.all(), &o.ctype, o.name.all())?;
-    put(out, Piece::Space)?;
-    word(out, Word::Static)
+    put_all(out, &[Piece::Keyword(Word::Static), Piece::Space])
 }
 
 fn put_definition<'p>(

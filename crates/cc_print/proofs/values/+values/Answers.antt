@@ -3,9 +3,8 @@ use Rattle.cc_program.specs.declared.types.Structure.{Structure}
 use Rattle.cc_syntax.specs.Types.{Named}
 use Rattle.cc_syntax.proofs.Measure.{arrays, in_members, arrays-Array, member_below, structure_below}
 use Rattle.cc_syntax.proofs.Shapes.{read_at}
-use Rattle.cc_program.specs.declared.types.CType.{CType}
 use Rattle.cc_pieces.specs.View.{pieces_of}
-use Rattle.cc_print.specs.Values.{pointer_leaf, scalar}
+use Rattle.cc_print.specs.Values.{filled}
 use Rattle.cc_print.proofs.FillerLemmas.{filler-Int, filler-Pointer, filler-past, array_at, structure_at}
 use Rattle.cc_print.proofs.values.+values.Goals as goal
 
@@ -38,15 +37,14 @@ put_members-put_value-requires-2 t c =
     let same = ap (λ (m : Named). arrays m.1) c.index-members-0.is in
     (omega (arith, below, same), tt)
 
-pub put_value-returns-in_ok-left-in-Int : goal.put_value-returns-in_ok-left-in-Int
-put_value-returns-in_ok-left-in-Int t c =
-    c.in_ok-left-in-Int.ensures ∙ sym (filler-Int c.args.source.program.now c.args.source.leaves.now c.args.structures.now c.args.t.now _ c.in-Int.i c.in-Int.is)
+pub put_value-returns-in-Int : goal.put_value-returns-in-Int
+put_value-returns-in-Int t c =
+    rw (filler-Int c.args.source.program.now c.args.source.leaves.now c.args.structures.now c.args.t.now (filled c.args.left (pieces_of c.args.out.now.items)) c.in-Int.i c.in-Int.is) c.put_int.ensures
 
-pub put_value-returns-in_ok-left-in-Pointer : goal.put_value-returns-in_ok-left-in-Pointer
-put_value-returns-in_ok-left-in-Pointer t c =
-    c.in_ok-left-in-Pointer.ensures
-    ∙ ap (λ (to : CType). scalar c.args.source.program.now c.args.source.leaves.now (pointer_leaf c.args.source.program.now to) c.args.left (pieces_of c.args.out.now.items)) c.get.ensures
-    ∙ sym (filler-Pointer c.args.source.program.now c.args.source.leaves.now c.args.structures.now c.args.t.now _ c.in-Pointer.to c.in-Pointer.is)
+pub put_value-returns-in-Pointer : goal.put_value-returns-in-Pointer
+put_value-returns-in-Pointer t c =
+    rw (filler-Pointer c.args.source.program.now c.args.source.leaves.now c.args.structures.now c.args.t.now (filled c.args.left (pieces_of c.args.out.now.items)) c.in-Pointer.to c.in-Pointer.is, ← c.get.ensures)
+    c.put_pointer.ensures
 
 pub put_value-returns-in_ok-mark-in-Array-2 : goal.put_value-returns-in_ok-mark-in-Array-2
 put_value-returns-in_ok-mark-in-Array-2 t c =
