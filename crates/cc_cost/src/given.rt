@@ -259,8 +259,8 @@ pub fn profile_of(alloc: Global, lines: &[Line]) -> Result<Profile, NoMemory>
     requires { first_from (settings_of lines.now) [] lines.now ≡ NoneOf }
     ensures { IfOk result (λ profile. GivesProfile (settings_of lines.now) profile) }
 {
-    let roles = roles_of(alloc, lines)?;
     let counts = counts_of(alloc, lines)?;
+    let roles = roles_of(alloc, lines)?;
     Ok(Profile {
         target: target_of(lines),
         roles,

@@ -59,17 +59,15 @@ fn add_default<'t>(
     Ok(())
 }
 
-/// The names of the intrinsics to which no row gives one.
-#[tactic(auto, using(crate::proofs::FaultLemmas::of_defaults))]
-fn default_names<'t>(alloc: Global, lines: &[Line]) -> Result<Names<'t>, NoMemory>
-    ensures { IfOk result (λ names. names_of names ≡ defaults (settings_of lines.now)) }
+/// Adds the names of the intrinsics to which no row gives one.
+fn add_defaults<'t>(names: &mut Names<'t>, lines: &[Line]) -> Result<(), NoMemory>
+    requires { names_of names.old ≡ [] }
+    ensures { IfOk result (λ _. names_of names.new ≡ defaults (settings_of lines.now)) }
 {
-    let mut names = IndexSet::new(alloc);
-    add_default(&mut names, lines, "off", "irq_off")?;
-    add_default(&mut names, lines, "on", "irq_on")?;
-    add_default(&mut names, lines, "save", "irq_save")?;
-    add_default(&mut names, lines, "restore", "irq_restore")?;
-    Ok(names)
+    add_default(names, lines, "off", "irq_off")?;
+    add_default(names, lines, "on", "irq_on")?;
+    add_default(names, lines, "save", "irq_save")?;
+    add_default(names, lines, "restore", "irq_restore")
 }
 
 /// The least rule that the names of a row break.
@@ -120,22 +118,33 @@ fn rule_of_row<'t>(met: &mut Met<'t>, line: &'t Line) -> Result<Option<u8>, NoMe
     }
 }
 
-/// The first row that breaks a rule.
+/// The first row that breaks a rule, where nothing was met in front of the rows.
 #[tactic(auto, using(crate::proofs::FaultLemmas::of_faults))]
+fn first_fault_behind<'t>(met: &mut Met<'t>, lines: &'t [Line]) -> Result<Option<Fault>, NoMemory>
+    requires few { length lines.now < 2 ^ 32 }
+    requires things { things_of met.old.things ≡ [] }
+    requires names { names_of met.old.names ≡ [] }
+    ensures { IfOk result (λ fault. option_map (λ f. (f.row, f.rule)) fault ≡ first_from (settings_of lines.now) [] lines.now) }
+{
+    add_defaults(&mut met.names, lines)?;
+    let mut row: u32 = 0;
+    for line in lines {
+        row += 1;
+        if let Some(rule) = rule_of_row(met, line)? {
+            return Ok(Some(Fault { row, rule }));
+        }
+    }
+    Ok(None)
+}
+
+/// The first row that breaks a rule.
 pub fn first_fault(alloc: Global, lines: &[Line]) -> Result<Option<Fault>, NoMemory>
     requires { length lines.now < 2 ^ 32 }
     ensures { IfOk result (λ fault. option_map (λ f. (f.row, f.rule)) fault ≡ first_from (settings_of lines.now) [] lines.now) }
 {
     let mut met = Met {
         things: IndexSet::new(alloc),
-        names: default_names(alloc, lines)?,
+        names: IndexSet::new(alloc),
     };
-    let mut row: u32 = 0;
-    for line in lines {
-        row += 1;
-        if let Some(rule) = rule_of_row(&mut met, line)? {
-            return Ok(Some(Fault { row, rule }));
-        }
-    }
-    Ok(None)
+    first_fault_behind(&mut met, lines)
 }

@@ -1,7 +1,7 @@
 -- The ends of intervals are so small that sums, differences and negations of them are exact in 128 bits.
-use Rattle.std.proofs.Common.{◌≡◌, ℕ, ◌-◌, ◌^◌, ◌≤◌, ◌<◌, Bool, true, false, ℤ, pos, neg_ℤ, ◌-ℤ◌, ◌≤ℤ◌, ◌<ℤ◌, int_le, int_lt, subst, arith, pow_mono, to_z, of_z, to_z-of_z}
-use Rattle.std.specs.Int.{w128}
-use Rattle.std.proofs.lemmas.Int.{ints, by_lt_z}
+use Rattle.std.proofs.Common.{◌≡◌, ℕ, ◌-◌, ◌^◌, ◌≤◌, ◌<◌, Bool, true, false, ℤ, pos, neg_ℤ, ◌+ℤ◌, ◌-ℤ◌, ◌≤ℤ◌, ◌<ℤ◌, int_le, int_lt, sym, subst, arith, pow_mono, FitsSigned, to_z, of_z, to_z-of_z}
+use Rattle.std.specs.Int.{w128, int_max, int_min}
+use Rattle.std.proofs.lemmas.Int.{ints, clamps, by_lt_z}
 use Rattle.cc_num.specs.declared.int_type.IntType.{IntType}
 use Rattle.cc_num.specs.declared.int_type.IntType.TheVariants as int
 use Rattle.cc_num.specs.declared.target.Target.{Target}
@@ -26,6 +26,44 @@ narrow_same a p = to_z-of_z (narrow_fits a p)
 
 pub negated_exact : (a : ℤ) → IsNarrow a → to_z w128 (of_z w128 (pos 0 -ℤ to_z w128 (of_z w128 a))) ≡ neg_ℤ a
 negated_exact a p = let p1 = p.low in let p2 = p.high in omega (arith, ints)
+
+-- an end that is moved by one
+pub less_one : (a : ℤ) → IsNarrow a → to_z w128 (of_z w128 (to_z w128 (of_z w128 a) -ℤ pos 1)) ≡ a -ℤ pos 1
+less_one a p = let p1 = p.low in let p2 = p.high in omega (arith, ints)
+
+pub more_one : (a : ℤ) → IsNarrow a → to_z w128 (of_z w128 (to_z w128 (of_z w128 a) +ℤ pos 1)) ≡ a +ℤ pos 1
+more_one a p = let p1 = p.low in let p2 = p.high in omega (arith, ints)
+
+pub less_fits : (a : ℤ) → IsNarrow a → FitsSigned w128 (to_z w128 (of_z w128 a) -ℤ pos 1)
+less_fits a p = let p1 = p.low in let p2 = p.high in omega (arith, ints)
+
+pub more_fits : (a : ℤ) → IsNarrow a → FitsSigned w128 (to_z w128 (of_z w128 a) +ℤ pos 1)
+more_fits a p = let p1 = p.low in let p2 = p.high in omega (arith, ints)
+
+pub more_least : (a : ℤ) → IsNarrow a → neg_ℤ (pos (2 ^ 63)) ≤ℤ to_z w128 (of_z w128 (to_z w128 (of_z w128 a) +ℤ pos 1))
+more_least a p = let p1 = p.low in let e = more_one a p in omega (arith, ints)
+
+pub less_most : (a : ℤ) → IsNarrow a → to_z w128 (of_z w128 (to_z w128 (of_z w128 a) -ℤ pos 1)) <ℤ pos (2 ^ 64)
+less_most a p = let p2 = p.high in let e = less_one a p in omega (arith, ints)
+
+-- an end as it is read, and the greater or the lesser of two
+pub read_least : (a : ℤ) → IsNarrow a → neg_ℤ (pos (2 ^ 63)) ≤ℤ to_z w128 (of_z w128 a)
+read_least a p = subst (λ (x : ℤ). neg_ℤ (pos (2 ^ 63)) ≤ℤ x) (sym (narrow_same a p)) p.low
+
+pub read_most : (a : ℤ) → IsNarrow a → to_z w128 (of_z w128 a) <ℤ pos (2 ^ 64)
+read_most a p = subst (λ (x : ℤ). x <ℤ pos (2 ^ 64)) (sym (narrow_same a p)) p.high
+
+greater_least : (r x y : ℤ) → r ≡ int_max x y → neg_ℤ (pos (2 ^ 63)) ≤ℤ x → neg_ℤ (pos (2 ^ 63)) ≤ℤ r
+greater_least r x y e h = omega (arith, ints, clamps)
+
+lesser_most : (r x y : ℤ) → r ≡ int_min x y → x <ℤ pos (2 ^ 64) → r <ℤ pos (2 ^ 64)
+lesser_most r x y e h = omega (arith, ints, clamps)
+
+pub max_least : (r y a : ℤ) → IsNarrow a → FitsSigned w128 r → r ≡ int_max (to_z w128 (of_z w128 a)) y → neg_ℤ (pos (2 ^ 63)) ≤ℤ to_z w128 (of_z w128 r)
+max_least r y a p f e = subst (λ (x : ℤ). neg_ℤ (pos (2 ^ 63)) ≤ℤ x) (sym (to_z-of_z f)) (greater_least r (to_z w128 (of_z w128 a)) y e (read_least a p))
+
+pub min_most : (r y a : ℤ) → IsNarrow a → FitsSigned w128 r → r ≡ int_min (to_z w128 (of_z w128 a)) y → to_z w128 (of_z w128 r) <ℤ pos (2 ^ 64)
+min_most r y a p f e = subst (λ (x : ℤ). x <ℤ pos (2 ^ 64)) (sym (to_z-of_z f)) (lesser_most r (to_z w128 (of_z w128 a)) y e (read_most a p))
 
 -- the ends of a type
 most_by : (s : Bool) (w : ℕ) → s ≡ true → w ≤ 64 → most_of_bits s w <ℤ pos (2 ^ 63)

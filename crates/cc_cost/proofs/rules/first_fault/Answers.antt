@@ -1,15 +1,8 @@
-use Rattle.std.proofs.Common.{◌≡◌, ◌∙◌, sym, rules, None}
-use Rattle.cc_cost.specs.Sets.{names_of, things_of}
-use Rattle.cc_cost.proofs.FaultLemmas.{came-none, came-more}
-use Rattle.cc_cost.proofs.SetLemmas.{things-empty}
+use Rattle.cc_cost.proofs.SetLemmas.{names-empty, things-empty}
 use Rattle.cc_cost.proofs.rules.first_fault.Goals as goal
 
-pub loop-line-init : goal.loop-line-init
-loop-line-init c =
-    came-none c.args.lines.now (things_of c.new.result) (names_of c.in_ok-default_names.field-0) (things-empty c.new.result c.new.ensures.empty) c.in_ok-default_names.ensures
+pub first_fault_behind-requires-clause-things : goal.first_fault_behind-requires-clause-things
+first_fault_behind-requires-clause-things c = things-empty c.new.result c.new.ensures.empty
 
-pub loop-line-preserved : goal.loop-line-preserved
-loop-line-preserved c =
-    let none : c.in_ok-rule.field-0 ≡ None = search rules in
-    came-more c.args.lines.now c.loop-line.line-index c.loop-line.row c.line-item.result (things_of c.loop-line.met.things) (things_of c.rule_of_row.new.met.things) (names_of c.loop-line.met.names) (names_of c.rule_of_row.new.met.names)
-    c.loop-line-test.true c.line-item.is c.loop-line.invariant (sym none ∙ c.in_ok-rule.ensures.rule) (c.in_ok-rule.ensures.things none) (c.in_ok-rule.ensures.names none)
+pub first_fault_behind-requires-clause-names : goal.first_fault_behind-requires-clause-names
+first_fault_behind-requires-clause-names c = names-empty c.new-2.result c.new-2.ensures.empty
