@@ -1,6 +1,6 @@
 //! Members of structures (C99 6.7.2.1).
 
-ghost use Rattle.std.specs.Prelude.{[], ◌∷◌};
+ghost use Rattle.std.specs.Prelude.{[], ◌∷◌, ◌++◌, Some as SomeOf, Ok as OkOf};
 ghost use Rattle.cc_operands.specs.Verdicts.{Judges};
 ghost use Rattle.cc_scopes.specs.Outcomes.{Gives};
 ghost use Rattle.cc_scopes.specs.State.{State as Known};
@@ -30,6 +30,34 @@ pub fn of_structure(alloc: Global, attrs: &[At<Attr>]) -> Result<List<At<List<At
     located(attributes(alloc, &[Entity::Structure], attrs))
 }
 
+/// Whether a name of this type may be a member behind these (C99 6.7.2.1, 2; 6.2.3).
+fn judged_member(
+    target: &Target,
+    state: &State,
+    members: &[(Name, CType)],
+    x: &Name,
+    t: &CType,
+) -> Result<(), Breach>
+    ensures { Judges (λ done. members.now ++ (x.now, t.now) ∷ []) result (member_judged_of target.now t.now members.now (state_of state.now) (SomeOf x.now)) }
+{
+    if !is_object(t, state.structures(), state.layouts(), target) {
+        return Err(Breach::Breaks(Rule::NoObjectType));
+    }
+    if is_member_name(x.all(), members) {
+        return Err(Breach::Breaks(Rule::MemberTwice));
+    }
+    Ok(())
+}
+
+/// A member behind others.
+fn put_member(members: Members, x: Name, t: CType) -> Result<Members, Breach>
+    ensures { Judges (λ ms. ms) result (OkOf (members ++ (x, t) ∷ [])) }
+{
+    let mut members = members.into_vec();
+    members.push((x, t))?;
+    Ok(List::of(members))
+}
+
 /// With one member more (C99 6.7.2.1, 2; 6.2.3).
 pub fn with_member(
     target: &Target,
@@ -43,13 +71,6 @@ pub fn with_member(
     let Some(x) = name else {
         return Ok(members);
     };
-    if !is_object(&t, state.structures(), state.layouts(), target) {
-        return Err(Breach::Breaks(Rule::NoObjectType));
-    }
-    if is_member_name(x.all(), members.all()) {
-        return Err(Breach::Breaks(Rule::MemberTwice));
-    }
-    let mut members = members.into_vec();
-    members.push((x, t))?;
-    Ok(List::of(members))
+    judged_member(target, state, members.all(), &x, &t)?;
+    put_member(members, x, t)
 }

@@ -24,6 +24,34 @@ pub fn no_parameters(alloc: Global) -> (List<Parameter>, Scope)
 
 /// A parameter is declared where it has a name; in a function definition it has one (C99 6.9.1, 5).
 #[tactic(auto, using(cc_scopes::proofs::Outcomes::of_outcomes))]
+fn declare(
+    alloc: Global,
+    roles: &Roles,
+    unnamed: bool,
+    position: u32,
+    p: &Parameter,
+    state: &mut State,
+) -> Result<(), Stop>
+    ensures { Gives (λ done. p.now) result (state_of state.new) (parameter_bound_of roles.now unnamed position p.now (state_of state.old) p.now.name) }
+{
+    match &p.name {
+        None => {
+            if unnamed {
+                Ok(())
+            } else {
+                placed(p.at, Err(Breach::Breaks(Rule::DeclaredTwice)))
+            }
+        }
+        Some(x) => {
+            placed(p.at, new_name(roles, x.all(), state))?;
+            let t = p.ctype.copy(alloc)?;
+            state.bind(alloc, x.all(), Designated::Automatic(position, t))?;
+            Ok(())
+        }
+    }
+}
+
+/// A parameter is declared where it has a name; in a function definition it has one (C99 6.9.1, 5).
 pub fn parameter_bound(
     alloc: Global,
     roles: &Roles,
@@ -34,17 +62,6 @@ pub fn parameter_bound(
 ) -> Result<Parameter, Stop>
     ensures { Gives (λ p. p) result (state_of state.new) (parameter_bound_of roles.now unnamed position p (state_of state.old) p.name) }
 {
-    match &p.name {
-        None => {
-            if !unnamed {
-                return placed(p.at, Err(Breach::Breaks(Rule::DeclaredTwice)));
-            }
-        }
-        Some(x) => {
-            placed(p.at, new_name(roles, x.all(), state))?;
-            let t = p.ctype.copy(alloc)?;
-            state.bind(alloc, x.all(), Designated::Automatic(position, t))?;
-        }
-    }
+    declare(alloc, roles, unnamed, position, &p, state)?;
     Ok(p)
 }
