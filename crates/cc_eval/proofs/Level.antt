@@ -2,14 +2,14 @@
 use Rattle.std.proofs.Common.{◌≡◌, refl, ap, sym, ◌∙◌, List, map, Result, Ok, Err, IfOk}
 use Rattle.cc_num.specs.declared.int_type.IntType.{IntType}
 use Rattle.cc_num.specs.declared.op.BinOp.{BinOp}
-use Rattle.cc_program.specs.declared.expr.Expr.{Expr, Bin, Move, Gap, Compare, Both, Either, Call, roll-Expr, map-Expr}
-use Rattle.cc_program.specs.declared.expr.Expr.TheVariants.{rolls-Bin, rolls-Move, rolls-Gap, rolls-Compare, rolls-Both, rolls-Either, rolls-Call}
+use Rattle.cc_program.specs.declared.expr.Expr.{Expr, Bin, Move, Gap, Compare, Both, Either, Choose, Call, roll-Expr, map-Expr}
+use Rattle.cc_program.specs.declared.expr.Expr.TheVariants.{rolls-Bin, rolls-Move, rolls-Gap, rolls-Compare, rolls-Both, rolls-Either, rolls-Choose, rolls-Call}
 use Rattle.cc_program.specs.declared.expr.Expr.TheOpen as one
 use Rattle.cc_program.specs.declared.expr.Place.{Place}
 use Rattle.cc_eval.specs.declared.mark.Mark.{Mark}
 use Rattle.cc_eval.specs.Context.{Context}
 use Rattle.cc_syntax.specs.Effects.{Registers}
-use Rattle.cc_eval.specs.Eval.{Meaning, Designation, expr_meaning, meaning, designation, both_values, both, either, called}
+use Rattle.cc_eval.specs.Eval.{Meaning, Designation, expr_meaning, meaning, designation, both_values, both, either, chosen_arm, called}
 use Rattle.cc_eval.specs.declared.operators.TwoOperands.{TwoOperands}
 use Rattle.cc_eval.specs.declared.operators.TwoOperands.TheVariants as two
 use Rattle.cc_eval.specs.Operands.{two_give}
@@ -34,6 +34,10 @@ module _ (c : Context) where
   pub either_level : (e a b : Expr) → e ≡ Either a b → (later : Registers) (ms : List Mark) →
       either ((meaning c e).effects.pure later) (meaning c a) (meaning c b) later ms ≡ (meaning c e).next later ms
   either_level e a b h later ms = rw (opened e (one.Either a b) (h ∙ sym (rolls-Either a b))) refl
+
+  pub choose_level : (e d a b : Expr) → e ≡ Choose d a b → (later : Registers) (ms : List Mark) →
+      chosen_arm ((meaning c e).effects.pure later) (meaning c d) (meaning c a) (meaning c b) later ms ≡ (meaning c e).next later ms
+  choose_level e d a b h later ms = rw (opened e (one.Choose d a b) (h ∙ sym (rolls-Choose d a b))) refl
 
   pub call_level : (e f : Expr) (args : List Expr) → e ≡ Call f args → (later : Registers) (ms : List Mark) →
       called (meaning c f) (map (meaning c) args) later ms ≡ (meaning c e).next later ms

@@ -1,5 +1,6 @@
 pub mod EachLemmas
 pub mod EffectLemmas
+pub mod EffectLinks
 pub mod GoodLemmas
 pub mod LaterLemmas
 pub mod Level

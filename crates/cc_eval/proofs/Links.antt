@@ -1,10 +1,10 @@
 -- The type of what an expression or a place means, and what is known of it before it runs, are those of the expression or place.
-use Rattle.std.proofs.Common.{◌≡◌, refl}
+use Rattle.std.proofs.Common.{◌≡◌, refl, ap}
 use Rattle.cc_program.specs.declared.expr.Expr.{Expr, roll-Expr, map-Expr, fold-roll-Expr}
 use Rattle.cc_program.specs.declared.expr.Expr.TheOpen as one
 use Rattle.cc_program.specs.declared.expr.Place.{Place, roll-Place, map-Place, fold-roll-Place}
 use Rattle.cc_program.proofs.FoldFusion.{fused, place_fused}
-use Rattle.cc_syntax.specs.Effects.{effect_step, place_effect_step, effects_of, place_effects_of}
+use Rattle.cc_syntax.specs.Effects.{Registers, Effects, PlaceEffects, effect_step, place_effect_step, effects_of, place_effects_of}
 use Rattle.cc_syntax.specs.Expressions as typing
 use Rattle.cc_syntax.specs.Programs.{expr_step, place_step, type_of, place_type}
 use Rattle.cc_eval.specs.Context.{Context}
@@ -40,4 +40,12 @@ module _ (c : Context) where
   place_effects_linked = place_fused (expr_meaning c) (place_meaning c) effect_step (place_effect_step c.func)
       (λ m. m.effects) (λ m. m.effects) (λ x. refl) (λ x. refl)
 
+  pub register_linked : (a : Place) → (designation c a).effects.register ≡ (place_effects_of c.func a).register
+  register_linked a = ap (λ (x : PlaceEffects). x.register) (place_effects_linked a)
+
+  pub pure_linked : (e : Expr) (later : Registers) → (meaning c e).effects.pure later ≡ (effects_of c.func e).pure later
+  pure_linked e later = ap (λ (x : Effects). x.pure later) (effects_linked e)
+
 pub ruleset of_types = (place_type_linked)
+
+pub ruleset of_registers = (register_linked)

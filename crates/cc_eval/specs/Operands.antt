@@ -13,7 +13,7 @@ use Rattle.cc_eval.specs.declared.operators.TwoOperands.{TwoOperands}
 use Rattle.cc_eval.specs.declared.operators.TwoOperands.TheVariants as two
 use Rattle.cc_eval.specs.declared.spots.Spot.{Spot}
 use Rattle.cc_eval.specs.Context.{Context}
-use Rattle.cc_eval.specs.Eval.{Designation, address_of, fetched, stored, changed_with, stepped_with}
+use Rattle.cc_eval.specs.Eval.{Designation, element_at, address_of, fetched, stored, changed_with, stepped_with}
 use Rattle.cc_eval.specs.Progress.{Get, known, ask, needs, given}
 use Rattle.cc_syntax.specs.Effects.{Registers}
 use Rattle.cc_values.specs.Values.{unary, binary, conversion, truth, movement, gap, comparison}
@@ -37,3 +37,7 @@ place_gives c (place.Step down) a later = stepped_with c a down later
 abbrev pub change_gives : Context → ToPlace → Designation → Registers → Option Spot × Option Value → Get (Option Value)
 change_gives c change.Assign a later = λ p. stored c a p.0 p.1 p.1
 change_gives c (change.Change o t) a later = changed_with c a o t later
+
+-- an element, by its subscript
+abbrev pub element_gives : Context → Designation → Option Spot × Option Value → Get (Option Spot)
+element_gives c a p = known (element_at c a.ctype p.0 p.1)

@@ -15,6 +15,7 @@ use crate::action::{Action, Manner};
 use crate::context::Context;
 use crate::effects::{Later, is_soft};
 use crate::mark::Mark;
+use crate::operators::ToPlace;
 use crate::progress::{Stage, ask_value, ask_write, copy_value};
 use crate::spots::{Spot, address_at, element, is_seen, member, reached};
 use cc_num::{BinOp, IntType, NoMemory, Target, usual};
@@ -25,9 +26,9 @@ use std::alloc::Global;
 
 /// The type of a place.
 #[tactic(auto, using(crate::proofs::Links::of_types))]
-pub fn place_type<'p>(c: Context<'p>, a: &'p Place) -> Option<PlaceType<'p>>
-    requires { AreSized c.program.now.structures c.program.now.target }
-    ensures { option_map place_view result ≡ (designation (context_of c.entry) a.now).ctype }
+pub fn place_type<'a, 'p: 'a>(c: &Context<'p>, a: &'a Place) -> Option<PlaceType<'a>>
+    requires { AreSized c.now.program.now.structures c.now.program.now.target }
+    ensures { option_map place_view result ≡ (designation (context_of c.now) a.now).ctype }
 {
     let scope = Scope {
         program: c.program,
@@ -36,9 +37,10 @@ pub fn place_type<'p>(c: Context<'p>, a: &'p Place) -> Option<PlaceType<'p>>
     scope.place_type(a)
 }
 
-fn manner(c: Context, a: &Place, t: Option<PlaceType>, later: &Later<'_>) -> Manner
-    requires { option_map place_view t ≡ (designation (context_of c) a.now).ctype }
-    ensures { result ≡ manner_of (designation (context_of c.entry) a.now) (later_of (context_of c.entry) later.now) }
+#[tactic(auto, using(crate::proofs::Links::of_registers))]
+fn manner(c: &Context, a: &Place, t: Option<PlaceType>, later: &Later<'_>) -> Manner
+    requires { option_map place_view t ≡ (designation (context_of c.now) a.now).ctype }
+    ensures { result ≡ manner_of (designation (context_of c.now) a.now) (later_of (context_of c.now) later.now) }
 {
     Manner {
         is_event: is_seen(t),
@@ -47,16 +49,16 @@ fn manner(c: Context, a: &Place, t: Option<PlaceType>, later: &Later<'_>) -> Man
 }
 
 /// Reads where a place leads.
-pub fn fetched_at<'p, 'm>(
+pub fn fetched_at<'m>(
     alloc: Global,
-    c: Context<'p>,
-    a: &'p Place,
+    c: &Context<'_>,
+    a: &Place,
     later: &Later<'_>,
     s: &Option<Spot>,
     marks: &'m [Mark],
 ) -> Result<Stage<'m, Option<Value>>, NoMemory>
-    requires { AreSized c.program.now.structures c.program.now.target }
-    ensures { IfOk result (λ r. progress_of r ≡ fetched_of (context_of c.entry) (designation (context_of c.entry) a.now) (later_of (context_of c.entry) later.now) s.now marks.now) }
+    requires { AreSized c.now.program.now.structures c.now.program.now.target }
+    ensures { IfOk result (λ r. progress_of r ≡ fetched_of (context_of c.now) (designation (context_of c.now) a.now) (later_of (context_of c.now) later.now) s.now marks.now) }
 {
     let t = place_type(c, a);
     match reached(alloc, c.program, t, s)? {
@@ -67,15 +69,15 @@ pub fn fetched_at<'p, 'm>(
 
 /// Reads where a place leads, once that is known.
 #[inline(never)]
-pub fn fetched<'p, 'm>(
+pub fn fetched<'m>(
     alloc: Global,
-    c: Context<'p>,
-    a: &'p Place,
+    c: &Context<'_>,
+    a: &Place,
     later: &Later<'_>,
     s: Stage<'m, Option<Spot>>,
 ) -> Result<Stage<'m, Option<Value>>, NoMemory>
-    requires { AreSized c.program.now.structures c.program.now.target }
-    ensures { IfOk result (λ r. progress_of r ≡ and_then (progress_of s.entry) (fetched_of (context_of c.entry) (designation (context_of c.entry) a.now) (later_of (context_of c.entry) later.now))) }
+    requires { AreSized c.now.program.now.structures c.now.program.now.target }
+    ensures { IfOk result (λ r. progress_of r ≡ and_then (progress_of s.entry) (fetched_of (context_of c.now) (designation (context_of c.now) a.now) (later_of (context_of c.now) later.now))) }
 {
     match s {
         Stage::Known(s, rest) => fetched_at(alloc, c, a, later, &s, rest),
@@ -85,28 +87,31 @@ pub fn fetched<'p, 'm>(
 }
 
 /// Writes where a place leads, and gives the answer.
-pub fn stored<'p, 'm>(
+pub fn stored<'m>(
     alloc: Global,
-    c: Context<'p>,
-    a: &'p Place,
+    c: &Context<'_>,
+    a: &Place,
     s: &Option<Spot>,
     v: Option<Value>,
     answer: Option<Value>,
     marks: &'m [Mark],
 ) -> Result<Stage<'m, Option<Value>>, NoMemory>
-    requires { AreSized c.program.now.structures c.program.now.target }
-    ensures { IfOk result (λ r. progress_of r ≡ stored_of (context_of c.entry) (designation (context_of c.entry) a.now) s.now v answer marks.now) }
+    requires { AreSized c.now.program.now.structures c.now.program.now.target }
+    ensures { IfOk result (λ r. progress_of r ≡ stored_of (context_of c.now) (designation (context_of c.now) a.now) s.now v answer marks.now) }
 {
+    let Some(v) = v else {
+        return Ok(Stage::Traps(marks));
+    };
     let t = place_type(c, a);
-    match (reached(alloc, c.program, t, s)?, v) {
-        (Some(cell), Some(v)) => ask_write(alloc, cell, is_seen(t), v, answer, marks),
-        _ => Ok(Stage::Traps(marks)),
+    match reached(alloc, c.program, t, s)? {
+        None => Ok(Stage::Traps(marks)),
+        Some(cell) => ask_write(alloc, cell, is_seen(t), v, answer, marks),
     }
 }
 
-fn value_type<'p>(c: Context<'p>, a: &'p Place) -> Option<ValueType<'p>>
-    requires { AreSized c.program.now.structures c.program.now.target }
-    ensures { option_map value_view result ≡ value_type_of (context_of c.entry) (designation (context_of c.entry) a.now) }
+fn value_type<'a, 'p: 'a>(c: &Context<'p>, a: &'a Place) -> Option<ValueType<'a>>
+    requires { AreSized c.now.program.now.structures c.now.program.now.target }
+    ensures { option_map value_view result ≡ value_type_of (context_of c.now) (designation (context_of c.now) a.now) }
 {
     place_type(c, a)?.read()
 }
@@ -138,41 +143,19 @@ fn changed(
     }
 }
 
-/// `a = e`, once it is known where a leads and what e gives.
-#[inline(never)]
-pub fn assigned<'p, 'm>(
-    alloc: Global,
-    c: Context<'p>,
-    a: &'p Place,
-    operands: Stage<'m, (Option<Spot>, Option<Value>)>,
-) -> Result<Stage<'m, Option<Value>>, NoMemory>
-    requires { AreSized c.program.now.structures c.program.now.target }
-    ensures { IfOk result (λ r. progress_of r ≡ and_then (progress_of operands.entry) (λ p. stored_of (context_of c.entry) (designation (context_of c.entry) a.now) p.0 p.1 p.1)) }
-{
-    match operands {
-        Stage::Known(both, rest) => {
-            let (s, v) = both;
-            let answer = copy_value(alloc, &v)?;
-            stored(alloc, c, a, &s, v, answer, rest)
-        }
-        Stage::Waits(action) => Ok(Stage::Waits(action)),
-        Stage::Traps(rest) => Ok(Stage::Traps(rest)),
-    }
-}
-
 /// What is written behind a read, and whether the answer is that or what was read.
-fn written_back<'p, 'm>(
+fn written_back<'m>(
     alloc: Global,
-    c: Context<'p>,
-    a: &'p Place,
+    c: &Context<'_>,
+    a: &Place,
     op: BinOp,
     t: IntType,
     s: &Option<Spot>,
     w: &Option<Value>,
     old: Stage<'m, Option<Value>>,
 ) -> Result<Stage<'m, Option<Value>>, NoMemory>
-    requires { AreSized c.program.now.structures c.program.now.target }
-    ensures { IfOk result (λ r. progress_of r ≡ and_then (progress_of old.entry) (changed_back (context_of c.entry) (designation (context_of c.entry) a.now) op t s.now w.now)) }
+    requires { AreSized c.now.program.now.structures c.now.program.now.target }
+    ensures { IfOk result (λ r. progress_of r ≡ and_then (progress_of old.entry) (changed_back (context_of c.now) (designation (context_of c.now) a.now) op t s.now w.now)) }
 {
     match old {
         Stage::Known(v, rest) => {
@@ -185,26 +168,48 @@ fn written_back<'p, 'm>(
     }
 }
 
-/// `a op= e`, once it is known where a leads and what e gives.
-#[inline(never)]
-pub fn changed_by<'p, 'm>(
+/// `a = e` or `a op= e`, once it is known where a leads and what e gives.
+fn changed_by<'m>(
     alloc: Global,
-    c: Context<'p>,
-    a: &'p Place,
-    op: BinOp,
-    t: IntType,
+    c: &Context<'_>,
+    kind: ToPlace,
+    a: &Place,
+    s: &Option<Spot>,
     later: &Later<'_>,
-    operands: Stage<'m, (Option<Spot>, Option<Value>)>,
+    v: Option<Value>,
+    marks: &'m [Mark],
 ) -> Result<Stage<'m, Option<Value>>, NoMemory>
-    requires { AreSized c.program.now.structures c.program.now.target }
-    ensures { IfOk result (λ r. progress_of r ≡ and_then (progress_of operands.entry) (changed_with (context_of c.entry) (designation (context_of c.entry) a.now) op t (later_of (context_of c.entry) later.now))) }
+    requires { AreSized c.now.program.now.structures c.now.program.now.target }
+    ensures { IfOk result (λ r. progress_of r ≡ change_gives (context_of c.now) kind (designation (context_of c.now) a.now) (later_of (context_of c.now) later.now) (s.now, v) marks.now) }
 {
-    match operands {
-        Stage::Known(both, rest) => {
-            let (s, w) = both;
-            let old = fetched_at(alloc, c, a, later, &s, rest)?;
-            written_back(alloc, c, a, op, t, &s, &w, old)
+    match kind {
+        ToPlace::Assign => {
+            let answer = copy_value(alloc, &v)?;
+            stored(alloc, c, a, s, v, answer, marks)
         }
+        ToPlace::Change(op, t) => {
+            let old = fetched_at(alloc, c, a, later, s, marks)?;
+            written_back(alloc, c, a, op, t, s, &v, old)
+        }
+    }
+}
+
+/// `a = e` or `a op= e`, once it is known where a leads.
+#[inline(never)]
+pub fn changed_with<'m>(
+    alloc: Global,
+    c: &Context<'_>,
+    kind: ToPlace,
+    a: &Place,
+    s: &Option<Spot>,
+    later: &Later<'_>,
+    operand: Stage<'m, Option<Value>>,
+) -> Result<Stage<'m, Option<Value>>, NoMemory>
+    requires { AreSized c.now.program.now.structures c.now.program.now.target }
+    ensures { IfOk result (λ r. progress_of r ≡ and_then (and_then (progress_of operand.entry) (λ v. known (s.now, v))) (change_gives (context_of c.now) kind (designation (context_of c.now) a.now) (later_of (context_of c.now) later.now))) }
+{
+    match operand {
+        Stage::Known(v, rest) => changed_by(alloc, c, kind, a, s, later, v, rest),
         Stage::Waits(action) => Ok(Stage::Waits(action)),
         Stage::Traps(rest) => Ok(Stage::Traps(rest)),
     }
@@ -247,16 +252,16 @@ fn one_more(
     )
 }
 
-fn moved_on<'p, 'm>(
+fn moved_on<'m>(
     alloc: Global,
-    c: Context<'p>,
-    a: &'p Place,
+    c: &Context<'_>,
+    a: &Place,
     down: bool,
     s: &Option<Spot>,
     old: Stage<'m, Option<Value>>,
 ) -> Result<Stage<'m, Option<Value>>, NoMemory>
-    requires { AreSized c.program.now.structures c.program.now.target }
-    ensures { IfOk result (λ r. progress_of r ≡ and_then (progress_of old.entry) (stepped_back (context_of c.entry) (designation (context_of c.entry) a.now) down s.now)) }
+    requires { AreSized c.now.program.now.structures c.now.program.now.target }
+    ensures { IfOk result (λ r. progress_of r ≡ and_then (progress_of old.entry) (stepped_back (context_of c.now) (designation (context_of c.now) a.now) down s.now)) }
 {
     match old {
         Stage::Known(v, rest) => {
@@ -270,16 +275,16 @@ fn moved_on<'p, 'm>(
 
 /// `a++` and `a--`, once it is known where a leads.
 #[inline(never)]
-pub fn stepped_by_one<'p, 'm>(
+pub fn stepped_by_one<'m>(
     alloc: Global,
-    c: Context<'p>,
-    a: &'p Place,
+    c: &Context<'_>,
+    a: &Place,
     down: bool,
     later: &Later<'_>,
     s: Stage<'m, Option<Spot>>,
 ) -> Result<Stage<'m, Option<Value>>, NoMemory>
-    requires { AreSized c.program.now.structures c.program.now.target }
-    ensures { IfOk result (λ r. progress_of r ≡ and_then (progress_of s.entry) (stepped_with (context_of c.entry) (designation (context_of c.entry) a.now) down (later_of (context_of c.entry) later.now))) }
+    requires { AreSized c.now.program.now.structures c.now.program.now.target }
+    ensures { IfOk result (λ r. progress_of r ≡ and_then (progress_of s.entry) (stepped_with (context_of c.now) (designation (context_of c.now) a.now) down (later_of (context_of c.now) later.now))) }
 {
     match s {
         Stage::Known(s, rest) => {
@@ -317,12 +322,12 @@ pub fn addressed<'m>(s: Stage<'m, Option<Spot>>) -> Stage<'m, Option<Value>>
 
 fn element_at(
     alloc: Global,
-    c: Context,
+    c: &Context,
     t: Option<PlaceType>,
     s: &Option<Spot>,
     i: &Option<Value>,
 ) -> Result<Option<Spot>, NoMemory>
-    ensures { IfOk result (λ r. r ≡ element_at_of (context_of c.entry) (option_map place_view t.entry) s.now i.now) }
+    ensures { IfOk result (λ r. r ≡ element_at_of (context_of c.now) (option_map place_view t.entry) s.now i.now) }
 {
     match (t, s, integer(i)) {
         (Some(t), Some(s), Some(i)) => element(alloc, c.program, i, t, s),
@@ -330,23 +335,22 @@ fn element_at(
     }
 }
 
-/// `a[i]`, once it is known where a leads and what i gives.
+/// `a[i]`, once it is known where a leads.
 #[inline(never)]
-pub fn subscripted<'p, 'm>(
+pub fn subscripted<'m>(
     alloc: Global,
-    c: Context<'p>,
-    a: &'p Place,
-    operands: Stage<'m, (Option<Spot>, Option<Value>)>,
+    c: &Context<'_>,
+    a: &Place,
+    s: &Option<Spot>,
+    index: Stage<'m, Option<Value>>,
 ) -> Result<Stage<'m, Option<Spot>>, NoMemory>
-    requires { AreSized c.program.now.structures c.program.now.target }
-    ensures { IfOk result (λ r. progress_of r ≡ and_then (progress_of operands.entry) (λ p. known (element_at_of (context_of c.entry) (designation (context_of c.entry) a.now).ctype p.0 p.1))) }
+    requires { AreSized c.now.program.now.structures c.now.program.now.target }
+    ensures { IfOk result (λ r. progress_of r ≡ and_then (and_then (progress_of index.entry) (λ i. known (s.now, i))) (element_gives (context_of c.now) (designation (context_of c.now) a.now))) }
 {
-    match operands {
-        Stage::Known(both, rest) => {
-            Ok(Stage::Known(
-                element_at(alloc, c, place_type(c, a), &both.0, &both.1)?,
-                rest,
-            ))
+    match index {
+        Stage::Known(i, rest) => {
+            let element = element_at(alloc, c, place_type(c, a), s, &i)?;
+            Ok(Stage::Known(element, rest))
         }
         Stage::Waits(action) => Ok(Stage::Waits(action)),
         Stage::Traps(rest) => Ok(Stage::Traps(rest)),
@@ -355,12 +359,12 @@ pub fn subscripted<'p, 'm>(
 
 fn member_at(
     alloc: Global,
-    c: Context,
+    c: &Context,
     m: u32,
     t: Option<PlaceType>,
     s: &Option<Spot>,
 ) -> Result<Option<Spot>, NoMemory>
-    ensures { IfOk result (λ r. r ≡ of_two (option_map place_view t.entry) s.now (member_in_place (context_of c.entry).program m)) }
+    ensures { IfOk result (λ r. r ≡ of_two (option_map place_view t.entry) s.now (member_in_place (context_of c.now).program m)) }
 {
     match (t, s) {
         (Some(t), Some(s)) => member(alloc, c.program, m, t, s),
@@ -370,15 +374,15 @@ fn member_at(
 
 /// `a.m`, once it is known where a leads.
 #[inline(never)]
-pub fn selected<'p, 'm>(
+pub fn selected<'m>(
     alloc: Global,
-    c: Context<'p>,
-    a: &'p Place,
+    c: &Context<'_>,
+    a: &Place,
     m: u32,
     s: Stage<'m, Option<Spot>>,
 ) -> Result<Stage<'m, Option<Spot>>, NoMemory>
-    requires { AreSized c.program.now.structures c.program.now.target }
-    ensures { IfOk result (λ r. progress_of r ≡ and_then (progress_of s.entry) (λ s. known (of_two (designation (context_of c.entry) a.now).ctype s (member_in_place (context_of c.entry).program m)))) }
+    requires { AreSized c.now.program.now.structures c.now.program.now.target }
+    ensures { IfOk result (λ r. progress_of r ≡ and_then (progress_of s.entry) (λ s. known (of_two (designation (context_of c.now) a.now).ctype s (member_in_place (context_of c.now).program m)))) }
 {
     match s {
         Stage::Known(s, rest) => {
@@ -389,4 +393,5 @@ pub fn selected<'p, 'm>(
     }
 }
 
-ghost use Rattle.cc_eval.specs.Eval.{changed_back, changed_with, stepped_back, stepped_with};
+ghost use Rattle.cc_eval.specs.Eval.{changed_back, stepped_back, stepped_with};
+ghost use Rattle.cc_eval.specs.Operands.{change_gives, element_gives};

@@ -3,19 +3,17 @@
 ghost use Rattle.std.specs.Prelude.{◌≡◌, IfOk, map};
 ghost use Rattle.cc_syntax.specs.Sizes.{AreSized};
 ghost use Rattle.cc_eval.specs.Eval.{meaning, designation, both_values, place_and_value, both as both_of, either as either_of, chosen_arm as chosen_arm_of, each as each_of, called_with as called_with_of, intrinsic as intrinsic_of, restored as restored_of, sequence as sequence_of, next_of as next_of_whole};
-ghost use Rattle.cc_eval.specs.Operands.{one_gives, two_give, place_gives, change_gives};
+ghost use Rattle.cc_eval.specs.Operands.{one_gives, two_give, place_gives, change_gives, element_gives};
 ghost use Rattle.cc_eval.specs.Progress.{and_then};
 ghost use Rattle.cc_eval.specs.View.{context_of, later_of, progress_of};
 
-use crate::accesses::{
-    addressed, assigned, changed_by, fetched, selected, stepped_by_one, subscripted,
-};
+use crate::accesses::{addressed, changed_with, fetched, selected, stepped_by_one, subscripted};
 use crate::context::Context;
 use crate::effects::{Later, is_pure};
 use crate::mark::Mark;
 use crate::operations::{
-    arm_of, as_condition, binary_of, both_known, called_by, compared, condition, converted,
-    flagged, gap_between, moved_by, place_and_known, restored_by, saved, spot_of, unary_of,
+    arm_of, as_condition, called_by, condition, converted, flagged, restored_by, saved, spot_of,
+    unary_of, with_second,
 };
 use crate::operators::{AtPlace, OneOperand, ToPlace, TwoOperands};
 use crate::progress::{Stage, outcome};
@@ -29,13 +27,13 @@ use std::alloc::Global;
 #[tactic(auto, unfolding(crate::specs::Eval::meaning, crate::specs::Eval::designation))]
 pub fn next<'e, 'm>(
     alloc: Global,
-    c: Context<'e>,
+    c: &Context<'_>,
     e: &'e Expr,
     later: &'e Later<'e>,
     marks: &'m [Mark],
 ) -> Result<Stage<'m, Option<Value>>, NoMemory>
-    requires { AreSized c.program.now.structures c.program.now.target }
-    ensures { IfOk result (λ s. progress_of s ≡ (meaning (context_of c.entry) e.now).next (later_of (context_of c.entry) later.now) marks.now) }
+    requires { AreSized c.now.program.now.structures c.now.program.now.target }
+    ensures { IfOk result (λ s. progress_of s ≡ (meaning (context_of c.now) e.now).next (later_of (context_of c.now) later.now) marks.now) }
 {
     match e {
         Expr::Const(n, _) => Ok(Stage::Known(Some(Value::Int(*n)), marks)),
@@ -130,14 +128,14 @@ pub fn next<'e, 'm>(
 #[cycle(next)]
 fn of_one<'e, 'm>(
     alloc: Global,
-    c: Context<'e>,
+    c: &Context<'_>,
     kind: OneOperand,
     a: &'e Expr,
     later: &'e Later<'e>,
     marks: &'m [Mark],
 ) -> Result<Stage<'m, Option<Value>>, NoMemory>
-    requires { AreSized c.program.now.structures c.program.now.target }
-    ensures { IfOk result (λ s. progress_of s ≡ and_then ((meaning (context_of c.entry) a.now).next (later_of (context_of c.entry) later.now) marks.now) (one_gives kind (context_of c.entry).program.target)) }
+    requires { AreSized c.now.program.now.structures c.now.program.now.target }
+    ensures { IfOk result (λ s. progress_of s ≡ and_then ((meaning (context_of c.now) a.now).next (later_of (context_of c.now) later.now) marks.now) (one_gives kind (context_of c.now).program.target)) }
 {
     let operand = next(alloc, c, a, later, marks)?;
     match kind {
@@ -152,22 +150,23 @@ fn of_one<'e, 'm>(
 #[cycle(next)]
 fn of_both<'e, 'm>(
     alloc: Global,
-    c: Context<'e>,
+    c: &Context<'_>,
     kind: TwoOperands,
     a: &'e Expr,
     b: &'e Expr,
     later: &'e Later<'e>,
     marks: &'m [Mark],
 ) -> Result<Stage<'m, Option<Value>>, NoMemory>
-    requires { AreSized c.program.now.structures c.program.now.target }
-    ensures { IfOk result (λ s. progress_of s ≡ and_then (both_values (meaning (context_of c.entry) a.now) (meaning (context_of c.entry) b.now) (later_of (context_of c.entry) later.now) marks.now) (two_give kind (context_of c.entry).program.target)) }
+    requires { AreSized c.now.program.now.structures c.now.program.now.target }
+    ensures { IfOk result (λ s. progress_of s ≡ and_then (both_values (meaning (context_of c.now) a.now) (meaning (context_of c.now) b.now) (later_of (context_of c.now) later.now) marks.now) (two_give kind (context_of c.now).program.target)) }
 {
-    let operands = two(alloc, c, a, b, later, marks)?;
-    match kind {
-        TwoOperands::Operator(op, t) => Ok(binary_of(op, t, &c.program.target, operands)),
-        TwoOperands::Movement(back) => moved_by(alloc, back, operands),
-        TwoOperands::Difference => Ok(gap_between(&c.program.target, operands)),
-        TwoOperands::Comparison(op) => Ok(compared(op, operands)),
+    match next(alloc, c, a, &Later::Behind(b, later), marks)? {
+        Stage::Known(v, rest) => {
+            let second = next(alloc, c, b, later, rest)?;
+            with_second(alloc, kind, &c.program.target, &v, second)
+        }
+        Stage::Waits(action) => Ok(Stage::Waits(action)),
+        Stage::Traps(rest) => Ok(Stage::Traps(rest)),
     }
 }
 
@@ -176,14 +175,14 @@ fn of_both<'e, 'm>(
 #[cycle(next)]
 fn at_place<'e, 'm>(
     alloc: Global,
-    c: Context<'e>,
+    c: &Context<'_>,
     kind: AtPlace,
     a: &'e Place,
     later: &'e Later<'e>,
     marks: &'m [Mark],
 ) -> Result<Stage<'m, Option<Value>>, NoMemory>
-    requires { AreSized c.program.now.structures c.program.now.target }
-    ensures { IfOk result (λ s. progress_of s ≡ and_then ((designation (context_of c.entry) a.now).leads (later_of (context_of c.entry) later.now) marks.now) (place_gives (context_of c.entry) kind (designation (context_of c.entry) a.now) (later_of (context_of c.entry) later.now))) }
+    requires { AreSized c.now.program.now.structures c.now.program.now.target }
+    ensures { IfOk result (λ s. progress_of s ≡ and_then ((designation (context_of c.now) a.now).leads (later_of (context_of c.now) later.now) marks.now) (place_gives (context_of c.now) kind (designation (context_of c.now) a.now) (later_of (context_of c.now) later.now))) }
 {
     let spot = leads(alloc, c, a, later, marks)?;
     match kind {
@@ -198,60 +197,45 @@ fn at_place<'e, 'm>(
 #[cycle(next)]
 fn to_place<'e, 'm>(
     alloc: Global,
-    c: Context<'e>,
+    c: &Context<'_>,
     kind: ToPlace,
     a: &'e Place,
     e: &'e Expr,
     later: &'e Later<'e>,
     marks: &'m [Mark],
 ) -> Result<Stage<'m, Option<Value>>, NoMemory>
-    requires { AreSized c.program.now.structures c.program.now.target }
-    ensures { IfOk result (λ s. progress_of s ≡ and_then (place_and_value (designation (context_of c.entry) a.now) (meaning (context_of c.entry) e.now) (later_of (context_of c.entry) later.now) marks.now) (change_gives (context_of c.entry) kind (designation (context_of c.entry) a.now) (later_of (context_of c.entry) later.now))) }
+    requires { AreSized c.now.program.now.structures c.now.program.now.target }
+    ensures { IfOk result (λ s. progress_of s ≡ and_then (place_and_value (designation (context_of c.now) a.now) (meaning (context_of c.now) e.now) (later_of (context_of c.now) later.now) marks.now) (change_gives (context_of c.now) kind (designation (context_of c.now) a.now) (later_of (context_of c.now) later.now))) }
 {
-    let operands = place_and_one(alloc, c, a, e, later, marks)?;
-    match kind {
-        ToPlace::Assign => assigned(alloc, c, a, operands),
-        ToPlace::Change(op, t) => changed_by(alloc, c, a, op, t, later, operands),
-    }
-}
-
-/// Two operands, from left to right.
-#[inline(never)]
-#[cycle(next)]
-fn two<'e, 'm>(
-    alloc: Global,
-    c: Context<'e>,
-    a: &'e Expr,
-    b: &'e Expr,
-    later: &'e Later<'e>,
-    marks: &'m [Mark],
-) -> Result<Stage<'m, (Option<Value>, Option<Value>)>, NoMemory>
-    requires { AreSized c.program.now.structures c.program.now.target }
-    ensures { IfOk result (λ s. progress_of s ≡ both_values (meaning (context_of c.entry) a.now) (meaning (context_of c.entry) b.now) (later_of (context_of c.entry) later.now) marks.now) }
-{
-    match next(alloc, c, a, &Later::Behind(b, later), marks)? {
-        Stage::Known(v, rest) => Ok(both_known(v, next(alloc, c, b, later, rest)?)),
+    match leads(alloc, c, a, &Later::Behind(e, later), marks)? {
+        Stage::Known(s, rest) => {
+            let operand = next(alloc, c, e, later, rest)?;
+            changed_with(alloc, c, kind, a, &s, later, operand)
+        }
         Stage::Waits(action) => Ok(Stage::Waits(action)),
         Stage::Traps(rest) => Ok(Stage::Traps(rest)),
     }
 }
 
-/// Where a place leads, and then an operand.
+/// Where an element of an array leads.
 #[inline(never)]
 #[cycle(next)]
-fn place_and_one<'e, 'm>(
+fn element<'e, 'm>(
     alloc: Global,
-    c: Context<'e>,
+    c: &Context<'_>,
     a: &'e Place,
-    e: &'e Expr,
+    i: &'e Expr,
     later: &'e Later<'e>,
     marks: &'m [Mark],
-) -> Result<Stage<'m, (Option<Spot>, Option<Value>)>, NoMemory>
-    requires { AreSized c.program.now.structures c.program.now.target }
-    ensures { IfOk result (λ s. progress_of s ≡ place_and_value (designation (context_of c.entry) a.now) (meaning (context_of c.entry) e.now) (later_of (context_of c.entry) later.now) marks.now) }
+) -> Result<Stage<'m, Option<Spot>>, NoMemory>
+    requires { AreSized c.now.program.now.structures c.now.program.now.target }
+    ensures { IfOk result (λ s. progress_of s ≡ and_then (place_and_value (designation (context_of c.now) a.now) (meaning (context_of c.now) i.now) (later_of (context_of c.now) later.now) marks.now) (element_gives (context_of c.now) (designation (context_of c.now) a.now))) }
 {
-    match leads(alloc, c, a, &Later::Behind(e, later), marks)? {
-        Stage::Known(s, rest) => Ok(place_and_known(s, next(alloc, c, e, later, rest)?)),
+    match leads(alloc, c, a, &Later::Behind(i, later), marks)? {
+        Stage::Known(s, rest) => {
+            let index = next(alloc, c, i, later, rest)?;
+            subscripted(alloc, c, a, &s, index)
+        }
         Stage::Waits(action) => Ok(Stage::Waits(action)),
         Stage::Traps(rest) => Ok(Stage::Traps(rest)),
     }
@@ -262,13 +246,13 @@ fn place_and_one<'e, 'm>(
 #[tactic(auto, unfolding(crate::specs::Eval::meaning, crate::specs::Eval::designation))]
 pub fn leads<'e, 'm>(
     alloc: Global,
-    c: Context<'e>,
+    c: &Context<'_>,
     a: &'e Place,
     later: &'e Later<'e>,
     marks: &'m [Mark],
 ) -> Result<Stage<'m, Option<Spot>>, NoMemory>
-    requires { AreSized c.program.now.structures c.program.now.target }
-    ensures { IfOk result (λ s. progress_of s ≡ (designation (context_of c.entry) a.now).leads (later_of (context_of c.entry) later.now) marks.now) }
+    requires { AreSized c.now.program.now.structures c.now.program.now.target }
+    ensures { IfOk result (λ s. progress_of s ≡ (designation (context_of c.now) a.now).leads (later_of (context_of c.now) later.now) marks.now) }
 {
     match a {
         Place::Local(r) => {
@@ -281,10 +265,7 @@ pub fn leads<'e, 'm>(
         }
         Place::Static(i) => Ok(Stage::Known(Some(whole(alloc, Root::Static(*i))), marks)),
         Place::Device(d) => Ok(Stage::Known(Some(Spot::Device(*d)), marks)),
-        Place::Element(a, i) => {
-            let operands = place_and_one(alloc, c, a.get(), i.get(), later, marks)?;
-            subscripted(alloc, c, a.get(), operands)
-        }
+        Place::Element(a, i) => element(alloc, c, a.get(), i.get(), later, marks),
         Place::Member(a, m) => {
             selected(
                 alloc,
@@ -310,15 +291,15 @@ fn whole(alloc: Global, object: Root) -> Spot
 #[cycle(next)]
 fn both<'e, 'm>(
     alloc: Global,
-    c: Context<'e>,
+    c: &Context<'_>,
     is_pure: bool,
     a: &'e Expr,
     b: &'e Expr,
     later: &'e Later<'e>,
     marks: &'m [Mark],
 ) -> Result<Stage<'m, Option<Value>>, NoMemory>
-    requires { AreSized c.program.now.structures c.program.now.target }
-    ensures { IfOk result (λ s. progress_of s ≡ both_of is_pure (meaning (context_of c.entry) a.now) (meaning (context_of c.entry) b.now) (later_of (context_of c.entry) later.now) marks.now) }
+    requires { AreSized c.now.program.now.structures c.now.program.now.target }
+    ensures { IfOk result (λ s. progress_of s ≡ both_of is_pure (meaning (context_of c.now) a.now) (meaning (context_of c.now) b.now) (later_of (context_of c.now) later.now) marks.now) }
 {
     match condition(
         alloc,
@@ -340,15 +321,15 @@ fn both<'e, 'm>(
 #[cycle(next)]
 fn either<'e, 'm>(
     alloc: Global,
-    c: Context<'e>,
+    c: &Context<'_>,
     is_pure: bool,
     a: &'e Expr,
     b: &'e Expr,
     later: &'e Later<'e>,
     marks: &'m [Mark],
 ) -> Result<Stage<'m, Option<Value>>, NoMemory>
-    requires { AreSized c.program.now.structures c.program.now.target }
-    ensures { IfOk result (λ s. progress_of s ≡ either_of is_pure (meaning (context_of c.entry) a.now) (meaning (context_of c.entry) b.now) (later_of (context_of c.entry) later.now) marks.now) }
+    requires { AreSized c.now.program.now.structures c.now.program.now.target }
+    ensures { IfOk result (λ s. progress_of s ≡ either_of is_pure (meaning (context_of c.now) a.now) (meaning (context_of c.now) b.now) (later_of (context_of c.now) later.now) marks.now) }
 {
     match condition(
         alloc,
@@ -370,7 +351,7 @@ fn either<'e, 'm>(
 #[cycle(next)]
 fn chosen_arm<'e, 'm>(
     alloc: Global,
-    c: Context<'e>,
+    c: &Context<'_>,
     is_pure: bool,
     d: &'e Expr,
     a: &'e Expr,
@@ -378,8 +359,8 @@ fn chosen_arm<'e, 'm>(
     later: &'e Later<'e>,
     marks: &'m [Mark],
 ) -> Result<Stage<'m, Option<Value>>, NoMemory>
-    requires { AreSized c.program.now.structures c.program.now.target }
-    ensures { IfOk result (λ s. progress_of s ≡ chosen_arm_of is_pure (meaning (context_of c.entry) d.now) (meaning (context_of c.entry) a.now) (meaning (context_of c.entry) b.now) (later_of (context_of c.entry) later.now) marks.now) }
+    requires { AreSized c.now.program.now.structures c.now.program.now.target }
+    ensures { IfOk result (λ s. progress_of s ≡ chosen_arm_of is_pure (meaning (context_of c.now) d.now) (meaning (context_of c.now) a.now) (meaning (context_of c.now) b.now) (later_of (context_of c.now) later.now) marks.now) }
 {
     match condition(
         alloc,
@@ -401,13 +382,13 @@ fn chosen_arm<'e, 'm>(
 #[tactic(auto, using(crate::proofs::EachLemmas::of_each))]
 fn each<'e, 'm>(
     alloc: Global,
-    c: Context<'e>,
+    c: &Context<'_>,
     args: &'e [Expr],
     later: &'e Later<'e>,
     marks: &'m [Mark],
 ) -> Result<Stage<'m, List<Option<Value>>>, NoMemory>
-    requires { AreSized c.program.now.structures c.program.now.target }
-    ensures { IfOk result (λ s. progress_of s ≡ each_of (map (meaning (context_of c.entry)) args.now) (later_of (context_of c.entry) later.now) marks.now) }
+    requires { AreSized c.now.program.now.structures c.now.program.now.target }
+    ensures { IfOk result (λ s. progress_of s ≡ each_of (map (meaning (context_of c.now)) args.now) (later_of (context_of c.now) later.now) marks.now) }
 {
     let mut values = Vec::new(alloc);
     let mut left = marks;
@@ -435,13 +416,13 @@ fn each<'e, 'm>(
 #[cycle(next)]
 fn call<'e, 'm>(
     alloc: Global,
-    c: Context<'e>,
+    c: &Context<'_>,
     args: &'e List<Expr>,
     later: &'e Later<'e>,
     callee: Stage<'m, Option<Value>>,
 ) -> Result<Stage<'m, Option<Value>>, NoMemory>
-    requires { AreSized c.program.now.structures c.program.now.target }
-    ensures { IfOk result (λ s. progress_of s ≡ and_then (progress_of callee.entry) (called_with_of (map (meaning (context_of c.entry)) args.now) (later_of (context_of c.entry) later.now))) }
+    requires { AreSized c.now.program.now.structures c.now.program.now.target }
+    ensures { IfOk result (λ s. progress_of s ≡ and_then (progress_of callee.entry) (called_with_of (map (meaning (context_of c.now)) args.now) (later_of (context_of c.now) later.now))) }
 {
     match callee {
         Stage::Known(callee, rest) => {
@@ -457,14 +438,14 @@ fn call<'e, 'm>(
 #[cycle(next)]
 fn sequence<'e, 'm>(
     alloc: Global,
-    c: Context<'e>,
+    c: &Context<'_>,
     a: &'e Expr,
     b: &'e Expr,
     later: &'e Later<'e>,
     marks: &'m [Mark],
 ) -> Result<Stage<'m, Option<Value>>, NoMemory>
-    requires { AreSized c.program.now.structures c.program.now.target }
-    ensures { IfOk result (λ s. progress_of s ≡ sequence_of (meaning (context_of c.entry) a.now) (meaning (context_of c.entry) b.now) (later_of (context_of c.entry) later.now) marks.now) }
+    requires { AreSized c.now.program.now.structures c.now.program.now.target }
+    ensures { IfOk result (λ s. progress_of s ≡ sequence_of (meaning (context_of c.now) a.now) (meaning (context_of c.now) b.now) (later_of (context_of c.now) later.now) marks.now) }
 {
     match next(alloc, c, a, &Later::Behind(b, later), marks)? {
         Stage::Known(None, rest) => Ok(Stage::Traps(rest)),
@@ -484,7 +465,7 @@ pub fn next_of<'e, 'm>(
     requires { AreSized c.program.now.structures c.program.now.target }
     ensures { IfOk result (λ s. progress_of s ≡ next_of_whole (context_of c.entry) e.now marks.now) }
 {
-    next(alloc, c, e, &Later::Nothing, marks)
+    next(alloc, &c, e, &Later::Nothing, marks)
 }
 
 ghost use Rattle.std.specs.Prelude.{[]};

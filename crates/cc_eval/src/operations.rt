@@ -1,27 +1,26 @@
 //! What follows once operands are known.
 
-ghost use Rattle.std.specs.Prelude.{◌≡◌, IfOk, option_map};
+ghost use Rattle.std.specs.Prelude.{◌≡◌, IfOk, option_map, List as Items};
 ghost use Rattle.cc_program.specs.declared.value.Value.TheVariants.{Place};
 ghost use Rattle.cc_eval.specs.declared.action.Action.TheVariants.{Flag, Save};
 ghost use Rattle.cc_eval.specs.declared.spots.Spot.TheVariants.{Address as AddressSpot};
 ghost use Rattle.cc_eval.specs.Eval.{branch as branch_of, outcome as outcome_of, all_good as all_good_of};
+ghost use Rattle.cc_eval.specs.Operands.{two_give};
 ghost use Rattle.cc_eval.specs.Progress.{and_then, bind, known, ask, needs, given as given_of};
-ghost use Rattle.cc_values.specs.Values.{address_in as address_in_of, truth as truth_of, of_truth as of_truth_of, unary as unary_value, binary as binary_value, conversion as conversion_value, movement as movement_value, gap as gap_value, comparison as comparison_value};
+ghost use Rattle.cc_values.specs.Values.{address_in as address_in_of, truth as truth_of, of_truth as of_truth_of, unary as unary_value, conversion as conversion_value};
 ghost use Rattle.cc_eval.specs.View.{progress_of};
 
 use crate::action::Action;
 use crate::mark::Mark;
+use crate::operators::TwoOperands;
 use crate::progress::{Stage, ask_value, branch, called, outcome, restored};
 use crate::spots::Spot;
-use cc_num::{BinOp, IntType, List, NoMemory, Target, UnOp};
+use cc_num::{IntType, List, NoMemory, Target, UnOp};
 use cc_program::Value;
 use cc_values::{
     address_in, binary, comparison, conversion, gap, movement, of_truth, truth, unary,
 };
 use std::alloc::Global;
-
-/// Two values, as two operands give them.
-pub type Two = (Option<Value>, Option<Value>);
 
 /// An operator of one operand.
 #[inline(never)]
@@ -35,23 +34,6 @@ pub fn unary_of<'m>(
 {
     match a {
         Stage::Known(v, rest) => Stage::Known(unary(op, t, target, &v), rest),
-        Stage::Waits(action) => Stage::Waits(action),
-        Stage::Traps(rest) => Stage::Traps(rest),
-    }
-}
-
-/// An operator of two operands.
-#[inline(never)]
-pub fn binary_of<'m>(
-    op: BinOp,
-    t: IntType,
-    target: &Target,
-    operands: Stage<'m, Two>,
-) -> Stage<'m, Option<Value>>
-    ensures { progress_of result ≡ and_then (progress_of operands.entry) (λ p. known (binary_value op t target.now p.0 p.1)) }
-{
-    match operands {
-        Stage::Known(both, rest) => { Stage::Known(binary(op, t, target, &both.0, &both.1), rest) }
         Stage::Waits(action) => Stage::Waits(action),
         Stage::Traps(rest) => Stage::Traps(rest),
     }
@@ -73,70 +55,39 @@ pub fn converted<'m>(
     }
 }
 
-/// A pointer that is moved.
-#[inline(never)]
-pub fn moved_by<'m>(
+/// What two operands give.
+fn of_two(
     alloc: Global,
-    back: bool,
-    operands: Stage<'m, Two>,
-) -> Result<Stage<'m, Option<Value>>, NoMemory>
-    ensures { IfOk result (λ r. progress_of r ≡ and_then (progress_of operands.entry) (λ p. known (movement_value back p.0 p.1))) }
+    kind: TwoOperands,
+    target: &Target,
+    v: &Option<Value>,
+    w: &Option<Value>,
+) -> Result<Option<Value>, NoMemory>
+    ensures { IfOk result (λ r. (ms : Items Mark) → known r ms ≡ two_give kind target.now (v.now, w.now) ms) }
 {
-    match operands {
-        Stage::Known(both, rest) => {
-            Ok(Stage::Known(movement(alloc, back, &both.0, &both.1)?, rest))
-        }
+    match kind {
+        TwoOperands::Operator(op, t) => Ok(binary(op, t, target, v, w)),
+        TwoOperands::Movement(back) => movement(alloc, back, v, w),
+        TwoOperands::Difference => Ok(gap(target, v, w)),
+        TwoOperands::Comparison(op) => Ok(comparison(op, v, w)),
+    }
+}
+
+/// What two operands give, once the first is known.
+#[inline(never)]
+pub fn with_second<'m>(
+    alloc: Global,
+    kind: TwoOperands,
+    target: &Target,
+    v: &Option<Value>,
+    second: Stage<'m, Option<Value>>,
+) -> Result<Stage<'m, Option<Value>>, NoMemory>
+    ensures { IfOk result (λ r. progress_of r ≡ and_then (and_then (progress_of second.entry) (λ w. known (v.now, w))) (two_give kind target.now)) }
+{
+    match second {
+        Stage::Known(w, rest) => Ok(Stage::Known(of_two(alloc, kind, target, v, &w)?, rest)),
         Stage::Waits(action) => Ok(Stage::Waits(action)),
         Stage::Traps(rest) => Ok(Stage::Traps(rest)),
-    }
-}
-
-/// The difference of two pointers.
-#[inline(never)]
-pub fn gap_between<'m>(target: &Target, operands: Stage<'m, Two>) -> Stage<'m, Option<Value>>
-    ensures { progress_of result ≡ and_then (progress_of operands.entry) (λ p. known (gap_value target.now p.0 p.1)) }
-{
-    match operands {
-        Stage::Known(both, rest) => Stage::Known(gap(target, &both.0, &both.1), rest),
-        Stage::Waits(action) => Stage::Waits(action),
-        Stage::Traps(rest) => Stage::Traps(rest),
-    }
-}
-
-/// A comparison of two pointers.
-#[inline(never)]
-pub fn compared<'m>(op: BinOp, operands: Stage<'m, Two>) -> Stage<'m, Option<Value>>
-    ensures { progress_of result ≡ and_then (progress_of operands.entry) (λ p. known (comparison_value op p.0 p.1)) }
-{
-    match operands {
-        Stage::Known(both, rest) => Stage::Known(comparison(op, &both.0, &both.1), rest),
-        Stage::Waits(action) => Stage::Waits(action),
-        Stage::Traps(rest) => Stage::Traps(rest),
-    }
-}
-
-/// A value in front of what a second operand gives.
-pub fn both_known<'m>(v: Option<Value>, b: Stage<'m, Option<Value>>) -> Stage<'m, Two>
-    ensures { progress_of result ≡ and_then (progress_of b.entry) (λ w. known (v, w)) }
-{
-    match b {
-        Stage::Known(w, rest) => Stage::Known((v, w), rest),
-        Stage::Waits(action) => Stage::Waits(action),
-        Stage::Traps(rest) => Stage::Traps(rest),
-    }
-}
-
-/// Where a place leads, in front of what a second operand gives.
-pub fn place_and_known<'m>(
-    s: Option<Spot>,
-    b: Stage<'m, Option<Value>>,
-) -> Stage<'m, (Option<Spot>, Option<Value>)>
-    ensures { progress_of result ≡ and_then (progress_of b.entry) (λ w. known (s, w)) }
-{
-    match b {
-        Stage::Known(w, rest) => Stage::Known((s, w), rest),
-        Stage::Waits(action) => Stage::Waits(action),
-        Stage::Traps(rest) => Stage::Traps(rest),
     }
 }
 

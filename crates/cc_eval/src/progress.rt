@@ -4,7 +4,8 @@ ghost use Rattle.std.specs.Prelude.{◌≡◌, IfOk, Some, false, true};
 ghost use Rattle.std.specs.Option.{option_copied};
 ghost use Rattle.cc_eval.specs.declared.action.Action.TheVariants.{Write, Choose, Call, Flag};
 ghost use Rattle.cc_eval.specs.Eval.{branch as branch_of, outcome as outcome_of, all_good as all_good_of};
-ghost use Rattle.cc_eval.specs.Progress.{ask, needs, given as given_of, chosen as chosen_of};
+ghost use Rattle.cc_eval.specs.Progress.{known, ask, needs, given as given_of, chosen as chosen_of};
+ghost use Rattle.cc_eval.specs.Progress.Progress.{Waits as WaitsFor};
 ghost use Rattle.cc_values.specs.Values.{address_in as address_in_of, truth as truth_of};
 ghost use Rattle.cc_eval.specs.View.{progress_of};
 
@@ -47,6 +48,24 @@ fn given(alloc: Global, mark: &Mark) -> Result<Option<Value>, NoMemory>
     }
 }
 
+/// A step is waited for.
+fn waits<'m, T>(alloc: Global, action: Action) -> Result<Stage<'m, T>, NoMemory>
+    ensures { IfOk result (λ s. progress_of s ≡ WaitsFor action) }
+{
+    Ok(Stage::Waits(Boxed::new(alloc, action)?))
+}
+
+/// What a mark gives, in front of those behind it.
+fn answered<'m>(
+    alloc: Global,
+    mark: &Mark,
+    rest: &'m [Mark],
+) -> Result<Stage<'m, Option<Value>>, NoMemory>
+    ensures { IfOk result (λ s. progress_of s ≡ known (given_of mark.now) rest.now) }
+{
+    Ok(Stage::Known(given(alloc, mark)?, rest))
+}
+
 /// A step that gives a value.
 pub fn ask_value<'m>(
     alloc: Global,
@@ -56,8 +75,8 @@ pub fn ask_value<'m>(
     ensures { IfOk result (λ s. progress_of s ≡ ask action given_of marks.now) }
 {
     match marks {
-        [] => Ok(Stage::Waits(Boxed::new(alloc, action)?)),
-        [mark, rest @ ..] => Ok(Stage::Known(given(alloc, mark)?, rest)),
+        [] => waits(alloc, action),
+        [mark, rest @ ..] => answered(alloc, mark, rest),
     }
 }
 
@@ -73,7 +92,7 @@ pub fn ask_write<'m>(
     ensures { IfOk result (λ s. progress_of s ≡ ask (Write cell is_event value) (λ m. answer) marks.now) }
 {
     match marks {
-        [] => Ok(Stage::Waits(Boxed::new(alloc, Action::Write(cell, is_event, value))?)),
+        [] => waits(alloc, Action::Write(cell, is_event, value)),
         [_, rest @ ..] => Ok(Stage::Known(answer, rest)),
     }
 }
@@ -96,7 +115,7 @@ fn ask_choice<'m>(
     ensures { IfOk result (λ s. progress_of s ≡ ask (Choose condition) chosen_of marks.now) }
 {
     match marks {
-        [] => Ok(Stage::Waits(Boxed::new(alloc, Action::Choose(condition))?)),
+        [] => waits(alloc, Action::Choose(condition)),
         [mark, rest @ ..] => Ok(Stage::Known(chosen(mark), rest)),
     }
 }

@@ -1,29 +1,30 @@
 use Rattle.std.proofs.Common.{◌≡◌, refl, ap, sym, ◌∙◌, map, Bool}
 use Rattle.cc_syntax.specs.Effects.{also}
-use Rattle.cc_eval.specs.Eval.{meaning, both, either, called_with, assigned_by}
+use Rattle.cc_eval.specs.Eval.{meaning, both, either, chosen_arm, called_with, assigned_by}
 use Rattle.cc_eval.specs.Progress.{and_then}
 use Rattle.cc_eval.specs.View.{context_of, later_of, progress_of}
 use Rattle.cc_eval.proofs.EachLemmas.{each_waits, each_traps, each_known}
 use Rattle.cc_eval.proofs.LaterLemmas.{all_behind, rest_behind}
-use Rattle.cc_eval.proofs.Level.{same_outcome, two_next, bin_level, move_level, gap_level, compare_level, both_level, either_level, call_level}
+use Rattle.cc_eval.proofs.Links.{pure_linked}
+use Rattle.cc_eval.proofs.Level.{same_outcome, choose_level, two_next, bin_level, move_level, gap_level, compare_level, both_level, either_level, call_level}
 use Rattle.cc_eval.specs.declared.operators.TwoOperands.TheVariants as two
 use Rattle.cc_eval.proofs.eval.+next.Goals as goal
 
 -- src/eval.rt:25:1
 pub next-returns-in-Both : goal.next-returns-in-Both
 next-returns-in-Both t c =
-    let at = context_of c.args.c in
+    let at = context_of c.args.c.now in
     let later = later_of at c.args.later.now in
     same_outcome c.both.result (λ s. progress_of s)
     (both c.is_pure-is_pure.result (meaning at c.get-in-Both.result.now) (meaning at c.get-in-Both-2.result.now) later c.args.marks.now) _
-    (ap (λ (pure : Bool). both pure (meaning at c.get-in-Both.result.now) (meaning at c.get-in-Both-2.result.now) later c.args.marks.now) c.is_pure-is_pure.ensures ∙
+    (ap (λ (pure : Bool). both pure (meaning at c.get-in-Both.result.now) (meaning at c.get-in-Both-2.result.now) later c.args.marks.now) (c.is_pure-is_pure.ensures ∙ sym (pure_linked at c.args.e.now later)) ∙
     rw (c.get-in-Both.ensures, c.get-in-Both-2.ensures) (both_level at c.args.e.now c.in-Both.a c.in-Both.b c.in-Both.is later c.args.marks.now))
     c.both.ensures
 
 -- src/eval.rt:26:1
 pub next-returns-in_ok-callee-in-Call : goal.next-returns-in_ok-callee-in-Call
 next-returns-in_ok-callee-in-Call t c =
-    let at = context_of c.args.c in
+    let at = context_of c.args.c.now in
     let later = later_of at c.args.later.now in
     let args = map (meaning at) c.in-Call.args in
     let known_callee : progress_of c.in_ok-callee-in-Call.callee ≡ (meaning at c.in-Call.f).next (also (assigned_by args) later) c.args.marks.now =
@@ -37,18 +38,28 @@ next-returns-in_ok-callee-in-Call t c =
 -- src/eval.rt:25:1
 pub next-returns-in-Either : goal.next-returns-in-Either
 next-returns-in-Either t c =
-    let at = context_of c.args.c in
+    let at = context_of c.args.c.now in
     let later = later_of at c.args.later.now in
     same_outcome c.either.result (λ s. progress_of s)
     (either c.is_pure-is_pure-in-Either.result (meaning at c.get-in-Either.result.now) (meaning at c.get-in-Either-2.result.now) later c.args.marks.now) _
-    (ap (λ (pure : Bool). either pure (meaning at c.get-in-Either.result.now) (meaning at c.get-in-Either-2.result.now) later c.args.marks.now) c.is_pure-is_pure-in-Either.ensures ∙
+    (ap (λ (pure : Bool). either pure (meaning at c.get-in-Either.result.now) (meaning at c.get-in-Either-2.result.now) later c.args.marks.now) (c.is_pure-is_pure-in-Either.ensures ∙ sym (pure_linked at c.args.e.now later)) ∙
     rw (c.get-in-Either.ensures, c.get-in-Either-2.ensures) (either_level at c.args.e.now c.in-Either.a c.in-Either.b c.in-Either.is later c.args.marks.now))
     c.either.ensures
+
+pub next-returns-in-Choose : goal.next-returns-in-Choose
+next-returns-in-Choose t c =
+    let at = context_of c.args.c.now in
+    let later = later_of at c.args.later.now in
+    same_outcome c.chosen_arm.result (λ s. progress_of s)
+    (chosen_arm c.is_pure-is_pure-in-Choose.result (meaning at c.get-in-Choose.result.now) (meaning at c.get-in-Choose-2.result.now) (meaning at c.get-in-Choose-3.result.now) later c.args.marks.now) _
+    (ap (λ (pure : Bool). chosen_arm pure (meaning at c.get-in-Choose.result.now) (meaning at c.get-in-Choose-2.result.now) (meaning at c.get-in-Choose-3.result.now) later c.args.marks.now) (c.is_pure-is_pure-in-Choose.ensures ∙ sym (pure_linked at c.args.e.now later)) ∙
+    rw (c.get-in-Choose.ensures, c.get-in-Choose-2.ensures, c.get-in-Choose-3.ensures) (choose_level at c.args.e.now c.in-Choose.d c.in-Choose.a c.in-Choose.b c.in-Choose.is later c.args.marks.now))
+    c.chosen_arm.ensures
 
 -- src/eval.rt:268:37
 pub each-returns-in-Waits : goal.each-returns-in-Waits
 each-returns-in-Waits t c =
-    let at = context_of c.args.c in
+    let at = context_of c.args.c.now in
     each_waits at (later_of at c.args.later.now) c.args.args.now c.loop-i.i c.index-args-i.result c.loop-i.left.now c.in-Waits.action c.loop-i.values.items _
     c.loop-i-test.true c.index-args-i.is c.loop-i.invariant
     (sym (ap (λ s. progress_of s) c.in-Waits.is) ∙ c.in_ok-v.ensures ∙
@@ -57,7 +68,7 @@ each-returns-in-Waits t c =
 -- src/eval.rt:269:35
 pub each-returns-in-Traps : goal.each-returns-in-Traps
 each-returns-in-Traps t c =
-    let at = context_of c.args.c in
+    let at = context_of c.args.c.now in
     each_traps at (later_of at c.args.later.now) c.args.args.now c.loop-i.i c.index-args-i.result c.loop-i.left.now c.in-Traps.rest.now c.loop-i.values.items _
     c.loop-i-test.true c.index-args-i.is c.loop-i.invariant
     (sym (ap (λ s. progress_of s) c.in-Traps.is) ∙ c.in_ok-v.ensures ∙
@@ -66,7 +77,7 @@ each-returns-in-Traps t c =
 -- src/eval.rt:262:5
 pub each-loop-i-preserved : goal.each-loop-i-preserved
 each-loop-i-preserved t c =
-    let at = context_of c.args.c in
+    let at = context_of c.args.c.now in
     rw (c.in_ok-push-in-Known.ensures.items)
     (each_known at (later_of at c.args.later.now) c.args.args.now c.loop-i.i c.index-args-i.result c.loop-i.left.now c.in-Known.rest.now c.in-Known.v c.loop-i.values.items _
     c.loop-i-test.true c.index-args-i.is c.loop-i.invariant
@@ -75,7 +86,7 @@ each-loop-i-preserved t c =
 
 pub next-returns-in-Bin : goal.next-returns-in-Bin
 next-returns-in-Bin t c =
-    let at = context_of c.args.c in
+    let at = context_of c.args.c.now in
     let later = later_of at c.args.later.now in
     same_outcome c.of_both.result (λ s. progress_of s) (two_next at (two.Operator c.in-Bin.op c.in-Bin.t) c.get-in-Bin.result.now c.get-in-Bin-2.result.now later c.args.marks.now) _
     (rw (c.get-in-Bin.ensures, c.get-in-Bin-2.ensures) (bin_level at c.args.e.now c.in-Bin.op c.in-Bin.t c.in-Bin.a c.in-Bin.b c.in-Bin.is later c.args.marks.now))
@@ -83,7 +94,7 @@ next-returns-in-Bin t c =
 
 pub next-returns-in-Move : goal.next-returns-in-Move
 next-returns-in-Move t c =
-    let at = context_of c.args.c in
+    let at = context_of c.args.c.now in
     let later = later_of at c.args.later.now in
     same_outcome c.of_both-in-Move.result (λ s. progress_of s) (two_next at (two.Movement c.in-Move.back) c.get-in-Move.result.now c.get-in-Move-2.result.now later c.args.marks.now) _
     (rw (c.get-in-Move.ensures, c.get-in-Move-2.ensures) (move_level at c.args.e.now c.in-Move.a c.in-Move.b c.in-Move.back c.in-Move.is later c.args.marks.now))
@@ -91,7 +102,7 @@ next-returns-in-Move t c =
 
 pub next-returns-in-Gap : goal.next-returns-in-Gap
 next-returns-in-Gap t c =
-    let at = context_of c.args.c in
+    let at = context_of c.args.c.now in
     let later = later_of at c.args.later.now in
     same_outcome c.of_both-in-Gap.result (λ s. progress_of s) (two_next at two.Difference c.get-in-Gap.result.now c.get-in-Gap-2.result.now later c.args.marks.now) _
     (rw (c.get-in-Gap.ensures, c.get-in-Gap-2.ensures) (gap_level at c.args.e.now c.in-Gap.a c.in-Gap.b c.in-Gap.is later c.args.marks.now))
@@ -99,7 +110,7 @@ next-returns-in-Gap t c =
 
 pub next-returns-in-Compare : goal.next-returns-in-Compare
 next-returns-in-Compare t c =
-    let at = context_of c.args.c in
+    let at = context_of c.args.c.now in
     let later = later_of at c.args.later.now in
     same_outcome c.of_both-in-Compare.result (λ s. progress_of s) (two_next at (two.Comparison c.in-Compare.op) c.get-in-Compare.result.now c.get-in-Compare-2.result.now later c.args.marks.now) _
     (rw (c.get-in-Compare.ensures, c.get-in-Compare-2.ensures) (compare_level at c.args.e.now c.in-Compare.op c.in-Compare.a c.in-Compare.b c.in-Compare.is later c.args.marks.now))

@@ -17,11 +17,8 @@ decreases-next l = 4 * size-Expr l.e.now
 abbrev pub decreases-leads : goal.decreases-leads
 decreases-leads l = 4 * size-Place l.a.now
 
-abbrev pub decreases-two : goal.decreases-two
-decreases-two l = 4 * max (size-Expr l.a.now) (size-Expr l.b.now) + 2
-
-abbrev pub decreases-place_and_one : goal.decreases-place_and_one
-decreases-place_and_one l = 4 * max (size-Place l.a.now) (size-Expr l.e.now) + 2
+abbrev pub decreases-element : goal.decreases-element
+decreases-element l = 4 * max (size-Place l.a.now) (size-Expr l.i.now) + 2
 
 abbrev pub decreases-both : goal.decreases-both
 decreases-both l = 4 * max (size-Expr l.a.now) (size-Expr l.b.now) + 2
