@@ -1,8 +1,8 @@
 -- Each arm gives what the definition gives of its kind: the parts by the calls' clauses, the whole by `shape_opened`.
 use Rattle.std.proofs.Common.{◌∙◌, ap, sym}
-use Rattle.cc_program.specs.declared.types.Shape.{Pointer, Array, Struct}
+use Rattle.cc_program.specs.declared.types.Shape.{Pointer, Array}
 use Rattle.cc_program.specs.declared.types.Shape.TheOpen as shape
-use Rattle.cc_program.specs.declared.types.Shape.TheVariants.{rolls-Void, rolls-Int, rolls-Pointer, rolls-Array, rolls-Struct}
+use Rattle.cc_program.specs.declared.types.Shape.TheVariants.{rolls-Void, rolls-Int, rolls-Pointer, rolls-Array}
 use Rattle.cc_unit.proofs.Opened.{shape_opened, type_opened}
 use Rattle.cc_unit.specs.Renumbered.{type_renumbered}
 use Rattle.cc_unit.proofs.types.+renumber.Goals as goal
@@ -27,7 +27,3 @@ pub renumber_shape-returns-in_ok-renumber_boxed_type-in-Array : goal.renumber_sh
 renumber_shape-returns-in_ok-renumber_boxed_type-in-Array n c =
     ap (λ t. Array t c.in-Array.n) (c.in_ok-renumber_boxed_type-in-Array.ensures ∙ ap (type_renumbered c.args.structures.now) c.get-in-Array.ensures)
     ∙ shape_opened c.args.structures.now c.args.s.now (shape.Array c.in-Array.t c.in-Array.n) (c.in-Array.is ∙ sym (rolls-Array c.in-Array.t c.in-Array.n))
-
-pub renumber_shape-returns-in-Struct : goal.renumber_shape-returns-in-Struct
-renumber_shape-returns-in-Struct n c =
-    ap Struct c.structure_at.ensures ∙ shape_opened c.args.structures.now c.args.s.now (shape.Struct c.in-Struct.i) (c.in-Struct.is ∙ sym (rolls-Struct c.in-Struct.i))
