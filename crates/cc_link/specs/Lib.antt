@@ -1,3 +1,4 @@
 pub mod Linked
 pub mod Kept
+pub mod Parts
 pub mod Tells

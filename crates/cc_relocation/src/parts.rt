@@ -149,14 +149,14 @@ pub fn relocated_func(
     ensures { IfOk result (λ r. r ≡ func_with name names.now entry ids.now func.now) }
 {
     let structures = ids.structures.all();
+    let sig = renumber_sig(alloc, structures, &func.sig)?;
     let locals = relocated_locals(alloc, structures, names, func.locals.all())?;
-    let body = renumber_stmts(alloc, ids, &func.body)?;
     Ok(Func {
         name,
-        sig: renumber_sig(alloc, structures, &func.sig)?,
+        sig,
         entry,
         params: func.params,
         locals,
-        body,
+        body: renumber_stmts(alloc, ids, &func.body)?,
     })
 }
