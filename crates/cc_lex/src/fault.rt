@@ -5,7 +5,7 @@ use std::alloc::{AllocError, AllocFailed};
 
 /// Why a text has no tokens: the first place where there is none, in bytes from the start of the text,
 /// and the cause there.
-#[derive(Clone, Copy, Debug, PartialEq, Eq)]
+#[derive(Clone, Copy, Debug)]
 pub enum LexFault {
     /// A byte that begins no token and no separator, or a `#` that isn't the first of its line.
     BadByte(u32),

@@ -2,7 +2,7 @@ use cc_num::{List, Name};
 use cc_words::Word;
 
 /// A token, and where it stands: its spelling is the `len` bytes of the text from byte `at` on.
-#[derive(Debug, Drop)]
+#[derive(Drop)]
 pub struct Token {
     pub at: u32,
     pub len: u32,
@@ -10,7 +10,7 @@ pub struct Token {
 }
 
 /// What a token is (C99 6.4).
-#[derive(Debug, Drop)]
+#[derive(Drop)]
 pub enum Kind {
     /// An identifier that is no keyword, by its bytes.
     Ident(Name),
@@ -25,7 +25,7 @@ pub enum Kind {
 }
 
 /// What decides the type of an integer constant (C99 6.4.4.1, 5).
-#[derive(Clone, Copy, Debug, PartialEq, Eq)]
+#[derive(Clone, Copy)]
 pub struct Suffix {
     /// The constant is decimal: its first digit isn't 0.
     pub decimal: bool,

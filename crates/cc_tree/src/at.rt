@@ -1,5 +1,5 @@
 /// A construct, and where it begins: the byte of the text at which its first token stands.
-#[derive(Debug, Drop)]
+#[derive(Drop)]
 pub struct At<T> {
     pub at: u32,
     pub node: T,
