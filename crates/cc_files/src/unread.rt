@@ -11,7 +11,7 @@ use cc_num::{List, Name, NoMemory};
 use std::alloc::{AllocFailed, Global};
 
 /// Why a file is not read, with its name.
-#[derive(Debug, Drop)]
+#[derive(Drop)]
 pub enum Unread {
     /// A fault, or it is not there.
     ReadFault(Name),
