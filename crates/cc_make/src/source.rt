@@ -1,6 +1,6 @@
 //! The text of a made source.
 
-ghost use Rattle.std.specs.Prelude.{◌≡◌, ◌≤◌, ◌++◌, IfOk, OnOk};
+ghost use Rattle.std.specs.Prelude.{◌≡◌, ◌≤◌, ◌++◌, [], IfOk, OnOk};
 ghost use Rattle.cc_make.specs.Source.{variable, function, clearing, call, variables, functions, clearings, calls, source as source_of, made};
 
 use crate::counters::{Counter, counters};
@@ -101,19 +101,28 @@ fn put_calls(alloc: Global, text: &mut Vec<u8>, counters: &[Counter]) -> Result<
     Ok(())
 }
 
+/// Puts the source of counters into an empty text.
+fn put_source(alloc: Global, text: &mut Vec<u8>, counters: &[Counter]) -> Result<(), NoMemory>
+    requires { text.old.items ≡ [] }
+    ensures { OnOk result (text.new.items ≡ source_of counters.now) }
+{
+    text.extend_from_slice(b"extern volatile unsigned char out;\n")?;
+    put_variables(alloc, text, counters)?;
+    put_functions(alloc, text, counters)?;
+    text.extend_from_slice(b"__attribute__((signal)) void tick(void) {\n")?;
+    put_clearings(alloc, text, counters)?;
+    text.extend_from_slice(b"}\nint main(void) {\n  irq_on();\n  while (1) {\n")?;
+    put_calls(alloc, text, counters)?;
+    text.extend_from_slice(b"    out = v0;\n  }\n}\n")?;
+    Ok(())
+}
+
 /// The source of counters.
 fn source(alloc: Global, counters: &[Counter]) -> Result<Vec<u8>, NoMemory>
     ensures { IfOk result (λ text. text.items ≡ source_of counters.now) }
 {
     let mut text = Vec::new(alloc);
-    text.extend_from_slice(b"extern volatile unsigned char out;\n")?;
-    put_variables(alloc, &mut text, counters)?;
-    put_functions(alloc, &mut text, counters)?;
-    text.extend_from_slice(b"__attribute__((signal)) void tick(void) {\n")?;
-    put_clearings(alloc, &mut text, counters)?;
-    text.extend_from_slice(b"}\nint main(void) {\n  irq_on();\n  while (1) {\n")?;
-    put_calls(alloc, &mut text, counters)?;
-    text.extend_from_slice(b"    out = v0;\n  }\n}\n")?;
+    put_source(alloc, &mut text, counters)?;
     Ok(text)
 }
 

@@ -1,8 +1,21 @@
 -- Each part that was compared is below the other; at the end these are all parts.
 use Rattle.std.proofs.Common.{◌<◌, length, refl, arith}
 use Rattle.std.proofs.lemmas.List.Elements.{length_all_zip}
-use Rattle.cc_lattice.proofs.Parts.{zip_more, zip_all}
+use Rattle.cc_lattice.proofs.Parts.{zip_at, zip_more, zip_all}
 use Rattle.cc_lattice.proofs.table.all_below.Goals as goal
+
+pub bounds-others-at : goal.bounds-others-at
+bounds-others-at g c =
+    let same = length_all_zip g.L.Lattice.AreAlike c.args.parts.now c.args.others.now c.requires in
+    omega (arith, c.loop-at-test.true)
+
+pub below-requires : goal.below-requires
+below-requires g c =
+    let m = g.L.Lattice in
+    let xs = c.args.parts.now in
+    let ys = c.args.others.now in
+    let lx : c.loop-at.at < length xs = omega (arith, c.loop-at-test.true) in
+    zip_at m.AreAlike xs ys c.loop-at.at c.index-parts-at.result c.index-others-at.result c.requires lx c.index-parts-at.is c.index-others-at.is
 
 pub loop-at-preserved : goal.loop-at-preserved
 loop-at-preserved g c =
@@ -13,6 +26,14 @@ loop-at-preserved g c =
     let lx : c.loop-at.at < length xs = omega (arith, c.loop-at-test.true) in
     let ly : c.loop-at.at < length ys = omega arith in
     zip_more m.IsBelow xs ys c.loop-at.at c.index-parts-at.result c.index-others-at.result lx ly c.index-parts-at.is c.index-others-at.is c.loop-at.invariant (c.if-not-below.ensures.0 refl)
+
+pub returns-then-not-below : goal.returns-then-not-below
+returns-then-not-below g c =
+    let m = g.L.Lattice in
+    let xs = c.args.parts.now in
+    let ys = c.args.others.now in
+    let lx : c.loop-at.at < length xs = omega (arith, c.loop-at-test.true) in
+    ((λ e. cc), (λ h. c.if-not-below.ensures.1 (zip_at m.IsBelow xs ys c.loop-at.at c.index-parts-at.result c.index-others-at.result h lx c.index-parts-at.is c.index-others-at.is)))
 
 pub returns : goal.returns
 returns g c =

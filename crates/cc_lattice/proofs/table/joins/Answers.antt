@@ -3,7 +3,21 @@ use Rattle.std.proofs.Common.{◌<◌, length, arith}
 use Rattle.std.proofs.lemmas.List.Elements.{length_all_zip}
 use Rattle.cc_lattice.specs.Orders.{IsLeastUpperBound}
 use Rattle.cc_lattice.proofs.Joins.{joins_more, joins_all}
+use Rattle.cc_lattice.proofs.Parts.{zip_at}
 use Rattle.cc_lattice.proofs.table.joins.Goals as goal
+
+pub bounds-others-at : goal.bounds-others-at
+bounds-others-at g c =
+    let same = length_all_zip g.L.Lattice.AreAlike c.args.parts.now c.args.others.now c.requires in
+    omega (arith, c.loop-at-test.true)
+
+pub join-requires : goal.join-requires
+join-requires g c =
+    let m = g.L.Lattice in
+    let xs = c.args.parts.now in
+    let ys = c.args.others.now in
+    let lx : c.loop-at.at < length xs = omega (arith, c.loop-at-test.true) in
+    zip_at m.AreAlike xs ys c.loop-at.at c.index-parts-at.result c.index-others-at.result c.requires lx c.index-parts-at.is c.index-others-at.is
 
 pub loop-at-preserved : goal.loop-at-preserved
 loop-at-preserved g c =
