@@ -2,8 +2,10 @@
 
 ghost use Rattle.std.specs.Prelude.{◌≡◌, IfOk};
 ghost use Rattle.cc_operands.specs.Arithmetic.{truth as truth_of, is_equality as is_equality_of, working_type as working_type_of, second_type as second_type_of, worked as worked_of, arithmetic as arithmetic_of, integers as integers_of, moved as moved_of, sum as sum_of, gap as gap_of, difference as difference_of, is_null_beside as is_null_beside_of, pointers_compared as pointers_compared_of, compared as compared_of, both as both_of, either as either_of, scalars as scalars_of, binary_by as binary_by_of, binary_of};
+ghost use Rattle.cc_operands.specs.Operands.{against_null as against_null_of, null_of as null_of_type};
 ghost use Rattle.cc_operands.specs.Verdicts.{Judges};
 ghost use Rattle.cc_operands.specs.View.{operand_view, type_view};
+ghost use Rattle.cc_program.specs.declared.expr.Expr.{Compare as CompareOf};
 ghost use Rattle.cc_syntax.specs.Operators.{binary_result as binary_result_of, difference_type as difference_type_of, has_difference as has_difference_of};
 
 use crate::operand::{Operand, against_null, converted_to, folded, null_of, typed};
@@ -73,7 +75,7 @@ fn worked(
     ensures { IfOk result (λ r. operand_view r ≡ worked_of target.now op t (operand_view x) (operand_view y)) }
 {
     let constant = x.constancy().binary(op, t, y.constancy(), target);
-    let value = Boxed::new(alloc, Expr::Bin(op, t, x.value, y.value))?;
+    let value = Boxed::new(alloc, Expr::Bin(op, t, x.into_value(), y.into_value()))?;
     folded(alloc, binary_result(op, t), constant, value)
 }
 
@@ -86,13 +88,13 @@ fn arithmetic(
     j: IntType,
     x: Operand,
     y: Operand,
-) -> Result<Operand, NoMemory>
-    ensures { IfOk result (λ r. operand_view r ≡ arithmetic_of target.now op i j (operand_view x) (operand_view y)) }
+) -> Result<Operand, Breach>
+    ensures { Judges operand_view result (Ok (arithmetic_of target.now op i j (operand_view x) (operand_view y))) }
 {
     let t = working_type(target, op, i, j);
     let x = converted_to(alloc, target, t, x)?;
     let y = converted_to(alloc, target, second_type(target, op, i, j), y)?;
-    worked(alloc, target, op, t, x, y)
+    Ok(worked(alloc, target, op, t, x, y)?)
 }
 
 fn integers(
@@ -107,7 +109,7 @@ fn integers(
     match (&x.ctype, &y.ctype) {
         (OperandType::Integer(i), OperandType::Integer(j)) => {
             let (i, j) = (*i, *j);
-            Ok(arithmetic(alloc, target, op, i, j, x, y)?)
+            arithmetic(alloc, target, op, i, j, x, y)
         }
         _ => Err(Breach::Breaks(Rule::NoInteger)),
     }
@@ -124,7 +126,7 @@ fn moved(
     ensures { Judges operand_view result (moved_of structures.now back (operand_view x) (operand_view y)) }
 {
     if x.ctype.points_to_object(structures) {
-        let value = Boxed::new(alloc, Expr::Move(x.value, y.value, back))?;
+        let value = Boxed::new(alloc, Expr::Move(x.value, y.into_value(), back))?;
         Ok(typed(value, x.ctype))
     } else {
         Err(Breach::Breaks(Rule::NoSum))
@@ -143,7 +145,7 @@ fn sum(
     match (&x.ctype, &y.ctype) {
         (OperandType::Integer(i), OperandType::Integer(j)) => {
             let (i, j) = (*i, *j);
-            Ok(arithmetic(alloc, target, BinOp::Add, i, j, x, y)?)
+            arithmetic(alloc, target, BinOp::Add, i, j, x, y)
         }
         (_, OperandType::Integer(_)) => moved(alloc, structures, false, x, y),
         _ => Err(Breach::Breaks(Rule::NoSum)),
@@ -181,7 +183,7 @@ fn gap(
     ensures { Judges operand_view result (gap_of target.now structures.now (operand_view x) (operand_view y)) }
 {
     if x.ctype.points_alike(&y.ctype) && has_difference(structures, &x.ctype) {
-        let value = Boxed::new(alloc, Expr::Gap(x.value, y.value))?;
+        let value = Boxed::new(alloc, Expr::Gap(x.into_value(), y.into_value()))?;
         Ok(typed(value, OperandType::Integer(difference_type(target))))
     } else {
         Err(Breach::Breaks(Rule::NoSum))
@@ -200,7 +202,7 @@ fn difference(
     match (&x.ctype, &y.ctype) {
         (OperandType::Integer(i), OperandType::Integer(j)) => {
             let (i, j) = (*i, *j);
-            Ok(arithmetic(alloc, target, BinOp::Sub, i, j, x, y)?)
+            arithmetic(alloc, target, BinOp::Sub, i, j, x, y)
         }
         (_, OperandType::Integer(_)) => moved(alloc, structures, true, x, y),
         _ => gap(alloc, target, structures, x, y),
@@ -214,16 +216,42 @@ fn is_null_beside(op: BinOp, x: &Operand, y: &Operand) -> bool
     is_equality(op) && x.ctype.is_pointer() && y.is_null_constant()
 }
 
+/// Two pointers, compared.
+fn values_compared(
+    alloc: Global,
+    op: BinOp,
+    a: Boxed<Expr>,
+    b: Boxed<Expr>,
+) -> Result<Operand, Breach>
+    ensures { Judges operand_view result (Ok (truth_of (CompareOf op a b))) }
+{
+    Ok(truth(Boxed::new(alloc, Expr::Compare(op, a, b))?))
+}
+
+/// A null, compared with a pointer.
+fn null_compared(alloc: Global, op: BinOp, y: Operand) -> Result<Operand, Breach>
+    ensures { Judges operand_view result (Ok (truth_of (CompareOf op (null_of_type (type_view y.ctype)) y.value))) }
+{
+    let null = null_of(alloc, &y.ctype)?;
+    values_compared(alloc, op, null, y.into_value())
+}
+
+/// A pointer, compared with a null.
+fn compared_with_null(alloc: Global, op: BinOp, x: Operand) -> Result<Operand, Breach>
+    ensures { Judges operand_view result (Ok (truth_of (against_null_of op (operand_view x)))) }
+{
+    Ok(truth(against_null(alloc, op, x)?))
+}
+
 fn pointers_compared(alloc: Global, op: BinOp, x: Operand, y: Operand) -> Result<Operand, Breach>
     ensures { Judges operand_view result (pointers_compared_of op (operand_view x) (operand_view y)) }
 {
     if is_null_beside(op, &x, &y) {
-        Ok(truth(against_null(alloc, op, x)?))
+        compared_with_null(alloc, op, x)
     } else if is_null_beside(op, &y, &x) {
-        let null = null_of(alloc, &y.ctype)?;
-        Ok(truth(Boxed::new(alloc, Expr::Compare(op, null, y.value))?))
+        null_compared(alloc, op, y)
     } else if x.ctype.points_alike(&y.ctype) {
-        Ok(truth(Boxed::new(alloc, Expr::Compare(op, x.value, y.value))?))
+        values_compared(alloc, op, x.into_value(), y.into_value())
     } else {
         Err(Breach::Breaks(Rule::NoComparison))
     }
@@ -241,7 +269,7 @@ fn compared(
     match (&x.ctype, &y.ctype) {
         (OperandType::Integer(i), OperandType::Integer(j)) => {
             let (i, j) = (*i, *j);
-            Ok(arithmetic(alloc, target, op, i, j, x, y)?)
+            arithmetic(alloc, target, op, i, j, x, y)
         }
         _ => pointers_compared(alloc, op, x, y),
     }
@@ -253,7 +281,7 @@ fn both(alloc: Global, x: Operand, y: Operand) -> Result<Operand, Breach>
 {
     if x.ctype.is_scalar() && y.ctype.is_scalar() {
         let constant = x.constancy().both(y.constancy());
-        let value = Boxed::new(alloc, Expr::Both(x.value, y.value))?;
+        let value = Boxed::new(alloc, Expr::Both(x.into_value(), y.into_value()))?;
         Ok(folded(alloc, IntType::Int, constant, value)?)
     } else {
         Err(Breach::Breaks(Rule::NoScalar))
@@ -266,7 +294,7 @@ fn either(alloc: Global, x: Operand, y: Operand) -> Result<Operand, Breach>
 {
     if x.ctype.is_scalar() && y.ctype.is_scalar() {
         let constant = x.constancy().either(y.constancy());
-        let value = Boxed::new(alloc, Expr::Either(x.value, y.value))?;
+        let value = Boxed::new(alloc, Expr::Either(x.into_value(), y.into_value()))?;
         Ok(folded(alloc, IntType::Int, constant, value)?)
     } else {
         Err(Breach::Breaks(Rule::NoScalar))

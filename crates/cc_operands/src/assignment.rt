@@ -2,6 +2,7 @@
 
 ghost use Rattle.std.specs.Prelude.{◌≡◌, IfOk, option_map};
 ghost use Rattle.cc_operands.specs.Assignments.{truth_of_pointer as truth_of_pointer_of, assigned_integer, assigned_pointer, assigned as assigned_of, stored_at, no_operand as no_operand_of, changed_integer, changed_pointer, changed_at, stepped_at};
+ghost use Rattle.cc_operands.specs.Operands.{null_of as null_of_type, operand as typed_of};
 ghost use Rattle.cc_operands.specs.Verdicts.{Judges};
 ghost use Rattle.cc_operands.specs.View.{operand_view, type_view};
 
@@ -39,14 +40,21 @@ fn to_integer(alloc: Global, target: &Target, t: IntType, x: Operand) -> Result<
     }
 }
 
+/// A null of a pointer type.
+fn null_to(alloc: Global, to: &OperandType) -> Result<Operand, Breach>
+    ensures { Judges operand_view result (Ok (typed_of (null_of_type (type_view to.now)) (type_view to.now))) }
+{
+    let null = null_of(alloc, to)?;
+    Ok(typed(null, to.copy(alloc)?))
+}
+
 fn to_pointer(alloc: Global, to: &OperandType, x: Operand) -> Result<Operand, Breach>
     ensures { Judges operand_view result (assigned_pointer (type_view to.now) (operand_view x)) }
 {
     if x.is_null_constant() {
-        let null = null_of(alloc, to)?;
-        Ok(typed(null, to.copy(alloc)?))
+        null_to(alloc, to)
     } else if to.is_assignable(&x.ctype) {
-        Ok(typed(x.value, to.copy(alloc)?))
+        Ok(typed(x.into_value(), to.copy(alloc)?))
     } else {
         Err(Breach::Breaks(Rule::NotAssignable))
     }
@@ -91,7 +99,7 @@ pub fn stored(
         return Err(Breach::Breaks(Rule::NotModifiable));
     };
     let y = assigned(alloc, target, &to, x)?;
-    let value = Boxed::new(alloc, Expr::Assign(place, y.value))?;
+    let value = Boxed::new(alloc, Expr::Assign(place, y.into_value()))?;
     Ok(typed(value, to))
 }
 
@@ -121,7 +129,7 @@ fn integer_changed(
     let j = *j;
     let x = converted_to(alloc, target, second_type(target, op, s, j), x)?;
     let t = working_type(target, op, s, j);
-    let value = Boxed::new(alloc, Expr::Change(place, op, t, x.value))?;
+    let value = Boxed::new(alloc, Expr::Change(place, op, t, x.into_value()))?;
     Ok(typed(value, OperandType::Integer(s)))
 }
 
@@ -143,7 +151,8 @@ fn pointer_changed(
     } else if !to.points_to_object(structures) {
         Err(Breach::Breaks(Rule::NoSum))
     } else {
-        let value = Boxed::new(alloc, Expr::Change(place, op, *j, x.value))?;
+        let j = *j;
+        let value = Boxed::new(alloc, Expr::Change(place, op, j, x.into_value()))?;
         Ok(typed(value, to))
     }
 }

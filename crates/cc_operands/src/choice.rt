@@ -2,9 +2,10 @@
 
 ghost use Rattle.std.specs.Prelude.{◌≡◌, IfOk};
 ghost use Rattle.cc_operands.specs.Choices.{chosen_integer as chosen_integer_of, chosen_pointer as chosen_pointer_of, pointers_chosen as pointers_chosen_of, chosen_by, arms_chosen, choose_of, comma_of};
-ghost use Rattle.cc_operands.specs.Operands.{converted_to as converted_to_of};
+ghost use Rattle.cc_operands.specs.Operands.{converted_to as converted_to_of, is_to_void as is_to_void_of, null_of as null_of_type};
 ghost use Rattle.cc_operands.specs.Verdicts.{Judges};
 ghost use Rattle.cc_operands.specs.View.{operand_view, type_view};
+ghost use Rattle.cc_program.specs.declared.expr.Expr.{Choose as ChooseOf};
 ghost use Rattle.cc_syntax.specs.Operators.{common_type as common_type_of};
 
 use crate::operand::{Operand, converted_to, folded, null_of, typed};
@@ -16,6 +17,14 @@ use cc_syntax::Expr;
 use cc_typed::ValueType;
 use std::alloc::Global;
 
+/// The expression of a choice.
+fn choose(alloc: Global, c: Operand, x: Operand, y: Operand) -> Result<Boxed<Expr>, NoMemory>
+    ensures { IfOk result (λ r. r ≡ ChooseOf c.value x.value y.value) }
+{
+    let value = Expr::Choose(c.into_value(), x.into_value(), y.into_value());
+    Boxed::new(alloc, value)
+}
+
 /// A choice of integers, which are converted to a type.
 fn integers(
     alloc: Global,
@@ -24,14 +33,14 @@ fn integers(
     c: Operand,
     x: Operand,
     y: Operand,
-) -> Result<Operand, NoMemory>
-    ensures { IfOk result (λ r. operand_view r ≡ chosen_integer_of t (operand_view c) (converted_to_of target.now t (operand_view x)) (converted_to_of target.now t (operand_view y))) }
+) -> Result<Operand, Breach>
+    ensures { Judges operand_view result (Ok (chosen_integer_of t (operand_view c) (converted_to_of target.now t (operand_view x)) (converted_to_of target.now t (operand_view y)))) }
 {
     let x = converted_to(alloc, target, t, x)?;
     let y = converted_to(alloc, target, t, y)?;
     let constant = c.constancy().chosen(x.constancy(), y.constancy());
-    let value = Boxed::new(alloc, Expr::Choose(c.value, x.value, y.value))?;
-    folded(alloc, t, constant, value)
+    let value = choose(alloc, c, x, y)?;
+    Ok(folded(alloc, t, constant, value)?)
 }
 
 /// A choice of pointers, as a pointer of a type; `to_void` says that they are pointers to void.
@@ -48,7 +57,7 @@ fn pointer(
     if to_void {
         Err(Breach::Breaks(Rule::PointerToVoid))
     } else {
-        let value = Boxed::new(alloc, Expr::Choose(c.value, a, b))?;
+        let value = Boxed::new(alloc, Expr::Choose(c.into_value(), a, b))?;
         Ok(typed(value, t))
     }
 }
@@ -70,6 +79,43 @@ fn common_type(
     }
 }
 
+/// A choice of a pointer and, where that isn't chosen, a null.
+fn pointer_or_null(alloc: Global, c: Operand, x: Operand) -> Result<Operand, Breach>
+    ensures { Judges operand_view result (chosen_pointer_of (is_to_void_of (type_view x.ctype)) (operand_view c) x.value (null_of_type (type_view x.ctype)) (type_view x.ctype)) }
+{
+    let null = null_of(alloc, &x.ctype)?;
+    pointer(alloc, x.ctype.is_to_void(), c, x.value, null, x.ctype)
+}
+
+/// A choice of a null and, where that isn't chosen, a pointer.
+fn null_or_pointer(alloc: Global, c: Operand, y: Operand) -> Result<Operand, Breach>
+    ensures { Judges operand_view result (chosen_pointer_of (is_to_void_of (type_view y.ctype)) (operand_view c) (null_of_type (type_view y.ctype)) y.value (type_view y.ctype)) }
+{
+    let null = null_of(alloc, &y.ctype)?;
+    pointer(alloc, y.ctype.is_to_void(), c, null, y.value, y.ctype)
+}
+
+/// A choice of two pointers to one type.
+fn pointers_alike(
+    alloc: Global,
+    target: &Target,
+    c: Operand,
+    x: Operand,
+    y: Operand,
+) -> Result<Operand, Breach>
+    ensures { Judges operand_view result (chosen_pointer_of (is_to_void_of (type_view x.ctype)) (operand_view c) x.value y.value (common_type_of target.now (type_view x.ctype) (type_view y.ctype))) }
+{
+    let t = common_type(alloc, target, &x.ctype, &y.ctype)?;
+    pointer(
+        alloc,
+        x.ctype.is_to_void(),
+        c,
+        x.into_value(),
+        y.into_value(),
+        t,
+    )
+}
+
 fn pointers(
     alloc: Global,
     target: &Target,
@@ -80,14 +126,11 @@ fn pointers(
     ensures { Judges operand_view result (pointers_chosen_of target.now (operand_view c) (operand_view x) (operand_view y)) }
 {
     if x.ctype.is_pointer() && y.is_null_constant() {
-        let null = null_of(alloc, &x.ctype)?;
-        pointer(alloc, x.ctype.is_to_void(), c, x.value, null, x.ctype)
+        pointer_or_null(alloc, c, x)
     } else if y.ctype.is_pointer() && x.is_null_constant() {
-        let null = null_of(alloc, &y.ctype)?;
-        pointer(alloc, y.ctype.is_to_void(), c, null, y.value, y.ctype)
+        null_or_pointer(alloc, c, y)
     } else if x.ctype.points_alike(&y.ctype) {
-        let t = common_type(alloc, target, &x.ctype, &y.ctype)?;
-        pointer(alloc, x.ctype.is_to_void(), c, x.value, y.value, t)
+        pointers_alike(alloc, target, c, x, y)
     } else {
         Err(Breach::Breaks(Rule::NoCommonType))
     }
@@ -106,7 +149,7 @@ fn values(
     match (&x.ctype, &y.ctype) {
         (OperandType::Integer(i), OperandType::Integer(j)) => {
             let t = usual(*i, *j, target);
-            Ok(integers(alloc, target, t, c, x, y)?)
+            integers(alloc, target, t, c, x, y)
         }
         _ => pointers(alloc, target, c, x, y),
     }
@@ -123,7 +166,7 @@ fn arms(
     ensures { Judges operand_view result (arms_chosen target.now (operand_view c) (operand_view x) (operand_view y)) }
 {
     if x.ctype.is_nothing() && y.ctype.is_nothing() {
-        let value = Boxed::new(alloc, Expr::Choose(c.value, x.value, y.value))?;
+        let value = choose(alloc, c, x, y)?;
         Ok(typed(value, OperandType::NoValue))
     } else if x.ctype.is_nothing() || y.ctype.is_nothing() {
         Err(Breach::Breaks(Rule::NoCommonType))
@@ -160,7 +203,7 @@ pub fn comma(alloc: Global, x: Operand, y: Operand) -> Result<Operand, Breach>
     if x.structure || y.structure {
         Err(Breach::Breaks(Rule::StructureValue))
     } else {
-        let value = Boxed::new(alloc, Expr::Seq(x.value, y.value))?;
+        let value = Boxed::new(alloc, Expr::Seq(x.into_value(), y.value))?;
         Ok(typed(value, y.ctype))
     }
 }

@@ -66,6 +66,13 @@ pub fn folded(
 }
 
 impl Operand {
+    /// The expression that gives it.
+    pub fn into_value(self) -> Boxed<Expr>
+        ensures { result ≡ self.value }
+    {
+        self.value
+    }
+
     /// What it is as a constant expression.
     pub fn constancy(&self) -> Constant
         ensures { constant_view result ≡ constancy_of (operand_view self.now) }
@@ -110,7 +117,7 @@ pub fn cast_to(alloc: Global, target: &Target, t: IntType, x: Operand) -> Result
     ensures { IfOk result (λ r. operand_view r ≡ cast_to_of target.now t (operand_view x)) }
 {
     let constant = x.constancy().converted(t, target);
-    let value = Boxed::new(alloc, Expr::Conv(t, x.value))?;
+    let value = Boxed::new(alloc, Expr::Conv(t, x.into_value()))?;
     folded(alloc, t, constant, value)
 }
 
@@ -146,7 +153,7 @@ pub fn against_null(alloc: Global, op: BinOp, x: Operand) -> Result<Boxed<Expr>,
     ensures { IfOk result (λ r. r ≡ against_null_of op (operand_view x)) }
 {
     let null = null_of(alloc, &x.ctype)?;
-    Boxed::new(alloc, Expr::Compare(op, x.value, null))
+    Boxed::new(alloc, Expr::Compare(op, x.into_value(), null))
 }
 
 /// The first of the types that has the value.

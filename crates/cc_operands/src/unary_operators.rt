@@ -37,7 +37,7 @@ fn negated(
     ensures { IfOk result (λ r. operand_view r ≡ negated_of target.now op t (operand_view x)) }
 {
     let constant = x.constancy().unary(op, t, target);
-    let value = Boxed::new(alloc, Expr::Un(op, t, x.value))?;
+    let value = Boxed::new(alloc, Expr::Un(op, t, x.into_value()))?;
     folded(alloc, unary_result(op, t), constant, value)
 }
 

@@ -1,29 +1,46 @@
 //! Declarators (C99 6.7.5).
 
+ghost use Rattle.std.specs.Prelude.{false};
+ghost use Rattle.cc_declarators.specs.Located.{located as located_of};
 ghost use Rattle.cc_operands.specs.Verdicts.{Judges};
 ghost use Rattle.cc_operands.specs.View.{operand_view};
+ghost use Rattle.cc_primary.specs.Values.{value as value_and};
 ghost use Rattle.cc_scopes.specs.Outcomes.{Gives};
+ghost use Rattle.cc_scopes.specs.State.{State as Known};
+ghost use Rattle.cc_scopes.specs.Verdicts.{and_then, whole};
 ghost use Rattle.cc_scopes.specs.View.{state_of};
+ghost use Rattle.cc_specifiers.specs.Derivations.{with_derivation as with_derivation_of, suffix_found as suffix_found_of};
 ghost use Rattle.cc_terms.specs.Declarators.{without_bound as without_bound_of, with_bound as with_bound_of};
-ghost use Rattle.cc_terms.specs.Terms.{declr_of};
+ghost use Rattle.cc_terms.specs.Terms.{declr_of, here};
 
 use crate::parameters::params;
 use crate::trees::boxed_operand;
 use cc_declarators::{ScopedDeclarator, copied, declarator_of, is_next_to_name, suffix};
-use cc_num::Target;
+use cc_num::{Boxed, Target};
 use cc_operands::{Breach, Operand, Rule};
-use cc_scopes::{State, Stop, placed};
+use cc_scopes::{Scope, State, Stop, placed};
 use cc_specifiers::{Allowed, Derivation, bound_judged, pointer_derivation};
 use cc_syntax::Roles;
-use cc_tree::Declr;
+use cc_tree::{At, Declr, Tree};
 use std::alloc::Global;
+
+/// With a derivation more.
+fn derived(
+    at: u32,
+    d: ScopedDeclarator,
+    derivation: Derivation<Scope>,
+) -> Result<ScopedDeclarator, Breach>
+    ensures { Judges (λ d. d) result (Ok (with_derivation_of at derivation d)) }
+{
+    Ok(d.with_derivation(at, derivation)?)
+}
 
 /// An array without a bound, which is missing next to the name alone (C99 6.7.5.2).
 fn without_bound(at: u32, allowed: Allowed, d: ScopedDeclarator) -> Result<ScopedDeclarator, Breach>
     ensures { Judges (λ d. d) result (without_bound_of at allowed d) }
 {
     if allowed.unbounded && is_next_to_name(&d) {
-        Ok(d.with_derivation(at, Derivation::Array(None))?)
+        derived(at, d, Derivation::Array(None))
     } else {
         Err(Breach::Breaks(Rule::ArrayBound))
     }
@@ -34,12 +51,40 @@ fn with_bound(at: u32, d: ScopedDeclarator, x: &Operand) -> Result<ScopedDeclara
     ensures { Judges (λ d. d) result (with_bound_of at d (operand_view x.now)) }
 {
     let n = bound_judged(x)?;
-    Ok(d.with_derivation(at, Derivation::Array(Some(n)))?)
+    derived(at, d, Derivation::Array(Some(n)))
+}
+
+/// An array without a bound, behind other derivations.
+#[tactic(auto, using(cc_scopes::proofs::Outcomes::of_outcomes))]
+fn unbounded_array(at: u32, allowed: Allowed, d: ScopedDeclarator) -> Result<ScopedDeclarator, Stop>
+    ensures { (s : Known) → Gives (λ d. d) result s (and_then (located_of s (suffix_found_of false d.derivations)) (λ done s. whole at s (without_bound_of at allowed d))) }
+{
+    suffix(false, &d)?;
+    placed(at, without_bound(at, allowed, d))
+}
+
+/// An array with this bound, behind other derivations.
+#[cycle(terms)]
+#[tactic(auto, using(cc_scopes::proofs::Outcomes::of_outcomes))]
+fn bounded_array(
+    bound: &Boxed<At<Tree>>,
+    at: u32,
+    d: ScopedDeclarator,
+    alloc: Global,
+    target: &Target,
+    roles: &Roles,
+    state: &mut State,
+) -> Result<ScopedDeclarator, Stop>
+    ensures { Gives (λ d. d) result (state_of state.new) (and_then (located_of (state_of state.old) (suffix_found_of false d.derivations)) (λ done s. value_and (here target.now roles.now bound.now) s (λ n s. whole at s (with_bound_of at d n)))) }
+{
+    suffix(false, &d)?;
+    let n = boxed_operand(bound, alloc, target, roles, state)?;
+    placed(at, with_bound(at, d, &n))
 }
 
 /// A declarator that begins at this place (C99 6.7.5).
 #[cycle(terms)]
-#[tactic(auto, using(cc_scopes::proofs::Outcomes::of_outcomes), unfolding(crate::specs::Terms::declr_of, crate::specs::Terms::params_of, crate::specs::Terms::tree_of))]
+#[tactic(auto, using(cc_scopes::proofs::Outcomes::of_outcomes, crate::proofs::Derived::of_derived), unfolding(crate::specs::Terms::declr_of, crate::specs::Terms::params_of, crate::specs::Terms::tree_of))]
 pub fn declr(
     d: &Declr,
     at: u32,
@@ -64,18 +109,14 @@ pub fn declr(
         Declr::Pointer(words, d) => {
             let d = d.get();
             let x = declr(&d.node, d.at, allowed, alloc, target, roles, state)?;
-            Ok(x.with_derivation(at, pointer_derivation(words.all()))?)
+            placed(at, derived(at, x, pointer_derivation(words.all())))
         }
         Declr::Array(d, bound) => {
             let d = d.get();
             let x = declr(&d.node, d.at, allowed, alloc, target, roles, state)?;
-            suffix(false, &x)?;
             match bound {
-                None => placed(at, without_bound(at, allowed, x)),
-                Some(e) => {
-                    let n = boxed_operand(e, alloc, target, roles, state)?;
-                    placed(at, with_bound(at, x, &n))
-                }
+                None => unbounded_array(at, allowed, x),
+                Some(e) => bounded_array(e, at, x, alloc, target, roles, state),
             }
         }
         Declr::Func(d, ps) => {

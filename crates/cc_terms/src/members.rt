@@ -1,8 +1,10 @@
 //! Declarations of members (C99 6.7.2.1).
 
 ghost use Rattle.std.specs.Prelude.{map};
+ghost use Rattle.cc_declarators.specs.Declarators.{derived_type as derived_type_of};
 ghost use Rattle.cc_scopes.specs.Outcomes.{Gives};
 ghost use Rattle.cc_scopes.specs.View.{state_of};
+ghost use Rattle.cc_specifiers.specs.Derivations.{nothing_more as nothing_more_of};
 ghost use Rattle.cc_terms.specs.Members.{member_found, declared_members as declared_members_of};
 ghost use Rattle.cc_terms.specs.Structures.{member_behind as member_behind_of};
 ghost use Rattle.cc_terms.specs.Terms.{members_of, declr_of, declr_here};
@@ -30,9 +32,11 @@ pub fn member_decl(
 ) -> Result<Members, Stop>
     ensures { Gives (λ ms. ms) result (state_of state.new) (members_of target.now roles.now d.now members (state_of state.old)) }
 {
-    let setting = Setting::of(alloc, Where::AsMember, Entity::Member)?;
-    let base = specified(&d.specs, &setting, alloc, target, roles, state)?;
-    declared_members(&d.declrs, members, &base.ctype, alloc, target, roles, state)
+    let base = {
+        let setting = Setting::of(alloc, Where::AsMember, Entity::Member)?;
+        specified(&d.specs, &setting, alloc, target, roles, state)?.ctype
+    };
+    declared_members(&d.declrs, members, &base, alloc, target, roles, state)
 }
 
 /// The members that declarators declare, behind those before.
@@ -74,6 +78,21 @@ fn member(
     member_behind(base, at, members, x, alloc, target, state)
 }
 
+/// The type that a declarator gives a member, of this type.
+#[tactic(auto, using(cc_scopes::proofs::Outcomes::of_outcomes))]
+fn member_type(
+    base: &CType,
+    d: &ScopedDeclarator,
+    alloc: Global,
+    target: &Target,
+    state: &State,
+) -> Result<CType, Stop>
+    ensures { Gives (λ t. t) result (state_of state.now) (derived_type_of target.now nothing_more_of base.now d.now (state_of state.now)) }
+{
+    let base = base.copy(alloc)?;
+    derived_type(alloc, target, Allowed::nothing_more(), base, d, state)
+}
+
 /// What a declarator declares of this type, behind the members before.
 #[tactic(auto, using(cc_scopes::proofs::Outcomes::of_outcomes))]
 fn member_behind(
@@ -87,7 +106,6 @@ fn member_behind(
 ) -> Result<Members, Stop>
     ensures { Gives (λ ms. ms) result (state_of state.now) (member_behind_of target.now base.now at members d (state_of state.now)) }
 {
-    let base = base.copy(alloc)?;
-    let t = derived_type(alloc, target, Allowed::nothing_more(), base, &d, state)?;
+    let t = member_type(base, &d, alloc, target, state)?;
     placed(at, with_member(target, state, members, d.name, t))
 }

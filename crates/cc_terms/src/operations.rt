@@ -53,9 +53,9 @@ pub fn subscript_expr(
     match x {
         TypedExpr::Place(place, t) => element(alloc, place, t.get(), i),
         TypedExpr::Value(x) => subscripted(alloc, structures, x.into_inner(), i),
-        TypedExpr::Function(_, _) => Err(Breach::Breaks(Rule::Subscript)),
-        TypedExpr::Intrinsic(_, _) => Err(Breach::Breaks(Rule::Subscript)),
-        TypedExpr::Address(_, _, _) => Err(Breach::Breaks(Rule::Subscript)),
+        TypedExpr::Function(_, _) | TypedExpr::Intrinsic(_, _) | TypedExpr::Address(_, _, _) => {
+            Err(Breach::Breaks(Rule::Subscript))
+        }
     }
 }
 
@@ -81,9 +81,9 @@ pub fn called_expr(
     match f {
         TypedExpr::Intrinsic(i, _) => intrinsic_expr(alloc, target, i, args),
         TypedExpr::Value(f) => call_expr(alloc, target, f.into_inner(), args),
-        TypedExpr::Place(_, _) => Err(Breach::Breaks(Rule::Callee)),
-        TypedExpr::Function(_, _) => Err(Breach::Breaks(Rule::Callee)),
-        TypedExpr::Address(_, _, _) => Err(Breach::Breaks(Rule::Callee)),
+        TypedExpr::Place(_, _) | TypedExpr::Function(_, _) | TypedExpr::Address(_, _, _) => {
+            Err(Breach::Breaks(Rule::Callee))
+        }
     }
 }
 
@@ -122,14 +122,14 @@ pub fn prefixed(
 pub fn sizeof_found(
     at: u32,
     count: usize,
-    x: TypedExpr,
+    x: &TypedExpr,
     alloc: Global,
     target: &Target,
     state: &mut State,
 ) -> Result<TypedExpr, Stop>
-    ensures { Gives expr_view result (state_of state.new) (sizeof_found_of target.now at count (expr_view x) (state_of state.old)) }
+    ensures { Gives expr_view result (state_of state.new) (sizeof_found_of target.now at count (expr_view x.now) (state_of state.old)) }
 {
-    let size = placed(at, sizeof_expr(alloc, target, state, &x))?;
+    let size = placed(at, sizeof_expr(alloc, target, state, x))?;
     state.forget_names(count);
     Ok(size)
 }
@@ -139,14 +139,14 @@ pub fn sizeof_found(
 pub fn sizeof_type_found(
     at: u32,
     count: usize,
-    t: CType,
+    t: &CType,
     alloc: Global,
     target: &Target,
     state: &mut State,
 ) -> Result<TypedExpr, Stop>
-    ensures { Gives expr_view result (state_of state.new) (sizeof_type_found_of target.now at count t (state_of state.old)) }
+    ensures { Gives expr_view result (state_of state.new) (sizeof_type_found_of target.now at count t.now (state_of state.old)) }
 {
-    let size = placed(at, sizeof_type_expr(alloc, target, state, &t))?;
+    let size = placed(at, sizeof_type_expr(alloc, target, state, t))?;
     state.forget_names(count);
     Ok(size)
 }

@@ -1,15 +1,20 @@
 //! Parameters of functions (C99 6.7.5.3).
 
-ghost use Rattle.std.specs.Prelude.{map};
+ghost use Rattle.std.specs.Prelude.{map, length};
+ghost use Rattle.cc_declarators.specs.Parameters.{parameter as parameter_of, parameter_bound as parameter_bound_of};
 ghost use Rattle.cc_scopes.specs.Outcomes.{Gives};
+ghost use Rattle.cc_scopes.specs.State.{State as Known};
+ghost use Rattle.cc_scopes.specs.Verdicts.{and_then, whole};
 ghost use Rattle.cc_scopes.specs.View.{state_of};
+ghost use Rattle.cc_specifiers.specs.Parameters.{parameter_type as parameter_type_of};
 ghost use Rattle.cc_terms.specs.Declarators.{parameter_declared as parameter_declared_of, parameters_found};
+ghost use Rattle.cc_terms.specs.InTurn.{one_more as one_more_of};
 ghost use Rattle.cc_terms.specs.Terms.{params_of, param_of, param_here};
 
 use crate::declarators::declr;
 use crate::specifiers::specified;
 use cc_declarators::{ScopedDeclarator, derived_type, no_parameters, parameter_bound};
-use cc_num::{List, Target};
+use cc_num::{List, Name, Target};
 use cc_scopes::{Scope, State, Stop, placed};
 use cc_specifiers::{Allowed, Entity, Parameter, Setting, Where, parameter_type};
 use cc_syntax::{CType, Roles};
@@ -75,14 +80,46 @@ fn param(
 ) -> Result<List<Parameter>, Stop>
     ensures { Gives (λ ps. ps) result (state_of state.new) (param_of target.now roles.now p.now unnamed before (state_of state.old)) }
 {
-    let setting = Setting::of(alloc, Where::AsParameter, Entity::Parameter)?;
-    let base = specified(&p.specs, &setting, alloc, target, roles, state)?;
+    let base = {
+        let setting = Setting::of(alloc, Where::AsParameter, Entity::Parameter)?;
+        specified(&p.specs, &setting, alloc, target, roles, state)?.ctype
+    };
     let allowed = Allowed::in_parameter();
     let d = &p.declr;
     let x = declr(&d.node, d.at, allowed, alloc, target, roles, state)?;
-    parameter_declared(
-        unnamed, before, base.ctype, d.at, x, alloc, target, roles, state,
-    )
+    parameter_declared(unnamed, before, base, d.at, x, alloc, target, roles, state)
+}
+
+/// One more, behind those before.
+fn one_more(before: List<Parameter>, p: Parameter) -> Result<List<Parameter>, Stop>
+    ensures { (s : Known) → Gives (λ ps. ps) result s (one_more_of before (Ok (p, s))) }
+{
+    let mut params = before.into_vec();
+    params.push(p)?;
+    Ok(List::of(params))
+}
+
+/// A parameter that is declared with this name and type, at its position among the parameters.
+#[tactic(auto, using(cc_scopes::proofs::Outcomes::of_outcomes))]
+fn parameter_of_type(
+    unnamed: bool,
+    before: List<Parameter>,
+    t: CType,
+    at: u32,
+    name: Option<Name>,
+    alloc: Global,
+    roles: &Roles,
+    state: &mut State,
+) -> Result<List<Parameter>, Stop>
+    ensures { Gives (λ ps. ps) result (state_of state.new) (and_then (whole at (state_of state.old) (parameter_type_of t)) (λ t s. one_more_of before (parameter_bound_of roles.now unnamed (length before) (parameter_of at name t) s name))) }
+{
+    let ctype = placed(at, parameter_type(alloc, t))?;
+    let Ok(position) = u32::try_from(before.all().len()) else {
+        return Err(Stop::NoMemory);
+    };
+    let p = Parameter { name, ctype, at };
+    let p = parameter_bound(alloc, roles, unnamed, position, p, state)?;
+    one_more(before, p)
 }
 
 /// What a declarator declares of this type, at its position among the parameters.
@@ -101,14 +138,5 @@ fn parameter_declared(
     ensures { Gives (λ ps. ps) result (state_of state.new) (parameter_declared_of target.now roles.now unnamed before base at d (state_of state.old)) }
 {
     let t = derived_type(alloc, target, Allowed::in_parameter(), base, &d, state)?;
-    let ctype = placed(at, parameter_type(alloc, t))?;
-    let Ok(position) = u32::try_from(before.all().len()) else {
-        return Err(Stop::NoMemory);
-    };
-    let name = d.name;
-    let p = Parameter { name, ctype, at };
-    let p = parameter_bound(alloc, roles, unnamed, position, p, state)?;
-    let mut params = before.into_vec();
-    params.push(p)?;
-    Ok(List::of(params))
+    parameter_of_type(unnamed, before, t, at, d.name, alloc, roles, state)
 }

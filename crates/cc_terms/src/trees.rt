@@ -1,27 +1,21 @@
 //! Expressions (C99 6.5).
 
-ghost use Rattle.std.specs.Prelude.{map};
 ghost use Rattle.cc_designators.specs.View.{expr_view};
 ghost use Rattle.cc_operands.specs.View.{operand_view};
 ghost use Rattle.cc_primary.specs.Values.{valued, value_found, designated_found};
-ghost use Rattle.cc_primary.specs.View.{operands_view};
 ghost use Rattle.cc_scopes.specs.Outcomes.{Gives};
 ghost use Rattle.cc_scopes.specs.Verdicts.{and_then};
 ghost use Rattle.cc_scopes.specs.View.{state_of};
-ghost use Rattle.cc_terms.specs.Expressions.{arguments_found};
 ghost use Rattle.cc_terms.specs.Terms.{tree_of, here};
 
-use crate::operations::{
-    called_expr, callee, prefixed, sizeof_found, sizeof_type_found, subscript_base, subscript_expr,
+use crate::operators::{
+    assignment, binary, cast_to_named, choice, comma, prefix, size_of, size_of_type, step_behind,
 };
-use crate::type_names::type_name;
-use cc_designators::{TypedExpr, arrow, cast, dot};
-use cc_num::{Boxed, List, Target};
+use crate::postfix::{call, member_of, member_pointed_to, subscript};
+use cc_designators::TypedExpr;
+use cc_num::{Boxed, Target};
 use cc_operands::Operand;
-use cc_primary::{
-    after_expr, assign_expr, binary_expr, character, choose_expr, comma_expr, designating, named,
-    number, text, value_of,
-};
+use cc_primary::{character, designating, named, number, text, value_of};
 use cc_scopes::{State, Stop, placed};
 use cc_syntax::Roles;
 use cc_tree::{At, Tree};
@@ -53,79 +47,19 @@ pub fn tree(
             let e = e.get();
             tree(&e.node, e.at, alloc, target, roles, state)
         }
-        Tree::Comma(a, b) => {
-            let x = boxed_operand(a, alloc, target, roles, state)?;
-            let y = boxed_operand(b, alloc, target, roles, state)?;
-            placed(at, comma_expr(alloc, x, y))
-        }
-        Tree::Assign(mark, a, b) => {
-            let x = designator(a.get(), alloc, target, roles, state)?;
-            let y = boxed_operand(b, alloc, target, roles, state)?;
-            placed(
-                at,
-                assign_expr(alloc, target, state.structures(), *mark, x, y),
-            )
-        }
-        Tree::Choose(c, a, b) => {
-            let c = boxed_operand(c, alloc, target, roles, state)?;
-            let x = boxed_operand(a, alloc, target, roles, state)?;
-            let y = boxed_operand(b, alloc, target, roles, state)?;
-            placed(at, choose_expr(alloc, target, c, x, y))
-        }
-        Tree::Binary(mark, a, b) => {
-            let x = boxed_operand(a, alloc, target, roles, state)?;
-            let y = boxed_operand(b, alloc, target, roles, state)?;
-            placed(
-                at,
-                binary_expr(alloc, target, state.structures(), *mark, x, y),
-            )
-        }
-        Tree::Prefix(mark, e) => {
-            let e = e.get();
-            let x = tree(&e.node, e.at, alloc, target, roles, state)?;
-            prefixed(*mark, at, e.at, x, alloc, target, state)
-        }
-        Tree::Postfix(e, mark) => {
-            let x = designator(e.get(), alloc, target, roles, state)?;
-            placed(at, after_expr(alloc, state.structures(), *mark, x))
-        }
-        Tree::SizeOf(e) => {
-            let count = state.names().len();
-            let x = designator(e.get(), alloc, target, roles, state)?;
-            sizeof_found(at, count, x, alloc, target, state)
-        }
-        Tree::SizeOfType(t) => {
-            let count = state.names().len();
-            let t = type_name(t.get(), false, alloc, target, roles, state)?;
-            sizeof_type_found(at, count, t, alloc, target, state)
-        }
-        Tree::Cast(t, e) => {
-            let t = type_name(t.get(), true, alloc, target, roles, state)?;
-            let x = boxed_operand(e, alloc, target, roles, state)?;
-            placed(at, cast(alloc, target, at, &t, x))
-        }
-        Tree::Subscript(a, i) => {
-            let a = a.get();
-            let x = tree(&a.node, a.at, alloc, target, roles, state)?;
-            let base = subscript_base(alloc, a.at, x)?;
-            let y = boxed_operand(i, alloc, target, roles, state)?;
-            placed(at, subscript_expr(alloc, state.structures(), base, y))
-        }
-        Tree::Call(f, args) => {
-            let f = f.get();
-            let x = tree(&f.node, f.at, alloc, target, roles, state)?;
-            let called = callee(alloc, f.at, x)?;
-            let xs = values(args, alloc, target, roles, state)?;
-            placed(at, called_expr(alloc, target, called, xs))
-        }
-        Tree::Member(e, x) => {
-            let a = designator(e.get(), alloc, target, roles, state)?;
-            placed(at, dot(alloc, state.structures(), x.all(), a))
-        }
-        Tree::Arrow(e, x) => {
-            let p = boxed_operand(e, alloc, target, roles, state)?;
-            placed(at, arrow(alloc, state.structures(), x.all(), p))
-        }
+        Tree::Comma(a, b) => comma(at, a, b, alloc, target, roles, state),
+        Tree::Assign(mark, a, b) => assignment(at, *mark, a, b, alloc, target, roles, state),
+        Tree::Choose(c, a, b) => choice(at, c, a, b, alloc, target, roles, state),
+        Tree::Binary(mark, a, b) => binary(at, *mark, a, b, alloc, target, roles, state),
+        Tree::Prefix(mark, e) => prefix(at, *mark, e, alloc, target, roles, state),
+        Tree::Postfix(e, mark) => step_behind(at, e, *mark, alloc, target, roles, state),
+        Tree::SizeOf(e) => size_of(at, e, alloc, target, roles, state),
+        Tree::SizeOfType(t) => size_of_type(at, t, alloc, target, roles, state),
+        Tree::Cast(t, e) => cast_to_named(at, t, e, alloc, target, roles, state),
+        Tree::Subscript(a, i) => subscript(at, a, i, alloc, target, roles, state),
+        Tree::Call(f, args) => call(at, args, f, alloc, target, roles, state),
+        Tree::Member(e, x) => member_of(at, e, x, alloc, target, roles, state),
+        Tree::Arrow(e, x) => member_pointed_to(at, e, x, alloc, target, roles, state),
     }
 }
 
@@ -187,23 +121,4 @@ pub fn designator(
 {
     let x = tree(&e.node, e.at, alloc, target, roles, state)?;
     designating(alloc, x)
-}
-
-/// The values of the arguments of a call, from left to right.
-#[cycle(terms)]
-#[tactic(auto, using(crate::proofs::InTurn::of_turns))]
-fn values(
-    es: &List<At<Tree>>,
-    alloc: Global,
-    target: &Target,
-    roles: &Roles,
-    state: &mut State,
-) -> Result<List<Operand>, Stop>
-    ensures { Gives operands_view result (state_of state.new) (arguments_found (map (here target.now roles.now) es.now) (state_of state.old)) }
-{
-    let mut values = Vec::new(alloc);
-    for e in es.all() {
-        values.push(operand(&e.node, e.at, alloc, target, roles, state)?)?;
-    }
-    Ok(List::of(values))
 }

@@ -27,10 +27,12 @@ pub fn type_name(
 ) -> Result<CType, Stop>
     ensures { Gives (λ t. t) result (state_of state.new) (type_name_of target.now roles.now t.now is_cast (state_of state.old)) }
 {
-    let setting = Setting::of(alloc, Where::InTypeName, Entity::Nothing)?;
-    let base = specified(&t.specs, &setting, alloc, target, roles, state)?;
+    let base = {
+        let setting = Setting::of(alloc, Where::InTypeName, Entity::Nothing)?;
+        specified(&t.specs, &setting, alloc, target, roles, state)?.ctype
+    };
     let allowed = Allowed::in_type_name(is_cast);
     let d = &t.declr;
     let x = declr(&d.node, d.at, allowed, alloc, target, roles, state)?;
-    derived_type(alloc, target, allowed, base.ctype, &x, state)
+    derived_type(alloc, target, allowed, base, &x, state)
 }
