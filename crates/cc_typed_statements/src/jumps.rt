@@ -6,7 +6,7 @@ ghost use Rattle.cc_operands.specs.Verdicts.{Judges};
 ghost use Rattle.cc_operands.specs.View.{operand_view, type_view};
 ghost use Rattle.cc_syntax.specs.Values.{scalar_value as scalar_value_of};
 
-use crate::statements::one;
+use crate::statements::sole_statement;
 use cc_num::{List, NoMemory, Target};
 use cc_operands::{Breach, Operand, OperandType, Rule, assigned, owned};
 use cc_syntax::{CType, Stmt};
@@ -56,7 +56,7 @@ impl Jumps {
         ensures { Judges (λ ss. ss) result (break_of self) }
     {
         if self.breaks {
-            Ok(one(alloc, Stmt::Break)?)
+            sole_statement(alloc, Stmt::Break)
         } else {
             Err(Breach::Breaks(Rule::Break))
         }
@@ -67,7 +67,7 @@ impl Jumps {
         ensures { Judges (λ ss. ss) result (continue_of self) }
     {
         if self.continues {
-            Ok(one(alloc, Stmt::Continue)?)
+            sole_statement(alloc, Stmt::Continue)
         } else {
             Err(Breach::Breaks(Rule::Continue))
         }
@@ -86,7 +86,7 @@ fn returned_by(
         return Err(Breach::Breaks(Rule::ReturnValue));
     };
     let y = assigned(alloc, target, &to, x)?;
-    Ok(one(alloc, Stmt::Return(Some(y.value)))?)
+    sole_statement(alloc, Stmt::Return(Some(y.value)))
 }
 
 /// The type of a value that a function of such a result gives; None where it gives none.
@@ -111,7 +111,7 @@ pub fn returned(
     match x {
         None => {
             if is_void(t) {
-                Ok(one(alloc, Stmt::Return(None))?)
+                sole_statement(alloc, Stmt::Return(None))
             } else {
                 Err(Breach::Breaks(Rule::ReturnValue))
             }

@@ -1,6 +1,6 @@
 //! Choices and loops of which the parts have types (C99 6.8.4.1, 6.8.5).
 
-ghost use Rattle.std.specs.Prelude.{◌≡◌, ◌∷◌, [], IfOk, option_map};
+ghost use Rattle.std.specs.Prelude.{◌≡◌, ◌∷◌, [], IfOk, option_map, Ok as OkOf};
 ghost use Rattle.cc_operands.specs.Verdicts.{Judges};
 ghost use Rattle.cc_operands.specs.View.{operand_view};
 ghost use Rattle.cc_typed_statements.specs.Statements.{if_of, while_of, do_of, for_of};
@@ -20,6 +20,13 @@ pub fn one(alloc: Global, statement: Stmt) -> Result<List<Stmt>, NoMemory>
     Ok(List::of(statements))
 }
 
+/// A construct that is a statement alone.
+pub fn sole_statement(alloc: Global, statement: Stmt) -> Result<List<Stmt>, Breach>
+    ensures { Judges (λ ss. ss) result (OkOf (statement ∷ [])) }
+{
+    Ok(one(alloc, statement)?)
+}
+
 /// `if` (C99 6.8.4.1).
 pub fn if_statement(
     alloc: Global,
@@ -31,7 +38,7 @@ pub fn if_statement(
 {
     match condition(x) {
         Err(rule) => Err(Breach::Breaks(rule)),
-        Ok(e) => Ok(one(alloc, Stmt::If(e, these, those))?),
+        Ok(e) => sole_statement(alloc, Stmt::If(e, these, those)),
     }
 }
 
@@ -41,7 +48,7 @@ pub fn while_statement(alloc: Global, x: Operand, body: List<Stmt>) -> Result<Li
 {
     match condition(x) {
         Err(rule) => Err(Breach::Breaks(rule)),
-        Ok(e) => Ok(one(alloc, Stmt::While(e, body))?),
+        Ok(e) => sole_statement(alloc, Stmt::While(e, body)),
     }
 }
 
@@ -51,7 +58,7 @@ pub fn do_statement(alloc: Global, body: List<Stmt>, x: Operand) -> Result<List<
 {
     match condition(x) {
         Err(rule) => Err(Breach::Breaks(rule)),
-        Ok(e) => Ok(one(alloc, Stmt::DoWhile(body, e))?),
+        Ok(e) => sole_statement(alloc, Stmt::DoWhile(body, e)),
     }
 }
 
@@ -67,6 +74,6 @@ pub fn for_statement(
 {
     match maybe_condition(test) {
         Err(rule) => Err(Breach::Breaks(rule)),
-        Ok(test) => { Ok(one(alloc, Stmt::For(first, test, step, body))?) }
+        Ok(test) => sole_statement(alloc, Stmt::For(first, test, step, body)),
     }
 }

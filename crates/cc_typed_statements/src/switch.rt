@@ -7,7 +7,7 @@ ghost use Rattle.cc_operands.specs.Verdicts.{Judges};
 ghost use Rattle.cc_operands.specs.View.{operand_view, type_view};
 
 use crate::cases::Cases;
-use crate::statements::one;
+use crate::statements::sole_statement;
 use cc_num::{IntType, List, NoMemory, Target, promote};
 use cc_operands::{Breach, Operand, OperandType, Rule, cast_to};
 use cc_syntax::{Case, Stmt};
@@ -74,7 +74,7 @@ pub fn switch_statement(
         Ok(cases) => {
             let t = switch_type(target, &x.ctype);
             let x = converted_to(alloc, target, t, x)?;
-            Ok(one(alloc, Stmt::Switch(x.value, cases))?)
+            sole_statement(alloc, Stmt::Switch(x.value, cases))
         }
     }
 }
