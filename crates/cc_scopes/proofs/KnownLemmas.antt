@@ -1,5 +1,5 @@
 -- The structures that the code keeps, as the definitions have them: with one more, and with one that is changed.
-use Rattle.std.proofs.Common.{◌≡◌, ◌∙◌, ◌≤◌, ◌+◌, ◌-◌, ℕ, zero, suc, Bool, true, false, ◌&&◌, ◌||◌, List, [], ◌∷◌, ◌++◌, length, take, Option, Some, None, refl, ap, sym, map, arith, set, get_or, slice_get, true≢false, eq-eqb, eqb-true, length-append, length-set}
+use Rattle.std.proofs.Common.{◌≡◌, ◌∙◌, ◌≤◌, ◌+◌, ◌-◌, ℕ, zero, suc, Bool, true, false, cond, ◌&&◌, ◌||◌, Result, Ok, Err, is_ok, OnOk, List, [], ◌∷◌, ◌++◌, length, take, Option, Some, None, refl, ap, sym, map, arith, set, get_or, slice_get, true≢false, eq-eqb, eqb-true, length-append, length-set}
 use Rattle.std.proofs.lemmas.List.{map-append}
 use Rattle.std.proofs.lemmas.List.Folds.{list_all-append}
 use Rattle.std.specs.List.{list_all, zip}
@@ -107,12 +107,24 @@ module _ (all new_all : List Structure) (standings new_standings : List Standing
       (λ j. are_kept (a j) (b j) (c j))
       ∙ ((λ j. are_kept (all ++ is_s j ∷ []) (standings ++ is_k j ∷ []) (layouts ++ is_l j ∷ [])) ∙ kept-added all standings layouts tag kept)
 
+-- with one more in each list, or in none
+module _ (all new_all : List Structure) (standings new_standings : List Standing) (layouts new_layouts : List Layout) (s : Structure) (k : Standing) (l : Layout) (tag : Option Name)
+    (kept : are_kept all standings layouts ≡ true) (is_s : s ≡ record { tag = name_or_none tag; members = [] }) (is_k : k ≡ record { tagged = is_some tag; alias = None; complete = false }) (is_l : l ≡ nothing) where
+  pub kept-either : (added : Bool) → new_all ≡ cond added (all ++ s ∷ []) all → new_standings ≡ cond added (standings ++ k ∷ []) standings → new_layouts ≡ cond added (layouts ++ l ∷ []) layouts → are_kept new_all new_standings new_layouts ≡ true
+  kept-either true a b c = kept-pushed all new_all standings new_standings layouts new_layouts s k l tag kept a b c is_s is_k is_l
+  kept-either false a b c = (λ j. are_kept (a j) (b j) (c j)) ∙ kept
+
+  pub known-either : {A E : Type 0} (r : Result A E) → new_all ≡ cond (is_ok r) (all ++ s ∷ []) all → new_standings ≡ cond (is_ok r) (standings ++ k ∷ []) standings → new_layouts ≡ cond (is_ok r) (layouts ++ l ∷ []) layouts →
+      OnOk r (known_structures (entries_of new_all new_standings new_layouts) ≡ known_structures (entries_of all standings layouts) ++ only_named tag ∷ [])
+  known-either (Ok x) a b c = known-pushed all new_all standings new_standings layouts new_layouts s k l tag kept a b c is_s is_k is_l
+  known-either (Err e) a b c = tt
+
 pub copied_some : {A : Type 0} (o : Option (Bor A)) → is_some (option_copied o) ≡ is_some o
 copied_some None = refl
 copied_some (Some a) = refl
 
 -- what is pushed and popped again
-take-front : {X : Type 0} (xs ys : List X) → take (length xs) (xs ++ ys) ≡ xs
+pub take-front : {X : Type 0} (xs ys : List X) → take (length xs) (xs ++ ys) ≡ xs
 take-front [] ys = refl
 take-front (x ∷ xs) ys = ap (λ r. x ∷ r) (take-front xs ys)
 

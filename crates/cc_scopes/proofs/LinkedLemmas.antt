@@ -1,5 +1,6 @@
 -- The number of a name that has linkage: the index finds the first one, as one more is declared and as the last goes.
-use Rattle.std.proofs.Common.{◌≡◌, ◌∙◌, ◌+◌, ◌<◌, ◌≤◌, ℕ, zero, suc, Bool, true, false, cond, ◌&&◌, List, [], ◌∷◌, ◌++◌, length, Option, Some, None, refl, ap, sym, subst, arith, true≢false, add-zero, set, get_or, take}
+use Rattle.std.proofs.Common.{◌≡◌, ◌∙◌, ◌+◌, ◌<◌, ◌≤◌, ℕ, zero, suc, Bool, true, false, cond, ◌&&◌, List, [], ◌∷◌, ◌++◌, length, Option, Some, None, Result, Ok, Err, is_err, OnOk, OnErr, refl, ap, sym, subst, arith, true≢false, add-zero, set, get_or, take}
+use Rattle.std.proofs.lemmas.List.{take_more, take_all}
 use Rattle.std.specs.Cmp.Lexicographic.{pointwise, bytes_decides}
 use Rattle.std.specs.Map.{lookup, remove_entry}
 use Rattle.std.specs.Borrow.{Bor}
@@ -8,7 +9,7 @@ use Rattle.std.specs.Prelude.{is_some, nat_eq}
 use Rattle.indexmap.specs.IndexMap.{insert_entry}
 use Rattle.cc_scopes.proofs.KnownLemmas.{copied_some}
 use Rattle.cc_scopes.proofs.ScopeMaps.{find-entries, inserted}
-use Rattle.cc_scopes.specs.Linked.{is_linked, has_name, linked_from, key_if, key_in}
+use Rattle.cc_scopes.specs.Linked.{IsIndex, is_linked, has_name, linked_from, key_if, key_in}
 use Rattle.cc_scopes.specs.Maps.{Key, named_entries}
 use Rattle.cc_scopes.specs.State.{Name, change_at, find_name, or_else, with_name}
 use Rattle.cc_scopes.specs.declared.unit.Declared.{Declared}
@@ -71,19 +72,15 @@ or_none : {A : Type 0} (o : Option A) → or_else o None ≡ o
 or_none None = refl
 or_none (Some a) = refl
 
--- that the index finds what has linkage
-abbrev pub IsIndex : List Declared → List (Key × ℕ) → Type 0
-IsIndex ds es = (x : Name) → linked_from 0 x ds ≡ find_name x (named_entries es)
-
 pub index-unnamed : (ds : List Declared) (d : Declared) (es : List (Key × ℕ)) → IsIndex ds es → key_in d ≡ None → IsIndex (ds ++ d ∷ []) es
 index-unnamed ds d es is none x = linked_from-added 0 x ds d ∙ (ap (λ k. or_else (linked_from 0 x ds) (if_named (0 + length ds) x k)) none ∙ (or_none (linked_from 0 x ds) ∙ is x))
 
-module _ (ds : List Declared) (d : Declared) (es : List (Key × ℕ)) (k : Key) (is : IsIndex ds es) (key : key_in d ≡ Some k.items) where
-  added : (x : Name) → linked_from 0 x (ds ++ d ∷ []) ≡ or_else (find_name x (named_entries es)) (cond (pointwise nat_eq x k.items) (Some (length ds)) None)
+module _ (ds : List Declared) (d : Declared) (es : List (Key × ℕ)) (k : Name) (is : IsIndex ds es) (key : key_in d ≡ Some k) where
+  added : (x : Name) → linked_from 0 x (ds ++ d ∷ []) ≡ or_else (find_name x (named_entries es)) (cond (pointwise nat_eq x k) (Some (length ds)) None)
   added x =
       let n : 0 + length ds ≡ length ds = omega arith in
       linked_from-added 0 x ds d ∙ (ap (λ m. or_else (linked_from 0 x ds) (if_named (0 + length ds) x m)) key
-      ∙ (ap (λ o. or_else o (if_named (0 + length ds) x (Some k.items))) (is x) ∙ ap (λ m. or_else (find_name x (named_entries es)) (if_named m x (Some k.items))) n))
+      ∙ (ap (λ o. or_else o (if_named (0 + length ds) x (Some k))) (is x) ∙ ap (λ m. or_else (find_name x (named_entries es)) (if_named m x (Some k))) n))
 
   again : (x : Name) (o : Option ℕ) (b : Bool) (j : ℕ) → (b ≡ true → o ≡ Some j) → or_else o (cond b (Some (length ds)) None) ≡ o
   again x None true j h = absurd (let e : None ≡ Some j = h refl in cc)
@@ -91,9 +88,9 @@ module _ (ds : List Declared) (d : Declared) (es : List (Key × ℕ)) (k : Key) 
   again x (Some a) b j h = refl
 
   -- the name is declared already
-  pub index-again : (j : ℕ) → lookup (λ m. pointwise nat_eq k.items m.items) es ≡ Some j → IsIndex (ds ++ d ∷ []) es
+  pub index-again : (j : ℕ) → lookup (λ m. pointwise nat_eq k m.items) es ≡ Some j → IsIndex (ds ++ d ∷ []) es
   index-again j found x =
-      added x ∙ again x (find_name x (named_entries es)) (pointwise nat_eq x k.items) j (λ h. ap (λ y. find_name y (named_entries es)) (same x k.items h) ∙ (find-entries k.items es ∙ found))
+      added x ∙ again x (find_name x (named_entries es)) (pointwise nat_eq x k) j (λ h. ap (λ y. find_name y (named_entries es)) (same x k h) ∙ (find-entries k es ∙ found))
 
   first : (x : Name) (o : Option ℕ) (b : Bool) → (b ≡ true → o ≡ None) → or_else o (cond b (Some (length ds)) None) ≡ cond b (Some (length ds)) o
   first x None true h = refl
@@ -102,33 +99,28 @@ module _ (ds : List Declared) (d : Declared) (es : List (Key × ℕ)) (k : Key) 
   first x (Some a) false h = refl
 
   -- it is new
-  pub index-new : (i : ℕ) (new : List (Key × ℕ)) → i ≡ length ds → lookup (λ m. pointwise nat_eq k.items m.items) es ≡ None
-      → new ≡ insert_entry (λ a b. pointwise nat_eq a.items b.items) es k i → IsIndex (ds ++ d ∷ []) new
-  index-new i new n found put x =
-      added x ∙ (first x (find_name x (named_entries es)) (pointwise nat_eq x k.items) (λ h. ap (λ y. find_name y (named_entries es)) (same x k.items h) ∙ (find-entries k.items es ∙ found))
-      ∙ (ap (λ m. cond (pointwise nat_eq x k.items) (Some m) (find_name x (named_entries es))) (sym n)
-      ∙ (sym (find-with_name x k.items i (named_entries es)) ∙ (ap (find_name x) (sym (inserted k i es)) ∙ ap (λ fs. find_name x (named_entries fs)) (sym put)))))
+  pub index-new : (name : Key) → name.items ≡ k → (i : ℕ) (new : List (Key × ℕ)) → i ≡ length ds → lookup (λ m. pointwise nat_eq k m.items) es ≡ None
+      → new ≡ insert_entry (λ a b. pointwise nat_eq a.items b.items) es name i → IsIndex (ds ++ d ∷ []) new
+  index-new name spelt i new n found put x =
+      added x ∙ (first x (find_name x (named_entries es)) (pointwise nat_eq x k) (λ h. ap (λ y. find_name y (named_entries es)) (same x k h) ∙ (find-entries k es ∙ found))
+      ∙ (ap (λ m. cond (pointwise nat_eq x k) (Some m) (find_name x (named_entries es))) (sym n)
+      ∙ (sym (find-with_name x k i (named_entries es)) ∙ (ap (λ y. find_name x (with_name y i (named_entries es))) (sym spelt) ∙ ap (find_name x) (sym (inserted name i es)) ∙ ap (λ fs. find_name x (named_entries fs)) (sym put)))))
 
 none_of : {A : Type 0} (o : Option A) → is_some o ≡ false → o ≡ None
 none_of None h = refl
 none_of (Some a) h = absurd (true≢false h)
 
-module _ (ds : List Declared) (d : Declared) (es : List (Key × ℕ)) (k : Key) (is : IsIndex ds es) (key : key_in d ≡ Some k.items) where
-  there : (o : Option ℕ) → lookup (λ m. pointwise nat_eq k.items m.items) es ≡ o → is_some o ≡ true → IsIndex (ds ++ d ∷ []) es
+module _ (ds : List Declared) (d : Declared) (es : List (Key × ℕ)) (k : Name) (is : IsIndex ds es) (key : key_in d ≡ Some k) where
+  there : (o : Option ℕ) → lookup (λ m. pointwise nat_eq k m.items) es ≡ o → is_some o ≡ true → IsIndex (ds ++ d ∷ []) es
   there None found h = absurd (true≢false (sym h))
   there (Some j) found h = index-again ds d es k is key j found
 
-  pub index-there : is_some (lookup (λ m. pointwise nat_eq k.items m.items) es) ≡ true → IsIndex (ds ++ d ∷ []) es
-  index-there h = there (lookup (λ m. pointwise nat_eq k.items m.items) es) refl h
+  pub index-there : is_some (lookup (λ m. pointwise nat_eq k m.items) es) ≡ true → IsIndex (ds ++ d ∷ []) es
+  index-there h = there (lookup (λ m. pointwise nat_eq k m.items) es) refl h
 
-  pub index-absent : (i : ℕ) (new : List (Key × ℕ)) → i ≡ length ds → is_some (lookup (λ m. pointwise nat_eq k.items m.items) es) ≡ false
-      → new ≡ insert_entry (λ a b. pointwise nat_eq a.items b.items) es k i → IsIndex (ds ++ d ∷ []) new
-  index-absent i new n h put = index-new ds d es k is key i new n (none_of (lookup (λ m. pointwise nat_eq k.items m.items) es) h) put
-
--- pushed, or not
-pub index-pushed : (b : Bool) (ds items : List Declared) (d : Declared) (es : List (Key × ℕ)) → items ≡ cond b (ds ++ d ∷ []) ds → IsIndex ds es → IsIndex (ds ++ d ∷ []) es → IsIndex items es
-index-pushed true ds items d es h old new x = ap (linked_from 0 x) h ∙ new x
-index-pushed false ds items d es h old new x = ap (linked_from 0 x) h ∙ old x
+  pub index-absent : (name : Key) → name.items ≡ k → (i : ℕ) (new : List (Key × ℕ)) → i ≡ length ds → is_some (lookup (λ m. pointwise nat_eq k m.items) es) ≡ false
+      → new ≡ insert_entry (λ a b. pointwise nat_eq a.items b.items) es name i → IsIndex (ds ++ d ∷ []) new
+  index-absent name spelt i new n h put = index-new ds d es k is key name spelt i new n (none_of (lookup (λ m. pointwise nat_eq k m.items) es) h) put
 
 -- what a key finds, by the bytes that it is asked by
 pub found-by : (asked : Name) (k : Name) (r : Option (Bor ℕ)) (es : List (Key × ℕ)) (b : Bool) → asked ≡ k → option_copied r ≡ lookup (λ m. pointwise nat_eq asked m.items) es → b ≡ is_some r
@@ -215,6 +207,24 @@ linked-set i x (c ∷ ds) (suc j) d e h n l = ap (λ r. cond (is_linked c.linkag
 
 pub index-set : (ds : List Declared) (es : List (Key × ℕ)) (j : ℕ) (d e : Declared) → IsIndex ds es → d ≡ get_or ds j d → e.name ≡ d.name → e.linkage ≡ d.linkage → IsIndex (set ds j e) es
 index-set ds es j d e is h n l x = linked-set 0 x ds j d e h n l ∙ is x
+
+-- ---- the last element apart
+
+pub last-apart : {X : Type 0} (xs : List X) (i : ℕ) (x : X) → i + 1 ≡ length xs → x ≡ get_or xs i x → take i xs ++ x ∷ [] ≡ xs
+last-apart xs i x long is = ap (λ y. take i xs ++ y ∷ []) is ∙ (sym (take_more xs i x (omega (arith, long))) ∙ take_all (i + 1) xs (omega (arith, long)))
+
+pub last-at : {X : Type 0} (xs : List X) (x d : X) → get_or (xs ++ x ∷ []) (length xs) d ≡ x
+last-at [] x d = refl
+last-at (y ∷ xs) x d = last-at xs x d
+
+-- what a result says where it is no error, and where it is one
+pub ok-says : {A E P : Type 0} (r : Result A E) → is_err r ≡ false → OnOk r P → P
+ok-says (Ok x) h p = p
+ok-says (Err e) h p = absurd (true≢false h)
+
+pub err-says : {A E P : Type 0} (r : Result A E) → is_err r ≡ true → OnErr r P → P
+err-says (Ok x) h p = absurd (true≢false (sym h))
+err-says (Err e) h p = p
 
 pub ruleset of_laws = (find-with_name)
 

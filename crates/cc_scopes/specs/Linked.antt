@@ -1,7 +1,8 @@
 -- Which names have linkage (C99 6.2.2).
-use Rattle.std.specs.Prelude.{ℕ, suc, Bool, true, false, ◌&&◌, List, [], ◌∷◌, Option, Some, None, if◌then◌else◌}
+use Rattle.std.specs.Prelude.{◌≡◌, ℕ, suc, Bool, true, false, ◌&&◌, List, [], ◌∷◌, Option, Some, None, if◌then◌else◌}
 use Rattle.std.specs.Str.{bytes_eq}
-use Rattle.cc_scopes.specs.State.{State, Name}
+use Rattle.cc_scopes.specs.Maps.{Key, named_entries}
+use Rattle.cc_scopes.specs.State.{State, Name, find_name}
 use Rattle.cc_scopes.specs.declared.unit.Declared.{Declared}
 use Rattle.cc_unit.specs.declared.unit.Linkage.{Linkage}
 use Rattle.cc_unit.specs.declared.unit.Linkage.TheVariants as linkage
@@ -30,3 +31,7 @@ key_if false x = None
 
 abbrev pub key_in : Declared → Option Name
 key_in d = key_if (is_linked d.linkage) d.name
+
+-- a list of names with numbers finds the first of each name that has linkage
+abbrev pub IsIndex : List Declared → List (Key × ℕ) → Type 0
+IsIndex ds es = (x : Name) → linked_from 0 x ds ≡ find_name x (named_entries es)

@@ -1,6 +1,6 @@
 //! The structure types of a unit.
 
-ghost use Rattle.std.specs.Prelude.{◌≡◌, IfOk, IsTrue};
+ghost use Rattle.std.specs.Prelude.{◌≡◌, ◌++◌, ◌∷◌, [], is_ok, IfOk, IsTrue, if◌then◌else◌};
 ghost use Rattle.std.specs.Option.{option_copied};
 ghost use Rattle.cc_scopes.specs.Standings.{are_kept};
 ghost use Rattle.cc_scopes.specs.State.{name_or_none};
@@ -73,7 +73,6 @@ impl Structures {
     }
 
     /// One more, which is only named.
-    #[tactic(auto, using(crate::proofs::KnownLemmas::of_known), unfolding(crate::specs::View::known_of))]
     pub fn add(&mut self, alloc: Global, tag: Option<&Name>) -> Result<(), NoMemory>
         ensures known { OnOk result (known_of self.new ≡ known_of self.old ++ only_named (option_copied tag.entry) ∷ []) }
         ensures completed { OnOk result (self.new.completed.items ≡ self.old.completed.items) }
@@ -87,17 +86,14 @@ impl Structures {
             alias: None,
             complete: false,
         };
-        self.all.push(structure)?;
-        if self.standings.push(standing).is_err() {
-            self.all.pop();
-            return Err(NoMemory);
-        }
-        if self.layouts.push(NOTHING).is_err() {
-            self.all.pop();
-            self.standings.pop();
-            return Err(NoMemory);
-        }
-        Ok(())
+        push_each(
+            &mut self.all,
+            structure,
+            &mut self.standings,
+            standing,
+            &mut self.layouts,
+            NOTHING,
+        )
     }
 
     /// One is complete, with these members and this layout.
@@ -139,6 +135,32 @@ impl Structures {
 
 /// The layout of what has no objects.
 const NOTHING: Layout = Layout { size: 0, align: 1 };
+
+/// Puts an element behind each of three lists, or behind none of them.
+fn push_each<A: Drop, B: Drop, C: Drop>(
+    first: &mut Vec<A>,
+    a: A,
+    second: &mut Vec<B>,
+    b: B,
+    third: &mut Vec<C>,
+    c: C,
+) -> Result<(), NoMemory>
+    ensures first { first.new.items ≡ (if is_ok result then first.old.items ++ a ∷ [] else first.old.items) }
+    ensures second { second.new.items ≡ (if is_ok result then second.old.items ++ b ∷ [] else second.old.items) }
+    ensures third { third.new.items ≡ (if is_ok result then third.old.items ++ c ∷ [] else third.old.items) }
+{
+    first.push(a)?;
+    if second.push(b).is_err() {
+        first.pop();
+        return Err(NoMemory);
+    }
+    if third.push(c).is_err() {
+        first.pop();
+        second.pop();
+        return Err(NoMemory);
+    }
+    Ok(())
+}
 
 /// The tag of a structure; nothing where it has none.
 fn tag_or_none(alloc: Global, tag: Option<&Name>) -> Result<Name, NoMemory>

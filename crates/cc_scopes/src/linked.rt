@@ -1,10 +1,11 @@
 //! What has a place in memory of its own, each found at once by its name where that has linkage (C99 6.2.2).
 
-ghost use Rattle.std.specs.Prelude.{◌≡◌, ◌↔◌, ℕ, IsTrue, List as ListOf, OnOk, IfOk, ◌++◌, ◌∷◌, [], ◌-◌, take, length, Some as SomeOf};
-ghost use Rattle.std.specs.Option.{option_map};
-ghost use Rattle.cc_scopes.specs.Linked.{linked_from, is_linked, key_in};
+ghost use Rattle.std.specs.Prelude.{◌≡◌, ◌↔◌, ℕ, IsTrue, List as ListOf, OnOk, OnErr, IfOk, ◌++◌, ◌∷◌, [], ◌-◌, take, length, Some as SomeOf};
+ghost use Rattle.std.specs.Option.{option_copied};
+ghost use Rattle.cc_scopes.specs.Linked.{IsIndex, linked_from, is_linked, key_in};
 ghost use Rattle.cc_scopes.specs.Maps.{named_entries};
 ghost use Rattle.cc_scopes.specs.State.{find_name};
+ghost use Rattle.cc_scopes.specs.declared.unit.Declared.{Declared as DeclaredOf};
 
 mod definitions;
 
@@ -19,7 +20,7 @@ use std::alloc::Global;
 pub struct Names {
     pub all: Vec<Declared>,
     pub linked: IndexMap<Vec<u8>, u32>,
-    ghost indexed: { (x : ListOf ℕ) → linked_from 0 x all.items ≡ find_name x (named_entries linked.entries) },
+    ghost indexed: { IsIndex all.items linked.entries },
 }
 
 fn is_linked_by(linkage: Linkage) -> bool
@@ -32,15 +33,15 @@ fn is_linked_by(linkage: Linkage) -> bool
 }
 
 /// The name of what has linkage.
-fn key_of(alloc: Global, d: &Declared) -> Result<Option<Vec<u8>>, NoMemory>
-    ensures { IfOk result (λ r. option_map (λ k. k.items) r ≡ key_in d.now) }
+fn linked_name(d: &Declared) -> Option<&[u8]>
+    ensures { option_copied result ≡ key_in d.now }
 {
     if !is_linked_by(d.linkage) {
-        return Ok(None);
+        return None;
     }
     match &d.name {
-        None => Ok(None),
-        Some(name) => Ok(Some(Vec::from_slice(alloc, name.all())?)),
+        None => None,
+        Some(name) => Some(name.all()),
     }
 }
 
@@ -52,6 +53,39 @@ fn is_number_of(linked: &IndexMap<Vec<u8>, u32>, name: &[u8], id: usize) -> bool
     match linked.get(name) {
         None => false,
         Some(first) => *first as usize == id,
+    }
+}
+
+/// The name, where there is one, finds this number from now on, unless it finds one already.
+fn note_number(
+    alloc: Global,
+    linked: &mut IndexMap<Vec<u8>, u32>,
+    name: Option<&[u8]>,
+    id: u32,
+) -> Result<(), NoMemory>
+    ensures noted { OnOk result ((ds : ListOf DeclaredOf) (d : DeclaredOf) → IsIndex ds linked.old.entries → key_in d ≡ option_copied name.entry → id ≡ length ds → IsIndex (ds ++ d ∷ []) linked.new.entries) }
+    ensures unchanged { OnErr result (linked.new.entries ≡ linked.old.entries) }
+{
+    let Some(name) = name else {
+        return Ok(());
+    };
+    if linked.get(name).is_some() {
+        return Ok(());
+    }
+    let key = Vec::from_slice(alloc, name)?;
+    linked.insert(key, id)?;
+    Ok(())
+}
+
+/// The name, where there is one, does not find this number any more.
+fn forget_number(linked: &mut IndexMap<Vec<u8>, u32>, name: Option<&[u8]>, id: usize)
+    ensures { (ds : ListOf DeclaredOf) (d : DeclaredOf) → IsIndex (ds ++ d ∷ []) linked.old.entries → key_in d ≡ option_copied name.entry → id ≡ length ds → IsIndex ds linked.new.entries }
+{
+    let Some(name) = name else {
+        return;
+    };
+    if is_number_of(linked, name, id) {
+        linked.shift_remove(name);
     }
 }
 
@@ -84,38 +118,13 @@ impl Names {
         let Ok(id) = u32::try_from(self.all.len()) else {
             return Err(NoMemory);
         };
-        let key = key_of(alloc, &d)?;
-        match key {
-            None => {
-                self.all.push(d)?;
-                Ok(id)
-            }
-            Some(key) => {
-                self.add_linked(key, d, id)?;
-                Ok(id)
-            }
-        }
-    }
-
-    /// One more with linkage, of this name.
-    #[tactic(auto, using(crate::proofs::LinkedLemmas::of_linked))]
-    fn add_linked(&mut self, key: Vec<u8>, d: Declared, id: u32) -> Result<(), NoMemory>
-        requires key { key_in d ≡ SomeOf key.items }
-        requires id { id ≡ length self.old.all.items }
-        ensures { OnOk result (self.new.all.items ≡ self.old.all.items ++ d ∷ []) }
-    {
-        if self.linked.get(key.as_slice()).is_some() {
-            self.all.push(d)?;
-            return Ok(());
-        }
         self.all.push(d)?;
-        match self.linked.insert(key, id) {
-            Ok(_) => Ok(()),
-            Err(_) => {
-                self.all.pop();
-                Err(NoMemory)
-            }
+        let name = linked_name(&self.all[id as usize]);
+        if note_number(alloc, &mut self.linked, name, id).is_err() {
+            self.all.truncate(id as usize);
+            return Err(NoMemory);
         }
+        Ok(id)
     }
 
     /// So many stay.
@@ -133,17 +142,10 @@ impl Names {
     fn forget_last(&mut self)
         ensures { self.new.all.items ≡ take (length self.old.all.items - 1) self.old.all.items }
     {
-        let Some(last) = self.all.pop() else {
+        let Some(id) = self.all.len().checked_sub(1) else {
             return;
         };
-        if !is_linked_by(last.linkage) {
-            return;
-        }
-        let Some(name) = &last.name else {
-            return;
-        };
-        if is_number_of(&self.linked, name.all(), self.all.len()) {
-            self.linked.shift_remove(name.all());
-        }
+        forget_number(&mut self.linked, linked_name(&self.all[id]), id);
+        self.all.truncate(id);
     }
 }
