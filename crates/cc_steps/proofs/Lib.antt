@@ -1,3 +1,4 @@
+pub mod BegunLemmas
 pub mod BoundaryLemmas
 pub mod FirstLemmas
 pub mod InputLemmas

@@ -1,16 +1,21 @@
 -- Where the running activation goes on does not depend on what its locals hold, so a mark and a write commute.
-use Rattle.std.proofs.Common.{◌≡◌, ◌==◌, ℕ, Bool, true, false, if◌then◌else◌, List, [], ◌∷◌, Some, refl, ap, sym, ◌∙◌}
+use Rattle.std.proofs.Common.{◌≡◌, ◌==◌, ℕ, Bool, true, false, if◌then◌else◌, List, [], ◌∷◌, Some, None, refl, ap, sym, ◌∙◌}
 use Rattle.cc_control.specs.Control.{behind}
 use Rattle.cc_eval.specs.declared.mark.Mark.{Mark}
+use Rattle.cc_eval.specs.declared.mark.Mark.TheVariants.{Did}
 use Rattle.cc_program.specs.declared.program.Program.{Program}
 use Rattle.cc_program.specs.declared.stmt.Case.{Case}
 use Rattle.cc_program.specs.declared.stmt.Stmt.{Stmt, out-Stmt}
 use Rattle.cc_program.specs.declared.stmt.Stmt.TheOpen as is
+use Rattle.cc_program.specs.declared.value.Cell.{Cell}
+use Rattle.cc_program.specs.declared.value.Root.TheVariants as root
 use Rattle.cc_program.specs.declared.value.Value.{Value}
 use Rattle.cc_cells.specs.Cells.{with_scalar}
-use Rattle.cc_steps.specs.Access.{with_local, with_locals}
-use Rattle.cc_steps.specs.State.{Active}
-use Rattle.cc_steps.specs.Step.{is_known, passes, progress_of, goes_to, moved, at_test, settled_in, settled, with_mark, marked, on_top}
+use Rattle.cc_steps.specs.Access.{is_open, with_local, with_locals}
+use Rattle.cc_steps.specs.State.{Active, State}
+use Rattle.cc_steps.specs.declared.event.Event.{Event}
+use Rattle.cc_steps.specs.declared.event.Event.TheVariants as event
+use Rattle.cc_steps.specs.Step.{with_stack, with_statics, with_event, did, written, has_written, is_known, passes, progress_of, goes_to, moved, at_test, settled_in, settled, with_mark, marked, on_top}
 use Rattle.std.specs.Prelude.{Option}
 
 module _ (p : Program) where
@@ -95,4 +100,36 @@ module _ (p : Program) where
       ∙ ap (λ (k : ℕ). if k == number then with_locals (marked p a m) (with_scalar a.locals local n (Some v)) ∷ below else marked p a m ∷ with_local below number local n v) (sym (settled-number a.here.rest (with_mark a m)))
       ∙ ap (λ cells. if (marked p a m).number == number then with_locals (marked p a m) (with_scalar cells local n (Some v)) ∷ below else marked p a m ∷ with_local below number local n v) (sym (settled-cells a.here.rest (with_mark a m)))
 
-pub ruleset of_writes = (top-local)
+  -- of the whole state: an event or none is noted, the mark is made, and the cell is written
+  pub event-static : (b : Bool) (s : State) (i n : ℕ) (v : Value) (e : Event) (m : Mark) →
+      did p (with_event b (with_statics s (with_scalar s.memory.statics i n v)) e) m
+      ≡ with_statics (did p (with_event b s e) m) (with_scalar (did p (with_event b s e) m).memory.statics i n v)
+  event-static true s i n v e m = refl
+  event-static false s i n v e m = refl
+
+  pub event-local : (b : Bool) (s : State) (number local n : ℕ) (v : Value) (e : Event) (m : Mark) →
+      did p (with_event b (with_stack s (with_local s.stack number local n v)) e) m
+      ≡ with_stack (did p (with_event b s e) m) (with_local (did p (with_event b s e) m).stack number local n v)
+  event-local true s number local n v e m = ap (λ (stack : List Active). with_stack (with_event true s e) stack) (top-local s.stack number local n v m)
+  event-local false s number local n v e m = ap (λ (stack : List Active). with_stack s stack) (top-local s.stack number local n v m)
+
+  -- what a write comes to, from what its mark came to
+  pub static-written : (to : Cell) (b : Bool) (s t : State) (i n : ℕ) (v : Value) → t ≡ did p (with_event b s (event.Write to v)) Did →
+      with_statics t (with_scalar t.memory.statics i n v) ≡ has_written p to b v s (written s (root.Static i) n v)
+  static-written to b s t i n v h =
+      ap (λ (t : State). with_statics t (with_scalar t.memory.statics i n v)) h ∙ sym (event-static b s i n v (event.Write to v) Did)
+
+  in_stack : (to : Cell) (b : Bool) (s : State) (x : Bool) (stack : List Active) (v : Value) → x ≡ true →
+      has_written p to b v s (if x then Some (with_stack s stack) else None) ≡ did p (with_event b (with_stack s stack) (event.Write to v)) Did
+  in_stack to b s true stack v h = refl
+  in_stack to b s false stack v h = absurd (cc)
+
+  pub local-written : (to : Cell) (b : Bool) (s t : State) (number func local n : ℕ) (v : Value) → is_open s.stack number ≡ true → t ≡ did p (with_event b s (event.Write to v)) Did →
+      with_stack t (with_local t.stack number local n v) ≡ has_written p to b v s (written s (root.Auto number func local) n v)
+  local-written to b s t number func local n v o h =
+      ap (λ (t : State). with_stack t (with_local t.stack number local n v)) h ∙
+      sym (in_stack to b s (is_open s.stack number) (with_local s.stack number local n v) v o ∙ event-local b s number local n v (event.Write to v) Did)
+
+pub ruleset of_static_writes = (static-written)
+
+pub ruleset of_writes = (local-written)

@@ -64,6 +64,19 @@ impl<'p> Run<'p> {
         }
     }
 
+    /// A step is done that can be seen.
+    fn mark_event(&mut self, alloc: Global, mark: Mark, event: Event) -> Result<(), NoMemory>
+        requires { AreSized self.old.program.now.structures self.old.program.now.target }
+        ensures program { self.new.program ≡ self.old.program }
+        ensures ok { OnOk result (state_of self.new ≡ did self.old.program.now (with_event true (state_of self.old) event) mark) }
+        ensures err { OnErr result (state_of self.new ≡ state_of self.old) }
+    {
+        self.trace.reserve(1)?;
+        mark_top(alloc, self.program, &mut self.stack, mark)?;
+        self.trace.push(event)?;
+        Ok(())
+    }
+
     /// A read gave a value.
     fn give(
         &mut self,
@@ -86,15 +99,7 @@ impl<'p> Run<'p> {
             );
         }
         let seen = value.copy(alloc)?;
-        self.trace.reserve(1)?;
-        mark_top(
-            alloc,
-            self.program,
-            &mut self.stack,
-            Mark::Gave(Some(value)),
-        )?;
-        self.trace.push(Event::Read(from, seen))?;
-        Ok(())
+        self.mark_event(alloc, Mark::Gave(Some(value)), Event::Read(from, seen))
     }
 
     /// A read of what holds this.
@@ -193,12 +198,30 @@ impl<'p> Run<'p> {
         ensures ok { OnOk result (state_of self.new ≡ did self.old.program.now (with_event true (state_of self.old) (event.Write (cell.Device d) value)) mark.Did) }
         ensures err { OnErr result (state_of self.new ≡ state_of self.old) }
     {
-        self.trace.reserve(1)?;
-        mark_top(alloc, self.program, &mut self.stack, Mark::Did)?;
-        self.trace.push(Event::Write(Cell::Device(d), value))?;
-        Ok(())
+        self.mark_event(alloc, Mark::Did, Event::Write(Cell::Device(d), value))
     }
 
+    /// A write is done, but for the cell.
+    fn mark_write(
+        &mut self,
+        alloc: Global,
+        to: Cell,
+        is_event: bool,
+        value: &Value,
+    ) -> Result<(), NoMemory>
+        requires { AreSized self.old.program.now.structures self.old.program.now.target }
+        ensures program { self.new.program ≡ self.old.program }
+        ensures ok { OnOk result (state_of self.new ≡ did self.old.program.now (with_event is_event (state_of self.old) (event.Write to value.now)) mark.Did) }
+        ensures err { OnErr result (state_of self.new ≡ state_of self.old) }
+    {
+        if !is_event {
+            return mark_top(alloc, self.program, &mut self.stack, Mark::Did);
+        }
+        let seen = value.copy(alloc)?;
+        self.mark_event(alloc, Mark::Did, Event::Write(to, seen))
+    }
+
+    #[tactic(auto, using(crate::proofs::WriteLemmas::of_static_writes))]
     fn write_static(
         &mut self,
         alloc: Global,
@@ -213,13 +236,8 @@ impl<'p> Run<'p> {
         ensures ok { OnOk result ((n : ℕ) → counted n ≡ position → state_of self.new ≡ has_written self.old.program.now to is_event value (state_of self.old) (written (state_of self.old) (root.Static i) n value)) }
         ensures err { OnErr result (state_of self.new ≡ state_of self.old) }
     {
-        let seen = value.copy(alloc)?;
-        self.trace.reserve(1)?;
-        mark_top(alloc, self.program, &mut self.stack, Mark::Did)?;
+        self.mark_write(alloc, to, is_event, &value)?;
         write_scalar(&mut self.statics, i, position, value);
-        if is_event {
-            self.trace.push(Event::Write(to, seen))?;
-        }
         Ok(())
     }
 
@@ -242,9 +260,7 @@ impl<'p> Run<'p> {
             self.end = End::Trap;
             return Ok(());
         }
-        let seen = value.copy(alloc)?;
-        self.trace.reserve(1)?;
-        mark_top(alloc, self.program, &mut self.stack, Mark::Did)?;
+        self.mark_write(alloc, to, is_event, &value)?;
         write_local(
             &mut self.stack,
             object.activation,
@@ -252,9 +268,6 @@ impl<'p> Run<'p> {
             position,
             value,
         );
-        if is_event {
-            self.trace.push(Event::Write(to, seen))?;
-        }
         Ok(())
     }
 

@@ -2,18 +2,19 @@
 
 ghost use Rattle.std.specs.Prelude.{◌≡◌, IfOk, OnOk, OnErr, option_map};
 ghost use Rattle.cc_program.specs.declared.stmt.Stmt.{out-Stmt};
+ghost use Rattle.cc_program.specs.declared.stmt.Stmt.TheOpen as is;
 ghost use Rattle.cc_syntax.specs.Sizes.{AreSized};
-ghost use Rattle.cc_control.specs.Control.{path_of as path_of_control};
+ghost use Rattle.cc_control.specs.Control.{path_of as path_of_control, behind as behind_of};
 ghost use Rattle.cc_control.specs.View.{level_of, levels_of, control_of};
 ghost use Rattle.cc_eval.specs.Progress.{operands_of as operands_of_marks};
-ghost use Rattle.cc_steps.specs.Step.{moved, settled_in, settled, marked};
+ghost use Rattle.cc_steps.specs.Step.{moved, begun_at as begun_at_of, past_level, settled_in, settled, marked};
 ghost use Rattle.cc_steps.specs.View.{active_of, moved_if};
 
 use crate::progress::{at_test, begun_at, is_known, passes, progress_at};
 use cc_control::{Control, Level, behind, first};
 use cc_eval::Mark;
 use cc_num::NoMemory;
-use cc_program::{Program, Stmt, Value};
+use cc_program::{Expr, Program, Stmt, Value};
 use std::alloc::Global;
 
 /// A function that was entered and has not returned.
@@ -46,6 +47,48 @@ impl<'p> Activation<'p> {
         self.marks.clear();
     }
 
+    /// Where it goes behind its statement.
+    fn goes_behind(&self, alloc: Global, p: &'p Program) -> Result<Control<'p>, NoMemory>
+        requires { AreSized p.now.structures p.now.target }
+        ensures { IfOk result (λ c. control_of c ≡ begun_at_of p.now self.now.number self.now.func (behind_of (active_of self.now).here (active_of self.now).around)) }
+    {
+        let next = behind(alloc, self.here, &self.around)?;
+        begun_at(alloc, p, self.number, self.func, next)
+    }
+
+    /// Where it goes from an expression statement, once the value is known.
+    fn left_after(
+        &self,
+        alloc: Global,
+        p: &'p Program,
+        e: &'p Expr,
+    ) -> Result<Option<Control<'p>>, NoMemory>
+        requires { AreSized p.now.structures p.now.target }
+        ensures { IfOk result (λ r. settled_in p.now (is.Do e.now) (active_of self.now) ≡ moved_if (active_of self.now) (option_map control_of r)) }
+    {
+        let progress = progress_at(alloc, p, self.number, self.func, &self.marks, Some(e))?;
+        if is_known(progress) {
+            Ok(Some(self.goes_behind(alloc, p)?))
+        } else {
+            Ok(None)
+        }
+    }
+
+    /// Where it goes from an expression of a loop that it leaves for the test.
+    fn left_for_test(&self, alloc: Global, p: &'p Program) -> Result<Option<Control<'p>>, NoMemory>
+        requires { AreSized p.now.structures p.now.target }
+        ensures { IfOk result (λ r. past_level p.now (active_of self.now) ≡ moved_if (active_of self.now) (option_map control_of r)) }
+    {
+        if passes(alloc, p, self.number, self.func, &self.marks, &self.here)? {
+            Ok(Some(Control {
+                here: at_test(self.here),
+                around: Vec::from_slice(alloc, &self.around)?,
+            }))
+        } else {
+            Ok(None)
+        }
+    }
+
     /// Where it goes from a statement that it leaves as soon as the value of its full expression is known.
     fn left_by(
         &self,
@@ -57,31 +100,8 @@ impl<'p> Activation<'p> {
         ensures { IfOk result (λ r. settled_in p.now (out-Stmt s.now) (active_of self.now) ≡ moved_if (active_of self.now) (option_map control_of r)) }
     {
         match s {
-            Stmt::Do(e) => {
-                if is_known(progress_at(
-                    alloc,
-                    p,
-                    self.number,
-                    self.func,
-                    &self.marks,
-                    Some(e.get()),
-                )?) {
-                    let next = behind(alloc, self.here, &self.around)?;
-                    Ok(Some(begun_at(alloc, p, self.number, self.func, next)?))
-                } else {
-                    Ok(None)
-                }
-            }
-            Stmt::For(_, _, _, _) => {
-                if passes(alloc, p, self.number, self.func, &self.marks, &self.here)? {
-                    Ok(Some(Control {
-                        here: at_test(self.here),
-                        around: Vec::from_slice(alloc, &self.around)?,
-                    }))
-                } else {
-                    Ok(None)
-                }
-            }
+            Stmt::Do(e) => self.left_after(alloc, p, e.get()),
+            Stmt::For(_, _, _, _) => self.left_for_test(alloc, p),
             _ => Ok(None),
         }
     }

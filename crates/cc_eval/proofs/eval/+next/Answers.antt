@@ -1,12 +1,15 @@
 use Rattle.std.proofs.Common.{◌≡◌, refl, ap, sym, ◌∙◌, map, Bool}
 use Rattle.cc_syntax.specs.Effects.{also}
-use Rattle.cc_eval.specs.Eval.{meaning, both, either, chosen_arm, called_with, assigned_by}
+use Rattle.cc_eval.specs.Eval.{meaning, both, either, chosen_arm, sequence, called_with, assigned_by}
 use Rattle.cc_eval.specs.Progress.{and_then}
 use Rattle.cc_eval.specs.View.{context_of, later_of, progress_of}
 use Rattle.cc_eval.proofs.EachLemmas.{each_waits, each_traps, each_known}
 use Rattle.cc_eval.proofs.LaterLemmas.{all_behind, rest_behind}
 use Rattle.cc_eval.proofs.Links.{pure_linked}
-use Rattle.cc_eval.proofs.Level.{same_outcome, choose_level, two_next, bin_level, move_level, gap_level, compare_level, both_level, either_level, call_level}
+use Rattle.cc_eval.proofs.Level.{same_outcome, choose_level, two_next, bin_level, move_level, gap_level, compare_level, both_level, either_level, call_level, one_next, place_next, change_next, load_level, address_level, after_level, un_level, conv_level, assign_level, change_level, seq_level}
+use Rattle.cc_eval.specs.declared.operators.AtPlace.TheVariants as place
+use Rattle.cc_eval.specs.declared.operators.OneOperand.TheVariants as one
+use Rattle.cc_eval.specs.declared.operators.ToPlace.TheVariants as change
 use Rattle.cc_eval.specs.declared.operators.TwoOperands.TheVariants as two
 use Rattle.cc_eval.proofs.eval.+next.Goals as goal
 
@@ -115,3 +118,67 @@ next-returns-in-Compare t c =
     same_outcome c.of_both-in-Compare.result (λ s. progress_of s) (two_next at (two.Comparison c.in-Compare.op) c.get-in-Compare.result.now c.get-in-Compare-2.result.now later c.args.marks.now) _
     (rw (c.get-in-Compare.ensures, c.get-in-Compare-2.ensures) (compare_level at c.args.e.now c.in-Compare.op c.in-Compare.a c.in-Compare.b c.in-Compare.is later c.args.marks.now))
     c.of_both-in-Compare.ensures
+
+pub next-returns-in-Load : goal.next-returns-in-Load
+next-returns-in-Load t c =
+    let at = context_of c.args.c.now in
+    let later = later_of at c.args.later.now in
+    same_outcome c.at_place.result (λ s. progress_of s) (place_next at place.Load c.get.result.now later c.args.marks.now) _
+    (rw (c.get.ensures) (load_level at c.args.e.now c.in-Load.a c.in-Load.is later c.args.marks.now))
+    c.at_place.ensures
+
+pub next-returns-in-AddrOf : goal.next-returns-in-AddrOf
+next-returns-in-AddrOf t c =
+    let at = context_of c.args.c.now in
+    let later = later_of at c.args.later.now in
+    same_outcome c.at_place-in-AddrOf.result (λ s. progress_of s) (place_next at place.Address c.get-in-AddrOf.result.now later c.args.marks.now) _
+    (rw (c.get-in-AddrOf.ensures) (address_level at c.args.e.now c.in-AddrOf.a c.in-AddrOf.is later c.args.marks.now))
+    c.at_place-in-AddrOf.ensures
+
+pub next-returns-in-After : goal.next-returns-in-After
+next-returns-in-After t c =
+    let at = context_of c.args.c.now in
+    let later = later_of at c.args.later.now in
+    same_outcome c.at_place-in-After.result (λ s. progress_of s) (place_next at (place.Step c.in-After.down) c.get-in-After.result.now later c.args.marks.now) _
+    (rw (c.get-in-After.ensures) (after_level at c.args.e.now c.in-After.a c.in-After.down c.in-After.is later c.args.marks.now))
+    c.at_place-in-After.ensures
+
+pub next-returns-in-Un : goal.next-returns-in-Un
+next-returns-in-Un t c =
+    let at = context_of c.args.c.now in
+    let later = later_of at c.args.later.now in
+    same_outcome c.of_one.result (λ s. progress_of s) (one_next at (one.Operator c.in-Un.op c.in-Un.t) c.get-in-Un.result.now later c.args.marks.now) _
+    (rw (c.get-in-Un.ensures) (un_level at c.args.e.now c.in-Un.op c.in-Un.t c.in-Un.a c.in-Un.is later c.args.marks.now))
+    c.of_one.ensures
+
+pub next-returns-in-Conv : goal.next-returns-in-Conv
+next-returns-in-Conv t c =
+    let at = context_of c.args.c.now in
+    let later = later_of at c.args.later.now in
+    same_outcome c.of_one-in-Conv.result (λ s. progress_of s) (one_next at (one.Conversion c.in-Conv.t) c.get-in-Conv.result.now later c.args.marks.now) _
+    (rw (c.get-in-Conv.ensures) (conv_level at c.args.e.now c.in-Conv.t c.in-Conv.a c.in-Conv.is later c.args.marks.now))
+    c.of_one-in-Conv.ensures
+
+pub next-returns-in-Assign : goal.next-returns-in-Assign
+next-returns-in-Assign t c =
+    let at = context_of c.args.c.now in
+    let later = later_of at c.args.later.now in
+    same_outcome c.to_place.result (λ s. progress_of s) (change_next at change.Assign c.get-in-Assign.result.now c.get-in-Assign-2.result.now later c.args.marks.now) _
+    (rw (c.get-in-Assign.ensures, c.get-in-Assign-2.ensures) (assign_level at c.args.e.now c.in-Assign.a c.in-Assign.e c.in-Assign.is later c.args.marks.now))
+    c.to_place.ensures
+
+pub next-returns-in-Change : goal.next-returns-in-Change
+next-returns-in-Change t c =
+    let at = context_of c.args.c.now in
+    let later = later_of at c.args.later.now in
+    same_outcome c.to_place-in-Change.result (λ s. progress_of s) (change_next at (change.Change c.in-Change.op c.in-Change.t) c.get-in-Change.result.now c.get-in-Change-2.result.now later c.args.marks.now) _
+    (rw (c.get-in-Change.ensures, c.get-in-Change-2.ensures) (change_level at c.args.e.now c.in-Change.a c.in-Change.op c.in-Change.t c.in-Change.e c.in-Change.is later c.args.marks.now))
+    c.to_place-in-Change.ensures
+
+pub next-returns-in-Seq : goal.next-returns-in-Seq
+next-returns-in-Seq t c =
+    let at = context_of c.args.c.now in
+    let later = later_of at c.args.later.now in
+    same_outcome c.sequence.result (λ s. progress_of s) (sequence (meaning at c.get-in-Seq.result.now) (meaning at c.get-in-Seq-2.result.now) later c.args.marks.now) _
+    (rw (c.get-in-Seq.ensures, c.get-in-Seq-2.ensures) (seq_level at c.args.e.now c.in-Seq.a c.in-Seq.b c.in-Seq.is later c.args.marks.now))
+    c.sequence.ensures
