@@ -1,6 +1,6 @@
 //! The placing of slots.
 
-ghost use Rattle.std.specs.Prelude.{◌≡◌, ◌≤◌, ◌<◌, ◌+◌, ◌^◌, ◌++◌, length, map, All, IfOk, OnOk, IsPermutation, IsSorted, count_by, ◌==◌, ℕ};
+ghost use Rattle.std.specs.Prelude.{◌≡◌, ◌≤◌, ◌<◌, ◌+◌, ◌^◌, ◌++◌, [], length, map, All, IfOk, OnOk, IsPermutation, IsSorted, count_by, ◌==◌, ℕ};
 ghost use Rattle.cc_bins.specs.Packed.{AreApart};
 ghost use Rattle.cc_bins.specs.Placing.{place_order, put as put_of, opens, bins_of, field_of, IsPlacing};
 ghost use Rattle.cc_bins.specs.Search.{room_at, moved_to};
@@ -71,13 +71,13 @@ fn put(alloc: Global, words: &mut Vec<Open>, at: usize, want: &Want) -> Result<(
     }
 }
 
-/// The words that are opened for slots in the order of placing.
-fn filled(alloc: Global, order: &[Want]) -> Result<Vec<Open>, NoMemory>
-    requires { IsSorted place_order order.now }
-    ensures words { IfOk result (λ words. words.items ≡ opens order.now) }
+/// Opens words for slots in the order of placing, where none is open yet.
+fn fill(alloc: Global, words: &mut Vec<Open>, order: &[Want]) -> Result<(), NoMemory>
+    requires none { words.old.items ≡ [] }
+    requires sorted { IsSorted place_order order.now }
+    ensures words { OnOk result (words.new.items ≡ opens order.now) }
     ensures slots { IfOk result (λ _. All (λ want. want.slot < 2 ^ 32) order.now) }
 {
-    let mut words = Vec::new(alloc);
     let mut cursor = Cursor {
         group: 0,
         bits: 0,
@@ -87,8 +87,8 @@ fn filled(alloc: Global, order: &[Want]) -> Result<Vec<Open>, NoMemory>
     for want in order {
         let _slot = want.slot;
         let next = moved(cursor, want, words.len());
-        let at = first_with_room(&words, next.at, want);
-        put(alloc, &mut words, at, want)?;
+        let at = first_with_room(words, next.at, want);
+        put(alloc, words, at, want)?;
         cursor = Cursor {
             group: next.group,
             bits: next.bits,
@@ -96,6 +96,17 @@ fn filled(alloc: Global, order: &[Want]) -> Result<Vec<Open>, NoMemory>
             at,
         };
     }
+    Ok(())
+}
+
+/// The words that are opened for slots in the order of placing.
+fn filled(alloc: Global, order: &[Want]) -> Result<Vec<Open>, NoMemory>
+    requires { IsSorted place_order order.now }
+    ensures words { IfOk result (λ words. words.items ≡ opens order.now) }
+    ensures slots { IfOk result (λ _. All (λ want. want.slot < 2 ^ 32) order.now) }
+{
+    let mut words = Vec::new(alloc);
+    fill(alloc, &mut words, order)?;
     Ok(words)
 }
 
@@ -113,6 +124,25 @@ fn add_fields(fields: &mut Vec<Field>, word: u32, slots: &[Placed]) -> Result<()
     Ok(())
 }
 
+/// Puts the words that save bytes into an empty list, and their fields into another.
+fn keep(words: &mut Vec<Word>, fields: &mut Vec<Field>, open_words: &[Open]) -> Result<(), NoMemory>
+    requires words { words.old.items ≡ [] }
+    requires fields { fields.old.items ≡ [] }
+    requires few { length open_words.now ≤ 2 ^ 32 }
+    ensures { OnOk result (bins_of open_words.now ≡ record { words = words.new.items; fields = fields.new.items }) }
+{
+    for opened in open_words {
+        if opened.saves() {
+            add_fields(fields, words.len() as u32, opened.slots.all())?;
+            words.push(Word {
+                group: opened.group,
+                bits: opened.bits,
+            })?;
+        }
+    }
+    Ok(())
+}
+
 /// The words that save bytes, and their fields.
 fn kept(alloc: Global, open_words: &[Open]) -> Result<Bins, NoMemory>
     requires { length open_words.now ≤ 2 ^ 32 }
@@ -120,15 +150,7 @@ fn kept(alloc: Global, open_words: &[Open]) -> Result<Bins, NoMemory>
 {
     let mut words = Vec::new(alloc);
     let mut fields = Vec::new(alloc);
-    for opened in open_words {
-        if opened.saves() {
-            add_fields(&mut fields, words.len() as u32, opened.slots.all())?;
-            words.push(Word {
-                group: opened.group,
-                bits: opened.bits,
-            })?;
-        }
-    }
+    keep(&mut words, &mut fields, open_words)?;
     Ok(Bins {
         words: List::of(words),
         fields: List::of(fields),

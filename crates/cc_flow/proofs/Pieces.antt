@@ -7,12 +7,12 @@ use Rattle.std.proofs.lemmas.List.Sums.{sum_by-cons, sum-map, get_or-le-sum_by}
 use Rattle.cc_program.specs.declared.expr.Expr.{Expr}
 use Rattle.cc_program.specs.declared.stmt.Case.{Case, out-Case, fold-Case, fold_out-Case}
 use Rattle.cc_program.specs.declared.stmt.Stmt.{Stmt, Do, If, While, DoWhile, For, Switch, Break, Continue, Return, Empty, Block, out-Stmt, map-Stmt, fold-roll-Stmt, fold_out-Stmt}
-use Rattle.cc_program.specs.declared.stmt.Stmt.TheVariants.{rolls-Do, rolls-If, rolls-While, rolls-DoWhile, rolls-For, rolls-Switch, rolls-Break, rolls-Continue, rolls-Return, rolls-Empty, rolls-Block}
+use Rattle.cc_program.specs.declared.stmt.Stmt.TheVariants.{rolls-Do, rolls-If, rolls-While, rolls-DoWhile, rolls-For, rolls-Switch, rolls-Break, rolls-Continue, rolls-Return, rolls-Empty, rolls-Block, outs-Do, outs-DoWhile, outs-For, outs-Break, outs-Continue, outs-Return, outs-Empty, outs-Block}
 use Rattle.cc_program.specs.declared.stmt.Stmt.TheOpen as is
 use Rattle.cc_flow.specs.declared.next.Site.{Site}
 use Rattle.cc_flow.specs.Next.{branches, may_pass}
 use Rattle.cc_flow.specs.Points.{Piece, CasePiece, total, total_in_cases, simple, point, if_points, loop_points, switch_points, switch_next, flow_step, case_step, piece_of, pieces, size_of, total_of}
-use Rattle.cc_flow.specs.View.{case_piece, case_pieces, case_total, total_of_cases}
+use Rattle.cc_flow.specs.View.{case_piece, case_pieces, case_total, total_of_cases, simple_next}
 
 abbrev folded : Case → CasePiece
 folded c = fold-Case Piece CasePiece flow_step case_step c
@@ -191,7 +191,36 @@ points-Empty s path site h = points-of s Empty _ path site h piece-Empty
 pub points-Block : (s : Stmt) (a : List Stmt) (path : List ℕ) (site : Site) → s ≡ Block a → (piece_of s).points path site ≡ point path site (site.behind ∷ []) ∷ []
 points-Block s a path site h = points-of s (Block a) _ path site h (piece-Block a)
 
-pub ruleset of_pieces = (points-Do, points-If, points-While, points-DoWhile, points-For, points-Switch, points-Break, points-Continue, points-Return, points-Empty, points-Block)
+-- a statement with none inside is a point, and control goes on where its form says
+simple-points : (s t : Stmt) (x : is.Stmt-F Stmt Case) (path : List ℕ) (site : Site) → s ≡ t → out-Stmt t ≡ x → (piece_of s).points path site ≡ point path site (simple_next x site ∷ []) ∷ []
+    → (piece_of s).points path site ≡ point path site (simple_next (out-Stmt s) site ∷ []) ∷ []
+simple-points s t x path site h o e = e ∙ ap (λ (y : is.Stmt-F Stmt Case). point path site (simple_next y site ∷ []) ∷ []) (sym (ap out-Stmt h ∙ o))
+
+pub simple-Do : (s : Stmt) (e : Expr) (path : List ℕ) (site : Site) → s ≡ Do e → (piece_of s).points path site ≡ point path site (simple_next (out-Stmt s) site ∷ []) ∷ []
+simple-Do s e path site h = simple-points s (Do e) (is.Do e) path site h (outs-Do e) (points-Do s e path site h)
+
+pub simple-DoWhile : (s : Stmt) (a : List Stmt) (e : Expr) (path : List ℕ) (site : Site) → s ≡ DoWhile a e → (piece_of s).points path site ≡ point path site (simple_next (out-Stmt s) site ∷ []) ∷ []
+simple-DoWhile s a e path site h = simple-points s (DoWhile a e) (is.DoWhile a e) path site h (outs-DoWhile a e) (points-DoWhile s a e path site h)
+
+pub simple-For : (s : Stmt) (first test step : Option Expr) (a : List Stmt) (path : List ℕ) (site : Site) → s ≡ For first test step a → (piece_of s).points path site ≡ point path site (simple_next (out-Stmt s) site ∷ []) ∷ []
+simple-For s first test step a path site h = simple-points s (For first test step a) (is.For first test step a) path site h (outs-For first test step a) (points-For s first test step a path site h)
+
+pub simple-Break : (s : Stmt) (path : List ℕ) (site : Site) → s ≡ Break → (piece_of s).points path site ≡ point path site (simple_next (out-Stmt s) site ∷ []) ∷ []
+simple-Break s path site h = simple-points s Break is.Break path site h outs-Break (points-Break s path site h)
+
+pub simple-Continue : (s : Stmt) (path : List ℕ) (site : Site) → s ≡ Continue → (piece_of s).points path site ≡ point path site (simple_next (out-Stmt s) site ∷ []) ∷ []
+simple-Continue s path site h = simple-points s Continue is.Continue path site h outs-Continue (points-Continue s path site h)
+
+pub simple-Return : (s : Stmt) (e : Option Expr) (path : List ℕ) (site : Site) → s ≡ Return e → (piece_of s).points path site ≡ point path site (simple_next (out-Stmt s) site ∷ []) ∷ []
+simple-Return s e path site h = simple-points s (Return e) (is.Return e) path site h (outs-Return e) (points-Return s e path site h)
+
+pub simple-Empty : (s : Stmt) (path : List ℕ) (site : Site) → s ≡ Empty → (piece_of s).points path site ≡ point path site (simple_next (out-Stmt s) site ∷ []) ∷ []
+simple-Empty s path site h = simple-points s Empty is.Empty path site h outs-Empty (points-Empty s path site h)
+
+pub simple-Block : (s : Stmt) (a : List Stmt) (path : List ℕ) (site : Site) → s ≡ Block a → (piece_of s).points path site ≡ point path site (simple_next (out-Stmt s) site ∷ []) ∷ []
+simple-Block s a path site h = simple-points s (Block a) (is.Block a) path site h (outs-Block a) (points-Block s a path site h)
+
+pub ruleset of_pieces = (points-If, points-While, points-Switch, simple-Do, simple-DoWhile, simple-For, simple-Break, simple-Continue, simple-Return, simple-Empty, simple-Block)
 
 -- a list from an element on
 pub drop_at : {A : Type 0} → (xs : List A) (i : ℕ) (x : A) → i < length xs → x ≡ get_or xs i x → drop i xs ≡ x ∷ drop (i + 1) xs

@@ -3,13 +3,14 @@
 ghost use Rattle.std.specs.Prelude.{◌≡◌, ◌≤◌, ◌<◌, ◌+◌, ◌-◌, ◌^◌, ◌++◌, [], ◌∷◌, length, slice_get, sum, IfOk, OnOk, is_none, nat_eq, ◌||◌};
 ghost use Rattle.std.specs.List.{list_any};
 ghost use Rattle.cc_program.specs.declared.stmt.Case.{out-Case};
+ghost use Rattle.cc_program.specs.declared.stmt.Stmt.{out-Stmt};
 ghost use Rattle.cc_flow.specs.Points.{switch_next as switch_next_of};
-ghost use Rattle.cc_flow.specs.View.{case_pieces, total_of_cases};
+ghost use Rattle.cc_flow.specs.View.{case_pieces, total_of_cases, simple_next as simple_next_of};
 ghost use Rattle.cc_flow.specs.Next.{reached as reached_of, head, heads, branches as branches_of, is_zero, may_pass as may_pass_of};
 
 use crate::counts::sizes;
 use cc_num::NoMemory;
-use cc_program::Case;
+use cc_program::{Case, Stmt};
 use std::alloc::Global;
 
 /// Where a statement stands, by the numbers of points.
@@ -36,6 +37,18 @@ pub fn reached(number: u32, end: u32, behind: u32) -> u32
     ensures { result ≡ reached_of (end - number) number behind }
 {
     if number == end { behind } else { number }
+}
+
+/// Where control goes from a statement with none inside.
+pub fn simple_next(s: &Stmt, site: Site) -> u32
+    ensures { result ≡ simple_next_of (out-Stmt s.now) site }
+{
+    match s {
+        Stmt::Break => site.breaks,
+        Stmt::Continue => site.continues,
+        Stmt::Return(_) => site.exit,
+        _ => site.behind,
+    }
 }
 
 /// A point alone.

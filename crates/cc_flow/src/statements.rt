@@ -5,7 +5,7 @@ ghost use Rattle.cc_flow.specs.Points.{piece_of, pieces, size_of as size_of_stmt
 ghost use Rattle.cc_flow.specs.View.{case_pieces, total_of_cases};
 
 use crate::counts::{size, size_of, size_of_cases};
-use crate::next::{Site, if_next, one, reached, switch_next};
+use crate::next::{Site, if_next, one, reached, simple_next, switch_next};
 use crate::types::Point;
 use cc_num::{List, NoMemory};
 use cc_program::{Case, Stmt};
@@ -70,11 +70,14 @@ fn put_stmt(
         Stmt::If(_, a, b) => put_if(alloc, points, a.all(), b.all(), path, site),
         Stmt::While(_, a) => put_loop(alloc, points, a.all(), path, site),
         Stmt::Switch(_, cases) => put_switch(alloc, points, cases.all(), path, site),
-        Stmt::Break => put_simple(alloc, points, path, site, site.breaks),
-        Stmt::Continue => put_simple(alloc, points, path, site, site.continues),
-        Stmt::Return(_) => put_simple(alloc, points, path, site, site.exit),
-        Stmt::Do(_) | Stmt::DoWhile(_, _) | Stmt::For(_, _, _, _) | Stmt::Empty | Stmt::Block(_) =>
-            { put_simple(alloc, points, path, site, site.behind) }
+        Stmt::Do(_)
+        | Stmt::DoWhile(_, _)
+        | Stmt::For(_, _, _, _)
+        | Stmt::Break
+        | Stmt::Continue
+        | Stmt::Return(_)
+        | Stmt::Empty
+        | Stmt::Block(_) => put_simple(alloc, points, path, site, simple_next(s, site)),
     }
 }
 

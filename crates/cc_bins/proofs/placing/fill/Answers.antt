@@ -2,11 +2,14 @@ use Rattle.std.proofs.Common.{◌≡◌, ◌<◌, ◌+◌, ◌^◌, ℕ, length,
 use Rattle.std.proofs.lemmas.List.{get_or_default}
 use Rattle.cc_bins.specs.declared.types.Want.{Want}
 use Rattle.cc_bins.specs.Search.{room_at, moved_to}
-use Rattle.cc_bins.proofs.Ready.{Filled, filled_begins, filled_more}
-use Rattle.cc_bins.proofs.placing.filled.Goals as goal
+use Rattle.cc_bins.proofs.Ready.{Filled, filled_none, filled_begins, filled_more}
+use Rattle.cc_bins.proofs.placing.fill.Goals as goal
 
 abbrev nothing : Want
 nothing = record { group = 0; slot = 0; bits = 0; bytes = 0 }
+
+pub loop-want-init : goal.loop-want-init
+loop-want-init c = rw c.requires.none (filled_none c.args.order.now)
 
 pub first_with_room-at-requires : goal.first_with_room-at-requires
 first_with_room-at-requires c =
@@ -32,4 +35,4 @@ loop-want-preserved c =
     let m = c.moved-next.ensures ∙ ap (moved_to c.loop-want.cursor x) n in
     let at = c.first_with_room-at.ensures ∙ ap (room_at x) c.deref.ensures.value in
     subst (λ (a : ℕ). Filled order (i + 1) c.put.new.words.items (record { group = next.group; bits = next.bits; start = next.start; at = a })) (sym at)
-    (filled_more order c.requires i words c.loop-want.cursor x l (get_or_default order i nothing x l) small c.loop-want.invariant next m c.put.new.words.items c.in_ok-put.ensures)
+    (filled_more order c.requires.sorted i words c.loop-want.cursor x l (get_or_default order i nothing x l) small c.loop-want.invariant next m c.put.new.words.items c.in_ok-put.ensures)
