@@ -1,8 +1,8 @@
 -- The law of declarations, and of all constructs.
 use Rattle.std.proofs.Common.{ℕ, false, List, [], ◌∷◌, ◌++◌, map, Option, Some, None, refl}
-use Rattle.cc_declarators.specs.Declarators.{derived_type}
-use Rattle.cc_declarators.specs.Located.{located}
-use Rattle.cc_declarators.specs.Specifiers.{begin}
+use Rattle.cc_typed_terms.specs.Declarators.{derived_type}
+use Rattle.cc_typed_terms.specs.Located.{located}
+use Rattle.cc_typed_terms.specs.Specifiers.{begin}
 use Rattle.cc_num.specs.declared.target.Target.{Target}
 use Rattle.cc_objects.specs.Categories.{category_of, entity_of, setting_of}
 use Rattle.cc_objects.specs.Names.{name_judged}
@@ -28,7 +28,7 @@ use Rattle.cc_tree.specs.declared.at.At.{At}
 use Rattle.cc_tree.specs.declared.tree.Spec.{Spec}
 use Rattle.cc_tree.specs.declared.unit.Decl.{Decl}
 use Rattle.cc_tree.specs.declared.unit.Init.{Init}
-use Rattle.cc_typed_declarations.specs.Declarations.{declaration, init_allowed, init_found, init_next, marked, named_found}
+use Rattle.cc_typed_bodies.specs.Declarations.{declaration, init_allowed, init_found, init_next, marked, named_found}
 use Rattle.cc_first_faults.specs.Constructs.{Construct, Expression, ValueOf, DesignatedBy, Valued, Designated, TypeNamed, Specifiers, SpecifierBehind, Specifier, OneAttribute, MembersBehind, MemberBehind, ConstantBehind, Declaring, Suffixed, Derived, ParameterList, ParameterBehind, ParameterNamed, Declaration, Declared, NameDeclared, Moded, LeafGiven, ScalarAssigned}
 use Rattle.cc_first_faults.specs.Parts.{attribute_parts, derivation_parts, named_parts}
 use Rattle.cc_first_faults.proofs.Declarators.{attributes-told, derivations-told, behind-law, specifiers-law, specifiers-told, named-law, HasLaw}

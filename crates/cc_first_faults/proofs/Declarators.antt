@@ -1,10 +1,10 @@
 -- The law of attributes, derivations, declarators and specifiers, whose parts have it.
 use Rattle.std.proofs.Common.{◌≡◌, ◌∙◌, ℕ, Bool, true, false, not, ◌||◌, List, [], ◌∷◌, ◌++◌, length, map, Option, Some, None, option_map, Ok, Err, refl, sym, subst}
-use Rattle.cc_declarators.specs.Declarators.{derived_type}
-use Rattle.cc_declarators.specs.Located.{located}
-use Rattle.cc_declarators.specs.Parameters.{parameter, parameter_bound}
-use Rattle.cc_declarators.specs.Names.{new_name}
-use Rattle.cc_declarators.specs.Specifiers.{begin}
+use Rattle.cc_typed_terms.specs.Declarators.{derived_type}
+use Rattle.cc_typed_terms.specs.Located.{located}
+use Rattle.cc_typed_terms.specs.Parameters.{parameter, parameter_bound}
+use Rattle.cc_typed_terms.specs.Names.{new_name}
+use Rattle.cc_typed_terms.specs.Specifiers.{begin}
 use Rattle.cc_num.specs.declared.target.Target.{Target}
 use Rattle.cc_operands.specs.Verdicts.{Judged, must}
 use Rattle.cc_operands.specs.declared.rule.Rule.{Rule}

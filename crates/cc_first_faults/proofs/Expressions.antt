@@ -11,13 +11,13 @@ use Rattle.cc_operands.specs.Operands.{Operand}
 use Rattle.cc_operands.specs.Operators.{operator_of, unary_operator_of}
 use Rattle.cc_operands.specs.Verdicts.{Judged}
 use Rattle.cc_operands.specs.declared.rule.Rule.TheVariants as rule
-use Rattle.cc_primary.specs.Devices.{address_found, register_found, device_found, device_of, with_device, number_of, cast_constant, starred_by}
-use Rattle.cc_primary.specs.Operators.{binary_by, is_minus, prefix_of, unary_by}
-use Rattle.cc_primary.specs.Primary.{named, string_place, string_object}
-use Rattle.cc_primary.specs.Sizes.{sizeof_judged, size_of_type}
-use Rattle.cc_primary.specs.Values.{gives, valued, designating, found_value, value_found, designated_found}
-use Rattle.cc_primary.specs.declared.prefix.Prefix.{Prefix}
-use Rattle.cc_primary.specs.declared.prefix.Prefix.TheVariants as prefix
+use Rattle.cc_typed_terms.specs.Devices.{address_found, register_found, device_found, device_of, with_device, number_of, cast_constant, starred_by}
+use Rattle.cc_typed_terms.specs.Operators.{binary_by, is_minus, prefix_of, unary_by}
+use Rattle.cc_typed_terms.specs.Primary.{named, string_place, string_object}
+use Rattle.cc_typed_terms.specs.Sizes.{sizeof_judged, size_of_type}
+use Rattle.cc_typed_terms.specs.Values.{gives, valued, designating, found_value, value_found, designated_found}
+use Rattle.cc_typed_terms.specs.declared.prefix.Prefix.{Prefix}
+use Rattle.cc_typed_terms.specs.declared.prefix.Prefix.TheVariants as prefix
 use Rattle.cc_program.specs.declared.object.Device.{Device}
 use Rattle.cc_program.specs.declared.program.Roles.{Roles}
 use Rattle.cc_program.specs.declared.types.CType.{CType}

@@ -1,6 +1,6 @@
 -- The law of initialisers, and of what is left of a declarator.
 use Rattle.std.proofs.Common.{ℕ, Bool, true, false, length, List, [], ◌∷◌, ◌++◌, Option, Some, None, option_to_list, Ok, Err, if◌then◌else◌, refl, slice_get}
-use Rattle.cc_declarators.specs.Located.{located}
+use Rattle.cc_typed_terms.specs.Located.{located}
 use Rattle.cc_initialisers.specs.Initialisers.{Step, Give, Character, Zero, Visit, Break, here as given_here, initialised, refused_by}
 use Rattle.cc_linkage.specs.Linkage.{declared}
 use Rattle.cc_linkage.specs.declared.linkage.DeclaredAs.{DeclaredAs}
@@ -16,7 +16,7 @@ use Rattle.cc_operands.specs.Operands.{Operand, integer, character_value}
 use Rattle.cc_operands.specs.Qualified.{without_const}
 use Rattle.cc_operands.specs.Verdicts.{Judged}
 use Rattle.cc_operands.specs.declared.rule.Rule.TheVariants as rule
-use Rattle.cc_primary.specs.Primary.{is_intrinsic}
+use Rattle.cc_typed_terms.specs.Primary.{is_intrinsic}
 use Rattle.cc_program.specs.declared.expr.Expr.{Expr}
 use Rattle.cc_program.specs.declared.expr.Place.{Local, Static}
 use Rattle.cc_program.specs.declared.program.Roles.{Roles}
@@ -31,10 +31,10 @@ use Rattle.cc_specifiers.specs.declared.attribute.Attribute.{Attribute}
 use Rattle.cc_syntax.specs.Values.{ValueType}
 use Rattle.cc_tree.specs.declared.at.At.{At}
 use Rattle.cc_tree.specs.declared.unit.Given.{Given}
-use Rattle.cc_typed_declarations.specs.Functions.{function_refused, with_function}
-use Rattle.cc_typed_declarations.specs.Declarations.{declared_left}
-use Rattle.cc_typed_declarations.specs.Objects.{initial_values, linked_known, static_given, automatic_given}
-use Rattle.cc_typed_declarations.specs.Plans.{as_given, step_found, step_done, steps_done}
+use Rattle.cc_typed_bodies.specs.Functions.{function_refused, with_function}
+use Rattle.cc_typed_bodies.specs.Declarations.{declared_left}
+use Rattle.cc_typed_bodies.specs.Objects.{initial_values, linked_known, static_given, automatic_given}
+use Rattle.cc_typed_bodies.specs.Plans.{as_given, step_found, step_done, steps_done}
 use Rattle.cc_unit.specs.declared.unit.UnitKind.TheVariants as kind
 use Rattle.cc_first_faults.specs.Constructs.{Moded, LeafGiven, ScalarAssigned, step_at}
 use Rattle.cc_first_faults.specs.FirstFaults.{forget, after}

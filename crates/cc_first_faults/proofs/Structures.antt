@@ -1,10 +1,10 @@
 -- The law of structures, enumerations and specifiers, whose parts have it.
 use Rattle.std.proofs.Common.{◌≡◌, ◌∙◌, ℕ, ℤ, pos, Bool, true, false, is_some, List, [], ◌∷◌, map, Option, Some, None, option_map, Ok, Err, if◌then◌else◌, refl, sym, subst, slice_get}
-use Rattle.cc_declarators.specs.Declarators.{derived_type}
-use Rattle.cc_declarators.specs.Located.{located}
-use Rattle.cc_declarators.specs.Members.{member_judged}
-use Rattle.cc_declarators.specs.Names.{new_name}
-use Rattle.cc_declarators.specs.Specifiers.{as_type, type_named, marked, structure_tag, enumeration_tag}
+use Rattle.cc_typed_terms.specs.Declarators.{derived_type}
+use Rattle.cc_typed_terms.specs.Located.{located}
+use Rattle.cc_typed_terms.specs.Members.{member_judged}
+use Rattle.cc_typed_terms.specs.Names.{new_name}
+use Rattle.cc_typed_terms.specs.Specifiers.{as_type, type_named, marked, structure_tag, enumeration_tag}
 use Rattle.cc_num.specs.declared.target.Target.{Target}
 use Rattle.cc_operands.specs.Operands.{constancy}
 use Rattle.cc_operands.specs.declared.rule.Rule.TheVariants as rule

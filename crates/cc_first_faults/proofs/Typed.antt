@@ -1,12 +1,12 @@
 -- The law of what is judged once it is typed, and of constructs that are judged as wholes.
 use Rattle.std.proofs.Common.{ℕ, Bool, true, false, is_some, List, [], ◌∷◌, Option, Some, None, Ok, if◌then◌else◌, refl}
-use Rattle.cc_declarators.specs.Located.{located}
+use Rattle.cc_typed_terms.specs.Located.{located}
 use Rattle.cc_designators.specs.Designators.{TypedExpr, IsPlace, IsValue, IsFunction, IsIntrinsic, IsAddress, value_at}
 use Rattle.cc_designators.specs.Postfix.{is_array_place}
 use Rattle.cc_num.specs.declared.target.Target.{Target}
 use Rattle.cc_operands.specs.declared.rule.Rule.{Rule}
-use Rattle.cc_primary.specs.Operators.{intrinsic_in}
-use Rattle.cc_primary.specs.Values.{valued, designating, found_value, null_judged}
+use Rattle.cc_typed_terms.specs.Operators.{intrinsic_in}
+use Rattle.cc_typed_terms.specs.Values.{valued, designating, found_value, null_judged}
 use Rattle.cc_program.specs.declared.expr.Intr.{Intr}
 use Rattle.cc_program.specs.declared.program.Roles.{Roles}
 use Rattle.cc_program.specs.declared.types.CType.{CType}

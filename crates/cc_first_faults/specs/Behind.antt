@@ -1,10 +1,10 @@
 -- What is known behind a construct, or the fault that it carries (C99 6.5, 6.7).
 use Rattle.std.specs.Prelude.{Bool, List, map, Result, Ok}
-use Rattle.cc_declarators.specs.Located.{located}
+use Rattle.cc_typed_terms.specs.Located.{located}
 use Rattle.cc_num.specs.declared.target.Target.{Target}
 use Rattle.cc_objects.specs.Names.{name_judged}
 use Rattle.cc_objects.specs.Values.{leaf_given, no_leaf, expr_given, no_expr}
-use Rattle.cc_primary.specs.Values.{valued, designating, value_found, designated_found}
+use Rattle.cc_typed_terms.specs.Values.{valued, designating, value_found, designated_found}
 use Rattle.cc_program.specs.declared.expr.Expr.{Expr}
 use Rattle.cc_program.specs.declared.program.Roles.{Roles}
 use Rattle.cc_program.specs.declared.types.CType.{CType}
@@ -22,8 +22,8 @@ use Rattle.cc_terms.specs.Members.{member_found}
 use Rattle.cc_terms.specs.Specifiers.{specifier_found, specified_found}
 use Rattle.cc_terms.specs.Terms.{tree_of, declr_of, params_of, param_of, spec_of, members_of, enumr_of, type_name_of, here, declr_here, spec_here}
 use Rattle.cc_tree.specs.declared.at.At.{At}
-use Rattle.cc_typed_declarations.specs.Declarations.{declaration, init_found}
-use Rattle.cc_typed_declarations.specs.Plans.{step_found}
+use Rattle.cc_typed_bodies.specs.Declarations.{declaration, init_found}
+use Rattle.cc_typed_bodies.specs.Plans.{step_found}
 use Rattle.cc_first_faults.specs.FirstFaults.{forget}
 use Rattle.cc_first_faults.specs.Constructs.{Construct, Expression, ValueOf, DesignatedBy, Valued, Designated, TypeNamed, Specifiers, SpecifierBehind, Specifier, OneAttribute, MembersBehind, MemberBehind, ConstantBehind, Declaring, Suffixed, Derived, ParameterList, ParameterBehind, ParameterNamed, Declaration, Declared, NameDeclared, Moded, LeafGiven, ScalarAssigned}
 

@@ -1,7 +1,7 @@
 -- The constructs of declarations and of what stands in them (C99 6.5, 6.7), each with what has been found in front of it,
 -- and where each begins.
 use Rattle.std.specs.Prelude.{ℕ, ℤ, Bool, List, Option, Some, None}
-use Rattle.cc_declarators.specs.Specifiers.{begin}
+use Rattle.cc_typed_terms.specs.Specifiers.{begin}
 use Rattle.cc_designators.specs.Designators.{TypedExpr, IsPlace, IsValue, IsFunction, IsIntrinsic, IsAddress}
 use Rattle.cc_initialisers.specs.Initialisers.{Step, Give, Character, Zero, Visit, Break}
 use Rattle.cc_objects.specs.declared.category.Category.{Category}

@@ -1,6 +1,6 @@
 -- The parts of a construct in the order in which they are read, each with what is known in front of it (C99 6.5, 6.7).
 use Rattle.std.specs.Prelude.{ℕ, pos, Bool, true, false, not, ◌||◌, is_some, List, [], ◌∷◌, ◌++◌, map, length, Option, Some, None, if◌then◌else◌}
-use Rattle.cc_declarators.specs.Declarators.{derived_type}
+use Rattle.cc_typed_terms.specs.Declarators.{derived_type}
 use Rattle.cc_designators.specs.Designators.{TypedExpr}
 use Rattle.cc_designators.specs.Postfix.{is_array_place}
 use Rattle.cc_initialisers.specs.Initialisers.{Step, Give, Character, Zero, Visit, Break, here as given_here, initialised, refused_by}
@@ -18,12 +18,12 @@ use Rattle.cc_objects.specs.declared.category.Category.TheVariants as declares
 use Rattle.cc_operands.specs.Operands.{Operand}
 use Rattle.cc_operands.specs.Qualified.{is_function_type, without_const}
 use Rattle.cc_operands.specs.declared.rule.Rule.TheVariants as rule
-use Rattle.cc_primary.specs.Devices.{cast_constant}
-use Rattle.cc_primary.specs.Operators.{prefix_of, intrinsic_in}
-use Rattle.cc_primary.specs.Primary.{is_intrinsic}
-use Rattle.cc_primary.specs.Values.{value_found, designated_found}
-use Rattle.cc_primary.specs.declared.prefix.Prefix.{Prefix}
-use Rattle.cc_primary.specs.declared.prefix.Prefix.TheVariants as prefix
+use Rattle.cc_typed_terms.specs.Devices.{cast_constant}
+use Rattle.cc_typed_terms.specs.Operators.{prefix_of, intrinsic_in}
+use Rattle.cc_typed_terms.specs.Primary.{is_intrinsic}
+use Rattle.cc_typed_terms.specs.Values.{value_found, designated_found}
+use Rattle.cc_typed_terms.specs.declared.prefix.Prefix.{Prefix}
+use Rattle.cc_typed_terms.specs.declared.prefix.Prefix.TheVariants as prefix
 use Rattle.cc_program.specs.declared.expr.Expr.{Expr}
 use Rattle.cc_program.specs.declared.expr.Place.{Local, Static}
 use Rattle.cc_program.specs.declared.program.Roles.{Roles}
@@ -70,9 +70,9 @@ use Rattle.cc_tree.specs.declared.tree.TypeName.{TypeName, out-TypeName}
 use Rattle.cc_tree.specs.declared.unit.Decl.{Decl}
 use Rattle.cc_tree.specs.declared.unit.Given.{Given}
 use Rattle.cc_tree.specs.declared.unit.Init.{Init}
-use Rattle.cc_typed_declarations.specs.Declarations.{init_allowed, init_next, marked}
-use Rattle.cc_typed_declarations.specs.Functions.{with_function}
-use Rattle.cc_typed_declarations.specs.Plans.{step_done}
+use Rattle.cc_typed_bodies.specs.Declarations.{init_allowed, init_next, marked}
+use Rattle.cc_typed_bodies.specs.Functions.{with_function}
+use Rattle.cc_typed_bodies.specs.Plans.{step_done}
 use Rattle.cc_first_faults.specs.FirstFaults.{after, parts_in_turn}
 use Rattle.cc_first_faults.specs.Constructs.{Construct, Expression, ValueOf, DesignatedBy, Valued, Designated, TypeNamed, Specifiers, SpecifierBehind, Specifier, OneAttribute, MembersBehind, MemberBehind, ConstantBehind, Declaring, Suffixed, Derived, ParameterList, ParameterBehind, ParameterNamed, Declaration, Declared, NameDeclared, Moded, LeafGiven, ScalarAssigned}
 

@@ -1,12 +1,12 @@
 -- What is added, one construct behind another; and what single changes of a state add.
 use Rattle.std.proofs.Common.{◌≡◌, ◌≤◌, ◌+◌, ℕ, zero, suc, true, List, [], ◌∷◌, ◌++◌, length, Option, Ok, refl, ap, sym, subst, length-append, arith}
 use Rattle.std.specs.Prelude.{take}
-use Rattle.cc_declarators.specs.Located.{located}
+use Rattle.cc_typed_terms.specs.Located.{located}
 use Rattle.cc_named_units.specs.Names.{tag_named}
 use Rattle.cc_num.specs.declared.target.Target.{Target}
 use Rattle.cc_operands.specs.Verdicts.{Judged}
-use Rattle.cc_primary.specs.Devices.{declared_device}
-use Rattle.cc_primary.specs.Primary.{string_object}
+use Rattle.cc_typed_terms.specs.Devices.{declared_device}
+use Rattle.cc_typed_terms.specs.Primary.{string_object}
 use Rattle.cc_program.proofs.Each.{Each}
 use Rattle.cc_program.specs.declared.expr.Place.{Place}
 use Rattle.cc_program.specs.declared.object.Device.{Device}

@@ -9,8 +9,8 @@ use Rattle.cc_named_units.specs.Names.{HasNames, all_named, one_or_more, is_memb
 use Rattle.cc_num.specs.declared.target.Target.{Target}
 use Rattle.cc_operands.specs.Choices.{choose_of, comma_of}
 use Rattle.cc_operands.specs.Operators.{operator_of}
-use Rattle.cc_primary.specs.Operators.{binary_by, is_minus}
-use Rattle.cc_primary.specs.Primary.{named, number, character}
+use Rattle.cc_typed_terms.specs.Operators.{binary_by, is_minus}
+use Rattle.cc_typed_terms.specs.Primary.{named, number, character}
 use Rattle.cc_program.specs.declared.program.Roles.{Roles}
 use Rattle.cc_scopes.specs.State.{structures_of}
 use Rattle.cc_syntax.proofs.Prefixes.{both_true}

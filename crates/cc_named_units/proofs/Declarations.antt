@@ -1,8 +1,8 @@
 -- What a declaration adds: no more locals than it declares names.
 use Rattle.std.proofs.Common.{◌≡◌, ◌≤◌, ◌+◌, ℕ, suc, true, List, [], ◌∷◌, ◌++◌, map, Option, Some, None, Ok, refl, arith}
 use Rattle.cc_named_units.specs.Counts.{each_count, maybe_count, declr_count, spec_count, given_count, init_count, decl_count}
-use Rattle.cc_declarators.specs.Declarators.{derived_type}
-use Rattle.cc_declarators.specs.Located.{located}
+use Rattle.cc_typed_terms.specs.Declarators.{derived_type}
+use Rattle.cc_typed_terms.specs.Located.{located}
 use Rattle.cc_named_units.proofs.Adding.{unmoved, adds_through, adds_same, chained, behind, before, done, placed}
 use Rattle.cc_named_units.proofs.Cycle.{declr_adds, front_few, rest_few, few_but_one}
 use Rattle.cc_named_units.proofs.Laws.{specifiers_add}
@@ -33,7 +33,7 @@ use Rattle.cc_tree.specs.declared.at.At.{At}
 use Rattle.cc_tree.specs.declared.unit.Decl.{Decl}
 use Rattle.cc_tree.specs.declared.unit.Given.{Given}
 use Rattle.cc_tree.specs.declared.unit.Init.{Init}
-use Rattle.cc_typed_declarations.specs.Declarations.{marked, init_allowed, declared_left, declared_with, named_found, init_found, init_next, inits_found, declaration}
+use Rattle.cc_typed_bodies.specs.Declarations.{marked, init_allowed, declared_left, declared_with, named_found, init_found, init_next, inits_found, declaration}
 use Rattle.cc_words.specs.Names.{is_name}
 use Rattle.cc_named_units.proofs.Left.{IsGivenValue, count_of, left_adds}
 use Rattle.cc_named_units.proofs.Names.{front_adds, alias_adds}

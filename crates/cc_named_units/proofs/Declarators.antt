@@ -5,16 +5,16 @@ use Rattle.std.specs.List.{list_all, list_any}
 use Rattle.std.specs.Str.{bytes_eq}
 use Rattle.std.proofs.lemmas.Bool.{or_parts, not-true, false_from_ne_true}
 use Rattle.std.proofs.lemmas.Slice.Eq.{bytes_eq-Decides}
-use Rattle.cc_declarators.specs.Declarators.{derived_type}
-use Rattle.cc_declarators.specs.Located.{located}
-use Rattle.cc_declarators.specs.Members.{member_judged}
-use Rattle.cc_declarators.specs.Names.{new_name}
-use Rattle.cc_declarators.specs.Parameters.{parameter, parameter_bound}
+use Rattle.cc_typed_terms.specs.Declarators.{derived_type}
+use Rattle.cc_typed_terms.specs.Located.{located}
+use Rattle.cc_typed_terms.specs.Members.{member_judged}
+use Rattle.cc_typed_terms.specs.Names.{new_name}
+use Rattle.cc_typed_terms.specs.Parameters.{parameter, parameter_bound}
 use Rattle.cc_num.specs.declared.target.Target.{Target}
 use Rattle.cc_operand_types.proofs.Operands.{must_ok, ok_is}
 use Rattle.cc_operands.specs.Verdicts.{must}
 use Rattle.cc_operands.specs.declared.rule.Rule.TheVariants as rule
-use Rattle.cc_primary.specs.Values.{value_found}
+use Rattle.cc_typed_terms.specs.Values.{value_found}
 use Rattle.cc_program.proofs.Each.{Each}
 use Rattle.cc_program.specs.declared.program.Roles.{Roles}
 use Rattle.cc_program.specs.declared.types.CType.{CType}

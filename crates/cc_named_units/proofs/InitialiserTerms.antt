@@ -12,7 +12,7 @@ use Rattle.cc_num.specs.declared.int_type.IntType.TheVariants as int
 use Rattle.cc_num.specs.declared.target.Target.{Target}
 use Rattle.cc_operands.specs.Operands.{Operand, integer, character_value}
 use Rattle.cc_operands.specs.Verdicts.{Judged}
-use Rattle.cc_primary.specs.Values.{value_found}
+use Rattle.cc_typed_terms.specs.Values.{value_found}
 use Rattle.cc_program.specs.declared.program.Roles.{Roles}
 use Rattle.cc_scopes.specs.State.{State}
 use Rattle.cc_scopes.specs.Verdicts.{whole}
@@ -22,7 +22,7 @@ use Rattle.cc_terms.specs.InTurn.{in_turn}
 use Rattle.cc_terms.specs.Terms.{here}
 use Rattle.cc_tree.specs.declared.at.At.{At}
 use Rattle.cc_tree.specs.declared.tree.Tree.{Tree}
-use Rattle.cc_typed_declarations.specs.Plans.{as_given, step_found, step_done, steps_done}
+use Rattle.cc_typed_bodies.specs.Plans.{as_given, step_found, step_done, steps_done}
 use Rattle.cc_named_units.proofs.DeclarationSteps.{IsNamedTree, IsNamedStep, AreNamedSteps}
 
 module _ (target : Target) (roles : Roles) (most : Limits) where

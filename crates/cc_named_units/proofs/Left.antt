@@ -4,7 +4,7 @@ use Rattle.std.specs.Prelude.{not, slice_get, if◌then◌else◌}
 use Rattle.std.specs.List.{list_any}
 use Rattle.std.specs.Str.{bytes_eq}
 use Rattle.cc_named_units.specs.Counts.{maybe_count, given_count}
-use Rattle.cc_declarators.specs.Located.{located}
+use Rattle.cc_typed_terms.specs.Located.{located}
 use Rattle.cc_initialisers.specs.Initialisers.{here as given_here, initialised, refused_by}
 use Rattle.cc_initialisers.specs.Scalars.{scalars_from}
 use Rattle.cc_linkage.specs.Linkage.{new_declared, declared_by, declared, may_be_main, may_be_declared}
@@ -25,7 +25,7 @@ use Rattle.cc_operands.specs.Operands.{Operand}
 use Rattle.cc_operands.specs.Qualified.{without_const}
 use Rattle.cc_operands.specs.Verdicts.{Judged, must, judge_then}
 use Rattle.cc_operands.specs.declared.rule.Rule.TheVariants as rule
-use Rattle.cc_primary.specs.Primary.{is_intrinsic, leaves_or_none}
+use Rattle.cc_typed_terms.specs.Primary.{is_intrinsic, leaves_or_none}
 use Rattle.cc_program.specs.declared.expr.Expr.{Expr}
 use Rattle.cc_program.specs.declared.expr.Place.{Place, Local, Static}
 use Rattle.cc_program.specs.declared.func.Entry.{Entry}
@@ -48,10 +48,10 @@ use Rattle.cc_specifiers.specs.declared.attribute.Attribute.{Attribute}
 use Rattle.cc_syntax.specs.Values.{ValueType}
 use Rattle.cc_tree.specs.declared.at.At.{At}
 use Rattle.cc_tree.specs.declared.unit.Given.{Given}
-use Rattle.cc_typed_declarations.specs.Declarations.{declared_left}
-use Rattle.cc_typed_declarations.specs.Functions.{typedef_left, with_function, function_refused, function_left}
-use Rattle.cc_typed_declarations.specs.Objects.{initial_values, leaves_found, exprs_found, linked_defined, linked_given, linked_left, static_given, static_left, automatic_given, automatic_left}
-use Rattle.cc_typed_declarations.specs.Plans.{steps_done}
+use Rattle.cc_typed_bodies.specs.Declarations.{declared_left}
+use Rattle.cc_typed_bodies.specs.Functions.{typedef_left, with_function, function_refused, function_left}
+use Rattle.cc_typed_bodies.specs.Objects.{initial_values, leaves_found, exprs_found, linked_defined, linked_given, linked_left, static_given, static_left, automatic_given, automatic_left}
+use Rattle.cc_typed_bodies.specs.Plans.{steps_done}
 use Rattle.cc_unit.specs.declared.unit.UnitKind.{UnitKind}
 use Rattle.cc_unit.specs.declared.unit.UnitKind.TheVariants as kind
 use Rattle.cc_words.specs.Names.{is_name}

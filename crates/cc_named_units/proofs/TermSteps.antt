@@ -3,7 +3,7 @@ use Rattle.std.proofs.Common.{◌≡◌, ◌+◌, ℕ, Ok, arith}
 use Rattle.cc_designators.specs.Designators.{TypedExpr, IsPlace, IsValue, IsFunction, IsIntrinsic, IsAddress}
 use Rattle.cc_operands.specs.Operands.{Operand}
 use Rattle.cc_operands.specs.Verdicts.{Judged}
-use Rattle.cc_primary.specs.Values.{null_judged, found_value, gives, valued, value_found, value, designating, designated_found, designator}
+use Rattle.cc_typed_terms.specs.Values.{null_judged, found_value, gives, valued, value_found, value, designating, designated_found, designator}
 use Rattle.cc_scopes.specs.State.{State}
 use Rattle.cc_scopes.specs.Verdicts.{Found, and_then}
 use Rattle.cc_sound_terms.proofs.Founds.{answer_is, whole_found}

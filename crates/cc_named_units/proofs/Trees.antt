@@ -11,13 +11,13 @@ use Rattle.cc_operands.specs.Operands.{Operand}
 use Rattle.cc_operands.specs.Operators.{unary_operator_of}
 use Rattle.cc_operands.specs.Verdicts.{Judged}
 use Rattle.cc_operands.specs.declared.rule.Rule.TheVariants as rule
-use Rattle.cc_primary.specs.Devices.{device_of, declared_device, number_of, device_place, with_device, device_found, register_found, address_found, cast_constant, starred_by}
-use Rattle.cc_primary.specs.Operators.{prefix_of, intrinsic_in, unary_by}
-use Rattle.cc_primary.specs.Primary.{string_object, string_place, string_found}
-use Rattle.cc_primary.specs.Sizes.{sizeof_judged, size_of_type}
-use Rattle.cc_primary.specs.Values.{gives, valued, value_found, value, designating, designator}
-use Rattle.cc_primary.specs.declared.prefix.Prefix.{Prefix}
-use Rattle.cc_primary.specs.declared.prefix.Prefix.TheVariants as prefix
+use Rattle.cc_typed_terms.specs.Devices.{device_of, declared_device, number_of, device_place, with_device, device_found, register_found, address_found, cast_constant, starred_by}
+use Rattle.cc_typed_terms.specs.Operators.{prefix_of, intrinsic_in, unary_by}
+use Rattle.cc_typed_terms.specs.Primary.{string_object, string_place, string_found}
+use Rattle.cc_typed_terms.specs.Sizes.{sizeof_judged, size_of_type}
+use Rattle.cc_typed_terms.specs.Values.{gives, valued, value_found, value, designating, designator}
+use Rattle.cc_typed_terms.specs.declared.prefix.Prefix.{Prefix}
+use Rattle.cc_typed_terms.specs.declared.prefix.Prefix.TheVariants as prefix
 use Rattle.cc_program.specs.declared.expr.Intr.{Intr}
 use Rattle.cc_program.specs.declared.object.Device.{Device}
 use Rattle.cc_program.specs.declared.types.CType.{CType}

@@ -37,7 +37,7 @@ use Rattle.cc_tree.specs.declared.unit.Unit.{Unit as UnitTree}
 use Rattle.cc_type.specs.Defined.{defined_names}
 use Rattle.cc_type.specs.Typed.{IsTyped}
 use Rattle.cc_type.specs.Units.{item_found, item_next, items_found, unit_found, unit_of}
-use Rattle.cc_typed_declarations.specs.Declarations.{declaration}
+use Rattle.cc_typed_bodies.specs.Declarations.{declaration}
 use Rattle.cc_unit.specs.declared.ids.Ids.{Ids}
 use Rattle.cc_unit.specs.declared.unit.TypedUnit.{TypedUnit}
 use Rattle.cc_unit.specs.declared.unit.UnitKind.{UnitKind}

@@ -2,7 +2,7 @@
 use Rattle.std.specs.Prelude.{◌≡◌, ◌≤◌, ◌+◌, ℕ, Bool, true, false, not, is_some, nat_lt, List, [], ◌∷◌, length, Option, Some, None}
 use Rattle.std.specs.List.{list_all}
 use Rattle.cc_named_units.specs.Names.{tag_named}
-use Rattle.cc_primary.specs.Primary.{is_intrinsic}
+use Rattle.cc_typed_terms.specs.Primary.{is_intrinsic}
 use Rattle.cc_program.proofs.Each.{Each}
 use Rattle.cc_program.specs.declared.program.Roles.{Roles}
 use Rattle.cc_scopes.specs.State.{State, Name, Scope, KnownStructure}

@@ -13,7 +13,7 @@ ghost use Rattle.cc_tree.specs.declared.unit.Decl.{Decl};
 ghost use Rattle.cc_tree.specs.declared.unit.Line.{Line};
 ghost use Rattle.cc_typed_bodies.specs.Lines.{line_here};
 ghost use Rattle.cc_typed_bodies.specs.Meanings.{lines_found};
-ghost use Rattle.cc_typed_declarations.specs.Declarations.{declaration};
+ghost use Rattle.cc_typed_bodies.specs.Declarations.{declaration};
 ghost use Rattle.cc_typed_statements.specs.declared.jumps.Jumps.{Jumps};
 
 /// What holds of a declaration that is found, whose names may name something, wherever it stands (C99 6.7): it adds such names alone, none of them an intrinsic's, and no more locals than it declares names. The call does nothing.

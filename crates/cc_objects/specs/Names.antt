@@ -1,6 +1,6 @@
 -- Which name may be declared so (C99 6.7, 3; 6.9).
 use Rattle.std.specs.Prelude.{Bool, true, false, not, ◌&&◌, ◌||◌, is_some, Option, Some, None, Ok, Err, if◌then◌else◌}
-use Rattle.cc_declarators.specs.Names.{new_name}
+use Rattle.cc_typed_terms.specs.Names.{new_name}
 use Rattle.cc_designators.specs.Calls.{intrinsic_signature}
 use Rattle.cc_linkage.specs.Linkage.{may_be_declared, may_be_main}
 use Rattle.cc_linkage.specs.declared.linkage.DeclaredAs.{DeclaredAs}
@@ -9,7 +9,7 @@ use Rattle.cc_num.specs.declared.target.Target.{Target}
 use Rattle.cc_operands.specs.Qualified.{plain}
 use Rattle.cc_operands.specs.Verdicts.{Judged, must, judge_then}
 use Rattle.cc_operands.specs.declared.rule.Rule.TheVariants as rule
-use Rattle.cc_primary.specs.Primary.{intrinsic_named, is_intrinsic}
+use Rattle.cc_typed_terms.specs.Primary.{intrinsic_named, is_intrinsic}
 use Rattle.cc_program.specs.declared.expr.Intr.{Intr}
 use Rattle.cc_program.specs.declared.func.Entry.{Entry}
 use Rattle.cc_program.specs.declared.program.Roles.{Roles}

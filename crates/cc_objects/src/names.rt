@@ -1,7 +1,7 @@
 //! Which name may be declared so (C99 6.7, 3; 6.9).
 
 ghost use Rattle.std.specs.Prelude.{◌≡◌, IfOk};
-ghost use Rattle.cc_declarators.specs.Names.{new_name as new_name_of};
+ghost use Rattle.cc_typed_terms.specs.Names.{new_name as new_name_of};
 ghost use Rattle.cc_designators.specs.Calls.{byte_type as byte_type_of, intrinsic_signature as intrinsic_signature_of};
 ghost use Rattle.cc_objects.specs.Names.{is_asked_static as is_asked_static_of, function_judged as function_judged_of, is_prototype as is_prototype_of, prototype_judged as prototype_judged_of, object_judged as object_judged_of, linked_judged as linked_judged_of, typedef_judged as typedef_judged_of, local_judged as local_judged_of, name_judged as name_judged_of};
 ghost use Rattle.cc_operands.specs.Qualified.{plain as plain_of};
@@ -10,13 +10,12 @@ ghost use Rattle.cc_scopes.specs.View.{state_of};
 
 use crate::category::Category;
 use crate::types::{is_complete_or_unbounded, same_type};
-use cc_declarators::new_name;
 use cc_linkage::{DeclaredAs, may_be_declared, may_be_main};
 use cc_num::{Boxed, IntType, List, NoMemory, Target};
 use cc_operands::{Breach, Rule};
-use cc_primary::{intrinsic_named, is_intrinsic};
 use cc_scopes::State;
 use cc_syntax::{CType, Entry, Intr, Roles, Shape, Sig};
+use cc_typed_terms::{intrinsic_named, is_intrinsic, new_name};
 use std::alloc::Global;
 
 fn is_asked_static(asked: DeclaredAs) -> bool

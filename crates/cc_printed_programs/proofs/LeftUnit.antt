@@ -9,7 +9,7 @@ use Rattle.cc_numbering.specs.Names.{own_id, count_of, name_in}
 use Rattle.cc_numbering.specs.Structures.{all_named_in}
 use Rattle.cc_numbering.specs.Units.{ids_of, unit_left}
 use Rattle.cc_operands.specs.Qualified.{plain}
-use Rattle.cc_primary.specs.Devices.{declared_device}
+use Rattle.cc_typed_terms.specs.Devices.{declared_device}
 use Rattle.cc_program.specs.declared.expr.Place.{Device as DeviceAt}
 use Rattle.cc_program.specs.declared.func.Entry.{Entry}
 use Rattle.cc_program.specs.declared.func.Func.{Func}

@@ -37,7 +37,7 @@ use Rattle.cc_tree.specs.declared.unit.Line.{Line}
 use Rattle.cc_typed_bodies.specs.Lines.{line_here}
 use Rattle.cc_typed_bodies.specs.Meanings.{lines_found}
 use Rattle.cc_typed_bodies.specs.Parts.{value_here}
-use Rattle.cc_typed_declarations.specs.Declarations.{declaration}
+use Rattle.cc_typed_bodies.specs.Declarations.{declaration}
 use Rattle.cc_typed_statements.specs.declared.jumps.Jumps.{Jumps}
 use Rattle.cc_read_sound.specs.Bodies.{ResultStands, StatementsSound}
 use Rattle.cc_read_sound.proofs.Constructs.{EachTyped, ValueHolds, DeclHolds}

@@ -3,8 +3,8 @@ use Rattle.std.proofs.Common.{◌≡◌, ◌⊎◌, inl, inr, ℕ, Bool, true, f
 use Rattle.std.specs.Prelude.{is_some, slice_get, if◌then◌else◌}
 use Rattle.std.specs.List.{list_any}
 use Rattle.std.specs.Str.{bytes_eq}
-use Rattle.cc_declarators.specs.Located.{located}
-use Rattle.cc_declarators.specs.Names.{new_name}
+use Rattle.cc_typed_terms.specs.Located.{located}
+use Rattle.cc_typed_terms.specs.Names.{new_name}
 use Rattle.cc_read_sound.proofs.Linked.{IsDefinition, external_definition}
 use Rattle.cc_read_sound.specs.External.{AreEntries}
 use Rattle.cc_initialisers.specs.Initialisers.{here as given_here}
@@ -22,7 +22,7 @@ use Rattle.cc_operand_types.proofs.Operands.{must_ok, ok_is}
 use Rattle.cc_operands.specs.Qualified.{is_function_type, without_const}
 use Rattle.cc_operands.specs.Verdicts.{judge_then, must}
 use Rattle.cc_operands.specs.declared.rule.Rule.TheVariants as rule
-use Rattle.cc_primary.specs.Primary.{intrinsic_named, is_intrinsic, leaves_or_none}
+use Rattle.cc_typed_terms.specs.Primary.{intrinsic_named, is_intrinsic, leaves_or_none}
 use Rattle.cc_program.specs.declared.expr.Expr.{Expr}
 use Rattle.cc_program.specs.declared.expr.Place.{Place, Local, Static}
 use Rattle.cc_program.specs.declared.func.Entry.{Entry}
@@ -58,9 +58,9 @@ use Rattle.cc_syntax.proofs.Prefixes.{both_true}
 use Rattle.cc_syntax.specs.Views.{View}
 use Rattle.cc_tree.specs.declared.at.At.{At}
 use Rattle.cc_tree.specs.declared.unit.Given.{Given}
-use Rattle.cc_typed_declarations.specs.Declarations.{declared_left, declared_with}
-use Rattle.cc_typed_declarations.specs.Functions.{function_left, function_refused, typedef_left, with_function}
-use Rattle.cc_typed_declarations.specs.Objects.{automatic_left, exprs_found, leaves_found, linked_given, linked_left, static_left}
+use Rattle.cc_typed_bodies.specs.Declarations.{declared_left, declared_with}
+use Rattle.cc_typed_bodies.specs.Functions.{function_left, function_refused, typedef_left, with_function}
+use Rattle.cc_typed_bodies.specs.Objects.{automatic_left, exprs_found, leaves_found, linked_given, linked_left, static_left}
 use Rattle.cc_unit.specs.declared.unit.UnitKind.{UnitKind}
 use Rattle.cc_unit.specs.declared.unit.UnitKind.TheVariants as kind
 

@@ -35,7 +35,7 @@ use Rattle.cc_tree.specs.declared.unit.First.TheVariants as first
 use Rattle.cc_typed_bodies.specs.Lines.{misplaced, label_found, misplaced_case, case_found, if_found, while_found, do_found, switch_found, for_found}
 use Rattle.cc_typed_bodies.specs.Meanings.{LineMeaning, done, scoped, line_found, lines_found, block_found, body_inside, body_found, maybe_body, item_found, items_found, cases_inside, not_switched, switch_body, empty_item, unlabelled}
 use Rattle.cc_typed_bodies.specs.Parts.{value_here, effect_found, expression_found, return_found, declared_found, first_found}
-use Rattle.cc_typed_declarations.specs.Declarations.{declaration}
+use Rattle.cc_typed_bodies.specs.Declarations.{declaration}
 use Rattle.cc_typed_statements.specs.Conditions.{body_of, effect, joined}
 use Rattle.cc_typed_statements.specs.Jumps.{in_loop, in_switch, break_of, continue_of, returned}
 use Rattle.cc_typed_statements.specs.Labels.{no_case, behind, behind_empty, labelled, case_label, default_label, label_done}

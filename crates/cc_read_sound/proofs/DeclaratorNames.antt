@@ -1,9 +1,9 @@
 -- The name that a declarator gives is that of its tree, by induction over declarators.
 use Rattle.std.proofs.Common.{◌≡◌, ℕ, true, false, not, ◌||◌, [], List, Option, Some, None, Ok, ap, sym, ◌∙◌, subst}
-use Rattle.cc_declarators.specs.Located.{located}
+use Rattle.cc_typed_terms.specs.Located.{located}
 use Rattle.cc_num.specs.declared.target.Target.{Target}
 use Rattle.cc_operands.specs.Operands.{Operand}
-use Rattle.cc_primary.specs.Values.{value_found}
+use Rattle.cc_typed_terms.specs.Values.{value_found}
 use Rattle.cc_program.specs.declared.program.Roles.{Roles}
 use Rattle.cc_scopes.specs.State.{State, Scope}
 use Rattle.cc_scopes.specs.Verdicts.{whole, and_then}

@@ -3,8 +3,8 @@ use Rattle.std.proofs.Common.{◌≡◌, ℕ, Bool, true, false, not, ◌&&◌, 
 use Rattle.std.specs.Prelude.{is_some, slice_get, if◌then◌else◌}
 use Rattle.std.specs.List.{list_any}
 use Rattle.std.specs.Str.{bytes_eq}
-use Rattle.cc_declarators.specs.Declarators.{derived_type}
-use Rattle.cc_declarators.specs.Located.{located}
+use Rattle.cc_typed_terms.specs.Declarators.{derived_type}
+use Rattle.cc_typed_terms.specs.Located.{located}
 use Rattle.cc_read_sound.proofs.DeclaratorNames.{declarator_name}
 use Rattle.cc_read_sound.proofs.ExternalEntries.{entries_stay}
 use Rattle.cc_read_sound.proofs.Linked.{IsDefinition, type_by, known_by, external_definition}
@@ -30,7 +30,7 @@ use Rattle.cc_objects.specs.Values.{leaf_given, expr_given, no_leaf, no_expr, as
 use Rattle.cc_objects.specs.declared.category.Category.{Category}
 use Rattle.cc_objects.specs.declared.category.Category.TheVariants as declares
 use Rattle.cc_operands.specs.Qualified.{is_function_type, without_const}
-use Rattle.cc_primary.specs.Primary.{is_intrinsic, leaves_or_none}
+use Rattle.cc_typed_terms.specs.Primary.{is_intrinsic, leaves_or_none}
 use Rattle.cc_program.proofs.Each.{Each}
 use Rattle.cc_program.specs.declared.expr.Expr.{Expr}
 use Rattle.cc_program.specs.declared.expr.Place.{Place, Local, Static}
@@ -82,9 +82,9 @@ use Rattle.cc_tree.specs.Scopes.{name_of}
 use Rattle.cc_tree.specs.declared.at.At.{At}
 use Rattle.cc_tree.specs.declared.unit.Given.{Given}
 use Rattle.cc_tree.specs.declared.unit.Init.{Init}
-use Rattle.cc_typed_declarations.specs.Declarations.{marked, init_allowed, declared_left, declared_with, named_found, init_found}
-use Rattle.cc_typed_declarations.specs.Functions.{typedef_left, with_function, function_refused, function_left}
-use Rattle.cc_typed_declarations.specs.Objects.{leaves_found, exprs_found, linked_defined, linked_given, linked_left, static_left, automatic_left}
+use Rattle.cc_typed_bodies.specs.Declarations.{marked, init_allowed, declared_left, declared_with, named_found, init_found}
+use Rattle.cc_typed_bodies.specs.Functions.{typedef_left, with_function, function_refused, function_left}
+use Rattle.cc_typed_bodies.specs.Objects.{leaves_found, exprs_found, linked_defined, linked_given, linked_left, static_left, automatic_left}
 use Rattle.cc_unit.specs.declared.unit.UnitKind.{UnitKind}
 use Rattle.cc_unit.specs.declared.unit.UnitKind.TheVariants as kind
 

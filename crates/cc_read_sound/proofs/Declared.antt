@@ -9,7 +9,7 @@ use Rattle.cc_linkage.specs.declared.linkage.DeclaredAs.{DeclaredAs}
 use Rattle.cc_linkage.specs.declared.linkage.DeclaredAs.TheVariants.{AsStatic, AsObject, AsExtern}
 use Rattle.cc_objects.specs.Linked.{device_by, is_extern, object_kind, static_object}
 use Rattle.cc_operands.specs.Qualified.{is_function_type}
-use Rattle.cc_primary.specs.Primary.{is_intrinsic}
+use Rattle.cc_typed_terms.specs.Primary.{is_intrinsic}
 use Rattle.cc_program.specs.declared.func.Entry.{Entry}
 use Rattle.cc_program.specs.declared.func.Entry.TheVariants as entry
 use Rattle.cc_program.specs.declared.func.Func.{Func}
@@ -38,7 +38,7 @@ use Rattle.cc_syntax.specs.Views.{View}
 use Rattle.cc_things.specs.Things.{is_external_linkage}
 use Rattle.cc_tree.specs.declared.at.At.{At}
 use Rattle.cc_type.specs.Functions.{entered_function}
-use Rattle.cc_typed_declarations.specs.Functions.{with_function}
+use Rattle.cc_typed_bodies.specs.Functions.{with_function}
 use Rattle.cc_unit.specs.Entries.{both_entries}
 use Rattle.cc_unit.specs.declared.unit.Linkage.{Linkage}
 use Rattle.cc_unit.specs.declared.unit.UnitKind.{UnitKind}

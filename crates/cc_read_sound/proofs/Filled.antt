@@ -15,7 +15,7 @@ use Rattle.cc_objects.specs.Types.{contents_in, given_incomplete, completed_type
 use Rattle.cc_objects.specs.Values.{leaf_given, no_leaf}
 use Rattle.cc_operand_types.proofs.Rolls.{place-roll}
 use Rattle.cc_operand_types.specs.Typed.{is_pointed_kind}
-use Rattle.cc_primary.specs.Primary.{leaves_or_none}
+use Rattle.cc_typed_terms.specs.Primary.{leaves_or_none}
 use Rattle.cc_program.proofs.Each.{Each}
 use Rattle.cc_program.specs.Qualifiers.{is_const, is_volatile}
 use Rattle.cc_program.specs.declared.expr.Expr.TheOpen as one
@@ -49,8 +49,8 @@ use Rattle.cc_syntax.specs.Values.{ValueType, Integer, pointer_shape, scalar_sha
 use Rattle.cc_syntax.specs.Views.{View, kind_in}
 use Rattle.cc_tree.specs.declared.at.At.{At}
 use Rattle.cc_tree.specs.declared.unit.Given.{Given}
-use Rattle.cc_typed_declarations.specs.Objects.{leaves_found}
-use Rattle.cc_typed_declarations.specs.Plans.{steps_done}
+use Rattle.cc_typed_bodies.specs.Objects.{leaves_found}
+use Rattle.cc_typed_bodies.specs.Plans.{steps_done}
 
 -- ---- scalars may stand
 

@@ -7,7 +7,7 @@ use Rattle.cc_sound_declarations.specs.Scalars.{OneScalar, times, scalars_of}
 use Rattle.cc_initialisers.specs.Contents.{Contents, contents_over, of_members, members_at, structure_inside, contents}
 use Rattle.cc_num.specs.Integers.{is_value_of}
 use Rattle.cc_num.specs.declared.int_type.IntType.{IntType}
-use Rattle.cc_primary.specs.Primary.{leaves_or_none}
+use Rattle.cc_typed_terms.specs.Primary.{leaves_or_none}
 use Rattle.cc_program.proofs.Each.{Each}
 use Rattle.cc_program.specs.Qualifiers.{is_const, is_volatile}
 use Rattle.cc_program.proofs.TypeInduction.{with_shape, TypeParts, by_type}

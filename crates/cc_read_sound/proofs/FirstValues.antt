@@ -26,7 +26,7 @@ use Rattle.cc_operands.specs.Assignments.{assigned_pointer, truth_of_pointer, as
 use Rattle.cc_operands.specs.Operands.{Operand, operand, integer, constancy, cast_to, converted_by, converted_to, character_value, is_null_constant, null_of, against_null}
 use Rattle.cc_operands.specs.Verdicts.{Judged, must}
 use Rattle.cc_operands.specs.declared.rule.Rule.TheVariants as rule
-use Rattle.cc_primary.specs.Values.{value_found}
+use Rattle.cc_typed_terms.specs.Values.{value_found}
 use Rattle.cc_program.proofs.Each.{Each}
 use Rattle.cc_program.specs.declared.expr.Expr.{Conv}
 use Rattle.cc_program.specs.declared.program.Roles.{Roles}
@@ -66,7 +66,7 @@ use Rattle.cc_terms.specs.InTurn.{in_turn}
 use Rattle.cc_terms.specs.Terms.{here}
 use Rattle.cc_tree.specs.declared.at.At.{At}
 use Rattle.cc_tree.specs.declared.unit.Given.{Given}
-use Rattle.cc_typed_declarations.specs.Plans.{as_given, step_found, step_done, steps_done}
+use Rattle.cc_typed_bodies.specs.Plans.{as_given, step_found, step_done, steps_done}
 use Rattle.cc_unit.specs.declared.unit.UnitKind.{UnitKind}
 use Rattle.cc_unit.specs.declared.unit.UnitKind.TheVariants as kind
 

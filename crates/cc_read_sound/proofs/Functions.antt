@@ -13,7 +13,7 @@ use Rattle.cc_program.specs.declared.program.Roles.{Roles}
 use Rattle.cc_program.specs.declared.types.CType.{CType}
 use Rattle.cc_program.specs.declared.types.Shape.{out-Shape}
 use Rattle.cc_program.specs.declared.types.Shape.TheOpen as shape
-use Rattle.cc_primary.specs.Primary.{char_type, chars_type}
+use Rattle.cc_typed_terms.specs.Primary.{char_type, chars_type}
 use Rattle.cc_program.specs.declared.types.Shape.TheVariants.{outs-Array, outs-Func}
 use Rattle.cc_program.specs.declared.value.Leaf.{Leaf}
 use Rattle.cc_program.specs.declared.types.Sig.{Sig, roll-Sig}

@@ -37,7 +37,7 @@ use Rattle.cc_tree.specs.declared.unit.Item.TheVariants as item
 use Rattle.cc_tree.specs.declared.unit.Unit.{Unit as UnitTree}
 use Rattle.cc_type.specs.Defined.{defined_by, defined_names}
 use Rattle.cc_type.specs.Units.{item_found, item_next, items_found}
-use Rattle.cc_typed_declarations.specs.Declarations.{declaration}
+use Rattle.cc_typed_bodies.specs.Declarations.{declaration}
 
 module _ (v : View) (roles : Roles) (defined : List Name) where
   item_initial : (i : Item) (s : State) (r : Checked × State) → item_fits i ≡ true → AreAmong (defined_by i) defined → IsOrdered s → (done : List Name) → Well v roles defined done s → item_found v.target roles defined i s ≡ Ok r → Initialises v [] s r.1

@@ -58,7 +58,7 @@ use Rattle.cc_tree.specs.declared.unit.Given.{Given}
 use Rattle.cc_tree.specs.declared.unit.Init.{Init}
 use Rattle.cc_tree.specs.declared.unit.Item.TheVariants as item
 use Rattle.cc_type.specs.Defined.{defined_with, defined_by}
-use Rattle.cc_typed_declarations.specs.Declarations.{init_found, init_next, inits_found, declaration}
+use Rattle.cc_typed_bodies.specs.Declarations.{init_found, init_next, inits_found, declaration}
 use Rattle.cc_words.specs.declared.word.Word.{Word}
 use Rattle.cc_words.specs.declared.word.Word.TheVariants as w
 

@@ -41,7 +41,7 @@ use Rattle.cc_tree.specs.declared.unit.Item.TheVariants as item
 use Rattle.cc_tree.specs.declared.unit.Unit.{Unit as UnitTree}
 use Rattle.cc_type.specs.Defined.{defined_by, defined_names}
 use Rattle.cc_type.specs.Units.{item_found, item_next, items_found}
-use Rattle.cc_typed_declarations.specs.Declarations.{declaration}
+use Rattle.cc_typed_bodies.specs.Declarations.{declaration}
 
 append_nothing : {A : Type 0} (xs : List A) → xs ++ [] ≡ xs
 append_nothing [] = refl

@@ -2,7 +2,7 @@
 use Rattle.std.proofs.Common.{arith, ◌≡◌, ◌⊎◌, inl, inr, ◌+◌, ℕ, zero, suc, Bool, true, false, List, [], ◌∷◌, ◌++◌, length, Option, Some, None, refl, ap, sym, ◌∙◌, subst}
 use Rattle.std.specs.Prelude.{is_some, slice_get}
 use Rattle.cc_operands.specs.Qualified.{is_function_type}
-use Rattle.cc_primary.specs.Primary.{char_type, chars_type, is_intrinsic}
+use Rattle.cc_typed_terms.specs.Primary.{char_type, chars_type, is_intrinsic}
 use Rattle.cc_program.proofs.Each.{Each}
 use Rattle.cc_program.specs.declared.func.Func.{Func}
 use Rattle.cc_program.specs.declared.program.Roles.{Roles}
@@ -15,7 +15,7 @@ use Rattle.cc_read_sound.proofs.Lists.{KeepsName, has_own_name, linked_changed, 
 use Rattle.cc_read_sound.specs.External.{AreEntries}
 use Rattle.cc_read_sound.specs.Definitions.{AreApart}
 use Rattle.cc_read_sound.specs.Entries.{AreWell, IsDone, IsSettled, IsWell, IsWellKind, is_counted, is_function_kind}
-use Rattle.cc_primary.specs.Devices.{declared_device, device_of}
+use Rattle.cc_typed_terms.specs.Devices.{declared_device, device_of}
 use Rattle.cc_sound_declarations.proofs.Entries.{unnamed_entry}
 use Rattle.cc_sound_terms.proofs.Growth.{get_front}
 use Rattle.cc_sound_terms.specs.Behind.{Extends, HasEntry, IsUnnamed, OfString, OfDevice}

@@ -15,7 +15,7 @@ use Rattle.cc_objects.specs.Values.{leaf_given, no_leaf}
 use Rattle.cc_operand_types.proofs.Operands.{given, ok_is, must_ok}
 use Rattle.cc_operands.specs.Qualified.{is_function_type}
 use Rattle.cc_operands.specs.declared.rule.Rule.TheVariants as rule
-use Rattle.cc_primary.specs.Primary.{leaves_or_none}
+use Rattle.cc_typed_terms.specs.Primary.{leaves_or_none}
 use Rattle.cc_program.proofs.Each.{Each}
 use Rattle.cc_program.specs.declared.expr.Expr.{Expr}
 use Rattle.cc_program.specs.declared.expr.Place.{Static}
@@ -55,7 +55,7 @@ use Rattle.cc_syntax.specs.Types.{Named, complete_shape, is_complete}
 use Rattle.cc_syntax.specs.Views.{View, kind_in}
 use Rattle.cc_tree.specs.declared.at.At.{At}
 use Rattle.cc_tree.specs.declared.unit.Given.{Given}
-use Rattle.cc_typed_declarations.specs.Objects.{leaves_found, linked_defined}
+use Rattle.cc_typed_bodies.specs.Objects.{leaves_found, linked_defined}
 use Rattle.cc_unit.specs.declared.unit.UnitKind.{UnitKind}
 use Rattle.cc_unit.specs.declared.unit.UnitKind.TheVariants as kind
 

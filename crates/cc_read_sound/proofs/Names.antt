@@ -14,7 +14,7 @@ use Rattle.cc_numbering.specs.Numbers.{numbers_of}
 use Rattle.cc_numbering.specs.Units.{ids_of, unit_left}
 use Rattle.cc_operands.specs.Qualified.{is_function_type}
 use Rattle.cc_standing_units.specs.Views.{view_of}
-use Rattle.cc_primary.specs.Primary.{is_intrinsic}
+use Rattle.cc_typed_terms.specs.Primary.{is_intrinsic}
 use Rattle.cc_program.proofs.Each.{Each}
 use Rattle.cc_program.specs.declared.func.Entry.{Entry}
 use Rattle.cc_program.specs.declared.func.Func.{Func}

@@ -12,7 +12,7 @@ use Rattle.cc_numbering.specs.Names.{count_of}
 use Rattle.cc_objects.specs.Linked.{device_by, is_extern, object_kind, static_object, with_static}
 use Rattle.cc_objects.specs.Types.{element_type, given_incomplete, is_complete_or_unbounded, is_object_in, type_given, with_bound}
 use Rattle.cc_operands.specs.Qualified.{is_function_type}
-use Rattle.cc_primary.specs.Primary.{is_intrinsic}
+use Rattle.cc_typed_terms.specs.Primary.{is_intrinsic}
 use Rattle.cc_program.specs.declared.expr.Place.{Place}
 use Rattle.cc_program.specs.declared.func.Entry.{Entry}
 use Rattle.cc_program.specs.declared.func.Func.{Func}

@@ -1,11 +1,11 @@
 -- The parameters next to a declared name: what their scope designates. By induction over declarators.
 use Rattle.std.proofs.Common.{◌≡◌, ℕ, Bool, true, false, ◌&&◌, ◌||◌, not, List, [], ◌∷◌, ◌++◌, Option, Some, None, Ok, refl, ap, sym, ◌∙◌, subst}
-use Rattle.cc_declarators.specs.Located.{located}
+use Rattle.cc_typed_terms.specs.Located.{located}
 use Rattle.cc_operand_types.proofs.Operands.{must_ok, ok_is}
 use Rattle.cc_syntax.specs.Views.{View}
 use Rattle.cc_operands.specs.Operands.{Operand}
 use Rattle.cc_operands.specs.declared.rule.Rule.TheVariants as rule
-use Rattle.cc_primary.specs.Values.{value_found}
+use Rattle.cc_typed_terms.specs.Values.{value_found}
 use Rattle.cc_program.specs.declared.program.Roles.{Roles}
 use Rattle.cc_read_sound.proofs.Rolled as rolled
 use Rattle.cc_scopes.specs.State.{State, Scope}

@@ -1,8 +1,8 @@
 -- The parts of a function definition that is found: its specifiers, its declarator, and its body behind the entry that its name is given (C99 6.9.1).
 use Rattle.std.proofs.Common.{◌≡◌, ℕ, Bool, true, false, List, [], ◌∷◌, ◌++◌, length, map, Option, Some, None, Ok, Err, refl, ap, sym, ◌∙◌, subst}
 use Rattle.std.specs.Prelude.{if◌then◌else◌}
-use Rattle.cc_declarators.specs.Declarators.{derived_type}
-use Rattle.cc_declarators.specs.Located.{located}
+use Rattle.cc_typed_terms.specs.Declarators.{derived_type}
+use Rattle.cc_typed_terms.specs.Located.{located}
 use Rattle.cc_linkage.specs.Linkage.{declared, may_be_declared, may_be_main}
 use Rattle.cc_linkage.specs.declared.linkage.DeclaredAs.{DeclaredAs}
 use Rattle.cc_num.specs.declared.target.Target.{Target}
@@ -10,7 +10,7 @@ use Rattle.cc_objects.specs.Names.{function_judged}
 use Rattle.cc_operand_types.proofs.Operands.{must_ok, ok_is}
 use Rattle.cc_operands.specs.Verdicts.{Judged, judge_then, must}
 use Rattle.cc_operands.specs.declared.rule.Rule.TheVariants as rule
-use Rattle.cc_primary.specs.Primary.{is_intrinsic}
+use Rattle.cc_typed_terms.specs.Primary.{is_intrinsic}
 use Rattle.cc_program.specs.declared.func.Entry.{Entry}
 use Rattle.cc_program.specs.declared.program.Roles.{Roles}
 use Rattle.cc_program.specs.declared.stmt.Stmt.{Stmt}

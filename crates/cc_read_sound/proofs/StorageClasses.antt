@@ -1,8 +1,8 @@
 -- The storage class of specifiers is that of their tree: it is a word, and stands alone (C99 6.7.1, 2).
 use Rattle.std.proofs.Common.{◌≡◌, ℕ, Bool, true, false, not, ◌&&◌, List, [], ◌∷◌, map, Option, Some, None, Ok, refl, ap, sym, ◌∙◌, subst}
 use Rattle.std.specs.Prelude.{is_some, Err}
-use Rattle.cc_declarators.specs.Located.{located}
-use Rattle.cc_declarators.specs.Specifiers.{begin, type_named, marked, as_type, structure_tag, enumeration_tag}
+use Rattle.cc_typed_terms.specs.Located.{located}
+use Rattle.cc_typed_terms.specs.Specifiers.{begin, type_named, marked, as_type, structure_tag, enumeration_tag}
 use Rattle.cc_num.specs.declared.target.Target.{Target}
 use Rattle.cc_objects.specs.Categories.{storage_class, storage_at, storage_in}
 use Rattle.cc_operand_types.proofs.Operands.{given, must_ok}

@@ -8,7 +8,7 @@ use Rattle.cc_num.specs.Integers.{is_value_of}
 use Rattle.cc_num.specs.declared.int_type.IntType.TheVariants as int
 use Rattle.cc_operand_types.proofs.Constants.{truth_fits, converted_fits}
 use Rattle.cc_operands.specs.Operands.{character_value}
-use Rattle.cc_primary.specs.Primary.{char_type, string_type, char_leaf, string_object}
+use Rattle.cc_typed_terms.specs.Primary.{char_type, string_type, char_leaf, string_object}
 use Rattle.cc_program.specs.declared.types.Shape.TheVariants.{outs-Int, outs-Array}
 use Rattle.cc_program.specs.declared.value.Leaf.{Leaf}
 use Rattle.cc_program.specs.declared.value.Leaf.TheVariants as leaf

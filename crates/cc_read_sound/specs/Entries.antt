@@ -6,7 +6,7 @@ use Rattle.std.specs.Str.{bytes_eq}
 use Rattle.cc_linkage.specs.Linkage.{is_main_shape}
 use Rattle.cc_numbering.specs.Names.{count_of}
 use Rattle.cc_operands.specs.Qualified.{is_function_type}
-use Rattle.cc_primary.specs.Primary.{is_intrinsic}
+use Rattle.cc_typed_terms.specs.Primary.{is_intrinsic}
 use Rattle.cc_program.proofs.Each.{Each}
 use Rattle.cc_program.specs.declared.func.Entry.{Entry}
 use Rattle.cc_program.specs.declared.func.Func.{Func}

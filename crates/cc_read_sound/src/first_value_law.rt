@@ -5,7 +5,7 @@ ghost use Rattle.cc_sound_declarations.specs.Values.{MayStand};
 ghost use Rattle.cc_initialisers.specs.Contents.{Contents, contents};
 ghost use Rattle.cc_initialisers.specs.Initialisers.{here, initialised};
 ghost use Rattle.cc_objects.specs.Values.{leaf_given, no_leaf};
-ghost use Rattle.cc_primary.specs.Primary.{leaves_or_none};
+ghost use Rattle.cc_typed_terms.specs.Primary.{leaves_or_none};
 ghost use Rattle.cc_program.proofs.Each.{Each};
 ghost use Rattle.cc_program.specs.declared.program.Roles.{Roles};
 ghost use Rattle.cc_program.specs.declared.types.CType.{CType};
@@ -20,7 +20,7 @@ ghost use Rattle.cc_syntax.specs.Types.{Named, is_complete};
 ghost use Rattle.cc_syntax.specs.Views.{View};
 ghost use Rattle.cc_tree.specs.declared.at.At.{At};
 ghost use Rattle.cc_tree.specs.declared.unit.Given.{Given};
-ghost use Rattle.cc_typed_declarations.specs.Plans.{steps_done};
+ghost use Rattle.cc_typed_bodies.specs.Plans.{steps_done};
 
 /// What an initialiser of an object with static storage duration gives, over any view and any locals (C99 6.6, 6.7.8, 4 and 10). The call does nothing.
 pub fn first_value_laws()

@@ -15,8 +15,8 @@ use Rattle.cc_operands.specs.Assignments.{assigned}
 use Rattle.cc_operands.specs.Verdicts.{Judged, judge_then}
 use Rattle.cc_operands.specs.declared.operator.Operator.TheVariants as operator
 use Rattle.cc_shown_expressions.proofs.Rules.{move-rule}
-use Rattle.cc_primary.specs.Operators.{binary_by}
-use Rattle.cc_primary.specs.Values.{gives, valued, value_found}
+use Rattle.cc_typed_terms.specs.Operators.{binary_by}
+use Rattle.cc_typed_terms.specs.Values.{gives, valued, value_found}
 use Rattle.cc_program.specs.declared.expr.Expr.{Expr, Const, FuncAddr, AddrOf, Move, out-Expr}
 use Rattle.cc_program.specs.declared.expr.Expr.TheOpen as one
 use Rattle.cc_program.specs.declared.expr.Expr.TheVariants as expr_rolls

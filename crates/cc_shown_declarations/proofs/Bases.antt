@@ -4,7 +4,7 @@ use Rattle.std.proofs.lemmas.Bool.Decides.{nat_tests}
 use Rattle.std.proofs.lemmas.List.{length-map, map-append}
 use Rattle.std.specs.Prelude.{if◌then◌else◌, ◌&&◌}
 use Rattle.std.specs.Str.{bytes_eq}
-use Rattle.cc_declarators.specs.Specifiers.{begin, as_type}
+use Rattle.cc_typed_terms.specs.Specifiers.{begin, as_type}
 use Rattle.cc_operands.specs.Qualified.{plain, further, qualified_by}
 use Rattle.cc_operands.specs.Verdicts.{Judged, judge_then}
 use Rattle.cc_program.specs.declared.program.Program.{Program}

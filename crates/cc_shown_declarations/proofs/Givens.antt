@@ -18,7 +18,7 @@ use Rattle.cc_operands.specs.Operands.{Operand, integer}
 use Rattle.cc_operands.specs.Verdicts.{Judged, judge_then}
 use Rattle.cc_shown_expressions.proofs.ChoiceRules.{constancy-of}
 use Rattle.cc_shown_declarations.proofs.Located.{integer-assigned}
-use Rattle.cc_primary.specs.Values.{valued}
+use Rattle.cc_typed_terms.specs.Values.{valued}
 use Rattle.cc_program.specs.declared.func.Func.{Func}
 use Rattle.cc_program.specs.declared.object.Object.{Object}
 use Rattle.cc_program.specs.declared.program.Program.{Program}
@@ -47,7 +47,7 @@ use Rattle.cc_tree.specs.declared.tree.Tree.TheVariants as tree_rolls
 use Rattle.cc_tree.specs.declared.unit.Given as given
 use Rattle.cc_tree.specs.declared.unit.Given.{Given}
 use Rattle.cc_expression_trees.specs.Types.{plain_suffix}
-use Rattle.cc_typed_declarations.specs.Plans.{as_given, step_done}
+use Rattle.cc_typed_bodies.specs.Plans.{as_given, step_done}
 use Rattle.cc_unit_trees.specs.Values.{ShowsAddress, AddressInParens, ShowsNull, ShowsFunction, ShowsElementAddress, ShowsWholeAddress, ShowsPast, ShowsGiven, ShowsNumber, ShowsPointer, ShowsArray, ShowsStructure, ShowsEach, ShowsNone, ShowsMore}
 use Rattle.cc_shown_expressions.proofs.Constants.{integer-found}
 use Rattle.cc_shown_expressions.specs.KnownNames.{TypesStand}

@@ -20,7 +20,7 @@ use Rattle.cc_scopes.specs.Structures.{structure_named, structure_type, opened_b
 use Rattle.cc_scopes.specs.Verdicts.{Found, whole, and_then, Checked, checked}
 use Rattle.cc_scopes.specs.declared.designated.Tagged.{Tagged}
 use Rattle.cc_scopes.specs.declared.designated.Tagged.TheVariants.{StructureTag}
-use Rattle.cc_declarators.specs.Specifiers.{as_type}
+use Rattle.cc_typed_terms.specs.Specifiers.{as_type}
 use Rattle.cc_specifiers.specs.Specifiers.{no_specifier, with_specifier, specified}
 use Rattle.cc_specifiers.specs.declared.specifier.Base.TheVariants as base
 use Rattle.cc_specifiers.specs.declared.specifier.Specified.{Specified}
@@ -50,7 +50,7 @@ use Rattle.cc_tree.specs.declared.unit.Decl.{Decl}
 use Rattle.cc_tree.specs.declared.unit.Item.{Item}
 use Rattle.cc_tree.specs.declared.unit.Item.TheVariants as item
 use Rattle.cc_type.specs.Units.{item_found, item_next, items_found}
-use Rattle.cc_typed_declarations.specs.Declarations.{inits_found, declaration}
+use Rattle.cc_typed_bodies.specs.Declarations.{inits_found, declaration}
 use Rattle.cc_unit_trees.specs.Externals.{ATag as TagExternal, AStructure, in_front_if, announced}
 use Rattle.cc_unit_trees.specs.Items.{ShowsTag, ATag, ShowsMembers, ShowsStructure, OnlyNamed, WithMembers}
 use Rattle.cc_unit_trees.specs.Programs.{ShowsExternals, NoExternal, MoreExternals}

@@ -6,12 +6,12 @@ use Rattle.std.specs.Prelude.{if◌then◌else◌}
 use Rattle.std.specs.List.{list_any}
 use Rattle.std.specs.Option.{is_some}
 use Rattle.std.specs.Str.{bytes_eq}
-use Rattle.cc_declarators.specs.Located.{located}
-use Rattle.cc_declarators.specs.Parameters.{parameter, parameter_bound}
+use Rattle.cc_typed_terms.specs.Located.{located}
+use Rattle.cc_typed_terms.specs.Parameters.{parameter, parameter_bound}
 use Rattle.cc_operands.specs.Qualified.{unqualified}
 use Rattle.cc_operands.specs.Verdicts.{Judged, must}
 use Rattle.cc_operands.specs.declared.rule.Rule.TheVariants as rule
-use Rattle.cc_primary.specs.Primary.{is_intrinsic}
+use Rattle.cc_typed_terms.specs.Primary.{is_intrinsic}
 use Rattle.cc_program.specs.declared.program.Program.{Program}
 use Rattle.cc_program.specs.declared.program.Roles.{Roles}
 use Rattle.cc_program.specs.declared.types.CType.{CType}

@@ -9,7 +9,7 @@ use Rattle.cc_num.specs.declared.int_type.IntType.{IntType}
 use Rattle.cc_objects.specs.Values.{objects_in}
 use Rattle.cc_operands.specs.Operands.{Operand, integer, number_type}
 use Rattle.cc_shown_expressions.proofs.Rules.{with-scalar}
-use Rattle.cc_primary.specs.Values.{valued, value_found, designating}
+use Rattle.cc_typed_terms.specs.Values.{valued, value_found, designating}
 use Rattle.cc_program.specs.declared.expr.Expr.{Const}
 use Rattle.cc_program.specs.declared.expr.Expr.TheOpen as one
 use Rattle.cc_program.specs.declared.expr.Expr.TheVariants as expr_rolls

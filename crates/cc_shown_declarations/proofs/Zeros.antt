@@ -7,7 +7,7 @@ use Rattle.std.proofs.lemmas.Bool.Decides.{Decides-int_eq}
 use Rattle.cc_num.specs.declared.int_type.IntType.{IntType}
 use Rattle.cc_num.specs.Integers.{is_value_of}
 use Rattle.cc_operand_types.proofs.Constants.{truth_fits}
-use Rattle.cc_primary.specs.Primary.{leaves_or_none}
+use Rattle.cc_typed_terms.specs.Primary.{leaves_or_none}
 use Rattle.cc_program.specs.declared.program.Program.{Program}
 use Rattle.cc_program.specs.declared.types.CType.{CType}
 use Rattle.cc_program.specs.declared.value.Address.{Address}

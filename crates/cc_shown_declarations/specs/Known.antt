@@ -3,7 +3,7 @@
 use Rattle.std.specs.Prelude.{◌≡◌, ◌≤◌, ℕ, Some, length, slice_get, Ok}
 use Rattle.cc_designators.specs.Designators.{IsPlace, IsFunction}
 use Rattle.cc_objects.specs.Values.{objects_in}
-use Rattle.cc_primary.specs.Primary.{named}
+use Rattle.cc_typed_terms.specs.Primary.{named}
 use Rattle.cc_program.specs.declared.expr.Place.{Static}
 use Rattle.cc_program.specs.declared.func.Func.{Func}
 use Rattle.cc_program.specs.declared.object.Object.{Object}

@@ -4,7 +4,7 @@ ghost use Rattle.std.specs.Prelude.{◌≡◌, ℕ, Bool, true, false, List, [],
 ghost use Rattle.cc_initialisers.specs.Contents.{contents};
 ghost use Rattle.cc_initialisers.specs.Initialisers.{here, initialised};
 ghost use Rattle.cc_objects.specs.Values.{leaf_given, no_leaf};
-ghost use Rattle.cc_primary.specs.Primary.{leaves_or_none};
+ghost use Rattle.cc_typed_terms.specs.Primary.{leaves_or_none};
 ghost use Rattle.cc_program.specs.declared.object.Object.{Object};
 ghost use Rattle.cc_program.specs.declared.program.Program.{Program};
 ghost use Rattle.cc_program.specs.declared.types.CType.{CType};
@@ -19,7 +19,7 @@ ghost use Rattle.cc_syntax.specs.Sound.{IsSound};
 ghost use Rattle.cc_syntax.specs.Types.{is_complete};
 ghost use Rattle.cc_tree.specs.declared.at.At.{At};
 ghost use Rattle.cc_tree.specs.declared.unit.Given.{Given};
-ghost use Rattle.cc_typed_declarations.specs.Plans.{steps_done};
+ghost use Rattle.cc_typed_bodies.specs.Plans.{steps_done};
 ghost use Rattle.cc_unit_trees.specs.Values.{ShowsGiven, ShowsInitial};
 
 /// What holds of initialisers that show first values of a sound program, where its structures are known and names designate

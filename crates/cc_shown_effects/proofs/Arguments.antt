@@ -6,7 +6,7 @@ use Rattle.cc_expression_trees.specs.Exprs.{ShowsValue}
 use Rattle.cc_designators.specs.Designators.{TypedExpr}
 use Rattle.cc_operands.specs.Operands.{Operand}
 use Rattle.cc_operands.specs.Verdicts.{Judged, judge_then}
-use Rattle.cc_primary.specs.Values.{valued}
+use Rattle.cc_typed_terms.specs.Values.{valued}
 use Rattle.cc_program.specs.declared.expr.Expr.{Expr}
 use Rattle.cc_program.specs.declared.func.Func.{Func}
 use Rattle.cc_program.specs.declared.program.Program.{Program}

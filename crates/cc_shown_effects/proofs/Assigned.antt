@@ -11,8 +11,8 @@ use Rattle.cc_shown_expressions.proofs.ChoiceRules.{assign-rule}
 use Rattle.cc_operands.specs.Assignments.{stored_at}
 use Rattle.cc_operands.specs.Operands.{Operand, operand, constant_at, is_zero_constant, is_to_void, is_null_at, is_null_constant}
 use Rattle.cc_operands.specs.Verdicts.{Judged, judge_then}
-use Rattle.cc_primary.specs.Primary.{linked, designates, named_by, named, intrinsic_named}
-use Rattle.cc_primary.specs.Values.{designating, gives, valued, value_found}
+use Rattle.cc_typed_terms.specs.Primary.{linked, designates, named_by, named, intrinsic_named}
+use Rattle.cc_typed_terms.specs.Values.{designating, gives, valued, value_found}
 use Rattle.cc_program.specs.declared.expr.Expr.{Expr, Load, Assign, out-Expr}
 use Rattle.cc_program.specs.declared.expr.Expr.TheOpen as one
 use Rattle.cc_program.specs.declared.expr.Expr.TheVariants as expr_rolls

@@ -8,7 +8,7 @@ use Rattle.cc_designators.specs.Calls.{passed, result_of}
 use Rattle.cc_designators.specs.Designators.{TypedExpr, IsValue}
 use Rattle.cc_operands.specs.Operands.{Operand, operand}
 use Rattle.cc_operands.specs.Verdicts.{Judged, judge_then}
-use Rattle.cc_primary.specs.Values.{gives}
+use Rattle.cc_typed_terms.specs.Values.{gives}
 use Rattle.cc_program.specs.declared.expr.Expr.{Expr, Call, out-Expr}
 use Rattle.cc_program.specs.declared.expr.Expr.TheOpen as one
 use Rattle.cc_program.specs.declared.expr.Intr.{Intr}

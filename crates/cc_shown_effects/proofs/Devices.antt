@@ -9,9 +9,9 @@ use Rattle.cc_shown_expressions.proofs.CastRules.{constant-pointer}
 use Rattle.cc_shown_expressions.proofs.ChoiceRules.{constancy-of}
 use Rattle.cc_operands.specs.Operands.{integer, number_type}
 use Rattle.cc_operands.specs.Qualified.{unqualified}
-use Rattle.cc_primary.specs.Devices.{device_of, declared_device, number_of, device_place, with_device, device_found, register_found, address_found}
-use Rattle.cc_primary.specs.Primary.{named}
-use Rattle.cc_primary.specs.Values.{valued}
+use Rattle.cc_typed_terms.specs.Devices.{device_of, declared_device, number_of, device_place, with_device, device_found, register_found, address_found}
+use Rattle.cc_typed_terms.specs.Primary.{named}
+use Rattle.cc_typed_terms.specs.Values.{valued}
 use Rattle.cc_program.specs.declared.expr.Expr.TheOpen as one
 use Rattle.cc_program.specs.declared.expr.Place.{Place, out-Place}
 use Rattle.cc_program.specs.declared.func.Func.{Func}

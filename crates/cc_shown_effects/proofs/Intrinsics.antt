@@ -11,8 +11,8 @@ use Rattle.cc_num.specs.declared.int_type.IntType.TheVariants as int
 use Rattle.cc_operands.specs.Operands.{Operand, operand}
 use Rattle.cc_operands.specs.Qualified.{plain}
 use Rattle.cc_operands.specs.Verdicts.{Judged, judge_then}
-use Rattle.cc_primary.specs.Primary.{intrinsic_named, named_by}
-use Rattle.cc_primary.specs.Values.{gives, valued}
+use Rattle.cc_typed_terms.specs.Primary.{intrinsic_named, named_by}
+use Rattle.cc_typed_terms.specs.Values.{gives, valued}
 use Rattle.cc_program.specs.declared.expr.Expr.{Expr, Intr as IntrOf, out-Expr}
 use Rattle.cc_program.specs.declared.expr.Expr.TheOpen as one
 use Rattle.cc_program.specs.declared.expr.Intr.{Intr}

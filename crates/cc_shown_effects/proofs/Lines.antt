@@ -5,7 +5,7 @@ use Rattle.cc_designators.specs.Designators.{TypedExpr, IsValue}
 use Rattle.cc_operands.specs.Operands.{Operand, operand}
 use Rattle.cc_operands.specs.Verdicts.{Judged, must, judge_then}
 use Rattle.cc_operands.specs.declared.rule.Rule.TheVariants as rule
-use Rattle.cc_primary.specs.Values.{valued}
+use Rattle.cc_typed_terms.specs.Values.{valued}
 use Rattle.cc_program.specs.declared.expr.Expr.{Expr}
 use Rattle.cc_program.specs.declared.program.Program.{Program}
 use Rattle.cc_program.specs.declared.stmt.Case.{Case}

@@ -2,7 +2,7 @@
 -- this use, behind all that is (C99 6.7.8).
 use Rattle.std.specs.Prelude.{◌≡◌, ℕ, true, Some, None, length, slice_get}
 use Rattle.std.specs.Option.{is_some}
-use Rattle.cc_primary.specs.Devices.{declared_device, number_of}
+use Rattle.cc_typed_terms.specs.Devices.{declared_device, number_of}
 use Rattle.cc_program.specs.declared.expr.Place.{Place, out-Place}
 use Rattle.cc_program.specs.declared.expr.Expr.TheOpen as one
 use Rattle.cc_program.specs.declared.object.Device.{Device}

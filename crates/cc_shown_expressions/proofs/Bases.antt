@@ -1,6 +1,6 @@
 -- The specifiers of a type that is not derived from others name it, behind words of a storage class and attributes too.
 use Rattle.std.proofs.Common.{◌≡◌, ℕ, Bool, List, [], ◌∷◌, map, Option, Some, None, Ok, refl, ap, sym, ◌∙◌, slice_get}
-use Rattle.cc_declarators.specs.Specifiers.{begin, as_type}
+use Rattle.cc_typed_terms.specs.Specifiers.{begin, as_type}
 use Rattle.cc_num.specs.declared.int_type.IntType.{IntType}
 use Rattle.cc_operands.specs.Qualified.{ShapeChange, plain, shape_change, type_change, at_element, with_shape as changed_shape, further, qualified_by}
 use Rattle.cc_operands.specs.Verdicts.{Judged, judge_then}

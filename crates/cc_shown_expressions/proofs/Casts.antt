@@ -13,7 +13,7 @@ use Rattle.cc_operands.specs.Qualified.{unqualified}
 use Rattle.cc_shown_expressions.proofs.CastRules.{integer-cast, constant-pointer, void-pointer, null-pointer, qualified-pointer}
 use Rattle.cc_shown_expressions.proofs.ChoiceRules.{alike-void, constancy-of, pointer-scalar}
 use Rattle.cc_pieces.specs.Constants.{is_narrow}
-use Rattle.cc_primary.specs.Values.{valued, value_found}
+use Rattle.cc_typed_terms.specs.Values.{valued, value_found}
 use Rattle.cc_program.specs.declared.expr.Expr.{Expr, Const, Null, Conv, Qualify, out-Expr}
 use Rattle.cc_program.specs.declared.expr.Expr.TheOpen as one
 use Rattle.cc_program.specs.declared.expr.Expr.TheVariants as expr_rolls

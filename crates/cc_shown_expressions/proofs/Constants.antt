@@ -25,8 +25,8 @@ use Rattle.cc_operands.specs.Unary.{unary_of}
 use Rattle.cc_operands.specs.declared.operator.Operator.TheVariants as operator
 use Rattle.cc_operands.specs.declared.operator.UnaryOperator.TheVariants as unary_operator
 use Rattle.cc_pieces.specs.Constants.{has_unsigned_letter, long_letters_of, is_narrow}
-use Rattle.cc_primary.specs.Operators.{binary_by}
-use Rattle.cc_primary.specs.Values.{gives, valued, value_found}
+use Rattle.cc_typed_terms.specs.Operators.{binary_by}
+use Rattle.cc_typed_terms.specs.Values.{gives, valued, value_found}
 use Rattle.cc_program.specs.declared.expr.Expr.{Const, Un, Bin, Conv}
 use Rattle.cc_program.specs.declared.program.Roles.{Roles}
 use Rattle.cc_program.specs.declared.types.Structure.{Structure}

@@ -4,15 +4,15 @@ use Rattle.std.proofs.Common.{◌≡◌, ℕ, Bool, true, false, not, ◌||◌, 
 use Rattle.std.proofs.lemmas.List.{append-nil}
 use Rattle.std.specs.Prelude.{pos}
 use Rattle.std.specs.List.{list_all, list_any}
-use Rattle.cc_declarators.specs.Located.{located}
-use Rattle.cc_declarators.specs.Parameters.{parameter, parameter_bound}
+use Rattle.cc_typed_terms.specs.Located.{located}
+use Rattle.cc_typed_terms.specs.Parameters.{parameter, parameter_bound}
 use Rattle.cc_num.specs.declared.int_type.IntType.{IntType}
 use Rattle.cc_num.specs.declared.target.Target.{Target}
 use Rattle.cc_operands.specs.Operands.{Operand, integer, constant_at, number_type}
 use Rattle.cc_operands.specs.Qualified.{plain, unqualified}
 use Rattle.cc_operands.specs.Verdicts.{Judged, must, judge_then}
 use Rattle.cc_operands.specs.declared.rule.Rule.TheVariants as rule
-use Rattle.cc_primary.specs.Values.{valued, value_found}
+use Rattle.cc_typed_terms.specs.Values.{valued, value_found}
 use Rattle.cc_program.specs.declared.expr.Expr.{Expr}
 use Rattle.cc_program.specs.declared.expr.Place.{Place}
 use Rattle.cc_program.specs.declared.expr.Expr.TheOpen as expr

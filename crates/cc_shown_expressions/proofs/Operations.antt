@@ -14,8 +14,8 @@ use Rattle.cc_num.specs.declared.op.UnOp.TheVariants as un
 use Rattle.cc_operands.specs.Operands.{Operand, constancy, folded, is_pointer}
 use Rattle.cc_operands.specs.Operators.{operator_of, unary_operator_of}
 use Rattle.cc_operands.specs.declared.operator.Operator.TheVariants as operator
-use Rattle.cc_primary.specs.Operators.{prefix_of}
-use Rattle.cc_primary.specs.declared.prefix.Prefix.TheVariants as prefix
+use Rattle.cc_typed_terms.specs.Operators.{prefix_of}
+use Rattle.cc_typed_terms.specs.declared.prefix.Prefix.TheVariants as prefix
 use Rattle.cc_program.specs.declared.expr.Expr.{Expr, Un, Bin, Move, Gap, Compare, Both, Either, out-Expr}
 use Rattle.cc_program.specs.declared.expr.Expr.TheOpen as one
 use Rattle.cc_program.specs.declared.expr.Place.{Place}

@@ -10,7 +10,7 @@ use Rattle.cc_operands.specs.Operands.{Operand, operand}
 use Rattle.cc_operands.specs.Verdicts.{must}
 use Rattle.cc_operands.specs.declared.rule.Rule.TheVariants as rule
 use Rattle.cc_shown_expressions.proofs.Rules.{with-scalar}
-use Rattle.cc_primary.specs.Devices.{cast_constant}
+use Rattle.cc_typed_terms.specs.Devices.{cast_constant}
 use Rattle.cc_program.specs.declared.expr.Expr.{Expr, FuncAddr, Load, AddrOf, out-Expr}
 use Rattle.cc_program.specs.declared.expr.Expr.TheOpen as one
 use Rattle.cc_program.specs.declared.expr.Place.{Place, Local, Static, Element, Member, Deref, out-Place, map-Place}

@@ -14,12 +14,12 @@ use Rattle.cc_operands.specs.Operators.{operator_of, unary_operator_of}
 use Rattle.cc_operands.specs.Unary.{unary_of}
 use Rattle.cc_operands.specs.declared.operator.Operator.{Operator}
 use Rattle.cc_operands.specs.declared.operator.UnaryOperator.{UnaryOperator}
-use Rattle.cc_primary.specs.Devices.{starred_by, cast_constant}
-use Rattle.cc_primary.specs.Operators.{prefix_of, binary_by, unary_by}
-use Rattle.cc_primary.specs.Primary.{named}
-use Rattle.cc_primary.specs.Values.{gives, valued, value_found, designating}
-use Rattle.cc_primary.specs.declared.prefix.Prefix.{Prefix}
-use Rattle.cc_primary.specs.declared.prefix.Prefix.TheVariants as prefix
+use Rattle.cc_typed_terms.specs.Devices.{starred_by, cast_constant}
+use Rattle.cc_typed_terms.specs.Operators.{prefix_of, binary_by, unary_by}
+use Rattle.cc_typed_terms.specs.Primary.{named}
+use Rattle.cc_typed_terms.specs.Values.{gives, valued, value_found, designating}
+use Rattle.cc_typed_terms.specs.declared.prefix.Prefix.{Prefix}
+use Rattle.cc_typed_terms.specs.declared.prefix.Prefix.TheVariants as prefix
 use Rattle.cc_program.specs.declared.expr.Expr.{Expr}
 use Rattle.cc_program.specs.declared.expr.Place.{Place}
 use Rattle.cc_program.specs.declared.program.Program.{Program}

@@ -3,7 +3,7 @@
 use Rattle.std.specs.Prelude.{◌≡◌, ℕ, List, Some, true, false, slice_get, Ok}
 use Rattle.std.specs.Option.{is_some}
 use Rattle.cc_designators.specs.Designators.{IsPlace, IsFunction}
-use Rattle.cc_primary.specs.Primary.{named}
+use Rattle.cc_typed_terms.specs.Primary.{named}
 use Rattle.cc_program.specs.declared.expr.Place.{Local, Static}
 use Rattle.cc_program.specs.declared.expr.Place.{Device as DeviceAt}
 use Rattle.cc_program.specs.declared.func.Func.{Func}

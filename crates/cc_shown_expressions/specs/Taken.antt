@@ -3,7 +3,7 @@ use Rattle.std.specs.Prelude.{◌≡◌, ℕ, Ok}
 use Rattle.cc_designators.specs.Designators.{TypedExpr}
 use Rattle.cc_operands.specs.Operands.{Operand}
 use Rattle.cc_shown_expressions.specs.Assigned.{AssignedAs}
-use Rattle.cc_primary.specs.Values.{valued}
+use Rattle.cc_typed_terms.specs.Values.{valued}
 use Rattle.cc_program.specs.declared.expr.Expr.{Expr}
 use Rattle.cc_program.specs.declared.program.Program.{Program}
 use Rattle.cc_scopes.specs.State.{State}

@@ -3,9 +3,9 @@
 use Rattle.std.specs.Prelude.{◌≡◌, ℕ, Bool, true, false, None, Ok}
 use Rattle.cc_designators.specs.Designators.{TypedExpr, IsPlace}
 use Rattle.cc_operands.specs.Operands.{Operand, is_pointer}
-use Rattle.cc_primary.specs.Devices.{cast_constant}
-use Rattle.cc_primary.specs.Operators.{intrinsic_in}
-use Rattle.cc_primary.specs.Values.{valued}
+use Rattle.cc_typed_terms.specs.Devices.{cast_constant}
+use Rattle.cc_typed_terms.specs.Operators.{intrinsic_in}
+use Rattle.cc_typed_terms.specs.Values.{valued}
 use Rattle.cc_program.specs.declared.expr.Expr.{Expr, out-Expr}
 use Rattle.cc_program.specs.declared.expr.Place.{Place}
 use Rattle.cc_program.specs.declared.program.Program.{Program}

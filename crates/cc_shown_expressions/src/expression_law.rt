@@ -2,7 +2,7 @@
 
 ghost use Rattle.std.specs.Prelude.{◌≡◌, ℕ, true, false, Option, Some, None, slice_get};
 ghost use Rattle.cc_expression_trees.specs.Exprs.{ShowsExpr, ShowsPlace, ShowsPointer, ShowsValue};
-ghost use Rattle.cc_primary.specs.Devices.{cast_constant};
+ghost use Rattle.cc_typed_terms.specs.Devices.{cast_constant};
 ghost use Rattle.cc_program.specs.declared.expr.Expr.{Expr};
 ghost use Rattle.cc_program.specs.declared.expr.Place.{Place};
 ghost use Rattle.cc_program.specs.declared.func.Func.{Func};

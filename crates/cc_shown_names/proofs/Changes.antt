@@ -5,7 +5,7 @@ use Rattle.std.specs.List.{prefix_len}
 use Rattle.cc_designators.specs.Designators.{TypedExpr}
 use Rattle.cc_operands.specs.Verdicts.{Judged}
 use Rattle.cc_operands.specs.declared.rule.Rule.TheVariants as rule
-use Rattle.cc_primary.specs.Primary.{linked_by, linked}
+use Rattle.cc_typed_terms.specs.Primary.{linked_by, linked}
 use Rattle.cc_scopes.specs.Linked.{is_linked, has_name, linked_from}
 use Rattle.cc_scopes.specs.State.{Name, change_at}
 use Rattle.cc_scopes.specs.declared.unit.Declared.{Declared}

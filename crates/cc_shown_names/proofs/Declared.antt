@@ -7,7 +7,7 @@ use Rattle.std.proofs.lemmas.List.{map-append}
 use Rattle.std.proofs.lemmas.List.Folds.{list_any-append}
 use Rattle.cc_unit_trees.specs.Units.{parameters_of}
 use Rattle.cc_operands.specs.Qualified.{plain, unqualified}
-use Rattle.cc_primary.specs.Primary.{intrinsic_named, is_intrinsic}
+use Rattle.cc_typed_terms.specs.Primary.{intrinsic_named, is_intrinsic}
 use Rattle.cc_program.specs.declared.func.Func.{Func}
 use Rattle.cc_program.specs.declared.program.Program.{Program}
 use Rattle.cc_program.specs.declared.program.Roles.{Roles}

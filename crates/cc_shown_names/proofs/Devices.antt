@@ -14,7 +14,7 @@ use Rattle.cc_objects.specs.Linked.{device_by, object_kind}
 use Rattle.cc_objects.specs.Types.{type_given, composite_by}
 use Rattle.cc_objects.specs.declared.category.Category.TheVariants as declares
 use Rattle.cc_operands.specs.Verdicts.{Judged}
-use Rattle.cc_primary.specs.Primary.{intrinsic_named}
+use Rattle.cc_typed_terms.specs.Primary.{intrinsic_named}
 use Rattle.cc_program.specs.declared.object.Device.{Device}
 use Rattle.cc_program.specs.declared.program.Program.{Program}
 use Rattle.cc_program.specs.declared.types.CType.{CType}
@@ -36,8 +36,8 @@ use Rattle.cc_tree.specs.declared.unit.Decl.{Decl}
 use Rattle.cc_tree.specs.declared.unit.Item.{Item}
 use Rattle.cc_tree.specs.declared.unit.Item.TheVariants as item
 use Rattle.cc_type.specs.Units.{item_found, item_next, items_found}
-use Rattle.cc_typed_declarations.specs.Declarations.{declared_left, named_found}
-use Rattle.cc_typed_declarations.specs.Objects.{linked_known, linked_as}
+use Rattle.cc_typed_bodies.specs.Declarations.{declared_left, named_found}
+use Rattle.cc_typed_bodies.specs.Objects.{linked_known, linked_as}
 use Rattle.cc_unit.specs.declared.unit.UnitKind.TheVariants as kind
 use Rattle.cc_unit_trees.specs.Externals.{ADevice}
 use Rattle.cc_unit_trees.specs.Items.{ShowsDevice, ADevice as ADeviceItem}

@@ -4,8 +4,8 @@ use Rattle.std.proofs.Common.{◌≡◌, ℕ, ◌≤◌, true, List, [], ◌∷�
 use Rattle.std.specs.Prelude.{if◌then◌else◌}
 use Rattle.std.specs.Option.{is_some}
 use Rattle.std.proofs.lemmas.List.{map-append}
-use Rattle.cc_declarators.specs.Declarators.{derived_type}
-use Rattle.cc_declarators.specs.Located.{located}
+use Rattle.cc_typed_terms.specs.Declarators.{derived_type}
+use Rattle.cc_typed_terms.specs.Located.{located}
 use Rattle.cc_unit_trees.specs.Units.{ShowsLocals}
 use Rattle.cc_linkage.specs.Linkage.{declared, may_be_declared}
 use Rattle.cc_linkage.specs.declared.linkage.DeclaredAs.TheVariants.{AsExtern}

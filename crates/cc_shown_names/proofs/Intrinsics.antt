@@ -17,7 +17,7 @@ use Rattle.cc_objects.specs.declared.category.Category.TheVariants as declares
 use Rattle.cc_operands.specs.Qualified.{plain, is_function_type}
 use Rattle.cc_operands.specs.Verdicts.{Judged, must}
 use Rattle.cc_operands.specs.declared.rule.Rule.TheVariants as rule
-use Rattle.cc_primary.specs.Primary.{intrinsic_named}
+use Rattle.cc_typed_terms.specs.Primary.{intrinsic_named}
 use Rattle.cc_program.specs.declared.expr.Intr.{Intr}
 use Rattle.cc_program.specs.declared.expr.Intr.TheVariants as intr
 use Rattle.cc_program.specs.declared.program.Program.{Program}
@@ -45,8 +45,8 @@ use Rattle.cc_tree.specs.declared.unit.Decl.{Decl}
 use Rattle.cc_tree.specs.declared.unit.Item.{Item}
 use Rattle.cc_tree.specs.declared.unit.Item.TheVariants as item
 use Rattle.cc_type.specs.Units.{item_found, item_next, items_found}
-use Rattle.cc_typed_declarations.specs.Declarations.{declared_left, named_found}
-use Rattle.cc_typed_declarations.specs.Functions.{with_function, function_refused, function_left}
+use Rattle.cc_typed_bodies.specs.Declarations.{declared_left, named_found}
+use Rattle.cc_typed_bodies.specs.Functions.{with_function, function_refused, function_left}
 use Rattle.cc_unit.specs.declared.unit.UnitKind.TheVariants as kind
 use Rattle.cc_unit_trees.specs.Externals.{AnIntrinsic}
 use Rattle.cc_unit_trees.specs.Items.{ShowsIntrinsic, AnIntrinsic as AnIntrinsicItem, intrinsic_result, intrinsic_parameters}

@@ -4,7 +4,7 @@ use Rattle.std.proofs.Common.{arith, ◌≡◌, inl, ℕ, zero, suc, ◌<◌, fa
 use Rattle.std.specs.Str.{bytes_eq}
 use Rattle.cc_designators.specs.Designators.{TypedExpr, IsPlace}
 use Rattle.cc_objects.specs.Linked.{with_automatic}
-use Rattle.cc_primary.specs.Primary.{designates, named_by, named, intrinsic_named}
+use Rattle.cc_typed_terms.specs.Primary.{designates, named_by, named, intrinsic_named}
 use Rattle.cc_program.specs.declared.expr.Intr.{Intr}
 use Rattle.cc_program.specs.declared.expr.Place.{Local}
 use Rattle.cc_program.specs.declared.func.Func.{Func}

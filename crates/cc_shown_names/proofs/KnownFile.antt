@@ -7,8 +7,8 @@ use Rattle.std.proofs.lemmas.Bool.{lt-ltb, le-ltb}
 use Rattle.std.proofs.lemmas.Iterator.Adapters.{position_from-zero}
 use Rattle.std.proofs.lemmas.Option.{slice_get-map, slice_get_within}
 use Rattle.cc_designators.specs.Designators.{IsPlace}
-use Rattle.cc_primary.specs.Devices.{names_device}
-use Rattle.cc_primary.specs.Primary.{named}
+use Rattle.cc_typed_terms.specs.Devices.{names_device}
+use Rattle.cc_typed_terms.specs.Primary.{named}
 use Rattle.cc_program.specs.declared.expr.Place.{Device as DeviceAt}
 use Rattle.cc_program.specs.declared.func.Func.{Func}
 use Rattle.cc_program.specs.declared.object.Device.{Device}

@@ -6,8 +6,8 @@ use Rattle.std.specs.Str.{bytes_eq}
 use Rattle.cc_designators.specs.Designators.{TypedExpr}
 use Rattle.cc_linkage.specs.Linkage.{is_visible, agrees, may_be_by, agrees_with, repeats, is_free_for, may_be_declared, declared, declared_by}
 use Rattle.cc_linkage.specs.declared.linkage.DeclaredAs.TheVariants.{AsExtern}
-use Rattle.cc_primary.specs.Devices.{declared_device, names_device, number_of}
-use Rattle.cc_primary.specs.Primary.{linked_by, linked, designates, named_by, named, intrinsic_named}
+use Rattle.cc_typed_terms.specs.Devices.{declared_device, names_device, number_of}
+use Rattle.cc_typed_terms.specs.Primary.{linked_by, linked, designates, named_by, named, intrinsic_named}
 use Rattle.cc_program.specs.declared.expr.Intr.{Intr}
 use Rattle.cc_program.specs.declared.func.Entry.{Entry}
 use Rattle.cc_program.specs.declared.func.Entry.TheVariants as entries

@@ -5,7 +5,7 @@ use Rattle.std.proofs.lemmas.List.{length-map, map-append}
 use Rattle.std.proofs.lemmas.Option.{slice_get-map}
 use Rattle.cc_designators.specs.Designators.{IsPlace, IsFunction}
 use Rattle.cc_objects.specs.Values.{object_by, object_of, objects_in}
-use Rattle.cc_primary.specs.Primary.{function_by, linked_by, linked, designates, named_by, named, intrinsic_named}
+use Rattle.cc_typed_terms.specs.Primary.{function_by, linked_by, linked, designates, named_by, named, intrinsic_named}
 use Rattle.cc_program.specs.declared.expr.Place.{Static}
 use Rattle.cc_program.specs.declared.func.Func.{Func}
 use Rattle.cc_program.specs.declared.object.Object.{Object}

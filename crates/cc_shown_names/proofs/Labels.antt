@@ -16,7 +16,7 @@ use Rattle.cc_shown_expressions.proofs.Rules.{with-scalar, promoted-is, same-con
 use Rattle.cc_operands.specs.Operands.{Operand, integer, converted_to}
 use Rattle.cc_operands.specs.Verdicts.{Judged, must, judge_then}
 use Rattle.cc_operands.specs.declared.rule.Rule.TheVariants as rule
-use Rattle.cc_primary.specs.Values.{valued}
+use Rattle.cc_typed_terms.specs.Values.{valued}
 use Rattle.cc_program.specs.declared.expr.Expr.{Expr}
 use Rattle.cc_program.specs.declared.func.Func.{Func}
 use Rattle.cc_program.specs.declared.program.Program.{Program}

@@ -1,7 +1,7 @@
 -- What stands in front of the specifiers of a prototype: nothing, or the attribute of a handler.
 use Rattle.std.proofs.Common.{◌≡◌, ℕ, Bool, true, false, List, [], ◌∷◌, ◌++◌, Option, Some, None, Ok, refl, ap, ◌∙◌}
 use Rattle.std.specs.Prelude.{codes}
-use Rattle.cc_declarators.specs.Specifiers.{marked}
+use Rattle.cc_typed_terms.specs.Specifiers.{marked}
 use Rattle.cc_expression_trees.specs.Types.{ShowsWords, NoWord, MoreWords, ShowsBase, ShowsVoid, ShowsInt, ShowsStructure, qualifier_words, int_words}
 use Rattle.cc_num.specs.declared.int_type.IntType.{IntType}
 use Rattle.cc_num.specs.declared.int_type.IntType.TheVariants as int

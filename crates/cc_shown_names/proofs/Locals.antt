@@ -2,8 +2,8 @@
 use Rattle.std.proofs.Common.{◌≡◌, ℕ, ◌+◌, Bool, true, false, not, ◌&&◌, ◌||◌, List, [], ◌∷◌, ◌++◌, map, Option, Some, None, Ok, Err, refl, ap, ◌∙◌}
 use Rattle.std.specs.Prelude.{if◌then◌else◌}
 use Rattle.std.specs.Option.{is_some}
-use Rattle.cc_declarators.specs.Located.{located}
-use Rattle.cc_declarators.specs.Declarators.{derived_type}
+use Rattle.cc_typed_terms.specs.Located.{located}
+use Rattle.cc_typed_terms.specs.Declarators.{derived_type}
 use Rattle.cc_unit_trees.specs.Units.{ShowsDecl, ShowsOne}
 use Rattle.cc_objects.specs.Categories.{category_of, category_by, setting_of}
 use Rattle.cc_objects.specs.Linked.{with_automatic}
@@ -15,7 +15,7 @@ use Rattle.cc_objects.specs.declared.category.Category.TheVariants as declares
 use Rattle.cc_operands.specs.Qualified.{is_function_type}
 use Rattle.cc_operands.specs.Verdicts.{Judged, must, judge_then}
 use Rattle.cc_operands.specs.declared.rule.Rule.TheVariants as rule
-use Rattle.cc_primary.specs.Primary.{intrinsic_named}
+use Rattle.cc_typed_terms.specs.Primary.{intrinsic_named}
 use Rattle.cc_program.specs.declared.expr.Expr.{Expr}
 use Rattle.cc_program.specs.declared.program.Program.{Program}
 use Rattle.cc_program.specs.declared.stmt.Stmt.{Do}
@@ -43,7 +43,7 @@ use Rattle.cc_tree.specs.declared.unit.Line.TheOpen as one_line
 use Rattle.cc_tree.specs.declared.unit.Line.TheVariants as line_rolls
 use Rattle.cc_expression_trees.specs.Types.{ShowsWords, NoWord, MoreWords, ShowsBase, Declares, Plain}
 use Rattle.cc_typed_bodies.specs.Parts.{declared_found}
-use Rattle.cc_typed_declarations.specs.Declarations.{declared_left, named_found, init_found, inits_found, declaration}
+use Rattle.cc_typed_bodies.specs.Declarations.{declared_left, named_found, init_found, inits_found, declaration}
 use Rattle.cc_typed_statements.specs.declared.jumps.Jumps.{Jumps}
 use Rattle.cc_words.specs.declared.word.Word.{Word}
 use Rattle.cc_shown_expressions.specs.OperationNumbers.{Numbers}

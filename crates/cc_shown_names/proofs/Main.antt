@@ -6,7 +6,7 @@ use Rattle.std.specs.List.{list_any, list_all}
 use Rattle.std.specs.Str.{bytes_eq}
 use Rattle.cc_linkage.specs.Linkage.{is_main_result, no_types, is_main_shape, may_be_main}
 use Rattle.cc_num.specs.declared.int_type.IntType.TheVariants as int
-use Rattle.cc_primary.specs.Primary.{intrinsic_named}
+use Rattle.cc_typed_terms.specs.Primary.{intrinsic_named}
 use Rattle.cc_program.specs.declared.func.Func.{Func}
 use Rattle.cc_program.specs.declared.object.Object.{Object}
 use Rattle.cc_program.specs.declared.program.Program.{Program}

@@ -4,9 +4,9 @@ use Rattle.std.specs.Prelude.{if◌then◌else◌}
 use Rattle.std.specs.Option.{is_some}
 use Rattle.std.specs.Str.{bytes_eq}
 use Rattle.std.proofs.lemmas.List.{map-append}
-use Rattle.cc_declarators.specs.Declarators.{derived_type}
-use Rattle.cc_declarators.specs.Located.{located}
-use Rattle.cc_declarators.specs.Specifiers.{begin}
+use Rattle.cc_typed_terms.specs.Declarators.{derived_type}
+use Rattle.cc_typed_terms.specs.Located.{located}
+use Rattle.cc_typed_terms.specs.Specifiers.{begin}
 use Rattle.cc_linkage.specs.Linkage.{is_main_shape, may_be_main, may_be_declared}
 use Rattle.cc_linkage.specs.declared.linkage.DeclaredAs.{DeclaredAs}
 use Rattle.cc_objects.specs.Categories.{file_category, category_by, category_of, setting_of}
@@ -18,7 +18,7 @@ use Rattle.cc_objects.specs.declared.category.Category.TheVariants as declares
 use Rattle.cc_operands.specs.Qualified.{is_function_type}
 use Rattle.cc_operands.specs.Verdicts.{Judged, must, judge_then}
 use Rattle.cc_operands.specs.declared.rule.Rule.TheVariants as rule
-use Rattle.cc_primary.specs.Primary.{intrinsic_named}
+use Rattle.cc_typed_terms.specs.Primary.{intrinsic_named}
 use Rattle.cc_program.specs.declared.expr.Expr.{Expr}
 use Rattle.cc_program.specs.declared.func.Entry.{Entry}
 use Rattle.cc_program.specs.declared.program.Program.{Program}
@@ -53,7 +53,7 @@ use Rattle.cc_tree.specs.declared.unit.Init.{Init}
 use Rattle.cc_tree.specs.declared.unit.Item.TheVariants as item
 use Rattle.cc_expression_trees.specs.Types.{ShowsBase, Declares, Plain}
 use Rattle.cc_type.specs.Units.{item_found}
-use Rattle.cc_typed_declarations.specs.Declarations.{init_allowed, named_found, init_found, inits_found, declaration}
+use Rattle.cc_typed_bodies.specs.Declarations.{init_allowed, named_found, init_found, inits_found, declaration}
 use Rattle.cc_words.specs.declared.word.Word.{Word}
 use Rattle.cc_shown_names.proofs.ObjectTypes.{object-kind, object-stands}
 use Rattle.cc_shown_names.proofs.Forms.{no-function}

@@ -3,7 +3,7 @@ use Rattle.std.proofs.Common.{arith, ◌≡◌, ℕ, ◌+◌, ◌-◌, ◌<◌, 
 use Rattle.std.specs.Prelude.{if◌then◌else◌}
 use Rattle.std.specs.List.{list_any}
 use Rattle.std.specs.Option.{is_some, is_none}
-use Rattle.cc_primary.specs.Devices.{declared_device, names_device, number_of}
+use Rattle.cc_typed_terms.specs.Devices.{declared_device, names_device, number_of}
 use Rattle.cc_program.specs.declared.object.Device.{Device}
 use Rattle.cc_program.specs.declared.program.Program.{Program}
 use Rattle.cc_scopes.specs.State.{State, with_names, with_declared}

@@ -4,7 +4,7 @@ use Rattle.std.specs.List.{list_all}
 use Rattle.cc_expression_trees.specs.Types.{Function, unnamed, Declares}
 use Rattle.cc_objects.specs.Categories.{function_category, category_by, category_of}
 use Rattle.cc_operands.specs.Qualified.{plain, unqualified}
-use Rattle.cc_primary.specs.Primary.{is_intrinsic}
+use Rattle.cc_typed_terms.specs.Primary.{is_intrinsic}
 use Rattle.cc_program.specs.declared.program.Program.{Program}
 use Rattle.cc_program.specs.declared.types.CType.{CType}
 use Rattle.cc_program.specs.declared.types.Shape.{Func}
@@ -21,7 +21,7 @@ use Rattle.cc_syntax.specs.Sizes.{AreSized}
 use Rattle.cc_syntax.proofs.Prefixes.{both_true}
 use Rattle.cc_tree.specs.declared.at.At.{At}
 use Rattle.cc_tree.specs.declared.tree.Declr.{Declr}
-use Rattle.cc_typed_declarations.specs.Declarations.{init_allowed}
+use Rattle.cc_typed_bodies.specs.Declarations.{init_allowed}
 use Rattle.cc_words.specs.Names.{are_distinct}
 use Rattle.cc_words.specs.declared.word.Word.{Word}
 use Rattle.cc_shown_declarations.specs.Parameters.{Entry, entry_numbered, scope_of, entry_names, HaveNewNames}

@@ -2,7 +2,7 @@
 use Rattle.std.proofs.Common.{◌≡◌, ℕ, false, List, [], ◌∷◌, ◌++◌, Option, Some, None, Ok, refl, ap, sym, ◌∙◌, subst, slice_get}
 use Rattle.std.specs.Option.{is_some}
 use Rattle.cc_designators.specs.Designators.{TypedExpr}
-use Rattle.cc_primary.specs.Primary.{designates, named_by, named, intrinsic_named}
+use Rattle.cc_typed_terms.specs.Primary.{designates, named_by, named, intrinsic_named}
 use Rattle.cc_program.specs.declared.expr.Expr.{Expr, out-Expr}
 use Rattle.cc_program.specs.declared.expr.Expr.TheOpen as one
 use Rattle.cc_program.specs.declared.expr.Intr.{Intr}

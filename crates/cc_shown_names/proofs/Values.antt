@@ -17,7 +17,7 @@ use Rattle.cc_objects.specs.Values.{leaf_given, no_leaf}
 use Rattle.cc_objects.specs.declared.category.Category.TheVariants as declares
 use Rattle.cc_operands.specs.Verdicts.{Judged, must, judge_then}
 use Rattle.cc_operands.specs.declared.rule.Rule.TheVariants as rule
-use Rattle.cc_primary.specs.Primary.{intrinsic_named, leaves_or_none}
+use Rattle.cc_typed_terms.specs.Primary.{intrinsic_named, leaves_or_none}
 use Rattle.cc_program.specs.Qualifiers.{is_const}
 use Rattle.cc_program.specs.declared.expr.Place.{Static}
 use Rattle.cc_program.specs.declared.object.Object.{Object}
@@ -48,9 +48,9 @@ use Rattle.cc_tree.specs.declared.unit.Given.{Given}
 use Rattle.cc_tree.specs.declared.unit.Item.{Item}
 use Rattle.cc_tree.specs.declared.unit.Item.TheVariants as item
 use Rattle.cc_type.specs.Units.{item_found, item_next, items_found}
-use Rattle.cc_typed_declarations.specs.Declarations.{declared_left, named_found}
-use Rattle.cc_typed_declarations.specs.Objects.{leaves_found, linked_defined, linked_known, linked_as}
-use Rattle.cc_typed_declarations.specs.Plans.{steps_done}
+use Rattle.cc_typed_bodies.specs.Declarations.{declared_left, named_found}
+use Rattle.cc_typed_bodies.specs.Objects.{leaves_found, linked_defined, linked_known, linked_as}
+use Rattle.cc_typed_bodies.specs.Plans.{steps_done}
 use Rattle.cc_unit.specs.declared.unit.UnitKind.TheVariants as kind
 use Rattle.cc_unit_trees.specs.Externals.{AValue, is_given}
 use Rattle.cc_unit_trees.specs.Items.{ShowsDefinition, ADefinition}

@@ -1,7 +1,7 @@
 -- What is known behind the structures of a program's text, where these names are declared, and behind the whole text.
 use Rattle.std.specs.Prelude.{ℕ, suc, List, [], ◌∷◌, ◌++◌, map, length, take, drop, None, slice_get, unwrap_or}
 use Rattle.std.specs.List.{filter}
-use Rattle.cc_primary.specs.Devices.{declared_device}
+use Rattle.cc_typed_terms.specs.Devices.{declared_device}
 use Rattle.cc_program.specs.declared.program.Program.{Program}
 use Rattle.cc_scopes.specs.State.{State, Name, name_or_none, with_names}
 use Rattle.cc_scopes.specs.declared.designated.Designated.{Designated}

@@ -59,8 +59,8 @@ use Rattle.cc_syntax.specs.Views.{View, kind_in}
 use Rattle.cc_tree.specs.declared.at.At.{At}
 use Rattle.cc_tree.specs.declared.unit.Given.{Given}
 use Rattle.cc_sound_declarations.proofs.Assignments.{all_typed}
-use Rattle.cc_typed_declarations.specs.Objects.{automatic_left, exprs_found}
-use Rattle.cc_typed_declarations.specs.Plans.{steps_done}
+use Rattle.cc_typed_bodies.specs.Objects.{automatic_left, exprs_found}
+use Rattle.cc_typed_bodies.specs.Plans.{steps_done}
 
 -- ---- scalars have scalar types
 

@@ -2,8 +2,8 @@
 use Rattle.std.proofs.Common.{◌≡◌, ℕ, Bool, true, false, ◌&&◌, List, [], ◌∷◌, ◌++◌, map, Option, Some, None, Ok, refl, ap, sym, ◌∙◌}
 use Rattle.std.specs.Prelude.{is_some, if◌then◌else◌}
 use Rattle.std.specs.List.{list_all, list_any}
-use Rattle.cc_declarators.specs.Declarators.{derived_type}
-use Rattle.cc_declarators.specs.Located.{located}
+use Rattle.cc_typed_terms.specs.Declarators.{derived_type}
+use Rattle.cc_typed_terms.specs.Located.{located}
 use Rattle.cc_linkage.specs.declared.linkage.DeclaredAs.{DeclaredAs}
 use Rattle.cc_objects.specs.Categories.{block_category, category_by, category_of, entity_of, is_given, setting_of}
 use Rattle.cc_objects.specs.Names.{name_judged}
@@ -56,7 +56,7 @@ use Rattle.cc_tree.specs.declared.tree.Spec.{Spec, out-Spec}
 use Rattle.cc_tree.specs.declared.unit.Decl.{Decl}
 use Rattle.cc_tree.specs.declared.unit.Given.{Given}
 use Rattle.cc_tree.specs.declared.unit.Init.{Init}
-use Rattle.cc_typed_declarations.specs.Declarations.{marked, init_allowed, declared_left, declared_with, named_found, init_found, init_next, inits_found, declaration}
+use Rattle.cc_typed_bodies.specs.Declarations.{marked, init_allowed, declared_left, declared_with, named_found, init_found, init_next, inits_found, declaration}
 use Rattle.cc_words.specs.declared.word.Word.{Word}
 use Rattle.cc_words.specs.declared.word.Word.TheVariants as w
 use Rattle.cc_sound_declarations.specs.Ranges.{value_fits, init_fits, decl_fits}

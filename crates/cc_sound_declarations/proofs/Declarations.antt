@@ -2,8 +2,8 @@
 use Rattle.std.proofs.Common.{◌≡◌, ℕ, Bool, true, false, ◌&&◌, List, [], ◌∷◌, ◌++◌, length, map, Option, Some, None, Ok, refl, ap, sym, ◌∙◌, subst}
 use Rattle.std.specs.Prelude.{is_some, if◌then◌else◌}
 use Rattle.std.specs.List.{list_all, list_any}
-use Rattle.cc_declarators.specs.Declarators.{derived_type}
-use Rattle.cc_declarators.specs.Located.{located}
+use Rattle.cc_typed_terms.specs.Declarators.{derived_type}
+use Rattle.cc_typed_terms.specs.Located.{located}
 use Rattle.cc_initialisers.specs.Initialisers.{here as given_here}
 use Rattle.cc_linkage.specs.Linkage.{declared}
 use Rattle.cc_linkage.specs.declared.linkage.DeclaredAs.{DeclaredAs}
@@ -18,7 +18,7 @@ use Rattle.cc_objects.specs.declared.category.Category.{Category}
 use Rattle.cc_objects.specs.declared.category.Category.TheVariants as declares
 use Rattle.cc_operands.specs.Qualified.{is_function_type}
 use Rattle.cc_operands.specs.declared.rule.Rule.TheVariants as rule
-use Rattle.cc_primary.specs.Primary.{is_intrinsic, leaves_or_none}
+use Rattle.cc_typed_terms.specs.Primary.{is_intrinsic, leaves_or_none}
 use Rattle.cc_program.proofs.Each.{Each}
 use Rattle.cc_program.specs.declared.expr.Expr.{Expr}
 use Rattle.cc_program.specs.declared.program.Roles.{Roles}
@@ -68,9 +68,9 @@ use Rattle.cc_tree.specs.declared.tree.Spec.{Spec}
 use Rattle.cc_tree.specs.declared.unit.Decl.{Decl}
 use Rattle.cc_tree.specs.declared.unit.Given.{Given}
 use Rattle.cc_tree.specs.declared.unit.Init.{Init}
-use Rattle.cc_typed_declarations.specs.Declarations.{marked, init_allowed, declared_left, declared_with, named_found, init_found, init_next, inits_found, declaration}
-use Rattle.cc_typed_declarations.specs.Functions.{function_left, function_refused, typedef_left, with_function}
-use Rattle.cc_typed_declarations.specs.Objects.{automatic_left, leaves_found, linked_given, linked_left, static_left}
+use Rattle.cc_typed_bodies.specs.Declarations.{marked, init_allowed, declared_left, declared_with, named_found, init_found, init_next, inits_found, declaration}
+use Rattle.cc_typed_bodies.specs.Functions.{function_left, function_refused, typedef_left, with_function}
+use Rattle.cc_typed_bodies.specs.Objects.{automatic_left, leaves_found, linked_given, linked_left, static_left}
 use Rattle.cc_unit.specs.declared.unit.UnitKind.TheVariants as kind
 
 module _ (v : View) (roles : Roles) (defined : List Name) (k : ℕ) where

@@ -4,7 +4,7 @@ use Rattle.std.specs.Prelude.{slice_get}
 use Rattle.cc_designators.specs.Casts.{fits_pointer}
 use Rattle.cc_num.specs.declared.int_type.IntType.{IntType}
 use Rattle.cc_num.specs.declared.target.Target.{Target}
-use Rattle.cc_primary.specs.Devices.{device_of}
+use Rattle.cc_typed_terms.specs.Devices.{device_of}
 use Rattle.cc_program.specs.declared.types.CType.{CType}
 use Rattle.cc_program.specs.declared.types.Shape.TheVariants.{outs-Int}
 use Rattle.cc_scopes.specs.State.{State, Name}

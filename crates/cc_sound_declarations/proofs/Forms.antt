@@ -1,13 +1,13 @@
 -- What a declarator declares is told by the part of it next to the name: its first derivation, by induction over declarators.
 use Rattle.std.proofs.Common.{◌≡◌, ℕ, Bool, true, false, not, ◌&&◌, ◌||◌, List, map, [], ◌∷◌, ◌++◌, Option, Some, None, Ok, Err, refl, ap, sym, ◌∙◌, subst}
-use Rattle.cc_declarators.specs.Located.{located}
+use Rattle.cc_typed_terms.specs.Located.{located}
 use Rattle.cc_num.specs.declared.target.Target.{Target}
 use Rattle.cc_operand_types.proofs.Operands.{ok_is, must_ok}
 use Rattle.cc_operands.specs.Operands.{Operand}
 use Rattle.cc_operands.specs.declared.rule.Rule.{Rule}
 use Rattle.cc_operands.specs.declared.rule.Rule.TheVariants as rule
 use Rattle.cc_operands.specs.Qualified.{is_function_type, unqualified}
-use Rattle.cc_primary.specs.Values.{value_found}
+use Rattle.cc_typed_terms.specs.Values.{value_found}
 use Rattle.cc_program.specs.declared.program.Roles.{Roles}
 use Rattle.cc_program.specs.declared.types.CType.{CType}
 use Rattle.cc_program.specs.declared.types.Shape.{Func}

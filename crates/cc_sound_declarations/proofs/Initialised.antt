@@ -7,7 +7,7 @@ use Rattle.cc_operands.specs.Operands.{Operand, integer, character_value}
 use Rattle.cc_operands.specs.Verdicts.{Judged}
 use Rattle.cc_operands.specs.declared.rule.Rule.{Rule}
 use Rattle.cc_syntax.specs.Views.{View}
-use Rattle.cc_primary.specs.Values.{value_found}
+use Rattle.cc_typed_terms.specs.Values.{value_found}
 use Rattle.cc_program.proofs.Each.{Each}
 use Rattle.cc_program.specs.declared.program.Roles.{Roles}
 use Rattle.cc_scopes.specs.State.{State}
@@ -24,7 +24,7 @@ use Rattle.cc_terms.specs.InTurn.{in_turn}
 use Rattle.cc_terms.specs.Terms.{here}
 use Rattle.cc_tree.specs.declared.at.At.{At}
 use Rattle.cc_tree.specs.declared.tree.Tree.{Tree}
-use Rattle.cc_typed_declarations.specs.Plans.{as_given, step_found, step_done, steps_done}
+use Rattle.cc_typed_bodies.specs.Plans.{as_given, step_found, step_done, steps_done}
 
 -- a step's expression has numbers that fit 64 bits
 abbrev pub StepFits : Step → Type 0

@@ -3,7 +3,7 @@ use Rattle.std.proofs.Common.{◌≡◌, ℕ, Bool, true, false, ◌&&◌, List,
 use Rattle.std.specs.Prelude.{not, slice_get, if◌then◌else◌}
 use Rattle.std.specs.List.{list_any}
 use Rattle.std.specs.Str.{bytes_eq}
-use Rattle.cc_declarators.specs.Located.{located}
+use Rattle.cc_typed_terms.specs.Located.{located}
 use Rattle.cc_initialisers.specs.Contents.{Contents}
 use Rattle.cc_initialisers.specs.Initialisers.{here as given_here, initialised}
 use Rattle.cc_initialisers.specs.Scalars.{scalars_from}
@@ -18,7 +18,7 @@ use Rattle.cc_operands.specs.Qualified.{is_function_type, without_const}
 use Rattle.cc_operands.specs.Verdicts.{Judged}
 use Rattle.cc_operands.specs.declared.rule.Rule.TheVariants as rule
 use Rattle.cc_syntax.specs.Views.{View, kind_in}
-use Rattle.cc_primary.specs.Primary.{is_intrinsic, leaves_or_none}
+use Rattle.cc_typed_terms.specs.Primary.{is_intrinsic, leaves_or_none}
 use Rattle.cc_program.proofs.Each.{Each}
 use Rattle.cc_program.specs.declared.expr.Expr.{Expr}
 use Rattle.cc_program.specs.declared.expr.Place.{Place, Local, Static}
@@ -55,9 +55,9 @@ use Rattle.cc_syntax.proofs.Prefixes.{both_true}
 use Rattle.cc_syntax.specs.Values.{ValueType}
 use Rattle.cc_tree.specs.declared.at.At.{At}
 use Rattle.cc_tree.specs.declared.unit.Given.{Given}
-use Rattle.cc_typed_declarations.specs.Functions.{typedef_left, with_function, function_refused, function_left}
-use Rattle.cc_typed_declarations.specs.Objects.{initial_values, leaves_found, exprs_found, linked_given, linked_known, static_left, automatic_left}
-use Rattle.cc_typed_declarations.specs.Plans.{steps_done}
+use Rattle.cc_typed_bodies.specs.Functions.{typedef_left, with_function, function_refused, function_left}
+use Rattle.cc_typed_bodies.specs.Objects.{initial_values, leaves_found, exprs_found, linked_given, linked_known, static_left, automatic_left}
+use Rattle.cc_typed_bodies.specs.Plans.{steps_done}
 use Rattle.cc_unit.specs.Entries.{both_entries}
 use Rattle.cc_unit.specs.declared.unit.UnitKind.{UnitKind}
 use Rattle.cc_unit.specs.declared.unit.UnitKind.TheVariants as kind

@@ -1,7 +1,7 @@
 -- What is judged of names that are declared, and how an entry is told more of.
 use Rattle.std.proofs.Common.{◌≡◌, Bool, true, false, not, ◌&&◌, ◌||◌, Option, Ok, Err, ◌∙◌}
 use Rattle.std.specs.Prelude.{is_some, if◌then◌else◌}
-use Rattle.cc_declarators.specs.Names.{new_name}
+use Rattle.cc_typed_terms.specs.Names.{new_name}
 use Rattle.cc_linkage.specs.Linkage.{may_be_declared, may_be_main}
 use Rattle.cc_linkage.specs.declared.linkage.DeclaredAs.{DeclaredAs}
 use Rattle.cc_num.specs.declared.target.Target.{Target}
@@ -12,7 +12,7 @@ use Rattle.cc_objects.specs.declared.category.Category.TheVariants as declares
 use Rattle.cc_operands.specs.Verdicts.{must}
 use Rattle.cc_operands.specs.declared.rule.Rule.TheVariants as rule
 use Rattle.cc_operand_types.proofs.Operands.{given, ok_is, must_ok}
-use Rattle.cc_primary.specs.Primary.{intrinsic_named, is_intrinsic}
+use Rattle.cc_typed_terms.specs.Primary.{intrinsic_named, is_intrinsic}
 use Rattle.cc_program.specs.declared.func.Entry.{Entry}
 use Rattle.cc_program.specs.declared.program.Roles.{Roles}
 use Rattle.cc_program.specs.declared.types.CType.{CType}

@@ -2,7 +2,7 @@
 use Rattle.std.proofs.Common.{◌≡◌, ℕ, Bool, true, false, not, ◌&&◌, ◌||◌, List, [], ◌∷◌, Option, Some, None, Ok, refl, ap, sym, ◌∙◌, subst}
 use Rattle.std.specs.Prelude.{is_some}
 use Rattle.std.specs.List.{list_any}
-use Rattle.cc_declarators.specs.Specifiers.{begin}
+use Rattle.cc_typed_terms.specs.Specifiers.{begin}
 use Rattle.cc_linkage.specs.declared.linkage.DeclaredAs.{DeclaredAs}
 use Rattle.cc_objects.specs.Categories.{function_category, block_category, category_by, is_given}
 use Rattle.cc_objects.specs.declared.category.Category.TheVariants as declares

@@ -19,7 +19,7 @@ use Rattle.cc_operand_types.proofs.Literals.{character_fits}
 use Rattle.cc_operand_types.proofs.Nulls.{null_typed}
 use Rattle.cc_operand_types.proofs.Operands.{ok_is, must_ok, as_constant, integer_as}
 use Rattle.cc_operand_types.proofs.Stores.{assigned_typed}
-use Rattle.cc_primary.specs.Values.{value_found}
+use Rattle.cc_typed_terms.specs.Values.{value_found}
 use Rattle.cc_program.proofs.Each.{Each}
 use Rattle.cc_program.specs.declared.expr.Expr.{Expr}
 use Rattle.cc_program.specs.declared.program.Roles.{Roles}
@@ -45,7 +45,7 @@ use Rattle.cc_terms.specs.InTurn.{in_turn}
 use Rattle.cc_terms.specs.Terms.{here}
 use Rattle.cc_tree.specs.declared.at.At.{At}
 use Rattle.cc_tree.specs.declared.unit.Given.{Given}
-use Rattle.cc_typed_declarations.specs.Plans.{as_given, step_found, step_done, steps_done}
+use Rattle.cc_typed_bodies.specs.Plans.{as_given, step_found, step_done, steps_done}
 
 append_nothing : {A : Type 0} (xs : List A) → xs ++ [] ≡ xs
 append_nothing [] = refl

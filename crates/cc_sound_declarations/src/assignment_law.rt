@@ -8,7 +8,7 @@ ghost use Rattle.cc_specifiers.specs.declared.storage.Where.TheVariants as place
 ghost use Rattle.cc_syntax.specs.Types.{Named};
 ghost use Rattle.cc_syntax.specs.Views.{View};
 ghost use Rattle.cc_tree.specs.declared.unit.Decl.{Decl};
-ghost use Rattle.cc_typed_declarations.specs.Declarations.{declaration};
+ghost use Rattle.cc_typed_bodies.specs.Declarations.{declaration};
 
 /// What holds of a declaration that is found in a function, over any view that knows what there is behind it (C99 6.7.8, 11; 6.8.5.3): what it declares stands, and the assignments by which its automatic
 /// objects are initialised are typed over all that the function declares. The call does nothing.

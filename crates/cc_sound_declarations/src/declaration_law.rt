@@ -7,7 +7,7 @@ ghost use Rattle.cc_sound_declarations.specs.Declaring.{AreDeclared, Declares};
 ghost use Rattle.cc_specifiers.specs.declared.storage.Where.TheVariants as place;
 ghost use Rattle.cc_syntax.specs.Types.{Named};
 ghost use Rattle.cc_tree.specs.declared.unit.Decl.{Decl};
-ghost use Rattle.cc_typed_declarations.specs.Declarations.{declaration};
+ghost use Rattle.cc_typed_bodies.specs.Declarations.{declaration};
 ghost use Rattle.cc_sound_declarations.specs.Ranges.{decl_fits};
 
 /// What holds of a declaration that is found in a function, over any view (C99 6.7, 6.8.5.3): what is declared stands over a view that knows what there is behind it, entries that were there

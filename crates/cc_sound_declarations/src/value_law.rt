@@ -15,7 +15,7 @@ ghost use Rattle.cc_syntax.specs.Types.{Named};
 ghost use Rattle.cc_syntax.specs.Views.{View};
 ghost use Rattle.cc_tree.specs.declared.at.At.{At};
 ghost use Rattle.cc_tree.specs.declared.unit.Given.{Given};
-ghost use Rattle.cc_typed_declarations.specs.Plans.{steps_done};
+ghost use Rattle.cc_typed_bodies.specs.Plans.{steps_done};
 
 /// What an initialiser of an automatic object gives, over any view and any locals (C99 6.7.8, 11 and 20). The call does nothing.
 pub fn value_laws()

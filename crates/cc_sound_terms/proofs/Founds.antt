@@ -1,6 +1,6 @@
 -- What follows of a construct that is found: what its parts were found to be.
 use Rattle.std.proofs.Common.{◌≡◌, ℕ, Ok, Err, refl, ap, sym}
-use Rattle.cc_declarators.specs.Located.{located}
+use Rattle.cc_typed_terms.specs.Located.{located}
 use Rattle.cc_operands.specs.Verdicts.{Judged, judge_then}
 use Rattle.cc_scopes.specs.State.{State}
 use Rattle.cc_scopes.specs.Verdicts.{Found, whole, and_then}

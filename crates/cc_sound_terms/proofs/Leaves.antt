@@ -20,8 +20,8 @@ use Rattle.cc_operand_types.proofs.Nulls.{null_operand}
 use Rattle.cc_operand_types.proofs.Operands.{ok_is, must_ok, as_constant}
 use Rattle.cc_operand_types.proofs.Places.{indirection_typed}
 use Rattle.cc_operand_types.proofs.Requalified.{kind_at}
-use Rattle.cc_primary.specs.Devices.{device_of, declared_device, names_device, number_of, device_place, with_device, device_found, register_found, address_found}
-use Rattle.cc_primary.specs.Primary.{intrinsic_named, function_by, linked_by, linked, designates, named_by, named, number, character, char_type, chars_type, string_type, string_object, string_place, string_found}
+use Rattle.cc_typed_terms.specs.Devices.{device_of, declared_device, names_device, number_of, device_place, with_device, device_found, register_found, address_found}
+use Rattle.cc_typed_terms.specs.Primary.{intrinsic_named, function_by, linked_by, linked, designates, named_by, named, number, character, char_type, chars_type, string_type, string_object, string_place, string_found}
 use Rattle.cc_program.specs.declared.expr.Intr.{Intr}
 use Rattle.cc_program.specs.declared.expr.Place.{Local}
 use Rattle.cc_program.specs.declared.object.Device.{Device}

@@ -4,7 +4,7 @@ use Rattle.cc_designators.specs.Designators.{TypedExpr, IsPlace, IsValue, IsFunc
 use Rattle.cc_operands.specs.Operands.{Operand, operand}
 use Rattle.cc_operand_types.specs.Typed.{IsTypedExpr}
 use Rattle.cc_syntax.specs.Views.{View}
-use Rattle.cc_primary.specs.Values.{null_judged, valued, value_found}
+use Rattle.cc_typed_terms.specs.Values.{null_judged, valued, value_found}
 use Rattle.cc_program.proofs.Each.{Each}
 use Rattle.cc_program.specs.declared.expr.Expr.{FuncAddr}
 use Rattle.cc_program.specs.declared.types.CType.{CType}

@@ -1,7 +1,7 @@
 -- Parameters stand (C99 6.7.5.3).
 use Rattle.std.proofs.Common.{◌≡◌, ℕ, Bool, true, false, List, [], length, Option, Some, None, Ok, ap, sym, ◌∙◌, subst}
-use Rattle.cc_declarators.specs.Declarators.{derived_type}
-use Rattle.cc_declarators.specs.Names.{new_name}
+use Rattle.cc_typed_terms.specs.Declarators.{derived_type}
+use Rattle.cc_typed_terms.specs.Names.{new_name}
 use Rattle.cc_num.specs.declared.int_type.IntType.TheVariants as int
 use Rattle.cc_operands.specs.Qualified.{plain}
 use Rattle.cc_operands.specs.Verdicts.{must}
@@ -42,7 +42,7 @@ use Rattle.cc_sound_terms.proofs.Known.{types_first, types_second}
 use Rattle.cc_sound_terms.proofs.Meant.{DeclrHolds, ParamsHold, SpecHolds, ParamHolds}
 use Rattle.cc_sound_terms.proofs.NamedTypes.{parameter_stands}
 use Rattle.cc_sound_terms.proofs.Outcomes.{chained, in_turn_holds, Outcome, one_more_given}
-use Rattle.cc_declarators.specs.Parameters.{parameter, parameter_bound}
+use Rattle.cc_typed_terms.specs.Parameters.{parameter, parameter_bound}
 use Rattle.cc_specifiers.specs.Parameters.{parameter_type}
 use Rattle.cc_specifiers.specs.declared.derivation.Parameter.{Parameter}
 use Rattle.cc_sound_terms.proofs.Types.{Holds, Declares, judged_holds, answer_holds, derived_holds, specified_holds}

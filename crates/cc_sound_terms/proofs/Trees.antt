@@ -27,12 +27,12 @@ use Rattle.cc_operand_types.proofs.Operands.{ok_is, must_ok, as_operand}
 use Rattle.cc_operand_types.proofs.Places.{value_typed, address_typed, element_of_typed, subscripted_typed, indirection_typed, dot_typed, arrow_typed}
 use Rattle.cc_operand_types.proofs.Pointers.{binary_typed, unary_typed}
 use Rattle.cc_operand_types.proofs.Stores.{assign_typed, before_typed, after_typed}
-use Rattle.cc_primary.specs.Devices.{starred}
-use Rattle.cc_primary.specs.Operators.{prefix_of, is_minus, intrinsic_in, binary_by, unary_by}
-use Rattle.cc_primary.specs.Sizes.{size_of_type, size_of_place, sizeof_judged}
-use Rattle.cc_primary.specs.Values.{null_judged, found_value, gives, valued, value_found, value, designating, designated_found, designator}
-use Rattle.cc_primary.specs.declared.prefix.Prefix.{Prefix}
-use Rattle.cc_primary.specs.declared.prefix.Prefix.TheVariants as prefix
+use Rattle.cc_typed_terms.specs.Devices.{starred}
+use Rattle.cc_typed_terms.specs.Operators.{prefix_of, is_minus, intrinsic_in, binary_by, unary_by}
+use Rattle.cc_typed_terms.specs.Sizes.{size_of_type, size_of_place, sizeof_judged}
+use Rattle.cc_typed_terms.specs.Values.{null_judged, found_value, gives, valued, value_found, value, designating, designated_found, designator}
+use Rattle.cc_typed_terms.specs.declared.prefix.Prefix.{Prefix}
+use Rattle.cc_typed_terms.specs.declared.prefix.Prefix.TheVariants as prefix
 use Rattle.cc_program.proofs.Each.{Each}
 use Rattle.cc_program.specs.declared.expr.Expr.{FuncAddr}
 use Rattle.cc_program.specs.declared.expr.Intr.{Intr}

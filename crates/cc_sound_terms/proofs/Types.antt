@@ -2,11 +2,11 @@
 -- by construct, over the meanings of the parts.
 use Rattle.std.proofs.Common.{◌≡◌, ◌⊎◌, inl, inr, ℕ, ℤ, pos, negsuc, ◌+ℤ◌, Bool, true, false, not, ◌&&◌, ◌||◌, List, [], ◌∷◌, ◌++◌, length, Option, Some, None, Ok, Err, refl, ap, sym, ◌∙◌, subst}
 use Rattle.std.specs.Prelude.{is_some, slice_get, if◌then◌else◌}
-use Rattle.cc_declarators.specs.Declarators.{derived_type}
-use Rattle.cc_declarators.specs.Located.{located}
-use Rattle.cc_declarators.specs.Members.{member_judged}
-use Rattle.cc_declarators.specs.Names.{new_name}
-use Rattle.cc_declarators.specs.Specifiers.{begin, type_named, marked, as_type, structure_tag, enumeration_tag}
+use Rattle.cc_typed_terms.specs.Declarators.{derived_type}
+use Rattle.cc_typed_terms.specs.Located.{located}
+use Rattle.cc_typed_terms.specs.Members.{member_judged}
+use Rattle.cc_typed_terms.specs.Names.{new_name}
+use Rattle.cc_typed_terms.specs.Specifiers.{begin, type_named, marked, as_type, structure_tag, enumeration_tag}
 use Rattle.cc_num.specs.Integers.{is_value_of}
 use Rattle.cc_num.specs.declared.int_type.IntType.{IntType}
 use Rattle.cc_num.specs.declared.int_type.IntType.TheVariants as int
@@ -16,7 +16,7 @@ use Rattle.cc_operands.specs.Verdicts.{Judged, must}
 use Rattle.cc_operands.specs.declared.rule.Rule.TheVariants as rule
 use Rattle.cc_syntax.specs.Views.{View, kind_in}
 use Rattle.cc_operand_types.proofs.Operands.{given, ok_is, must_ok}
-use Rattle.cc_primary.specs.Values.{value_found}
+use Rattle.cc_typed_terms.specs.Values.{value_found}
 use Rattle.cc_program.proofs.Each.{Each}
 use Rattle.cc_program.specs.declared.program.Roles.{Roles}
 use Rattle.cc_program.specs.declared.types.CType.{CType}

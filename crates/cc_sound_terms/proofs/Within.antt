@@ -31,7 +31,7 @@ use Rattle.cc_designators.specs.Designators.{TypedExpr, IsPlace, IsValue, IsFunc
 use Rattle.cc_designators.specs.Postfix.{pointed_by, subscripted, position_in, position_at, member_by, member_at, member_in, dot, arrow_to, arrow}
 use Rattle.cc_operands.specs.Operators.{assigns_by}
 use Rattle.cc_operand_types.proofs.Operands.{value_ok}
-use Rattle.cc_primary.specs.Operators.{binary_by}
+use Rattle.cc_typed_terms.specs.Operators.{binary_by}
 
 -- each structure that has members has these there
 abbrev pub AreWithin : List Structure → List Structure → Type 0

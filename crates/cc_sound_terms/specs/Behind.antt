@@ -4,8 +4,8 @@ use Rattle.cc_designators.specs.Casts.{fits_pointer}
 use Rattle.cc_num.specs.declared.int_type.IntType.{IntType}
 use Rattle.cc_num.specs.declared.target.Target.{Target}
 use Rattle.cc_syntax.specs.Views.{View, kind_in}
-use Rattle.cc_primary.specs.Devices.{device_of, declared_device}
-use Rattle.cc_primary.specs.Primary.{string_object}
+use Rattle.cc_typed_terms.specs.Devices.{device_of, declared_device}
+use Rattle.cc_typed_terms.specs.Primary.{string_object}
 use Rattle.cc_program.specs.declared.types.CType.{CType}
 use Rattle.cc_program.specs.declared.types.Shape.{Shape, out-Shape}
 use Rattle.cc_program.specs.declared.types.Shape.TheOpen as shape

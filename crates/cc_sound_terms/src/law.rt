@@ -3,7 +3,7 @@ ghost use Rattle.cc_designators.specs.Designators.{TypedExpr};
 ghost use Rattle.cc_operands.specs.Operands.{Operand};
 ghost use Rattle.cc_operand_types.specs.Typed.{IsTypedExpr, IsTypedOperand};
 ghost use Rattle.cc_syntax.specs.Views.{View};
-ghost use Rattle.cc_primary.specs.Values.{value_found};
+ghost use Rattle.cc_typed_terms.specs.Values.{value_found};
 ghost use Rattle.cc_program.specs.declared.program.Roles.{Roles};
 ghost use Rattle.cc_program.specs.declared.types.CType.{CType};
 ghost use Rattle.cc_scopes.specs.State.{State, Scope};

@@ -15,9 +15,9 @@ use Rattle.cc_operands.specs.Verdicts.{Judged, Judges}
 use Rattle.cc_operands.specs.View.{operand_view}
 use Rattle.cc_operands.specs.declared.operand.Operand.{Operand as CodeOperand}
 use Rattle.cc_operands.specs.declared.verdict.Breach.{Breach}
-use Rattle.cc_primary.specs.Operators.{binary_by}
-use Rattle.cc_primary.specs.Values.{found_value, gives, value_found, designated_found}
-use Rattle.cc_primary.specs.View.{operands_view}
+use Rattle.cc_typed_terms.specs.Operators.{binary_by}
+use Rattle.cc_typed_terms.specs.Values.{found_value, gives, value_found, designated_found}
+use Rattle.cc_typed_terms.specs.View.{operands_view}
 use Rattle.cc_program.specs.declared.program.Roles.{Roles}
 use Rattle.cc_program.specs.declared.types.CType.{CType}
 use Rattle.cc_program.specs.declared.types.Structure.{Structure}

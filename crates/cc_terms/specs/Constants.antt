@@ -1,10 +1,10 @@
 -- Enumerations with their constants (C99 6.7.2.2), one behind another.
 use Rattle.std.specs.Prelude.{ℕ, ℤ, pos, ◌+ℤ◌, is_some, List, Option, Some, None, Ok}
-use Rattle.cc_declarators.specs.Names.{new_name}
-use Rattle.cc_declarators.specs.Specifiers.{as_type}
+use Rattle.cc_typed_terms.specs.Names.{new_name}
+use Rattle.cc_typed_terms.specs.Specifiers.{as_type}
 use Rattle.cc_num.specs.declared.target.Target.{Target}
 use Rattle.cc_operands.specs.Operands.{constancy}
-use Rattle.cc_primary.specs.Values.{value}
+use Rattle.cc_typed_terms.specs.Values.{value}
 use Rattle.cc_program.specs.declared.program.Roles.{Roles}
 use Rattle.cc_scopes.specs.State.{State, Name, bind}
 use Rattle.cc_scopes.specs.Structures.{tagged_option, enumeration_closed, enumeration_constant, in_list}

@@ -7,9 +7,9 @@ use Rattle.cc_num.specs.declared.target.Target.{Target}
 use Rattle.cc_operands.specs.Choices.{choose_of, comma_of}
 use Rattle.cc_operands.specs.Operands.{Operand}
 use Rattle.cc_operands.specs.Operators.{operator_of}
-use Rattle.cc_primary.specs.Operators.{binary_by, is_minus}
-use Rattle.cc_primary.specs.Primary.{named, number, character, string_found}
-use Rattle.cc_primary.specs.Values.{gives, value_found, value, designator}
+use Rattle.cc_typed_terms.specs.Operators.{binary_by, is_minus}
+use Rattle.cc_typed_terms.specs.Primary.{named, number, character, string_found}
+use Rattle.cc_typed_terms.specs.Values.{gives, value_found, value, designator}
 use Rattle.cc_program.specs.declared.program.Roles.{Roles}
 use Rattle.cc_scopes.specs.State.{State, structures_of}
 use Rattle.cc_scopes.specs.Verdicts.{Found, whole, and_then, part}

@@ -11,17 +11,17 @@ use Rattle.cc_operands.specs.Operands.{Operand}
 use Rattle.cc_operands.specs.Operators.{unary_operator_of}
 use Rattle.cc_operands.specs.Verdicts.{Judged}
 use Rattle.cc_operands.specs.declared.rule.Rule.TheVariants as rule
-use Rattle.cc_primary.specs.Devices.{starred}
-use Rattle.cc_primary.specs.Operators.{prefix_of, intrinsic_in, unary_by}
-use Rattle.cc_primary.specs.Values.{gives, valued, designating}
-use Rattle.cc_primary.specs.declared.prefix.Prefix.{Prefix}
-use Rattle.cc_primary.specs.declared.prefix.Prefix.TheVariants as prefix
+use Rattle.cc_typed_terms.specs.Devices.{starred}
+use Rattle.cc_typed_terms.specs.Operators.{prefix_of, intrinsic_in, unary_by}
+use Rattle.cc_typed_terms.specs.Values.{gives, valued, designating}
+use Rattle.cc_typed_terms.specs.declared.prefix.Prefix.{Prefix}
+use Rattle.cc_typed_terms.specs.declared.prefix.Prefix.TheVariants as prefix
 use Rattle.cc_program.specs.declared.expr.Intr.{Intr}
 use Rattle.cc_program.specs.declared.types.CType.{CType}
 use Rattle.cc_program.specs.declared.types.Structure.{Structure}
 use Rattle.cc_scopes.specs.State.{State, with_names, structures_of}
 use Rattle.cc_scopes.specs.Verdicts.{Found, and_then}
-use Rattle.cc_primary.specs.Sizes.{sizeof_judged, size_of_type}
+use Rattle.cc_typed_terms.specs.Sizes.{sizeof_judged, size_of_type}
 
 -- the value of an expression, as an expression
 abbrev pub as_value : ℕ → TypedExpr → State → Found TypedExpr

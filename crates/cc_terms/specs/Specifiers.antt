@@ -1,6 +1,6 @@
 -- What specifiers mean, and lists of them, each judged where it stands (C99 6.7, 6.7.2).
 use Rattle.std.specs.Prelude.{ℕ, List, Option, Some, None, Ok}
-use Rattle.cc_declarators.specs.Specifiers.{begin, type_named, marked, structure_tag, enumeration_tag}
+use Rattle.cc_typed_terms.specs.Specifiers.{begin, type_named, marked, structure_tag, enumeration_tag}
 use Rattle.cc_num.specs.declared.target.Target.{Target}
 use Rattle.cc_scopes.specs.State.{State, Name, designated}
 use Rattle.cc_scopes.specs.Verdicts.{Found, Meaning, whole, and_then, part}

@@ -1,9 +1,9 @@
 -- Structures with the declarations of their members (C99 6.7.2.1, 6.7.2.3, 4 to 6), one behind another.
 use Rattle.std.specs.Prelude.{ℕ, Bool, List, [], ◌∷◌, Option, Ok}
-use Rattle.cc_declarators.specs.Declarators.{derived_type}
-use Rattle.cc_declarators.specs.Located.{located}
-use Rattle.cc_declarators.specs.Members.{member_judged}
-use Rattle.cc_declarators.specs.Specifiers.{as_type}
+use Rattle.cc_typed_terms.specs.Declarators.{derived_type}
+use Rattle.cc_typed_terms.specs.Located.{located}
+use Rattle.cc_typed_terms.specs.Members.{member_judged}
+use Rattle.cc_typed_terms.specs.Specifiers.{as_type}
 use Rattle.cc_num.specs.declared.target.Target.{Target}
 use Rattle.cc_program.specs.declared.types.CType.{CType}
 use Rattle.cc_scopes.specs.State.{State, Scope, Name}

@@ -8,7 +8,6 @@ ghost use Rattle.cc_terms.specs.Constants.{constants_found, enumeration_found, c
 ghost use Rattle.cc_terms.specs.Terms.{enumr_of, enumr_here};
 
 use crate::trees::operand;
-use cc_declarators::new_name;
 use cc_num::{List, Name, Target};
 use cc_operands::Constant;
 use cc_scopes::{
@@ -18,6 +17,7 @@ use cc_scopes::{
 use cc_specifiers::Specifier;
 use cc_syntax::Roles;
 use cc_tree::{At, Enumr};
+use cc_typed_terms::new_name;
 use std::alloc::Global;
 
 /// `enum x { .. }` (C99 6.7.2.2).

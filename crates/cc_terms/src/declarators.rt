@@ -1,10 +1,10 @@
 //! Declarators (C99 6.7.5).
 
 ghost use Rattle.std.specs.Prelude.{false};
-ghost use Rattle.cc_declarators.specs.Located.{located as located_of};
+ghost use Rattle.cc_typed_terms.specs.Located.{located as located_of};
 ghost use Rattle.cc_operands.specs.Verdicts.{Judges};
 ghost use Rattle.cc_operands.specs.View.{operand_view};
-ghost use Rattle.cc_primary.specs.Values.{value as value_and};
+ghost use Rattle.cc_typed_terms.specs.Values.{value as value_and};
 ghost use Rattle.cc_scopes.specs.Outcomes.{Gives};
 ghost use Rattle.cc_scopes.specs.State.{State as Known};
 ghost use Rattle.cc_scopes.specs.Verdicts.{and_then, whole};
@@ -15,13 +15,13 @@ ghost use Rattle.cc_terms.specs.Terms.{declr_of, here};
 
 use crate::parameters::params;
 use crate::trees::boxed_operand;
-use cc_declarators::{ScopedDeclarator, copied, declarator_of, is_next_to_name, suffix};
 use cc_num::{Boxed, Target};
 use cc_operands::{Breach, Operand, Rule};
 use cc_scopes::{Scope, State, Stop, placed};
 use cc_specifiers::{Allowed, Derivation, bound_judged, pointer_derivation};
 use cc_syntax::Roles;
 use cc_tree::{At, Declr, Tree};
+use cc_typed_terms::{ScopedDeclarator, copied, declarator_of, is_next_to_name, suffix};
 use std::alloc::Global;
 
 /// With a derivation more.

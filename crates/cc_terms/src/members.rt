@@ -1,7 +1,7 @@
 //! Declarations of members (C99 6.7.2.1).
 
 ghost use Rattle.std.specs.Prelude.{map};
-ghost use Rattle.cc_declarators.specs.Declarators.{derived_type as derived_type_of};
+ghost use Rattle.cc_typed_terms.specs.Declarators.{derived_type as derived_type_of};
 ghost use Rattle.cc_scopes.specs.Outcomes.{Gives};
 ghost use Rattle.cc_scopes.specs.View.{state_of};
 ghost use Rattle.cc_specifiers.specs.Derivations.{nothing_more as nothing_more_of};
@@ -11,12 +11,12 @@ ghost use Rattle.cc_terms.specs.Terms.{members_of, declr_of, declr_here};
 
 use crate::declarators::declr;
 use crate::specifiers::specified;
-use cc_declarators::{Members, ScopedDeclarator, derived_type, with_member};
 use cc_num::{List, Target};
 use cc_scopes::{State, Stop, placed};
 use cc_specifiers::{Allowed, Entity, Setting, Where};
 use cc_syntax::{CType, Roles};
 use cc_tree::{At, Declr, MemberDecl};
+use cc_typed_terms::{Members, ScopedDeclarator, derived_type, with_member};
 use std::alloc::Global;
 
 /// A declaration of members, behind those before.

@@ -4,7 +4,7 @@ ghost use Rattle.std.specs.Prelude.{map};
 ghost use Rattle.cc_designators.specs.View.{expr_view};
 ghost use Rattle.cc_operands.specs.Verdicts.{Judges};
 ghost use Rattle.cc_operands.specs.View.{operand_view};
-ghost use Rattle.cc_primary.specs.Values.{found_value};
+ghost use Rattle.cc_typed_terms.specs.Values.{found_value};
 ghost use Rattle.cc_scopes.specs.Outcomes.{Gives};
 ghost use Rattle.cc_scopes.specs.State.{State as Known};
 ghost use Rattle.cc_scopes.specs.View.{state_of};
@@ -14,12 +14,12 @@ use cc_designators::{TypedExpr, element, subscripted, valued};
 use cc_lex::Mark;
 use cc_num::{List, Target};
 use cc_operands::{Breach, Operand, Rule};
-use cc_primary::{
+use cc_scopes::{State, Stop, placed};
+use cc_syntax::{CType, Structure};
+use cc_typed_terms::{
     Prefix, address_expr, call_expr, designating, intrinsic_expr, intrinsic_in, prefix_of,
     sizeof_expr, sizeof_type_expr, starred, step_expr, unary_expr, value_of,
 };
-use cc_scopes::{State, Stop, placed};
-use cc_syntax::{CType, Structure};
 use std::alloc::Global;
 
 /// The value of an expression, as an expression.

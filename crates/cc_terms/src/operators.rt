@@ -13,10 +13,10 @@ use crate::type_names::type_name;
 use cc_designators::{TypedExpr, cast};
 use cc_lex::Mark;
 use cc_num::{Boxed, Target};
-use cc_primary::{after_expr, assign_expr, binary_expr, choose_expr, comma_expr};
 use cc_scopes::{State, Stop, placed};
 use cc_syntax::Roles;
 use cc_tree::{At, Tree, TypeName};
+use cc_typed_terms::{after_expr, assign_expr, binary_expr, choose_expr, comma_expr};
 use std::alloc::Global;
 
 /// `a, b` (C99 6.5.17).

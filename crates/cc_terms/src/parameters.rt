@@ -1,7 +1,7 @@
 //! Parameters of functions (C99 6.7.5.3).
 
 ghost use Rattle.std.specs.Prelude.{map, length};
-ghost use Rattle.cc_declarators.specs.Parameters.{parameter as parameter_of, parameter_bound as parameter_bound_of};
+ghost use Rattle.cc_typed_terms.specs.Parameters.{parameter as parameter_of, parameter_bound as parameter_bound_of};
 ghost use Rattle.cc_scopes.specs.Outcomes.{Gives};
 ghost use Rattle.cc_scopes.specs.State.{State as Known};
 ghost use Rattle.cc_scopes.specs.Verdicts.{and_then, whole};
@@ -13,12 +13,12 @@ ghost use Rattle.cc_terms.specs.Terms.{params_of, param_of, param_here};
 
 use crate::declarators::declr;
 use crate::specifiers::specified;
-use cc_declarators::{ScopedDeclarator, derived_type, no_parameters, parameter_bound};
 use cc_num::{List, Name, Target};
 use cc_scopes::{Scope, State, Stop, placed};
 use cc_specifiers::{Allowed, Entity, Parameter, Setting, Where, parameter_type};
 use cc_syntax::{CType, Roles};
 use cc_tree::{At, Param, Params};
+use cc_typed_terms::{ScopedDeclarator, derived_type, no_parameters, parameter_bound};
 use std::alloc::Global;
 
 /// What stands between the parentheses of a function's declarator. The flag says that parameters need no names.

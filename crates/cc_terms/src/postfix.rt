@@ -2,7 +2,7 @@
 
 ghost use Rattle.std.specs.Prelude.{map};
 ghost use Rattle.cc_designators.specs.View.{expr_view};
-ghost use Rattle.cc_primary.specs.View.{operands_view};
+ghost use Rattle.cc_typed_terms.specs.View.{operands_view};
 ghost use Rattle.cc_scopes.specs.Outcomes.{Gives};
 ghost use Rattle.cc_scopes.specs.View.{state_of};
 ghost use Rattle.cc_terms.specs.Expressions.{arguments_found, tree_step};

@@ -8,12 +8,12 @@ ghost use Rattle.cc_terms.specs.Terms.{spec_of, spec_here};
 
 use crate::constants::enumeration;
 use crate::structures::structure;
-use cc_declarators::{begin, enumeration_tagged, marked, structure_tagged, type_named};
 use cc_num::{List, Target};
 use cc_scopes::{State, Stop, placed};
 use cc_specifiers::{Setting, Specified, Specifier, Specs, no_specifier};
 use cc_syntax::Roles;
 use cc_tree::{At, Spec};
+use cc_typed_terms::{begin, enumeration_tagged, marked, structure_tagged, type_named};
 use std::alloc::Global;
 
 /// Specifiers in a setting, with the type that they name.

@@ -2,7 +2,7 @@
 
 ghost use Rattle.cc_designators.specs.View.{expr_view};
 ghost use Rattle.cc_operands.specs.View.{operand_view};
-ghost use Rattle.cc_primary.specs.Values.{valued, value_found, designated_found};
+ghost use Rattle.cc_typed_terms.specs.Values.{valued, value_found, designated_found};
 ghost use Rattle.cc_scopes.specs.Outcomes.{Gives};
 ghost use Rattle.cc_scopes.specs.Verdicts.{and_then};
 ghost use Rattle.cc_scopes.specs.View.{state_of};
@@ -15,10 +15,10 @@ use crate::postfix::{call, member_of, member_pointed_to, subscript};
 use cc_designators::TypedExpr;
 use cc_num::{Boxed, Target};
 use cc_operands::Operand;
-use cc_primary::{character, designating, named, number, text, value_of};
 use cc_scopes::{State, Stop, placed};
 use cc_syntax::Roles;
 use cc_tree::{At, Tree};
+use cc_typed_terms::{character, designating, named, number, text, value_of};
 use std::alloc::Global;
 
 /// An expression that begins at this place.

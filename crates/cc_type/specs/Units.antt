@@ -14,7 +14,7 @@ use Rattle.cc_tree.specs.declared.unit.Item.TheVariants as item
 use Rattle.cc_tree.specs.declared.unit.Unit.{Unit as UnitTree}
 use Rattle.cc_type.specs.Defined.{defined_names}
 use Rattle.cc_type.specs.Functions.{function_found}
-use Rattle.cc_typed_declarations.specs.Declarations.{declaration}
+use Rattle.cc_typed_bodies.specs.Declarations.{declaration}
 use Rattle.cc_unit.specs.declared.unit.TypedUnit.{TypedUnit}
 
 module _ (target : Target) (roles : Roles) (defined : List Name) where

@@ -7,7 +7,6 @@ ghost use Rattle.cc_scopes.specs.View.{state_of};
 ghost use Rattle.cc_type.specs.Functions.{function_defined, function_body_found, function_entered as function_entered_of, judged_function as judged_function_of, named_function as named_function_of, function_found};
 
 use crate::signature::{asked_by, definition_judged, entry_at, locals_of, marks_of, signature_of};
-use cc_declarators::derived_type;
 use cc_linkage::{DeclaredAs, declare_linked};
 use cc_num::{Boxed, List, Name, NoMemory, Target};
 use cc_program::copy_list;
@@ -18,6 +17,7 @@ use cc_terms::{declr, specified};
 use cc_tree::{At, Attr, Declr, Line, Spec};
 use cc_typed_bodies::{Function, lines};
 use cc_typed_statements::Jumps;
+use cc_typed_terms::derived_type;
 use cc_unit::UnitKind;
 use std::alloc::Global;
 

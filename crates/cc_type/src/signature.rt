@@ -8,18 +8,17 @@ ghost use Rattle.cc_scopes.specs.State.{State as Known};
 ghost use Rattle.cc_scopes.specs.View.{state_of};
 ghost use Rattle.cc_type.specs.Functions.{parameters_of as parameters_of_derivation, parameters_in as parameters_in_derivations, locals_of as locals_of_parameters, local_of as local_of_parameter, asked_by as asked_by_storage, signature_of as signature_of_type, definition_judged as definition_judged_of, definition_marks, entry_of as entry_of_declared, entry_at as entry_at_of};
 
-use cc_declarators::located;
 use cc_lex::Word;
 use cc_linkage::DeclaredAs;
 use cc_num::{List, Name, NoMemory, at};
 use cc_objects::function_judged;
 use cc_operands::{Breach, Rule};
-use cc_primary::is_intrinsic;
 use cc_scopes::{Declared, Scope, State, Stop};
 use cc_specifiers::{Attribute, Derivation, Entity, Parameter, attributes};
 use cc_syntax::{CType, Entry, Roles, Shape, Sig};
 use cc_tree::{At, Attr};
-use cc_typed_declarations::joined;
+use cc_typed_bodies::joined;
+use cc_typed_terms::{is_intrinsic, located};
 use cc_unit::UnitKind;
 use std::alloc::Global;
 
@@ -138,7 +137,7 @@ pub fn entry_at(id: u32, state: &State) -> Option<Entry>
 }
 
 /// The attributes of a definition: those of the specifiers, and behind them those of the declarator.
-#[tactic(auto, using(cc_declarators::proofs::Placed::of_placed))]
+#[tactic(auto, using(cc_typed_terms::proofs::Placed::of_placed))]
 pub fn marks_of(
     alloc: Global,
     before: &[At<List<Attribute>>],

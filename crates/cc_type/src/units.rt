@@ -12,7 +12,7 @@ use cc_scopes::{State, Stop};
 use cc_specifiers::Where;
 use cc_syntax::Roles;
 use cc_tree::{At, Item};
-use cc_typed_declarations::declaration;
+use cc_typed_bodies::declaration;
 use std::alloc::Global;
 
 /// A declaration or a function definition.

@@ -1,2 +1,3 @@
 pub mod Equations
+mod Gives
 pub mod Parts

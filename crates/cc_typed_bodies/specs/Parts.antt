@@ -3,7 +3,7 @@
 use Rattle.std.specs.Prelude.{List, map, Option, Some, None, Ok}
 use Rattle.cc_num.specs.declared.target.Target.{Target}
 use Rattle.cc_operands.specs.Operands.{Operand}
-use Rattle.cc_primary.specs.Values.{value_found}
+use Rattle.cc_typed_terms.specs.Values.{value_found}
 use Rattle.cc_program.specs.declared.expr.Expr.{Expr}
 use Rattle.cc_program.specs.declared.program.Roles.{Roles}
 use Rattle.cc_program.specs.declared.stmt.Stmt.{Stmt, Do, Empty}
@@ -18,7 +18,7 @@ use Rattle.cc_tree.specs.declared.unit.Decl.{Decl}
 use Rattle.cc_tree.specs.declared.unit.First.{First}
 use Rattle.cc_tree.specs.declared.unit.First.TheVariants as first
 use Rattle.cc_typed_bodies.specs.Meanings.{done}
-use Rattle.cc_typed_declarations.specs.Declarations.{declaration}
+use Rattle.cc_typed_bodies.specs.Declarations.{declaration}
 use Rattle.cc_typed_statements.specs.Conditions.{effect, joined}
 use Rattle.cc_typed_statements.specs.Jumps.{returned}
 

@@ -7,8 +7,8 @@ ghost use Rattle.cc_tree.specs.declared.unit.Line.{out-Line};
 ghost use Rattle.cc_typed_bodies.specs.Lines.{line_of, line_here};
 ghost use Rattle.cc_typed_bodies.specs.Meanings.{opens_scope as opens_scope_of, lines_found, block_found, body_found, body_inside as body_inside_of};
 
+use crate::block_declarations::declared;
 use crate::choices::switch_inside;
-use crate::declarations::declared;
 use crate::expressions::value_here;
 use crate::function::Function;
 use crate::labels::{misplaced, misplaced_case};

@@ -4,8 +4,8 @@ ghost use Rattle.cc_scopes.specs.Outcomes.{Gives};
 ghost use Rattle.cc_scopes.specs.View.{state_of};
 ghost use Rattle.cc_typed_bodies.specs.Lines.{while_found, do_found, for_found, line_here};
 
+use crate::block_declarations::first_here;
 use crate::blocks::body;
-use crate::declarations::first_here;
 use crate::expressions::{maybe_effect, maybe_value, value_here};
 use crate::function::Function;
 use cc_num::{Boxed, List};

@@ -1,8 +1,8 @@
 -- The law of function definitions.
 use Rattle.std.proofs.Common.{ℕ, false, List, [], ◌∷◌, map, Option, Some, None, refl}
-use Rattle.cc_declarators.specs.Declarators.{derived_type}
-use Rattle.cc_declarators.specs.Located.{located}
-use Rattle.cc_declarators.specs.Specifiers.{begin}
+use Rattle.cc_typed_terms.specs.Declarators.{derived_type}
+use Rattle.cc_typed_terms.specs.Located.{located}
+use Rattle.cc_typed_terms.specs.Specifiers.{begin}
 use Rattle.cc_first_faults.proofs.Declarators.{attributes-told, derivations-told}
 use Rattle.cc_first_faults.proofs.Lawful.{own-whole}
 use Rattle.cc_first_faults.specs.Constructs.{Specifiers, Declaring}

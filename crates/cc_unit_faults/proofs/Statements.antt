@@ -17,7 +17,7 @@ use Rattle.cc_tree.specs.declared.unit.First.{First as FirstPart}
 use Rattle.cc_tree.specs.declared.unit.First.TheVariants as first_part
 use Rattle.cc_typed_bodies.specs.Meanings.{scoped}
 use Rattle.cc_typed_bodies.specs.Parts.{value_here, effect_found, expression_found, return_found, declared_found, first_found}
-use Rattle.cc_typed_declarations.specs.Declarations.{declaration}
+use Rattle.cc_typed_bodies.specs.Declarations.{declaration}
 use Rattle.cc_typed_statements.specs.Conditions.{effect}
 use Rattle.cc_typed_statements.specs.Jumps.{returned}
 use Rattle.cc_unit_faults.specs.Constructs.{Construct, Within, EffectOf}

@@ -1,6 +1,6 @@
 -- The law of all constructs of a unit, and what it says of the whole.
 use Rattle.std.proofs.Common.{◌≡◌, List, Result, Ok, Err, refl, ap}
-use Rattle.cc_declarators.specs.Specifiers.{begin}
+use Rattle.cc_typed_terms.specs.Specifiers.{begin}
 use Rattle.cc_first_faults.proofs.Declarations.{law as inner-law}
 use Rattle.cc_first_faults.proofs.Lawful.{own-whole, same-state, first-of, alone, within}
 use Rattle.cc_first_faults.specs.Behind.{behind as behind_inner}
@@ -21,7 +21,7 @@ use Rattle.cc_type.specs.Defined.{defined_names}
 use Rattle.cc_type.specs.Functions.{definition_judged}
 use Rattle.cc_type.specs.Typed.{IsTyped, IsBroken}
 use Rattle.cc_type.specs.Units.{item_found, item_next, items_found, unit_found, unit_of}
-use Rattle.cc_typed_declarations.specs.Declarations.{declaration}
+use Rattle.cc_typed_bodies.specs.Declarations.{declaration}
 use Rattle.cc_numbering.specs.Units.{unit_left}
 use Rattle.cc_unit.specs.declared.unit.TypedUnit.{TypedUnit}
 use Rattle.cc_unit_faults.specs.Behind.{behind}

@@ -1,6 +1,6 @@
 -- The constructs of a translation unit (C99 6.8, 6.9), each with what has been found in front of it, and where each begins.
 use Rattle.std.specs.Prelude.{ℕ, List}
-use Rattle.cc_declarators.specs.Specifiers.{begin}
+use Rattle.cc_typed_terms.specs.Specifiers.{begin}
 use Rattle.cc_first_faults.specs.Constructs.{Construct as Inner, Declaration, place as inner_place}
 use Rattle.cc_linkage.specs.declared.linkage.DeclaredAs.{DeclaredAs}
 use Rattle.cc_num.specs.declared.int_type.IntType.{IntType}

@@ -1,7 +1,7 @@
 -- The parts of a construct of a unit in the order in which they are read, each with what is known in front of it (C99 6.8,
 -- 6.9).
 use Rattle.std.specs.Prelude.{ℕ, false, List, [], ◌∷◌, ◌++◌, map, Option, Some, None, if◌then◌else◌}
-use Rattle.cc_declarators.specs.Declarators.{derived_type}
+use Rattle.cc_typed_terms.specs.Declarators.{derived_type}
 use Rattle.cc_first_faults.specs.Constructs.{Construct as Inner, ValueOf, Specifiers, Declaring, Declaration}
 use Rattle.cc_first_faults.specs.FirstFaults.{after, parts_in_turn}
 use Rattle.cc_first_faults.specs.Parts.{parts as inner_parts, attribute_parts, derivation_parts}

@@ -12,7 +12,7 @@ use Rattle.cc_operands.specs.Qualified.{plain}
 use Rattle.cc_program.specs.declared.types.Shape.{Void}
 use Rattle.cc_program.specs.declared.value.Leaf.{Leaf}
 use Rattle.cc_scopes.specs.State.{State, structures_of}
-use Rattle.cc_primary.specs.Primary.{leaves_or_none}
+use Rattle.cc_typed_terms.specs.Primary.{leaves_or_none}
 use Rattle.cc_program.specs.declared.types.Structure.{Structure}
 use Rattle.cc_syntax.specs.Programs.{AreLeaves, IsInitial}
 use Rattle.cc_syntax.specs.Sizes.{AreSized}
@@ -22,7 +22,7 @@ use Rattle.cc_syntax.proofs.Parts.{all_at}
 use Rattle.cc_syntax.proofs.StructureLemmas.{structures_sized, object_complete}
 use Rattle.cc_tree.specs.declared.at.At.{At}
 use Rattle.cc_tree.specs.declared.unit.Given.{Given}
-use Rattle.cc_typed_declarations.specs.Plans.{steps_done}
+use Rattle.cc_typed_bodies.specs.Plans.{steps_done}
 use Rattle.cc_unit_trees.specs.Values.{ShowsGiven, ShowsInitial, ShowsFirst}
 use Rattle.cc_shown_expressions.proofs.Stand.{tested-at}
 use Rattle.cc_shown_expressions.specs.KnownNames.{TypesStand}

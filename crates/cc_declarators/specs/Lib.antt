@@ -1,6 +1,0 @@
-pub mod Declarators
-pub mod Located
-pub mod Members
-pub mod Names
-pub mod Parameters
-pub mod Specifiers

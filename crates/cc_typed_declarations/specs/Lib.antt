@@ -1,4 +1,0 @@
-pub mod Declarations
-pub mod Functions
-pub mod Objects
-pub mod Plans

@@ -1,0 +1,12 @@
+pub mod Declarators
+pub mod Devices
+pub mod Located
+pub mod Members
+pub mod Names
+pub mod Operators
+pub mod Parameters
+pub mod Primary
+pub mod Sizes
+pub mod Specifiers
+pub mod Values
+pub mod View
