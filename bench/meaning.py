@@ -6,7 +6,7 @@ apart from the runs of crates/cc_steps: a function that runs is a coroutine here
 
 A case is a program in the words of crates/cases_program, and behind bars the rows of its inputs, those of its arrivals
 `TURN,HANDLER`, and how many turns there are at the most: `WORDS | 1 2 | 5,tick 7,tick | 100`. Behind `$ trace` the number of
-turns is left out. Files that a run reads are not judged: such a case is answered as it stands in crates/cases_meaning/stdout.
+turns is left out. Behind any other setting nothing is judged: such a case is answered as it stands in crates/cases_meaning/stdout.
 """
 import os
 import sys
@@ -15,8 +15,8 @@ from programs import BAD, Program, alike, plain
 
 sys.setrecursionlimit(100000)
 
-# what the settings of files are
-FILES = ("profile", "default", "inputs", "arrivals")
+# the settings of sections whose programs are run
+RUNS = ("", "trace")
 
 
 class Trap(Exception):
@@ -759,14 +759,14 @@ def outcome(setting, case):
 
 
 def settings_of(lines):
-    """Each line of a script with the setting that stands before it in its section."""
+    """Each line of a script with the settings that stand before it in its section."""
     setting = ""
     for line in lines:
         line = line.rstrip("\n")
         if line.startswith("== "):
             setting = ""
         elif line.startswith("$ "):
-            setting = line[2:]
+            setting = f"{setting} {line[2:]}".strip()
         yield setting, line
 
 
@@ -777,7 +777,7 @@ def main():
     count = 0
     for setting, line in settings_of(sys.stdin):
         if line and line[:2] not in ("==", "$ "):
-            line = stand[setting, line] if setting in FILES else f"{line} => {outcome(setting, line)}"
+            line = f"{line} => {outcome(setting, line)}" if setting in RUNS else stand[setting, line]
             count += 1
         print(line)
     print(f"cases: {count}")

@@ -3,6 +3,7 @@
 ghost use Rattle.std.specs.Prelude.{IfOk, ◌≤◌};
 ghost use Rattle.cases_leaves.specs.Wants.{ArePlaceable};
 
+use crate::placings::write_field;
 use cases_script::{Page, split};
 use cc_bins::{Bins, Want, place};
 use std::alloc::{AllocError, Global};
@@ -25,19 +26,18 @@ fn wants_of(alloc: Global, count: u32, bits: u8, then: u8) -> Result<Vec<Want>, 
     Ok(wants)
 }
 
-fn write_bins(page: &mut Page, bins: &Bins) {
+fn write_summary(page: &mut Page, bins: &Bins) {
     page.show(bins.words.all().len());
     page.put(" words, ");
     page.show(bins.fields.all().len());
     page.put(" fields");
     if let Some(word) = bins.words.all().last() {
-        page.show(format_args!(", the last word {}:{}", word.group, word.bits));
+        page.put_with(", the last word ", word.group);
+        page.put_with(":", word.bits);
     }
     if let Some(field) = bins.fields.all().last() {
-        page.show(format_args!(
-            ", the last field {}@{}.{}",
-            field.slot, field.word, field.shift
-        ));
+        page.put(", the last field ");
+        write_field(page, field);
     }
 }
 
@@ -47,7 +47,7 @@ fn write_placing(alloc: Global, page: &mut Page, count: u32, bits: u8, then: u8)
     }
     match wants_of(alloc, count, bits, then) {
         Ok(wants) => match place(alloc, &wants) {
-            Ok(bins) => write_bins(page, &bins),
+            Ok(bins) => write_summary(page, &bins),
             Err(_) => page.put("no memory"),
         },
         Err(_) => page.put("no memory"),

@@ -5,7 +5,7 @@ ghost use Rattle.cases_leaves.specs.Wants.{IsSmall, ArePlaceable};
 
 use crate::wants::{add, small};
 use cases_script::Page;
-use cc_bins::{Bins, Want, place};
+use cc_bins::{Bins, Field, Want, place};
 use std::alloc::{AllocError, Global};
 
 /// The slot that a word writes.
@@ -44,14 +44,23 @@ fn wants_of(alloc: Global, case: &str) -> Result<Option<Vec<Want>>, AllocError>
     Ok(Some(wants))
 }
 
+/// Writes a field.
+pub fn write_field(page: &mut Page, field: &Field) {
+    page.show(field.slot);
+    page.put_with("@", field.word);
+    page.put_with(".", field.shift);
+}
+
 fn write_bins(page: &mut Page, bins: &Bins) {
     page.put("words");
     for word in bins.words.all() {
-        page.show(format_args!(" {}:{}", word.group, word.bits));
+        page.put_with(" ", word.group);
+        page.put_with(":", word.bits);
     }
     page.put(" fields");
     for field in bins.fields.all() {
-        page.show(format_args!(" {}@{}.{}", field.slot, field.word, field.shift));
+        page.put(" ");
+        write_field(page, field);
     }
 }
 

@@ -7,25 +7,32 @@ use cc_num::Target;
 use cc_program::Roles;
 use std::alloc::Global;
 
+/// A word with a blank on each side.
+fn write_word(page: &mut Page, word: &str) {
+    page.put(" ");
+    page.put(word);
+    page.put(" ");
+}
+
 /// A number that is not the one that is usual.
 fn write_number(page: &mut Page, word: &str, number: u64, usual: u64) {
     if number != usual {
-        page.show(format_args!(" {word} {number}"));
+        write_word(page, word);
+        page.show(number);
     }
 }
 
 fn write_budget(page: &mut Page, word: &str, budget: Option<u64>) {
     if let Some(most) = budget {
-        page.show(format_args!(" {word} {most}"));
+        write_word(page, word);
+        page.show(most);
     }
 }
 
 /// A name that is not the one that is usual.
 fn write_name(page: &mut Page, word: &str, name: &[u8], usual: &str) {
     if name != usual.as_bytes() {
-        page.put(" ");
-        page.put(word);
-        page.put(" ");
+        write_word(page, word);
         page.bytes(name);
     }
 }
@@ -50,7 +57,7 @@ fn write_roles(page: &mut Page, roles: &Roles) {
     write_name(page, "restore", roles.restore.all(), "irq_restore");
     for (name, level) in roles.levels.all() {
         write_name(page, "level", name.all(), "");
-        page.show(format_args!(" {level}"));
+        page.put_with(" ", *level);
     }
 }
 
@@ -59,7 +66,7 @@ fn write_profile(page: &mut Page, profile: &Profile) {
     write_roles(page, &profile.roles);
     for (name, count) in profile.counts.all() {
         write_name(page, "count", name.all(), "");
-        page.show(format_args!(" {count}"));
+        page.put_with(" ", *count);
     }
     write_number(page, "weight_code", profile.weight_code, 1);
     write_number(page, "weight_time", profile.weight_time, 1);
@@ -69,7 +76,10 @@ fn write_profile(page: &mut Page, profile: &Profile) {
 
 fn write_fault(page: &mut Page, fault: ProfileFault) {
     match fault {
-        ProfileFault::Row { row, rule } => page.show(format_args!("broken {rule} in row {row}")),
+        ProfileFault::Row { row, rule } => {
+            page.put_with("broken ", rule);
+            page.put_with(" in row ", row);
+        }
         ProfileFault::NoMemory => page.put("no memory"),
     }
 }

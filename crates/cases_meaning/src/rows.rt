@@ -15,7 +15,7 @@ const WORDS: &str =
 
 fn write_fault(page: &mut Page, fault: RowFault) {
     match fault {
-        RowFault::Row(row) => page.show(format_args!("row {row}")),
+        RowFault::Row(row) => page.put_with("row ", row),
         RowFault::NoMemory => page.put("no memory"),
     }
 }
@@ -29,7 +29,7 @@ pub fn write_inputs(alloc: Global, page: &mut Page, case: &str) {
         Ok(inputs) => {
             page.put("ok");
             for input in &inputs {
-                page.show(format_args!(" {input}"));
+                page.put_with(" ", *input);
             }
         }
         Err(fault) => write_fault(page, fault),
@@ -44,7 +44,8 @@ fn write_arrivals_of(alloc: Global, page: &mut Page, p: &Program, case: &str) {
         Ok(arrivals) => {
             page.put("ok");
             for (turn, handler) in &arrivals {
-                page.show(format_args!(" {turn}:{handler}"));
+                page.put_with(" ", *turn);
+                page.put_with(":", *handler);
             }
         }
         Err(fault) => write_fault(page, fault),

@@ -1,18 +1,16 @@
 //! Structures, devices, objects and functions.
 
-use crate::builder::{Builder, last_few, target};
+use crate::builder::{Builder, Parts, Terms, put, taken};
+use crate::types::{plain, signature};
 use crate::words::{int_type, name, split};
 use cc_num::{List, Name};
-use cc_syntax::{
-    Address, CType, Device, Entry, Func, Leaf, Object, Part, Root, Shape, Sig, Structure,
-};
+use cc_syntax::{Address, Device, Entry, Func, Leaf, Object, Part, Root, Shape, Sig, Structure};
 use std::alloc::Global;
-use std::mem;
 
-fn structure(b: &mut Builder, rest: &str) -> Option<()> {
-    let tag = name(b.alloc, rest)?;
-    let members = b.take_names();
-    b.structures.push(Structure { tag, members }).ok()
+fn structure(terms: &mut Terms, text: &str) -> Option<Structure> {
+    let tag = name(terms.alloc, text)?;
+    let members = taken(terms.alloc, &mut terms.names);
+    Some(Structure { tag, members })
 }
 
 fn optional_name(alloc: Global, text: &str) -> Option<Option<Name>> {
@@ -23,24 +21,25 @@ fn optional_name(alloc: Global, text: &str) -> Option<Option<Name>> {
     }
 }
 
-fn device(b: &mut Builder, rest: &str) -> Option<()> {
+fn device(alloc: Global, rest: &str) -> Option<Device> {
     let (place, kind) = split(rest);
     let (text, number) = place.split_once('@').unwrap_or((place, "0"));
     let (int, constant) = split(kind);
-    let device = Device {
-        name: optional_name(b.alloc, text)?,
-        number: number.parse().ok()?,
-        int: int_type(int)?,
+    let number = number.parse().ok()?;
+    let int = int_type(int)?;
+    Some(Device {
+        name: optional_name(alloc, text)?,
+        number,
+        int,
         constant: constant == "const",
-    };
-    b.devices.push(device).ok()
+    })
 }
 
-fn object(b: &mut Builder, rest: &str) -> Option<()> {
-    let name = name(b.alloc, rest)?;
-    let ctype = b.types.pop()?;
-    let init = List::of(mem::replace(&mut b.leaves, Vec::new(b.alloc)));
-    b.objects.push(Object { name, ctype, init }).ok()
+fn object(terms: &mut Terms, leaves: &mut Vec<Leaf>, text: &str) -> Option<Object> {
+    let name = name(terms.alloc, text)?;
+    let ctype = terms.types.pop()?;
+    let init = taken(terms.alloc, leaves);
+    Some(Object { name, ctype, init })
 }
 
 fn part(word: &str) -> Option<Part> {
@@ -65,75 +64,97 @@ fn place(alloc: Global, text: &str) -> Option<Address> {
     let (object, text) = split(text);
     let (index, text) = split(text);
     let (count, text) = split(text);
+    let object = object.parse().ok()?;
+    let index = index.parse().ok()?;
+    let count = count.parse().ok()?;
     Some(Address::At {
-        object: Root::Static(object.parse().ok()?),
+        object: Root::Static(object),
         path: path(alloc, text)?,
-        index: index.parse().ok()?,
-        count: count.parse().ok()?,
+        index,
+        count,
     })
 }
 
-fn leaf(b: &mut Builder, rest: &str) -> Option<()> {
+fn leaf(alloc: Global, rest: &str) -> Option<Leaf> {
     let (word, text) = split(rest);
-    let leaf = match word {
-        "null" => Leaf::Place(Address::Null),
-        "func" => Leaf::Place(Address::Func(text.parse().ok()?)),
-        "at" => Leaf::Place(place(b.alloc, text)?),
-        _ => Leaf::Int(word.parse().ok()?),
-    };
-    b.leaves.push(leaf).ok()
+    match word {
+        "null" => Some(Leaf::Place(Address::Null)),
+        "func" => Some(Leaf::Place(Address::Func(text.parse().ok()?))),
+        "at" => Some(Leaf::Place(place(alloc, text)?)),
+        _ => Some(Leaf::Int(word.parse().ok()?)),
+    }
 }
 
-fn add(b: &mut Builder, name: Name, sig: Sig, params: u32) -> Option<()> {
-    let f = Func {
-        name,
+/// A function with the names and the statements that wait to be taken.
+fn function(b: &mut Builder, text: &str, sig: Sig, params: u32) -> Option<Func> {
+    let alloc = b.terms.alloc;
+    Some(Func {
+        name: name(alloc, text)?,
         sig,
-        entry: mem::replace(&mut b.entry, None),
+        entry: b.parts.entry.take(),
         params,
-        locals: b.take_names(),
-        body: List::of(mem::replace(&mut b.list, Vec::new(b.alloc))),
-    };
-    b.funcs.push(f).ok()
+        locals: taken(alloc, &mut b.terms.names),
+        body: taken(alloc, &mut b.bodies.list),
+    })
 }
 
-fn function(b: &mut Builder, rest: &str) -> Option<()> {
+/// `NAME:TAKEN`, or `NAME:TAKEN:COUNT`.
+fn declared(b: &mut Builder, rest: &str) -> Option<Func> {
     let (text, counts) = split(rest);
     let (taken, counted) = split(counts);
-    let name = name(b.alloc, text)?;
-    let params = last_few(&mut b.types, taken.parse().ok()?)?;
-    let result = b.types.pop()?;
     let count = if counted.is_empty() { taken } else { counted };
-    add(b, name, Sig { result, params }, count.parse().ok()?)
+    let count = count.parse().ok()?;
+    let sig = signature(&mut b.terms.types, taken.parse().ok()?)?;
+    function(b, text, sig, count)
 }
 
-fn main_function(b: &mut Builder) -> Option<()> {
-    let result = CType {
-        constant: false,
-        volatile: false,
-        shape: Shape::Void,
+fn main_function(b: &mut Builder) -> Option<Func> {
+    let sig = Sig {
+        result: plain(Shape::Void),
+        params: List::of(Vec::new(b.terms.alloc)),
     };
-    let params = List::of(Vec::new(b.alloc));
-    let name = name(b.alloc, "main")?;
-    add(b, name, Sig { result, params }, 0)
+    function(b, "main", sig, 0)
 }
 
-/// Reads a word of declarations; whether it is one.
-pub fn read(b: &mut Builder, head: &str, rest: &str) -> Option<bool> {
+/// Reads a word that says something of the whole program, or of the next function.
+fn choose(b: &mut Builder, head: &str, rest: &str) -> Option<()> {
     match head {
-        "structure" => structure(b, rest)?,
-        "dev" => device(b, rest)?,
-        "object" => object(b, rest)?,
-        "leaf" => leaf(b, rest)?,
-        "fun" => function(b, rest)?,
-        "main" => main_function(b)?,
-        "signal" => b.entry = Some(Entry::Signal),
-        "interrupt" => b.entry = Some(Entry::Interrupt),
-        "listed" => b.entry = Some(Entry::Listed),
-        "ticks" => b.ticks = true,
-        "levels" => b.levels = true,
-        "small" => b.target = target(true),
-        "start" => b.main = Some(rest.parse().ok()?),
-        _ => return Some(false),
+        "signal" => b.parts.entry = Some(Entry::Signal),
+        "interrupt" => b.parts.entry = Some(Entry::Interrupt),
+        "listed" => b.parts.entry = Some(Entry::Listed),
+        "ticks" => b.choices.ticks = true,
+        "levels" => b.choices.levels = true,
+        "small" => b.choices.is_small = true,
+        "start" => b.choices.main = Some(rest.parse().ok()?),
+        _ => return None,
     }
-    Some(true)
+    Some(())
+}
+
+fn put_part(terms: &mut Terms, parts: &mut Parts, head: &str, rest: &str) -> Option<()> {
+    match head {
+        "structure" => put(&mut parts.structures, structure(terms, rest)),
+        "dev" => put(&mut parts.devices, device(terms.alloc, rest)),
+        "leaf" => put(&mut parts.leaves, leaf(terms.alloc, rest)),
+        _ => {
+            let object = object(terms, &mut parts.leaves, rest);
+            put(&mut parts.objects, object)
+        }
+    }
+}
+
+/// Reads a word of declarations.
+pub fn read(b: &mut Builder, head: &str, rest: &str) -> Option<()> {
+    match head {
+        "structure" | "dev" | "leaf" | "object" => put_part(&mut b.terms, &mut b.parts, head, rest),
+        "fun" => {
+            let f = declared(b, rest);
+            put(&mut b.parts.funcs, f)
+        }
+        "main" => {
+            let f = main_function(b);
+            put(&mut b.parts.funcs, f)
+        }
+        _ => choose(b, head, rest),
+    }
 }

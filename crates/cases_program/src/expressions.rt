@@ -1,14 +1,8 @@
 //! Places, what is read and assigned there, and calls.
 
-use crate::builder::{Builder, last_few};
-use crate::words::{bin_op, int_type, split};
-use cc_num::Boxed;
+use crate::builder::{Terms, last_few, put};
+use crate::words::operation;
 use cc_syntax::{Expr, Intr, Place};
-
-fn boxed_place(b: &mut Builder) -> Option<Boxed<Place>> {
-    let a = b.places.pop()?;
-    Boxed::new(b.alloc, a).ok()
-}
 
 fn is_place(head: &str) -> bool {
     matches!(
@@ -17,30 +11,30 @@ fn is_place(head: &str) -> bool {
     )
 }
 
-fn place(b: &mut Builder, head: &str, rest: &str) -> Option<Place> {
+fn variable(head: &str, number: u32) -> Place {
     match head {
-        "local" => Some(Place::Local(rest.parse().ok()?)),
-        "static" => Some(Place::Static(rest.parse().ok()?)),
-        "device" => Some(Place::Device(rest.parse().ok()?)),
-        "element" => {
-            let i = b.boxed()?;
-            Some(Place::Element(boxed_place(b)?, i))
-        }
-        "member" => Some(Place::Member(boxed_place(b)?, rest.parse().ok()?)),
-        _ => Some(Place::Deref(b.boxed()?)),
+        "local" => Place::Local(number),
+        "static" => Place::Static(number),
+        _ => Place::Device(number),
     }
 }
 
-fn call(b: &mut Builder, count: &str) -> Option<Expr> {
-    let args = last_few(&mut b.exprs, count.parse().ok()?)?;
-    Some(Expr::Call(b.boxed()?, args))
+fn element(terms: &mut Terms) -> Option<Place> {
+    let index = terms.expr()?;
+    Some(Place::Element(terms.place()?, index))
 }
 
-fn change(b: &mut Builder, rest: &str) -> Option<Expr> {
-    let (op, t) = split(rest);
-    let value = b.boxed()?;
-    let a = boxed_place(b)?;
-    Some(Expr::Change(a, bin_op(op)?, int_type(t)?, value))
+fn member(terms: &mut Terms, number: u32) -> Option<Place> {
+    Some(Place::Member(terms.place()?, number))
+}
+
+fn place(terms: &mut Terms, head: &str, rest: &str) -> Option<Place> {
+    match head {
+        "element" => element(terms),
+        "member" => member(terms, rest.parse().ok()?),
+        "deref" => Some(Place::Deref(terms.expr()?)),
+        _ => Some(variable(head, rest.parse().ok()?)),
+    }
 }
 
 fn intrinsic(head: &str) -> Option<Intr> {
@@ -53,9 +47,9 @@ fn intrinsic(head: &str) -> Option<Intr> {
     }
 }
 
-fn intrinsic_call(b: &mut Builder, i: Intr, rest: &str) -> Option<Expr> {
+fn intrinsic_call(terms: &mut Terms, i: Intr, rest: &str) -> Option<Expr> {
     if rest == "1" {
-        Some(Expr::Intr(i, Some(b.boxed()?)))
+        Some(Expr::Intr(i, Some(terms.expr()?)))
     } else {
         Some(Expr::Intr(i, None))
     }
@@ -68,36 +62,60 @@ fn is_access(head: &str) -> bool {
     )
 }
 
-fn access(b: &mut Builder, head: &str, rest: &str) -> Option<Expr> {
+fn call(terms: &mut Terms, count: usize) -> Option<Expr> {
+    let args = last_few(&mut terms.exprs, count)?;
+    Some(Expr::Call(terms.expr()?, args))
+}
+
+fn assign(terms: &mut Terms) -> Option<Expr> {
+    let value = terms.expr()?;
+    Some(Expr::Assign(terms.place()?, value))
+}
+
+fn change(terms: &mut Terms, rest: &str) -> Option<Expr> {
+    let (op, t) = operation(rest)?;
+    let value = terms.expr()?;
+    Some(Expr::Change(terms.place()?, op, t, value))
+}
+
+/// What is done with the last place alone.
+fn read_at(terms: &mut Terms, head: &str, rest: &str) -> Option<Expr> {
+    let place = terms.place()?;
     match head {
-        "load" => Some(Expr::Load(boxed_place(b)?)),
-        "addr" => Some(Expr::AddrOf(boxed_place(b)?)),
-        "after" => Some(Expr::After(boxed_place(b)?, rest == "down")),
-        "assign" => {
-            let value = b.boxed()?;
-            Some(Expr::Assign(boxed_place(b)?, value))
-        }
-        "change" => change(b, rest),
-        _ => call(b, rest),
+        "load" => Some(Expr::Load(place)),
+        "addr" => Some(Expr::AddrOf(place)),
+        _ => Some(Expr::After(place, rest == "down")),
     }
 }
 
-/// Reads a word of places, accesses and calls; whether it is one.
-pub fn read(b: &mut Builder, head: &str, rest: &str) -> Option<bool> {
+fn access(terms: &mut Terms, head: &str, rest: &str) -> Option<Expr> {
+    match head {
+        "assign" => assign(terms),
+        "change" => change(terms, rest),
+        "call" => call(terms, rest.parse().ok()?),
+        _ => read_at(terms, head, rest),
+    }
+}
+
+/// The expression that a word makes.
+fn made(terms: &mut Terms, head: &str, rest: &str) -> Option<Expr> {
+    match intrinsic(head) {
+        Some(i) => intrinsic_call(terms, i, rest),
+        None => access(terms, head, rest),
+    }
+}
+
+/// Whether a word is one of places, accesses and calls.
+pub fn is_word(head: &str) -> bool {
+    is_place(head) || is_access(head) || intrinsic(head).is_some()
+}
+
+/// Reads a word of places, accesses and calls.
+pub fn read(terms: &mut Terms, head: &str, rest: &str) -> Option<()> {
     if is_place(head) {
-        let a = place(b, head, rest)?;
-        b.places.push(a).ok()?;
-        return Some(true);
+        let place = place(terms, head, rest);
+        return put(&mut terms.places, place);
     }
-    if let Some(i) = intrinsic(head) {
-        let e = intrinsic_call(b, i, rest)?;
-        b.exprs.push(e).ok()?;
-        return Some(true);
-    }
-    if is_access(head) {
-        let e = access(b, head, rest)?;
-        b.exprs.push(e).ok()?;
-        return Some(true);
-    }
-    Some(false)
+    let made = made(terms, head, rest);
+    put(&mut terms.exprs, made)
 }

@@ -44,7 +44,6 @@ mod builder;
 mod declarations;
 mod expressions;
 mod operators;
-mod roles;
 mod statements;
 mod types;
 mod words;
@@ -56,15 +55,16 @@ use std::alloc::Global;
 /// Reads a word; `None` where it has no meaning there, or memory runs out.
 fn read(b: &mut Builder, word: &str) -> Option<()> {
     let (head, rest) = words::split(word);
-    if types::read(b, head, rest)?
-        || expressions::read(b, head, rest)?
-        || operators::read(b, head, rest)?
-        || statements::read(b, head, rest)?
-        || declarations::read(b, head, rest)?
-    {
-        Some(())
+    if types::is_word(head) {
+        types::read(&mut b.terms, head, rest)
+    } else if expressions::is_word(head) {
+        expressions::read(&mut b.terms, head, rest)
+    } else if operators::is_word(head) {
+        operators::read(&mut b.terms, head, rest)
+    } else if statements::is_word(head) {
+        statements::read(&mut b.terms, &mut b.bodies, head, rest)
     } else {
-        None
+        declarations::read(b, head, rest)
     }
 }
 
@@ -75,11 +75,15 @@ fn read_all(b: &mut Builder, text: &str) -> Option<()> {
     Some(())
 }
 
+fn program(b: &mut Builder, front: &str, words: &str) -> Option<Program> {
+    read_all(b, front)?;
+    read_all(b, words)?;
+    b.finish()
+}
+
 /// The program that words write, those of `front` before those of `words`; `None` where one has no meaning, or memory
 /// runs out.
 pub fn program_of(alloc: Global, front: &str, words: &str) -> Option<Program> {
     let mut b = Builder::new(alloc);
-    read_all(&mut b, front)?;
-    read_all(&mut b, words)?;
-    b.finish()
+    program(&mut b, front, words)
 }

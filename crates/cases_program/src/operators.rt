@@ -1,6 +1,6 @@
 //! Constants and operators.
 
-use crate::builder::Builder;
+use crate::builder::{Terms, put};
 use crate::types::boxed_type;
 use crate::words::{bin_op, int_type};
 use cc_num::{BinOp, UnOp};
@@ -16,53 +16,70 @@ fn unary(head: &str) -> Option<UnOp> {
 }
 
 fn is_pair(head: &str) -> bool {
-    matches!(
-        head,
-        "move" | "back" | "gap" | "cmp" | "both" | "either" | "seq"
-    )
+    matches!(head, "move" | "back" | "gap" | "both" | "either" | "seq")
 }
 
 /// An operator of two operands.
-fn pair(b: &mut Builder, head: &str, rest: &str) -> Option<Expr> {
-    let second = b.boxed()?;
-    let first = b.boxed()?;
+fn pair(terms: &mut Terms, head: &str) -> Option<Expr> {
+    let second = terms.expr()?;
+    let first = terms.expr()?;
     match head {
         "move" => Some(Expr::Move(first, second, false)),
         "back" => Some(Expr::Move(first, second, true)),
         "gap" => Some(Expr::Gap(first, second)),
-        "cmp" => Some(Expr::Compare(bin_op(rest)?, first, second)),
         "both" => Some(Expr::Both(first, second)),
         "either" => Some(Expr::Either(first, second)),
         _ => Some(Expr::Seq(first, second)),
     }
 }
 
-fn binary(b: &mut Builder, op: BinOp, rest: &str) -> Option<Expr> {
-    let second = b.boxed()?;
-    let first = b.boxed()?;
-    Some(Expr::Bin(op, int_type(rest)?, first, second))
+fn comparison(terms: &mut Terms, op: BinOp) -> Option<Expr> {
+    let second = terms.expr()?;
+    Some(Expr::Compare(op, terms.expr()?, second))
 }
 
-fn choice(b: &mut Builder) -> Option<Expr> {
-    let second = b.boxed()?;
-    let first = b.boxed()?;
-    Some(Expr::Choose(b.boxed()?, first, second))
+fn binary(terms: &mut Terms, op: BinOp, rest: &str) -> Option<Expr> {
+    let t = int_type(rest)?;
+    let second = terms.expr()?;
+    Some(Expr::Bin(op, t, terms.expr()?, second))
+}
+
+fn prefix(terms: &mut Terms, op: UnOp, rest: &str) -> Option<Expr> {
+    let t = int_type(rest)?;
+    Some(Expr::Un(op, t, terms.expr()?))
+}
+
+fn choice(terms: &mut Terms) -> Option<Expr> {
+    let second = terms.expr()?;
+    let first = terms.expr()?;
+    Some(Expr::Choose(terms.expr()?, first, second))
+}
+
+fn conversion(terms: &mut Terms, rest: &str) -> Option<Expr> {
+    let t = int_type(rest)?;
+    Some(Expr::Conv(t, terms.expr()?))
+}
+
+fn qualified(terms: &mut Terms) -> Option<Expr> {
+    let t = boxed_type(terms)?;
+    Some(Expr::Qualify(t, terms.expr()?))
 }
 
 fn is_other(head: &str) -> bool {
-    matches!(head, "null" | "func" | "conv" | "qualify" | "choose")
+    matches!(
+        head,
+        "null" | "func" | "conv" | "qualify" | "choose" | "cmp"
+    )
 }
 
-fn other(b: &mut Builder, head: &str, rest: &str) -> Option<Expr> {
+fn other(terms: &mut Terms, head: &str, rest: &str) -> Option<Expr> {
     match head {
-        "null" => Some(Expr::Null(boxed_type(b)?)),
+        "null" => Some(Expr::Null(boxed_type(terms)?)),
         "func" => Some(Expr::FuncAddr(rest.parse().ok()?)),
-        "conv" => Some(Expr::Conv(int_type(rest)?, b.boxed()?)),
-        "qualify" => {
-            let t = boxed_type(b)?;
-            Some(Expr::Qualify(t, b.boxed()?))
-        }
-        _ => choice(b),
+        "conv" => conversion(terms, rest),
+        "qualify" => qualified(terms),
+        "cmp" => comparison(terms, bin_op(rest)?),
+        _ => choice(terms),
     }
 }
 
@@ -71,20 +88,23 @@ fn constant(head: &str, rest: &str) -> Option<Expr> {
     Some(Expr::Const(n, int_type(rest)?))
 }
 
+/// The expression that an operator of integers makes, or a constant.
+fn integer(terms: &mut Terms, head: &str, rest: &str) -> Option<Expr> {
+    match (unary(head), bin_op(head)) {
+        (Some(op), _) => prefix(terms, op, rest),
+        (None, Some(op)) => binary(terms, op, rest),
+        (None, None) => constant(head, rest),
+    }
+}
+
 /// The expression that a word makes.
-fn made(b: &mut Builder, head: &str, rest: &str) -> Option<Expr> {
+fn made(terms: &mut Terms, head: &str, rest: &str) -> Option<Expr> {
     if is_pair(head) {
-        return pair(b, head, rest);
-    }
-    if is_other(head) {
-        return other(b, head, rest);
-    }
-    if let Some(op) = unary(head) {
-        return Some(Expr::Un(op, int_type(rest)?, b.boxed()?));
-    }
-    match bin_op(head) {
-        Some(op) => binary(b, op, rest),
-        None => constant(head, rest),
+        pair(terms, head)
+    } else if is_other(head) {
+        other(terms, head, rest)
+    } else {
+        integer(terms, head, rest)
     }
 }
 
@@ -92,16 +112,17 @@ fn is_constant(head: &str) -> bool {
     head.parse::<i128>().is_ok()
 }
 
-fn is_operator(head: &str) -> bool {
-    is_pair(head) || is_other(head) || unary(head).is_some() || bin_op(head).is_some()
+/// Whether a word is a constant or an operator.
+pub fn is_word(head: &str) -> bool {
+    is_pair(head)
+        || is_other(head)
+        || unary(head).is_some()
+        || bin_op(head).is_some()
+        || is_constant(head)
 }
 
-/// Reads a constant or an operator; whether it is one.
-pub fn read(b: &mut Builder, head: &str, rest: &str) -> Option<bool> {
-    if !is_operator(head) && !is_constant(head) {
-        return Some(false);
-    }
-    let e = made(b, head, rest)?;
-    b.exprs.push(e).ok()?;
-    Some(true)
+/// Reads a constant or an operator.
+pub fn read(terms: &mut Terms, head: &str, rest: &str) -> Option<()> {
+    let made = made(terms, head, rest);
+    put(&mut terms.exprs, made)
 }

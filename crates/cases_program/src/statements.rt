@@ -1,19 +1,21 @@
 //! Statements.
 
-use crate::builder::{Builder, last_few};
+use crate::builder::{Bodies, Terms, last_few, put, taken};
 use cc_num::{Boxed, List};
 use cc_syntax::{Case, Expr, Stmt};
+use std::alloc::Global;
 use std::mem;
 
-fn begin(b: &mut Builder) -> Option<()> {
-    let before = mem::replace(&mut b.list, Vec::new(b.alloc));
-    b.open.push(before).ok()
+fn begin(alloc: Global, bodies: &mut Bodies) -> Option<()> {
+    let before = mem::replace(&mut bodies.list, Vec::new(alloc));
+    bodies.open.push(before).ok()
 }
 
-fn end(b: &mut Builder) -> Option<()> {
-    let before = b.open.pop()?;
-    let list = List::of(mem::replace(&mut b.list, before));
-    b.ended.push(list).ok()
+fn end(alloc: Global, bodies: &mut Bodies) -> Option<()> {
+    let before = bodies.open.pop()?;
+    let list = taken(alloc, &mut bodies.list);
+    bodies.list = before;
+    bodies.ended.push(list).ok()
 }
 
 fn label(word: &str) -> Option<Option<i128>> {
@@ -24,112 +26,111 @@ fn label(word: &str) -> Option<Option<i128>> {
     }
 }
 
-fn case(b: &mut Builder, rest: &str) -> Option<()> {
-    let mut labels = Vec::new(b.alloc);
-    for word in rest.split(',') {
+fn labels(alloc: Global, words: &str) -> Option<List<Option<i128>>> {
+    let mut labels = Vec::new(alloc);
+    for word in words.split(',') {
         if !word.is_empty() {
             labels.push(label(word)?).ok()?;
         }
     }
-    let labels = List::of(labels);
-    let body = b.ended.pop()?;
-    b.cases.push(Case { labels, body }).ok()
+    Some(List::of(labels))
 }
 
-/// The last expression, in a box.
-fn last(b: &mut Builder) -> Option<Boxed<Expr>> {
-    let e = b.exprs.pop()?;
-    Boxed::new(b.alloc, e).ok()
+fn case(alloc: Global, ended: &mut Vec<List<Stmt>>, rest: &str) -> Option<Case> {
+    let labels = labels(alloc, rest)?;
+    let body = ended.pop()?;
+    Some(Case { labels, body })
 }
 
-fn branch(b: &mut Builder) -> Option<Stmt> {
-    let second = b.ended.pop()?;
-    let first = b.ended.pop()?;
-    Some(Stmt::If(last(b)?, first, second))
+fn branch(terms: &mut Terms, ended: &mut Vec<List<Stmt>>) -> Option<Stmt> {
+    let test = terms.expr()?;
+    let second = ended.pop()?;
+    let first = ended.pop()?;
+    Some(Stmt::If(test, first, second))
 }
 
 /// An expression of a `for`, which is missing where the mark is 0.
-fn clause(b: &mut Builder, mark: Option<&u8>) -> Option<Boxed<Expr>> {
-    if mark == Some(&b'0') { None } else { last(b) }
-}
-
-fn counted(b: &mut Builder, rest: &str) -> Option<Stmt> {
-    let marks = rest.as_bytes();
-    let body = b.ended.pop()?;
-    let step = clause(b, marks.get(2));
-    let test = clause(b, marks.get(1));
-    let first = clause(b, marks.first());
-    Some(Stmt::For(first, test, step, body))
-}
-
-fn switch(b: &mut Builder, rest: &str) -> Option<Stmt> {
-    let cases = last_few(&mut b.cases, rest.parse().ok()?)?;
-    Some(Stmt::Switch(last(b)?, cases))
-}
-
-fn value(b: &mut Builder, rest: &str) -> Option<Option<Boxed<Expr>>> {
-    if rest == "1" {
-        Some(Some(last(b)?))
+fn clause(terms: &mut Terms, mark: Option<&u8>) -> Option<Boxed<Expr>> {
+    if mark == Some(&b'0') {
+        None
     } else {
-        Some(None)
+        terms.expr()
+    }
+}
+
+fn counted(terms: &mut Terms, body: List<Stmt>, marks: &[u8]) -> Stmt {
+    let step = clause(terms, marks.get(2));
+    let test = clause(terms, marks.get(1));
+    let first = clause(terms, marks.first());
+    Stmt::For(first, test, step, body)
+}
+
+fn switch(terms: &mut Terms, cases: &mut Vec<Case>, count: usize) -> Option<Stmt> {
+    let operand = terms.expr()?;
+    Some(Stmt::Switch(operand, last_few(cases, count)?))
+}
+
+fn returned(terms: &mut Terms, rest: &str) -> Option<Stmt> {
+    if rest == "1" {
+        Some(Stmt::Return(Some(terms.expr()?)))
+    } else {
+        Some(Stmt::Return(None))
     }
 }
 
 fn is_loop(head: &str) -> bool {
-    matches!(head, "while" | "dowhile" | "for" | "switch" | "if")
+    matches!(head, "while" | "dowhile" | "for" | "block")
 }
 
-fn compound(b: &mut Builder, head: &str, rest: &str) -> Option<Stmt> {
+fn looped(terms: &mut Terms, body: List<Stmt>, head: &str, rest: &str) -> Option<Stmt> {
     match head {
-        "while" => {
-            let body = b.ended.pop()?;
-            Some(Stmt::While(last(b)?, body))
-        }
-        "dowhile" => {
-            let body = b.ended.pop()?;
-            Some(Stmt::DoWhile(body, last(b)?))
-        }
-        "for" => counted(b, rest),
-        "switch" => switch(b, rest),
-        _ => branch(b),
+        "while" => Some(Stmt::While(terms.expr()?, body)),
+        "dowhile" => Some(Stmt::DoWhile(body, terms.expr()?)),
+        "block" => Some(Stmt::Block(body)),
+        _ => Some(counted(terms, body, rest.as_bytes())),
     }
 }
 
-fn is_simple(head: &str) -> bool {
+fn is_other(head: &str) -> bool {
     matches!(
         head,
-        "do" | "break" | "continue" | "return" | "empty" | "block"
+        "do" | "break" | "continue" | "return" | "empty" | "switch" | "if"
     )
 }
 
-fn simple(b: &mut Builder, head: &str, rest: &str) -> Option<Stmt> {
+/// The statement that a word makes.
+fn made(terms: &mut Terms, bodies: &mut Bodies, head: &str, rest: &str) -> Option<Stmt> {
+    if is_loop(head) {
+        return looped(terms, bodies.ended.pop()?, head, rest);
+    }
     match head {
-        "do" => Some(Stmt::Do(last(b)?)),
+        "if" => branch(terms, &mut bodies.ended),
+        "switch" => switch(terms, &mut bodies.cases, rest.parse().ok()?),
+        "do" => Some(Stmt::Do(terms.expr()?)),
+        "return" => returned(terms, rest),
         "break" => Some(Stmt::Break),
         "continue" => Some(Stmt::Continue),
-        "return" => Some(Stmt::Return(value(b, rest)?)),
-        "block" => Some(Stmt::Block(b.ended.pop()?)),
         _ => Some(Stmt::Empty),
     }
 }
 
-/// Reads a word of statements; whether it is one.
-pub fn read(b: &mut Builder, head: &str, rest: &str) -> Option<bool> {
-    if is_loop(head) {
-        let s = compound(b, head, rest)?;
-        b.list.push(s).ok()?;
-        return Some(true);
-    }
-    if is_simple(head) {
-        let s = simple(b, head, rest)?;
-        b.list.push(s).ok()?;
-        return Some(true);
-    }
+/// Whether a word is one of statements.
+pub fn is_word(head: &str) -> bool {
+    is_loop(head) || is_other(head) || matches!(head, "{" | "}" | "case")
+}
+
+/// Reads a word of statements.
+pub fn read(terms: &mut Terms, bodies: &mut Bodies, head: &str, rest: &str) -> Option<()> {
     match head {
-        "{" => begin(b)?,
-        "}" => end(b)?,
-        "case" => case(b, rest)?,
-        _ => return Some(false),
+        "{" => begin(terms.alloc, bodies),
+        "}" => end(terms.alloc, bodies),
+        "case" => {
+            let case = case(terms.alloc, &mut bodies.ended, rest);
+            put(&mut bodies.cases, case)
+        }
+        _ => {
+            let made = made(terms, bodies, head, rest);
+            put(&mut bodies.list, made)
+        }
     }
-    Some(true)
 }

@@ -1,11 +1,12 @@
 //! Types, and names that have them.
 
-use crate::builder::{Builder, last_few};
+use crate::builder::{Terms, boxed, last_few, put};
 use crate::words::{int_type, name};
-use cc_num::Boxed;
+use cc_num::{Boxed, Name};
 use cc_syntax::{CType, Shape, Sig};
 
-fn plain(shape: Shape) -> CType {
+/// A type without qualifiers.
+pub fn plain(shape: Shape) -> CType {
     CType {
         constant: false,
         volatile: false,
@@ -13,58 +14,78 @@ fn plain(shape: Shape) -> CType {
     }
 }
 
-pub fn boxed_type(b: &mut Builder) -> Option<Boxed<CType>> {
-    let t = b.types.pop()?;
-    Boxed::new(b.alloc, t).ok()
+/// A function's type, of the last types.
+pub fn signature(types: &mut Vec<CType>, count: usize) -> Option<Sig> {
+    let params = last_few(types, count)?;
+    let result = types.pop()?;
+    Some(Sig { result, params })
 }
 
-fn function(b: &mut Builder, count: &str) -> Option<Shape> {
-    let params = last_few(&mut b.types, count.parse().ok()?)?;
-    let result = b.types.pop()?;
-    Some(Shape::Func(Boxed::new(b.alloc, Sig { result, params }).ok()?))
+/// The last type, boxed.
+pub fn boxed_type(terms: &mut Terms) -> Option<Boxed<CType>> {
+    boxed(terms.alloc, &mut terms.types)
 }
 
-fn shape_of(b: &mut Builder, head: &str, rest: &str) -> Option<Shape> {
+fn function(terms: &mut Terms, count: &str) -> Option<Shape> {
+    let sig = signature(&mut terms.types, count.parse().ok()?)?;
+    Some(Shape::Func(Boxed::new(terms.alloc, sig).ok()?))
+}
+
+fn array(terms: &mut Terms, count: &str) -> Option<Shape> {
+    let count = count.parse().ok()?;
+    Some(Shape::Array(boxed_type(terms)?, count))
+}
+
+fn shape_of(terms: &mut Terms, head: &str, rest: &str) -> Option<Shape> {
     match head {
         "void" => Some(Shape::Void),
-        "ptr" => Some(Shape::Pointer(boxed_type(b)?)),
-        "array" => Some(Shape::Array(boxed_type(b)?, rest.parse().ok()?)),
+        "ptr" => Some(Shape::Pointer(boxed_type(terms)?)),
+        "array" => array(terms, rest),
         "struct" => Some(Shape::Struct(rest.parse().ok()?)),
-        "fn" => function(b, rest),
+        "fn" => function(terms, rest),
         _ => Some(Shape::Int(int_type(head)?)),
     }
 }
 
-fn qualify(b: &mut Builder, is_const: bool) -> Option<()> {
-    let mut t = b.types.pop()?;
+fn type_of(terms: &mut Terms, head: &str, rest: &str) -> Option<CType> {
+    Some(plain(shape_of(terms, head, rest)?))
+}
+
+fn named(terms: &mut Terms, text: &str) -> Option<(Name, CType)> {
+    let name = name(terms.alloc, text)?;
+    Some((name, terms.types.pop()?))
+}
+
+fn qualify(types: &mut Vec<CType>, is_const: bool) -> Option<()> {
+    let last = types.last_mut()?;
     if is_const {
-        t.constant = true;
+        last.constant = true;
     } else {
-        t.volatile = true;
+        last.volatile = true;
     }
-    b.types.push(t).ok()
+    Some(())
 }
 
-fn is_shape(head: &str) -> bool {
-    matches!(head, "void" | "ptr" | "array" | "struct" | "fn") || int_type(head).is_some()
+/// Whether a word is one of types.
+pub fn is_word(head: &str) -> bool {
+    matches!(
+        head,
+        "void" | "ptr" | "array" | "struct" | "fn" | "const" | "volatile" | "name"
+    ) || int_type(head).is_some()
 }
 
-/// Reads a word of types; whether it is one.
-pub fn read(b: &mut Builder, head: &str, rest: &str) -> Option<bool> {
-    if is_shape(head) {
-        let shape = shape_of(b, head, rest)?;
-        b.types.push(plain(shape)).ok()?;
-        return Some(true);
-    }
+/// Reads a word of types.
+pub fn read(terms: &mut Terms, head: &str, rest: &str) -> Option<()> {
     match head {
-        "const" => qualify(b, true)?,
-        "volatile" => qualify(b, false)?,
+        "const" => qualify(&mut terms.types, true),
+        "volatile" => qualify(&mut terms.types, false),
         "name" => {
-            let name = name(b.alloc, rest)?;
-            let t = b.types.pop()?;
-            b.names.push((name, t)).ok()?;
+            let named = named(terms, rest);
+            put(&mut terms.names, named)
         }
-        _ => return Some(false),
+        _ => {
+            let made = type_of(terms, head, rest);
+            put(&mut terms.types, made)
+        }
     }
-    Some(true)
 }

@@ -52,3 +52,10 @@ pub fn bin_op(word: &str) -> Option<BinOp> {
         _ => None,
     }
 }
+
+/// `OPERATOR:TYPE`.
+pub fn operation(text: &str) -> Option<(BinOp, IntType)> {
+    let (op, t) = split(text);
+    let op = bin_op(op)?;
+    Some((op, int_type(t)?))
+}

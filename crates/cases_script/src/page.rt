@@ -31,6 +31,12 @@ impl Page {
         }
     }
 
+    /// Writes a text, and a value behind it as `{}` does.
+    pub fn put_with<D: Display + Drop>(&mut self, text: &str, value: D) {
+        self.put(text);
+        self.show(value);
+    }
+
     /// Writes a value as `{:?}` does.
     pub fn debug<D: Debug + Drop>(&mut self, value: D) {
         if write!(self.text, "{value:?}").is_err() {

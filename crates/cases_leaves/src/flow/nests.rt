@@ -38,7 +38,8 @@ fn program_of(alloc: Global, count: u32, depth: u32) -> Option<Program> {
 /// How many points there are, and the last two.
 fn write_summary(page: &mut Page, flow: &Flow) {
     let all = flow.points.all();
-    page.show(format_args!("{} points: .. ", all.len()));
+    page.show(all.len());
+    page.put(" points: .. ");
     for (number, point) in all.iter().enumerate() {
         if all.len() - number <= 2 {
             write_point(page, number, point);

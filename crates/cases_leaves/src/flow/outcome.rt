@@ -17,7 +17,9 @@ fn write_numbers(page: &mut Page, numbers: &[u32], between: &str) {
 
 /// A point with its number.
 pub fn write_point(page: &mut Page, number: usize, point: &Point) {
-    page.show(format_args!("{number}={}:", point.func));
+    page.show(number);
+    page.put_with("=", point.func);
+    page.put(":");
     write_numbers(page, point.path.all(), ".");
     page.put(">");
     write_numbers(page, point.next.all(), ",");
@@ -36,7 +38,7 @@ fn write_flow(page: &mut Page, flow: &Flow) {
 /// Why a program has no points.
 pub fn write_end(page: &mut Page, end: FlowEnd) {
     match end {
-        FlowEnd::Limit(count) => page.show(format_args!("limit {count}")),
+        FlowEnd::Limit(count) => page.put_with("limit ", count),
         FlowEnd::NoMemory => page.put("no memory"),
     }
 }

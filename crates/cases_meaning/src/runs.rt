@@ -3,8 +3,10 @@
 ghost use Rattle.std.specs.Prelude.{◌≡◌};
 ghost use Rattle.cc_syntax.specs.Sound.{IsSound};
 
+use cases_script::Page;
 use cc_meaning::{End, start};
 use cc_run::{drive, read_arrivals, read_inputs};
+use cc_sound::is_sound;
 use cc_syntax::Program;
 use std::alloc::Global;
 
@@ -58,7 +60,7 @@ fn rows(alloc: Global, words: &str) -> Option<Vec<u8>> {
 }
 
 /// The text of the trace of a program after the turns of a script.
-pub fn trace(alloc: Global, p: &Program, script: Script) -> Option<Vec<u8>>
+fn trace(alloc: Global, p: &Program, script: Script) -> Option<Vec<u8>>
     requires { IsSound p.now }
 {
     let inputs = read_inputs(alloc, &rows(alloc, script.inputs)?).ok()?;
@@ -77,7 +79,7 @@ fn arrival_at(arrivals: &[(u32, u32)], turn: u32) -> Option<u32> {
 }
 
 /// How many turns a run makes up to its end, of those of a script.
-pub fn turns_made(alloc: Global, p: &Program, script: Script) -> Option<u32>
+fn turns_made(alloc: Global, p: &Program, script: Script) -> Option<u32>
     requires { IsSound p.now }
 {
     let inputs = read_inputs(alloc, &rows(alloc, script.inputs)?).ok()?;
@@ -89,4 +91,34 @@ pub fn turns_made(alloc: Global, p: &Program, script: Script) -> Option<u32>
         m.step(alloc, arrival_at(&arrivals, turns)).ok()?;
     }
     Some(turns)
+}
+
+/// The rows of a trace, each with a blank behind it.
+fn put_trace(page: &mut Page, text: &[u8]) {
+    for byte in text {
+        if *byte == b'\n' {
+            page.put(" ");
+        } else {
+            page.bytes(&[*byte]);
+        }
+    }
+}
+
+/// Writes the trace of a program, and how many turns it took if they are counted.
+pub fn write_run(
+    alloc: Global,
+    page: &mut Page,
+    p: &Program,
+    script: Script,
+    is_counted: bool,
+) -> Option<()> {
+    if !is_sound(p) {
+        page.put("not sound");
+        return Some(());
+    }
+    put_trace(page, &trace(alloc, p, script)?);
+    if is_counted {
+        page.show(turns_made(alloc, p, script)?);
+    }
+    Some(())
 }

@@ -1,6 +1,6 @@
 use Rattle.std.proofs.Common.{◌-◌}
 use Rattle.cc_syntax.specs.Sound.{IsSound}
-use Rattle.cases_meaning.proofs.script.turns_made.Given as goal
+use Rattle.cases_meaning.proofs.runs.turns_made.Given as goal
 
 abbrev pub invariant-loop-turns : goal.invariant-loop-turns
 invariant-loop-turns l = IsSound l.m.program.now

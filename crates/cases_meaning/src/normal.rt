@@ -1,4 +1,4 @@
-//! The texts of programs.
+//! Programs in normal form, and their texts.
 
 ghost use Rattle.cc_syntax.specs.Normal.{IsNormal};
 
@@ -7,6 +7,11 @@ use cc_normal::is_normal;
 use cc_print::print;
 use cc_program::Program;
 use std::alloc::Global;
+
+/// Writes whether a program is in normal form.
+pub fn write_form(page: &mut Page, p: &Program) {
+    page.put(if is_normal(p) { "normal" } else { "not normal" });
+}
 
 /// Writes the text of a program in normal form.
 fn put_text(alloc: Global, page: &mut Page, p: &Program) -> Option<()>
