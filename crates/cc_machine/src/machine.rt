@@ -10,6 +10,8 @@ ghost use Rattle.cc_machine.specs.View.{state_of, handed};
 ghost use Rattle.cc_machine.specs.Waits.{waiting};
 
 use crate::handing::{to_declr, to_specs, to_tree, to_value};
+use crate::items::{items, to_body, to_decl, to_item, to_line};
+use crate::statements::{block, for_step, for_test, statement};
 use crate::waiting::Waiting;
 use cc_declarations::declarations::{declaration, inits, value};
 use cc_declarations::declarators::{declarator, suffix};
@@ -17,8 +19,6 @@ use cc_declarations::specifiers::specifiers;
 use cc_declarations::structures::{enumeration, enumr, structure};
 use cc_lex::Token;
 use cc_num::{Boxed, List};
-use cc_statements::items::{items, to_body, to_decl, to_item, to_line};
-use cc_statements::statements::{block, for_step, for_test, statement};
 use cc_tree::state::{Control, Frame, Node, Scoping, Tall, Turn};
 use cc_tree::stop::Stop;
 use cc_tree::{At, Decl, Declr, Given, Item, Line, Spec, Tree};

@@ -4,11 +4,11 @@ ghost use Rattle.cc_tree.specs.Reading.{Gives};
 ghost use Rattle.cc_tree.specs.Turns.{went_of};
 ghost use Rattle.cc_tree.specs.TurnLines.{give_part as give_part_of};
 
-use cc_declarations::parts::{give_bound, give_enumr, give_value};
-use cc_lex::Token;
-use cc_statements::parts::{
+use crate::statement_parts::{
     give_case, give_do, give_first, give_return, give_statement, give_step, give_test, opens_line,
 };
+use cc_declarations::parts::{give_bound, give_enumr, give_value};
+use cc_lex::Token;
 use cc_tree::Tree;
 use cc_tree::state::{LineFrame, Node, PartFrame, Turn};
 use cc_tree::stop::Stop;
