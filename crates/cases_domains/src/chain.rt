@@ -11,7 +11,7 @@ use std::cell::Cell;
 use std::mem::replace;
 
 /// A part of the facts.
-#[derive(Clone, Copy, Debug, PartialEq, Eq)]
+#[derive(Clone, Copy)]
 pub enum Truth {
     No,
     Yes,

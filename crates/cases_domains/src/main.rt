@@ -81,7 +81,7 @@ impl Cases for Subject {
 
 /// Calls that are worked so many times.
 fn often_of(times: &str) -> Option<Subject> {
-    Some(Subject::Often(times.parse().ok()?, words::target_of("2")?))
+    Some(Subject::Often(times.parse().ok()?, words::small_target()))
 }
 
 fn main(rt: HostRuntime) -> io::Result<()> {

@@ -54,9 +54,9 @@ fn write_ops<D: IntDomain>(
     let (a, rest) = split(rest);
     let (b, t) = split(rest);
     let op = operator_of(op)?;
+    let t = type_of(t)?;
     let a: D = set_of(alloc, a)?;
     let b: D = set_of(alloc, b)?;
-    let t = type_of(t)?;
     if is_promoted(t, target) && lies_in(&a, t, target) && is_second(op, &b, t, target) {
         page.show(room_of_ops(op, &a, &b, t, target, times));
         Some(())

@@ -22,7 +22,7 @@ ghost use Rattle.cc_num.specs.Results.{is_shift};
 ghost use Rattle.cc_lattice.specs.Domains.{IsIntValue, IsSecond};
 
 use crate::words::{comparison_of, operator_of, prefix_of, type_of};
-use crate::written::{join, one_in, set_of, write_bounds, write_members, write_set};
+use crate::written::{join, one_in, set_of, write_ends, write_explicit, write_set};
 use cases_script::{Page, split};
 use cc_lattice::IntDomain;
 use cc_num::{BinOp, IntType, Target, UnOp, promote};
@@ -81,9 +81,9 @@ fn write_op<D: IntDomain>(
 ) -> Option<()> {
     let (a, rest) = split(operands);
     let (b, t) = split(rest);
+    let t = type_of(t)?;
     let a: D = set_of(alloc, a)?;
     let b: D = set_of(alloc, b)?;
-    let t = type_of(t)?;
     if is_promoted(t, target) && lies_in(&a, t, target) && is_second(op, &b, t, target) {
         write_set(page, &D::op(op, &a, &b, t, target));
         Some(())
@@ -101,8 +101,8 @@ fn write_op_one<D: IntDomain>(
     operand: &str,
 ) -> Option<()> {
     let (a, t) = split(operand);
-    let a: D = set_of(alloc, a)?;
     let t = type_of(t)?;
+    let a: D = set_of(alloc, a)?;
     if is_promoted(t, target) && lies_in(&a, t, target) {
         write_set(page, &D::op_one(op, &a, t, target));
         Some(())
@@ -139,7 +139,10 @@ fn write_call<D: IntDomain>(
         "keep" => write_keep::<D>(alloc, page, rest),
         "one" => Some(write_set::<D>(page, &one_in(rest)?)),
         "whole" => Some(write_set(page, &D::whole(type_of(rest)?, target))),
-        _ => write_of_set::<D>(alloc, page, target, call, rest),
+        _ => {
+            let (set, rest) = split(rest);
+            write_of_set::<D>(alloc, page, target, call, &set_of(alloc, set)?, rest)
+        }
     }
 }
 
@@ -149,17 +152,16 @@ fn write_of_set<D: IntDomain>(
     page: &mut Page,
     target: &Target,
     call: &str,
+    set: &D,
     rest: &str,
 ) -> Option<()> {
-    let (set, rest) = split(rest);
-    let set: D = set_of(alloc, set)?;
     match call {
         "to" => write_set(page, &set.to(type_of(rest)?, target)),
-        "join" => write_set(page, &join(alloc, &set, &set_of(alloc, rest)?)?),
-        "below" => write_answer(page, is_below(&set, &set_of(alloc, rest)?)),
+        "join" => write_set(page, &join(alloc, set, &set_of(alloc, rest)?)?),
+        "below" => write_answer(page, is_below(set, &set_of(alloc, rest)?)),
         "has" => write_answer(page, set.has(rest.parse::<i128>().ok()?)),
-        "members" => write_members(page, &set),
-        "bounds" => write_bounds(page, &set),
+        "members" => write_explicit(page, set),
+        "bounds" => write_ends(page, set.bounds(), "none"),
         "room" => page.show(set.room()),
         _ => return None,
     }

@@ -5,16 +5,21 @@ ghost use Rattle.cc_lattice.specs.Domains.{is_comparison};
 
 use cc_num::{BinOp, IntType, Target, UnOp};
 
+/// A target whose `int` has two bytes, and whose plain `char` has no sign.
+pub fn small_target() -> Target {
+    Target {
+        int_bytes: 2,
+        pointer_bytes: 2,
+        char_signed: false,
+        align_max: 1,
+        atomic_bytes: 1,
+    }
+}
+
 /// A target whose `int` has so many bytes, and whose plain `char` has no sign.
 pub fn target_of(int_bytes: &str) -> Option<Target> {
     match int_bytes {
-        "2" => Some(Target {
-            int_bytes: 2,
-            pointer_bytes: 2,
-            char_signed: false,
-            align_max: 1,
-            atomic_bytes: 1,
-        }),
+        "2" => Some(small_target()),
         "4" => Some(Target {
             int_bytes: 4,
             pointer_bytes: 4,

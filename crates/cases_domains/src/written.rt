@@ -66,7 +66,7 @@ pub fn set_of<D: IntDomain>(alloc: Global, word: &str) -> Option<D> {
 }
 
 /// Writes numbers between braces.
-fn write_numbers(page: &mut Page, numbers: &[i128]) {
+pub fn write_members(page: &mut Page, numbers: &[i128]) {
     page.put("{");
     for (place, v) in numbers.iter().enumerate() {
         if place > 0 {
@@ -78,25 +78,28 @@ fn write_numbers(page: &mut Page, numbers: &[i128]) {
 }
 
 /// Writes the members of an explicit set.
-pub fn write_members<D: IntDomain>(page: &mut Page, set: &D) {
+pub fn write_explicit<D: IntDomain>(page: &mut Page, set: &D) {
     match set.members() {
-        Some(members) => write_numbers(page, members),
+        Some(members) => write_members(page, members),
         None => page.put("none"),
     }
 }
 
-/// Writes the least and the greatest member of a set.
-pub fn write_bounds<D: IntDomain>(page: &mut Page, set: &D) {
-    match set.bounds() {
-        Some((low, high)) => page.show(format_args!("{low}..{high}")),
-        None => page.put("none"),
+/// Writes the least and the greatest member of a set, or what stands for a set with no member.
+pub fn write_ends(page: &mut Page, ends: Option<(i128, i128)>, none: &str) {
+    match ends {
+        Some((low, high)) => {
+            page.show(low);
+            page.put_with("..", high);
+        }
+        None => page.put(none),
     }
 }
 
 /// Writes a set: its members where it is explicit, and else its bounds.
 pub fn write_set<D: IntDomain>(page: &mut Page, set: &D) {
     match set.members() {
-        Some(members) => write_numbers(page, members),
-        None => write_bounds(page, set),
+        Some(members) => write_members(page, members),
+        None => write_ends(page, set.bounds(), "none"),
     }
 }

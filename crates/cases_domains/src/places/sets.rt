@@ -72,20 +72,18 @@ fn write_moved<D: IntDomain>(alloc: Global, page: &mut Page, set: &Addrs, by: &s
 }
 
 /// Writes what a call gives of a set.
-fn write_of_set(alloc: Global, page: &mut Page, call: &str, rest: &str) -> Option<()> {
-    let (set, rest) = split(rest);
-    let set = set_of(alloc, set)?;
+fn write_of_set(alloc: Global, page: &mut Page, call: &str, set: &Addrs, rest: &str) -> Option<()> {
     match call {
-        "set" => write_set(page, &set),
-        "join" => write_set(page, &joined(alloc, &set, &set_of(alloc, rest)?)?),
-        "copy" => write_set(page, &copy_of(alloc, &set)?),
-        "below" => write_below(page, &set, &set_of(alloc, rest)?),
+        "set" => write_set(page, set),
+        "join" => write_set(page, &joined(alloc, set, &set_of(alloc, rest)?)?),
+        "copy" => write_set(page, &copy_of(alloc, set)?),
+        "below" => write_below(page, set, &set_of(alloc, rest)?),
         "has" => write_answer(page, set.has(&address_of(alloc, rest)?)),
         "exact" => write_some(page, set.exact()),
         "starred" => write_some(page, set.starred()),
-        "moved" => write_moved::<Vals>(alloc, page, &set, rest)?,
-        "moved-span" => write_moved::<Span>(alloc, page, &set, rest)?,
-        "room" => write_room(page, &set, rest.parse::<u64>().ok()?)?,
+        "moved" => write_moved::<Vals>(alloc, page, set, rest)?,
+        "moved-span" => write_moved::<Span>(alloc, page, set, rest)?,
+        "room" => write_room(page, set, rest.parse::<u64>().ok()?)?,
         _ => return None,
     }
     Some(())
@@ -97,6 +95,9 @@ pub fn write_call(alloc: Global, page: &mut Page, case: &str) -> Option<()> {
     match call {
         "of-exact" => write_of_members(alloc, page, true, rest),
         "of-starred" => write_of_members(alloc, page, false, rest),
-        _ => write_of_set(alloc, page, call, rest),
+        _ => {
+            let (set, rest) = split(rest);
+            write_of_set(alloc, page, call, &set_of(alloc, set)?, rest)
+        }
     }
 }

@@ -73,18 +73,28 @@ fn write_copy<D: IntDomain>(alloc: Global, page: &mut Page, a: &Abs<D>) -> Optio
     }
 }
 
+/// Writes what a call gives of a value.
+fn write_of_value<D: IntDomain>(
+    alloc: Global,
+    page: &mut Page,
+    call: &str,
+    a: &Abs<D>,
+    rest: &str,
+) -> Option<()> {
+    match call {
+        "join" => write_join(alloc, page, a, &abs_of(alloc, rest)?)?,
+        "copy" => write_copy(alloc, page, a)?,
+        "below" => write_order(page, a, &abs_of(alloc, rest)?),
+        "has" => write_answer(page, a.has(&value_of(alloc, rest)?)),
+        _ => return None,
+    }
+    Some(())
+}
+
 /// Writes what a call gives.
 pub fn write_call<D: IntDomain>(alloc: Global, page: &mut Page, case: &str) -> Option<()> {
     Abs::<D>::laws();
     let (call, rest) = split(case);
     let (a, rest) = split(rest);
-    let a: Abs<D> = abs_of(alloc, a)?;
-    match call {
-        "join" => write_join(alloc, page, &a, &abs_of(alloc, rest)?)?,
-        "copy" => write_copy(alloc, page, &a)?,
-        "below" => write_order(page, &a, &abs_of(alloc, rest)?),
-        "has" => write_answer(page, a.has(&value_of(alloc, rest)?)),
-        _ => return None,
-    }
-    Some(())
+    write_of_value::<D>(alloc, page, call, &abs_of(alloc, a)?, rest)
 }

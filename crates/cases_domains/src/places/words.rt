@@ -12,8 +12,10 @@
 //! that type, for an `int` of two bytes.
 
 use crate::places::lattices::joined;
+use crate::words::{small_target, type_of};
+use crate::written::one_in;
 use cc_lattice::IntDomain;
-use cc_num::{IntType, List, Target};
+use cc_num::List;
 use cc_places::Addrs;
 use cc_program::{Address, Part, Root};
 use std::alloc::Global;
@@ -128,41 +130,10 @@ pub fn set_of(alloc: Global, word: &str) -> Option<Addrs> {
     Some(set)
 }
 
-/// A target whose `int` has two bytes, and whose plain `char` has no sign.
-fn target() -> Target {
-    Target {
-        int_bytes: 2,
-        pointer_bytes: 2,
-        char_signed: false,
-        align_max: 1,
-        atomic_bytes: 1,
-    }
-}
-
-fn type_of(word: &str) -> Option<IntType> {
-    match word {
-        "Bool" => Some(IntType::Bool),
-        "UChar" => Some(IntType::UChar),
-        "Int" => Some(IntType::Int),
-        "ULongLong" => Some(IntType::ULongLong),
-        _ => None,
-    }
-}
-
-/// The set of a number, where it is a value of an integer type.
-fn one_in<D: IntDomain>(word: &str) -> Option<D> {
-    let v = word.parse::<i128>().ok()?;
-    if -(2i128.pow(63)) <= v && v < 2i128.pow(64) {
-        Some(D::one(v))
-    } else {
-        None
-    }
-}
-
 /// The least set that has the numbers between braces, or all values of a type.
 pub fn numbers_of<D: IntDomain>(alloc: Global, word: &str) -> Option<D> {
     if let Some(t) = type_of(word) {
-        return Some(D::whole(t, &target()));
+        return Some(D::whole(t, &small_target()));
     }
     let words = word.strip_prefix('{')?.strip_suffix('}')?;
     let mut set = D::none();

@@ -1,6 +1,7 @@
 //! What is written of addresses, sets and values: addresses as cases write them, sets between braces in their order, and a
 //! `*` before one that is not exact.
 
+use crate::written::{write_ends, write_members};
 use cases_script::Page;
 use cc_lattice::IntDomain;
 use cc_places::{Abs, Addrs};
@@ -8,26 +9,30 @@ use cc_program::{Address, Part, Root};
 
 fn write_root(page: &mut Page, object: Root) {
     match object {
-        Root::Static(o) => page.show(format_args!("o{o}")),
+        Root::Static(o) => page.put_with("o", o),
         Root::Auto {
             activation,
             func,
             local,
-        } => page.show(format_args!("a{activation}.{func}.{local}")),
+        } => {
+            page.put_with("a", activation);
+            page.put_with(".", func);
+            page.put_with(".", local);
+        }
     }
 }
 
 fn write_part(page: &mut Page, part: Part) {
     match part {
-        Part::Member(m) => page.show(format_args!("-m{m}")),
-        Part::Index(i) => page.show(format_args!("-i{i}")),
+        Part::Member(m) => page.put_with("-m", m),
+        Part::Index(i) => page.put_with("-i", i),
     }
 }
 
 fn write_address(page: &mut Page, a: &Address) {
     match a {
         Address::Null => page.put("0"),
-        Address::Func(f) => page.show(format_args!("f{f}")),
+        Address::Func(f) => page.put_with("f", *f),
         Address::At {
             object,
             path,
@@ -38,7 +43,8 @@ fn write_address(page: &mut Page, a: &Address) {
             for part in path.all() {
                 write_part(page, *part);
             }
-            page.show(format_args!("@{index}/{count}"));
+            page.put_with("@", *index);
+            page.put_with("/", *count);
         }
     }
 }
@@ -77,20 +83,8 @@ pub fn write_set(page: &mut Page, set: &Addrs) {
 /// Writes a set of numbers: its members between braces where it is explicit, and else its ends.
 pub fn write_numbers<D: IntDomain>(page: &mut Page, set: &D) {
     match set.members() {
-        Some(members) => {
-            page.put("{");
-            for (place, v) in members.iter().enumerate() {
-                if place > 0 {
-                    page.put(",");
-                }
-                page.show(*v);
-            }
-            page.put("}");
-        }
-        None => match set.bounds() {
-            Some((low, high)) => page.show(format_args!("{low}..{high}")),
-            None => page.put("{}"),
-        },
+        Some(members) => write_members(page, members),
+        None => write_ends(page, set.bounds(), "{}"),
     }
 }
 
