@@ -6,7 +6,8 @@
 //!
 //!     WORDS | 1 2 | 5,tick 7,tick | 100
 //!
-//! The title above it says the program in C. `bench/meaning.py` gives the same from C99 alone. A section may have settings:
+//! The title above it says the program in C. `tests/oracle/meaning.py` gives the same from C99 alone. A section may have
+//! settings:
 //!
 //!     $ trace     programs are run, and the number of turns is left out
 //!     $ normal    what is printed is whether a program is in normal form

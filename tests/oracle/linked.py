@@ -1,9 +1,10 @@
 #!/usr/bin/env python3
-"""What the cases of crates/cases_read give: python3 bench/linked.py < crates/cases_read/stdin
+"""What the cases of crates/cases_read give: linked.py < crates/cases_read/stdin
 
 Translation units are answered by typed_units.py. Sources are read by its means and linked here from C99 (6.2.2, 6.2.7, 6.9)
 and the documentation alone: things are Python's objects, structures of several sources are compared pair by pair, and names
-are sets of texts. What is no sentence is not judged: such a case is answered as it stands in crates/cases_read/stdout."""
+are sets of texts. What is no sentence is not judged: such a case is answered as it stands in crates/cases_read/stdout. How many
+are judged is told on standard error."""
 import os
 import re
 import sys
@@ -338,10 +339,10 @@ def outcome(case):
 
 
 def main():
-    folder = os.path.join(os.path.dirname(os.path.dirname(os.path.abspath(__file__))), "crates", "cases_read")
+    folder = os.path.join(os.path.dirname(os.path.dirname(os.path.dirname(os.path.abspath(__file__)))), "crates", "cases_read")
     with open(os.path.join(folder, "stdout")) as file:
         stand = dict(line.rsplit(" => ", 1) for line in file.read().split("\n") if " => " in line)
-    settings, cases = None, 0
+    settings, cases, judged = None, 0, 0
     for line in sys.stdin.read().split("\n")[:-1]:
         if line.startswith("== "):
             settings = None
@@ -351,9 +352,12 @@ def main():
             print(line)
             continue
         found = outcome(line) if settings is None else outcome_of_unit(Target(**settings), line)
-        print(f"{line} => {stand.get(line, found) if found.endswith('no tree') else found}")
+        is_judged = not found.endswith("no tree")
+        print(f"{line} => {found if is_judged else stand.get(line, found)}")
         cases += 1
+        judged += is_judged
     print(f"cases: {cases}")
+    print(judged, file=sys.stderr)
 
 
 if __name__ == "__main__":

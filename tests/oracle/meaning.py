@@ -1,12 +1,13 @@
 #!/usr/bin/env python3
-"""meaning.py < crates/cases_meaning/stdin > crates/cases_meaning/stdout
+"""What the cases of crates/cases_meaning give: meaning.py < crates/cases_meaning/stdin
 
 Runs the programs of a script of cases, and writes it with what each run gives. It is written from C99, docs/SUBSET.md and docs/DECISIONS.md,
 apart from the runs of crates/cc_steps: a function that runs is a coroutine here, which stops before each of its steps.
 
 A case is a program in the words of crates/cases_program, and behind bars the rows of its inputs, those of its arrivals
 `TURN,HANDLER`, and how many turns there are at the most: `WORDS | 1 2 | 5,tick 7,tick | 100`. Behind `$ trace` the number of
-turns is left out. Behind any other setting nothing is judged: such a case is answered as it stands in crates/cases_meaning/stdout.
+turns is left out. Behind any other setting nothing is judged: such a case is answered as it stands in crates/cases_meaning/stdout. How
+many are judged is told on standard error.
 """
 import os
 import sys
@@ -771,16 +772,18 @@ def settings_of(lines):
 
 
 def main():
-    folder = os.path.join(os.path.dirname(os.path.dirname(os.path.abspath(__file__))), "crates", "cases_meaning")
+    folder = os.path.join(os.path.dirname(os.path.dirname(os.path.dirname(os.path.abspath(__file__)))), "crates", "cases_meaning")
     with open(os.path.join(folder, "stdout")) as file:
         stand = {(setting, line.partition(" => ")[0]): line for setting, line in settings_of(file)}
-    count = 0
+    count = judged = 0
     for setting, line in settings_of(sys.stdin):
         if line and line[:2] not in ("==", "$ "):
             line = f"{line} => {outcome(setting, line)}" if setting in RUNS else stand[setting, line]
             count += 1
+            judged += setting in RUNS
         print(line)
     print(f"cases: {count}")
+    print(judged, file=sys.stderr)
 
 
 if __name__ == "__main__":

@@ -682,6 +682,7 @@ def main():
             count += 1
     if answers:
         print(f"cases: {count}")
+    print(count, file=sys.stderr)
 
 
 main()
