@@ -350,7 +350,7 @@ def main():
         if not line or line[:2] in ("==", "$ "):
             print(line)
             continue
-        found = outcome(line) if settings is None else outcome_of_unit(Target(**settings), line)
+        found = outcome(line) if settings is None else outcome_of_unit(settings, line)
         print(f"{line} => {stand.get(line, found) if found.endswith('no tree') else found}")
         cases += 1
     print(f"cases: {cases}")
