@@ -45,11 +45,12 @@ def plain_word(word):
 
 
 class Scopes(Operators):
-    def __init__(self, target):
+    def __init__(self, target, named=None):
+        """Of intrinsics that have other names, `named` has each by what it does."""
         super().__init__(target)
         self.scopes, self.tags = [{}], [{}]
         self.names, self.linked, self.structures, self.completed, self.locals = [], {}, [], [], []
-        self.intrinsics = {"irq_off": "off", "irq_on": "on", "irq_save": "save", "irq_restore": "restore"}
+        self.intrinsics = {(named or {}).get(what, "irq_" + what): what for what in ("off", "on", "save", "restore")}
         self.defined, self.unfinished = set(), None
 
     # scopes

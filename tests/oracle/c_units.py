@@ -200,7 +200,8 @@ class Unit(Initialisers, Statements, Scopes):
         if base.alone is not None and about == "typedef" and base.alone.alias is None:
             base.alone.alias = name
         if about == "typedef":
-            self.declare(name, declarator.at, ("typedef", self.with_mode(t, marks)))
+            self.declare(name, declarator.at, ("typedef", t))
+            self.scopes[-1][name] = ("typedef", self.with_mode(t, marks, declarator.at))
             return []
         if kind(t) == "func":
             self.function_declared(name, declarator.at, base, t, marks)
@@ -209,16 +210,16 @@ class Unit(Initialisers, Statements, Scopes):
             return []
         return self.object_declared(name, declarator.at, base, t, given, where)
 
-    def with_mode(self, t, marks):
-        modes = [(MODES[arg], at) for word, arg, at in marks if word == "mode"]
+    def with_mode(self, t, marks, at):
+        modes = [MODES[arg] for word, arg, _ in marks if word == "mode"]
         if not modes:
             return t
         if not is_integer(t) or t.shape[1] not in ("int", "uint"):
-            raise Broken(11, modes[0][1])
+            raise Broken(11, at)
         words = ("int", "schar", "short", "long", "llong") if t.shape[1] == "int" else (
             "uint", "uchar", "ushort", "ulong", "ullong")
         for word in words:
-            if self.target.bytes(word) == modes[-1][0]:
+            if self.target.bytes(word) == modes[-1]:
                 return t._replace(shape=("int", word))
 
     # functions
@@ -238,7 +239,7 @@ class Unit(Initialisers, Statements, Scopes):
         byte, which = integer("uchar"), self.intrinsics[name]
         result, params = (byte if which == "save" else VOID), ((byte,) if which == "restore" else ())
         handler = any(word in ("signal", "interrupt") for word, _, _ in marks)
-        if base.storage == "static" or handler or t != plain("func", result, params):
+        if handler or t != plain("func", result, params):
             raise Broken(39, at)
         if self.scopes[-1].get(name, ("intrinsic",))[0] != "intrinsic":
             raise Broken(2, at)

@@ -351,7 +351,7 @@ def main():
         if not line or line[:2] in ("==", "$ "):
             print(line)
             continue
-        found = outcome(line) if settings is None else outcome_of_unit(Target(**settings), line)
+        found = outcome(line) if settings is None else outcome_of_unit(settings, line)
         is_judged = not found.endswith("no tree")
         print(f"{line} => {found if is_judged else stand.get(line, found)}")
         cases += 1

@@ -172,18 +172,22 @@ def written(case):
         m[1], chr(int(m[1][1:], 16)) if len(m[1]) == 3 else m[1]), case)
 
 
-def outcome(target, case):
+def outcome(settings, case):
+    """What a unit gives with such rows of a profile."""
     items = sentence(written(case))
     if items is None:
         return "no tree"
+    target = Target(**{key: value for key, value in settings.items() if key != "named"})
     try:
-        return Writer(Unit(target).unit(items)).whole()
+        return Writer(Unit(target, settings.get("named")).unit(items)).whole()
     except Broken as broken:
         return f"broken {broken.rule} at {broken.at}"
 
 
 def setting(settings, row):
-    key, given = row.split(",")[:2]
+    key, given, name = row.split(",")
+    if key == "intrinsic":
+        return dict(settings, named=dict(settings.get("named", {}), **{given: name}))
     if key == "char":
         return dict(settings, char_signed=given == "signed")
     return dict(settings, **{SETTINGS[key]: int(given)})

@@ -15,7 +15,6 @@ use Rattle.cc_program.specs.declared.types.CType.{CType}
 use Rattle.cc_scopes.specs.State.{State, Name}
 use Rattle.cc_scopes.specs.Verdicts.{whole}
 use Rattle.cc_specifiers.specs.Attributes.{attribute_judged, attributes, entry_by}
-use Rattle.cc_specifiers.specs.Modes.{all_moded}
 use Rattle.cc_specifiers.specs.declared.attribute.Attribute.{Attribute}
 use Rattle.cc_specifiers.specs.declared.attribute.Entity.{Entity}
 use Rattle.cc_specifiers.specs.declared.derivation.Allowed.{Allowed}
@@ -29,7 +28,7 @@ use Rattle.cc_tree.specs.declared.tree.Spec.{Spec}
 use Rattle.cc_tree.specs.declared.unit.Decl.{Decl}
 use Rattle.cc_tree.specs.declared.unit.Init.{Init}
 use Rattle.cc_typed_bodies.specs.Declarations.{declaration, init_allowed, init_found, init_next, marked, named_found}
-use Rattle.cc_first_faults.specs.Constructs.{Construct, Expression, ValueOf, DesignatedBy, Valued, Designated, TypeNamed, Specifiers, SpecifierBehind, Specifier, OneAttribute, MembersBehind, MemberBehind, ConstantBehind, Declaring, Suffixed, Derived, ParameterList, ParameterBehind, ParameterNamed, Declaration, Declared, NameDeclared, Moded, LeafGiven, ScalarAssigned}
+use Rattle.cc_first_faults.specs.Constructs.{Construct, Expression, ValueOf, DesignatedBy, Valued, Designated, TypeNamed, Specifiers, SpecifierBehind, Specifier, OneAttribute, MembersBehind, MemberBehind, ConstantBehind, Declaring, Suffixed, Derived, ParameterList, ParameterBehind, ParameterNamed, Declaration, Declared, NameDeclared, LeafGiven, ScalarAssigned}
 use Rattle.cc_first_faults.specs.Parts.{attribute_parts, derivation_parts, named_parts}
 use Rattle.cc_first_faults.proofs.Declarators.{attributes-told, derivations-told, behind-law, specifiers-law, specifiers-told, named-law, HasLaw}
 use Rattle.cc_first_faults.proofs.Expressions.{value-law, designator-law}
@@ -111,6 +110,5 @@ module _ (target : Target) (roles : Roles) (defined : List Name) where
   law (Declaration place d) s = declaration-law place d s
   law (Declared place base i) s = declared-law place base i s
   law (NameDeclared at c t x marks) s = own-whole at s (name_judged target roles c x t (entry_by marks) s)
-  law (Moded t ms) s = own-whole ms.at s (all_moded target ms.node t)
   law (LeafGiven x) s = leaf-law target roles defined x s
   law (ScalarAssigned x) s = assignment-law target roles defined x s

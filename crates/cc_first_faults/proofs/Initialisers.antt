@@ -1,6 +1,5 @@
 -- The law of initialisers, and of what is left of a declarator.
 use Rattle.std.proofs.Common.{ℕ, Bool, true, false, length, List, [], ◌∷◌, ◌++◌, Option, Some, None, option_to_list, Ok, Err, if◌then◌else◌, refl, slice_get}
-use Rattle.cc_typed_terms.specs.Located.{located}
 use Rattle.cc_initialisers.specs.Initialisers.{Step, Give, Character, Zero, Visit, Break, here as given_here, initialised, refused_by}
 use Rattle.cc_linkage.specs.Linkage.{declared}
 use Rattle.cc_linkage.specs.declared.linkage.DeclaredAs.{DeclaredAs}
@@ -25,8 +24,7 @@ use Rattle.cc_program.specs.declared.value.Leaf.{Leaf}
 use Rattle.cc_scopes.specs.State.{State, Name, with_unfinished}
 use Rattle.cc_scopes.specs.Verdicts.{whole, and_then}
 use Rattle.cc_specifiers.specs.Attributes.{entry_by}
-use Rattle.cc_specifiers.specs.Places.{judged_at, at_then}
-use Rattle.cc_specifiers.specs.Modes.{all_moded, modes_found}
+use Rattle.cc_specifiers.specs.Modes.{modes_judged}
 use Rattle.cc_specifiers.specs.declared.attribute.Attribute.{Attribute}
 use Rattle.cc_syntax.specs.Values.{ValueType}
 use Rattle.cc_tree.specs.declared.at.At.{At}
@@ -36,11 +34,11 @@ use Rattle.cc_typed_bodies.specs.Declarations.{declared_left}
 use Rattle.cc_typed_bodies.specs.Objects.{initial_values, linked_known, static_given, automatic_given}
 use Rattle.cc_typed_bodies.specs.Plans.{as_given, step_found, step_done, steps_done}
 use Rattle.cc_unit.specs.declared.unit.UnitKind.TheVariants as kind
-use Rattle.cc_first_faults.specs.Constructs.{Moded, LeafGiven, ScalarAssigned, step_at}
-use Rattle.cc_first_faults.specs.FirstFaults.{forget, after}
-use Rattle.cc_first_faults.specs.Parts.{step_parts, leaf_parts, assignment_parts, refused_parts, static_parts, automatic_parts, mode_parts, left_parts}
+use Rattle.cc_first_faults.specs.Constructs.{LeafGiven, ScalarAssigned, step_at}
+use Rattle.cc_first_faults.specs.FirstFaults.{forget}
+use Rattle.cc_first_faults.specs.Parts.{step_parts, leaf_parts, assignment_parts, refused_parts, static_parts, automatic_parts, left_parts}
 use Rattle.cc_first_faults.proofs.Expressions.{value-last}
-use Rattle.cc_first_faults.proofs.Lawful.{Own, goes_on, own-whole, own-then, same-state}
+use Rattle.cc_first_faults.proofs.Lawful.{Own, own-whole, own-then, same-state}
 use Rattle.cc_first_faults.proofs.Laws.{Law, Told, first, last, each}
 use Rattle.cc_first_faults.proofs.Trees.{every-tree}
 
@@ -120,26 +118,11 @@ module _ (target : Target) (roles : Roles) (defined : List Name) where
       (assignments-told at (initialised (contents_in (without_const u) s) (given_here g)) (given_incomplete t (Local n) s)) (λ xs s. completed-own at t u xs s))
       (λ xs s. tt)
 
-  -- ---- modes
-
-  modes-step : (at there : ℕ) (rest : List (At (List Attribute))) (s : State) (j : Judged CType) → ((u : CType) → Told target roles defined at (mode_parts target u rest s) (located s (modes_found target rest u))) →
-      goes_on (forget (whole there s j)) (Told target roles defined at (after (whole there s j) (λ u s. mode_parts target u rest s)) (located s (at_then (judged_at there j) (λ u. modes_found target rest u))))
-      (forget (located s (at_then (judged_at there j) (λ u. modes_found target rest u))))
-  modes-step at there rest s (Ok u) h = h u
-  modes-step at there rest s (Err rule) h = refl
-
-  modes-told : (at : ℕ) (t : CType) (marks : List (At (List Attribute))) (s : State) → Told target roles defined at (mode_parts target t marks s) (located s (modes_found target marks t))
-  modes-told at t [] s = tt
-  modes-told at t (ms ∷ rest) s = (
-    first target roles defined (Moded t ms) s (own-whole ms.at s (all_moded target ms.node t)),
-    modes-step at ms.at rest s (all_moded target ms.node t) (λ u. modes-told at u rest s),
-  )
-
   -- ---- what is left of a declarator
 
   pub left-told : (at : ℕ) (c : Category) (t : CType) (x : Name) (marks : List (At (List Attribute))) (value : Option (At Given)) (s : State) →
       Told target roles defined at (left_parts target roles defined at c t x marks value s) (declared_left target roles defined at c x t marks value s)
-  left-told at declares.Typedef t x marks value s = last target roles defined at (mode_parts target t marks s) (located s (modes_found target marks t)) _ (modes-told at t marks s) (λ u v. tt)
+  left-told at declares.Typedef t x marks value s = own-then at (whole at s (modes_judged target marks t)) _ (own-whole at s (modes_judged target marks t)) (λ u v. tt)
   left-told at (declares.Function asked) t x marks value s = function-by (is_intrinsic roles x) at value s (with_function (entry_by marks) (declared x asked t (kind.Func None None) s))
   left-told at (declares.Linked asked) t x marks value s =
       linked-told at asked (composite x t s) (type_given (composite x t s) value s) value (object_declared defined asked x (type_given (composite x t s) value s) s)

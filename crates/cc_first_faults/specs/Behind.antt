@@ -15,7 +15,6 @@ use Rattle.cc_scopes.specs.declared.verdict.Fault.{Fault}
 use Rattle.cc_specifiers.specs.Attributes.{attribute_judged, entry_by}
 use Rattle.cc_specifiers.specs.Declarators.{breach, fault_or}
 use Rattle.cc_specifiers.specs.Derivations.{suffix_found}
-use Rattle.cc_specifiers.specs.Modes.{all_moded}
 use Rattle.cc_specifiers.specs.declared.derivation.Derivation.{Derivation}
 use Rattle.cc_terms.specs.Declarators.{parameter_declared}
 use Rattle.cc_terms.specs.Members.{member_found}
@@ -25,7 +24,7 @@ use Rattle.cc_tree.specs.declared.at.At.{At}
 use Rattle.cc_typed_bodies.specs.Declarations.{declaration, init_found}
 use Rattle.cc_typed_bodies.specs.Plans.{step_found}
 use Rattle.cc_first_faults.specs.FirstFaults.{forget}
-use Rattle.cc_first_faults.specs.Constructs.{Construct, Expression, ValueOf, DesignatedBy, Valued, Designated, TypeNamed, Specifiers, SpecifierBehind, Specifier, OneAttribute, MembersBehind, MemberBehind, ConstantBehind, Declaring, Suffixed, Derived, ParameterList, ParameterBehind, ParameterNamed, Declaration, Declared, NameDeclared, Moded, LeafGiven, ScalarAssigned}
+use Rattle.cc_first_faults.specs.Constructs.{Construct, Expression, ValueOf, DesignatedBy, Valued, Designated, TypeNamed, Specifiers, SpecifierBehind, Specifier, OneAttribute, MembersBehind, MemberBehind, ConstantBehind, Declaring, Suffixed, Derived, ParameterList, ParameterBehind, ParameterNamed, Declaration, Declared, NameDeclared, LeafGiven, ScalarAssigned}
 
 -- a derivation of this type; the flag says that a pointer to void may be derived
 abbrev pub derivation_found : Target → Bool → CType → At (Derivation Scope) → State → Found CType
@@ -55,6 +54,5 @@ module _ (target : Target) (roles : Roles) (defined : List Name) where
   behind (Declaration stands d) s = forget (declaration target roles defined stands d s)
   behind (Declared stands base i) s = forget (init_found target roles defined stands base i s)
   behind (NameDeclared at c t x marks) s = forget (whole at s (name_judged target roles c x t (entry_by marks) s))
-  behind (Moded t marks) s = forget (whole marks.at s (all_moded target marks.node t))
   behind (LeafGiven step) s = forget (step_found target roles Leaf (leaf_given target) no_leaf step s)
   behind (ScalarAssigned step) s = forget (step_found target roles Expr (expr_given target) no_expr step s)

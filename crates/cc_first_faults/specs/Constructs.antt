@@ -67,8 +67,6 @@ pub data Construct : Type 0 where
   Declaration : Where → Decl → Construct
   Declared : Where → Specified → At Init → Construct
   NameDeclared : ℕ → Category → CType → Name → List (At (List Attribute)) → Construct
-  -- modes of a typedef's type
-  Moded : CType → At (List Attribute) → Construct
   -- a step of the initialiser of a static object, and of an automatic one (6.7.8)
   LeafGiven : Step → Construct
   ScalarAssigned : Step → Construct
@@ -121,6 +119,5 @@ place (ParameterNamed unnamed before base at x) = at
 place (Declaration stands d) = begin d.specs
 place (Declared stands base i) = i.at
 place (NameDeclared at c t x marks) = at
-place (Moded t marks) = marks.at
 place (LeafGiven step) = step_at step
 place (ScalarAssigned step) = step_at step

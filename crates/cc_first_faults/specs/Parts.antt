@@ -36,7 +36,6 @@ use Rattle.cc_unit.specs.declared.unit.UnitKind.TheVariants as kind
 use Rattle.cc_specifiers.specs.Attributes.{entry_by}
 use Rattle.cc_specifiers.specs.Declarators.{derive}
 use Rattle.cc_specifiers.specs.Derivations.{nothing_more, in_parameter, in_type_name, is_next_to_name}
-use Rattle.cc_specifiers.specs.Modes.{all_moded}
 use Rattle.cc_specifiers.specs.Specifiers.{no_specifier}
 use Rattle.cc_specifiers.specs.Storage.{setting}
 use Rattle.cc_specifiers.specs.declared.attribute.Attribute.{Attribute}
@@ -74,7 +73,7 @@ use Rattle.cc_typed_bodies.specs.Declarations.{init_allowed, init_next, marked}
 use Rattle.cc_typed_bodies.specs.Functions.{with_function}
 use Rattle.cc_typed_bodies.specs.Plans.{step_done}
 use Rattle.cc_first_faults.specs.FirstFaults.{after, parts_in_turn}
-use Rattle.cc_first_faults.specs.Constructs.{Construct, Expression, ValueOf, DesignatedBy, Valued, Designated, TypeNamed, Specifiers, SpecifierBehind, Specifier, OneAttribute, MembersBehind, MemberBehind, ConstantBehind, Declaring, Suffixed, Derived, ParameterList, ParameterBehind, ParameterNamed, Declaration, Declared, NameDeclared, Moded, LeafGiven, ScalarAssigned}
+use Rattle.cc_first_faults.specs.Constructs.{Construct, Expression, ValueOf, DesignatedBy, Valued, Designated, TypeNamed, Specifiers, SpecifierBehind, Specifier, OneAttribute, MembersBehind, MemberBehind, ConstantBehind, Declaring, Suffixed, Derived, ParameterList, ParameterBehind, ParameterNamed, Declaration, Declared, NameDeclared, LeafGiven, ScalarAssigned}
 
 abbrev pub Parts : Type 0
 Parts = List (Construct × State)
@@ -115,13 +114,6 @@ step_parts (Character at constant t byte) s = []
 step_parts (Zero at constant t) s = []
 step_parts (Visit e) s = (ValueOf e, s) ∷ []
 step_parts (Break at rule) s = []
-
--- ---- modes of a typedef's type
-
-module _ (target : Target) where
-  abbrev pub mode_parts : CType → List (At (List Attribute)) → State → Parts
-  mode_parts t [] s = []
-  mode_parts t (ms ∷ rest) s = (Moded t ms, s) ∷ after (whole ms.at s (all_moded target ms.node t)) (λ u s. mode_parts u rest s)
 
 module _ (target : Target) (roles : Roles) where
   -- ---- a part, and those behind it, which stand in what it is found to be
@@ -273,8 +265,9 @@ module _ (target : Target) (roles : Roles) where
     abbrev pub automatic_local_parts : Name → CType → CType → Option (At Given) → State → Parts
     automatic_local_parts x t u value s = automatic_parts t u value (length s.locals, with_automatic x u s)
 
+    -- a mode that does not fit is a fault of the declarator
     abbrev pub left_parts : ℕ → Category → CType → Name → List (At (List Attribute)) → Option (At Given) → State → Parts
-    left_parts at declares.Typedef t x marks value s = mode_parts target t marks s
+    left_parts at declares.Typedef t x marks value s = []
     left_parts at (declares.Function asked) t x marks value s = function_parts asked t x marks value s
     left_parts at (declares.Linked asked) t x marks value s = linked_parts asked x (composite x t s) (type_given (composite x t s) value s) value s
     left_parts at declares.StaticLocal t x marks value s = static_local_parts at x t (type_given t value s) value s
@@ -324,6 +317,5 @@ module _ (target : Target) (roles : Roles) where
     parts (Declaration place d) s = declaration_parts place d s
     parts (Declared place base i) s = declared_parts place base i s
     parts (NameDeclared at c t x marks) s = []
-    parts (Moded t marks) s = []
     parts (LeafGiven step) s = step_parts step s
     parts (ScalarAssigned step) s = step_parts step s

@@ -1,28 +1,13 @@
 -- A twin of the code: what is answered to a list of tokens, by the turns that it leads through.
-use Rattle.std.specs.Prelude.{◌≡◌, ◌≤◌, ◌-◌, ◌+◌, ◌^◌, ℕ, length, min, Option, Some, None, slice_get, ⊤}
+use Rattle.std.specs.Prelude.{◌≡◌, ◌≤◌, ◌-◌, ℕ, length, max, Some, slice_get, ⊤}
 use Rattle.cc_lex.specs.declared.token.Token.{Token}
 use Rattle.cc_tree.specs.declared.fault.GramFault.{GramFault}
 use Rattle.cc_tree.specs.declared.fault.GramFault.TheVariants as fault
 use Rattle.cc_tree.specs.declared.unit.Unit.{Unit as UnitTree}
+use Rattle.cc_tree.specs.Faults.{place}
 use Rattle.cc_tree.specs.Machine.{Reads, Refuses, Exceeds}
 use Rattle.cc_tree.specs.Tokens.{Tokens}
 use Rattle.cc_tree.specs.Turns.{tall}
-
-abbrev pub end_at : Option Token → ℕ
-end_at None = 0
-end_at (Some t) = min (t.at + t.len) (2 ^ 32 - 1)
-
--- the offset behind the last token, or the greatest one
-abbrev pub end_of : Tokens → ℕ
-end_of ts = end_at (slice_get ts (length ts - 1))
-
-abbrev pub offset_at : ℕ → Option Token → ℕ
-offset_at n None = n
-offset_at n (Some t) = t.at
-
--- the offset of the token from which n tokens stand to the end, or the end
-abbrev pub place : Tokens → ℕ → ℕ
-place ts n = offset_at (end_of ts) (slice_get ts (length ts - n))
 
 -- Turns lead to the end, with this unit.
 pub record ReadsUnit (limit : ℕ) (ts : Tokens) (u : UnitTree) : Type 0 where
@@ -35,10 +20,11 @@ pub record RefusesAt (limit : ℕ) (ts : Tokens) (n : ℕ) : Type 0 where
   pub refuses : Refuses limit ts ahead
   pub offset : n ≡ place ts ahead
 
--- the offset of a token with at least 64 before it
-pub record DeepAt (ts : Tokens) (n : ℕ) : Type 0 where
+-- the offset of the token from which so many stand to the end, or of the last one, with at least 64 before it
+pub record DeepAt (ts : Tokens) (ahead : ℕ) (n : ℕ) : Type 0 where
   pub before : ℕ
   pub token : Token
+  pub is : before ≡ length ts - max ahead 1
   pub there : slice_get ts before ≡ Some token
   pub enough : 64 ≤ before
   pub offset : n ≡ token.at
@@ -47,7 +33,7 @@ pub record DeepAt (ts : Tokens) (n : ℕ) : Type 0 where
 pub record ExceedsAt (limit : ℕ) (ts : Tokens) (n : ℕ) : Type 0 where
   pub ahead : ℕ
   pub exceeds : Exceeds limit ts ahead
-  pub place : DeepAt ts n
+  pub place : DeepAt ts ahead n
 
 abbrev pub IfSyntax : (ℕ → Type 0) → GramFault → Type 0
 IfSyntax P (fault.Syntax n) = P n

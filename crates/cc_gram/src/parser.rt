@@ -3,9 +3,9 @@
 ghost use Rattle.std.specs.Prelude.{◌≡◌, ◌≢◌, ◌≤◌, ◌+◌, length, IfOk, IfErr, None as NoneOf};
 ghost use Rattle.cc_tree.specs.declared.fault.GramFault.TheVariants as fault;
 ghost use Rattle.cc_tree.specs.declared.unit.Unit.{Unit as UnitTree};
-ghost use Rattle.cc_tree.specs.Faults.{IsRead, HasFault};
+ghost use Rattle.cc_tree.specs.Faults.{IsRead, HasFault, place as place_of, end_of};
 ghost use Rattle.cc_tree.specs.Height.{greatest_height};
-ghost use Rattle.cc_gram.specs.Parse.{place as place_of, end_of, DeepAt, ReadsUnit, RefusesAt, ExceedsAt, IfSyntax, IfTooDeep, IsInside};
+ghost use Rattle.cc_gram.specs.Parse.{DeepAt, ReadsUnit, RefusesAt, ExceedsAt, IfSyntax, IfTooDeep, IsInside};
 
 use crate::outside::first_outside;
 use cc_lex::Token;
@@ -38,7 +38,7 @@ fn place(tokens: &[Token], ahead: usize) -> u32
 /// The offset of the token from which so many stand to the end, or of the last one.
 fn deep_place(tokens: &[Token], ahead: usize) -> u32
     requires { 65 + ahead ≤ length tokens.now }
-    ensures { DeepAt tokens.now result }
+    ensures { DeepAt tokens.now ahead result }
 {
     let before = tokens.len() - ahead.max(1);
     tokens[before].at
@@ -79,8 +79,9 @@ fn answer(alloc: Global, tokens: &[Token]) -> Result<Unit, GramFault>
 ///
 /// The answer is Outside exactly where a token is an outside word, with the first one. Where none is, it is Ok
 /// exactly where the tokens are a sentence of height at most 128. Syntax comes only where they are no sentence,
-/// and TooDeep only where they are none of that height. A sentence of height at most 128 is answered with its tree,
-/// or with want of memory.
+/// with the first token that is refused where it stands, or the end; and TooDeep only where they are none of that
+/// height, with the token behind which more nodes are open before any is refused. A sentence of height at most 128
+/// is answered with its tree, or with want of memory.
 pub fn parse(alloc: Global, tokens: &[Token]) -> Result<Unit, GramFault>
     ensures read { IfOk result (λ u. IsRead tokens.now u) }
     ensures refused { IfErr result (λ e. e ≢ fault.NoMemory → HasFault tokens.now e) }

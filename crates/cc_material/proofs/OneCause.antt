@@ -22,11 +22,10 @@ use Rattle.cc_num.specs.declared.target.Target.{Target}
 use Rattle.cc_program.specs.declared.program.Program.{Program}
 use Rattle.cc_program.specs.declared.program.Roles.{Roles}
 use Rattle.cc_read.proofs.Refused.{not_refused, one_cause, one_program}
-use Rattle.cc_read.specs.Refusals.{AreForOneCause, IsRefused, settled}
+use Rattle.cc_read.specs.Refusals.{IsRefused}
 use Rattle.cc_read.specs.Texts.{Reads}
 use Rattle.cc_read.specs.declared.refusal.Refusal.{Refusal}
 use Rattle.cc_rows.specs.Rows.{Row, rows_of}
-use Rattle.cc_status.specs.Settled.{settled_status}
 use Rattle.cc_status.specs.Statuses.{for_unread}
 use Rattle.cc_status.specs.declared.status.Status.{Status}
 use Rattle.cc_status.specs.declared.status.Status.TheVariants as status
@@ -252,12 +251,10 @@ module _ (names : List (List ℕ)) (profile : Profile) (texts : List (List ℕ))
   pub program_not_refused : (p : Program) (s : Status) → IsProgram profile texts p → TellsRefusal names profile texts s → ⊥
   program_not_refused p s h k = not_refused profile.target profile.roles texts p k.refusal h.reads h.low k.refused
 
-  refused_alike : (e f : Refusal) → AreForOneCause e f → settled_status (status.Refused (slice_index_or names e.file []) e.why) ≡ settled_status (status.Refused (slice_index_or names f.file []) f.why)
-  refused_alike e f h = ap (λ n. status.Refused (slice_index_or names n []) (settled e.why)) h.file ∙ ap (λ w. status.Refused (slice_index_or names f.file []) w) h.cause
-
-  pub one_refusal : (s t : Status) → TellsRefusal names profile texts s → TellsRefusal names profile texts t → settled_status s ≡ settled_status t
+  pub one_refusal : (s t : Status) → TellsRefusal names profile texts s → TellsRefusal names profile texts t → s ≡ t
   one_refusal s t h k =
-      ap settled_status h.told ∙ (refused_alike h.refusal k.refusal (one_cause profile.target profile.roles texts h.refusal k.refusal h.refused k.refused) ∙ ap settled_status (sym k.told))
+      let same : h.refusal ≡ k.refusal = one_cause profile.target profile.roles texts h.refusal k.refusal h.refused k.refused in
+      h.told ∙ (ap (λ (e : Refusal). status.Refused (slice_index_or names e.file []) e.why) same ∙ sym k.told)
 
 -- ---- a profile that says the same of target and roles
 

@@ -4,14 +4,13 @@ use Rattle.std.specs.Prelude.{not, slice_get, if◌then◌else◌}
 use Rattle.std.specs.List.{list_any}
 use Rattle.std.specs.Str.{bytes_eq}
 use Rattle.cc_named_units.specs.Counts.{maybe_count, given_count}
-use Rattle.cc_typed_terms.specs.Located.{located}
 use Rattle.cc_initialisers.specs.Initialisers.{here as given_here, initialised, refused_by}
 use Rattle.cc_initialisers.specs.Scalars.{scalars_from}
 use Rattle.cc_linkage.specs.Linkage.{new_declared, declared_by, declared, may_be_main, may_be_declared}
 use Rattle.cc_linkage.specs.declared.linkage.DeclaredAs.{DeclaredAs}
 use Rattle.cc_linkage.specs.declared.linkage.DeclaredAs.TheVariants.{AsStatic, AsObject, AsExtern}
 use Rattle.cc_named_units.proofs.Declarators.{named_more}
-use Rattle.cc_named_units.proofs.Adding.{adds_itself, adds_through, adds_more, behind, before, answered, done, judged, placed, bound, unfinished, declared_more, changed}
+use Rattle.cc_named_units.proofs.Adding.{adds_itself, adds_through, adds_more, behind, before, answered, done, judged, bound, unfinished, declared_more, changed}
 use Rattle.cc_named_units.specs.Named.{Limits, is_own, HasFewLocals, IsNamedEntry, Adds}
 use Rattle.cc_named_units.specs.Names.{maybe_named, given_named}
 use Rattle.cc_num.specs.declared.target.Target.{Target}
@@ -43,7 +42,7 @@ use Rattle.cc_scopes.specs.declared.unit.Declared.{Declared}
 use Rattle.cc_sound_terms.proofs.Founds.{answer, then_judged}
 use Rattle.cc_specifiers.specs.Attributes.{entry_by}
 use Rattle.cc_specifiers.specs.Declarators.{is_unbounded}
-use Rattle.cc_specifiers.specs.Modes.{modes_found}
+use Rattle.cc_specifiers.specs.Modes.{modes_judged}
 use Rattle.cc_specifiers.specs.declared.attribute.Attribute.{Attribute}
 use Rattle.cc_syntax.specs.Values.{ValueType}
 use Rattle.cc_tree.specs.declared.at.At.{At}
@@ -133,9 +132,9 @@ module _ (most : Limits) where
       }
 
   module _ (target : Target) where
-    pub typedef_adds : (x : Name) (t : CType) (marks : List (At (List Attribute))) (s : State) (r : List Expr × State) → typedef_left target x t marks s ≡ Ok r → Adds most 0 s r.1
-    typedef_adds x t marks s r h =
-        behind most 0 (located s (modes_found target marks t)) (λ t s. answer [] (bind x (means.TypeNamed t) s)) s r (λ y f. placed most 0 s (modes_found target marks t) y f)
+    pub typedef_adds : (at : ℕ) (x : Name) (t : CType) (marks : List (At (List Attribute))) (s : State) (r : List Expr × State) → typedef_left target at x t marks s ≡ Ok r → Adds most 0 s r.1
+    typedef_adds at x t marks s r h =
+        behind most 0 (whole at s (modes_judged target marks t)) (λ t s. answer [] (bind x (means.TypeNamed t) s)) s r (λ y f. judged most 0 at s (modes_judged target marks t) y f)
         (λ y f. answered most 0 [] y.1 (bind x (means.TypeNamed y.0) y.1) r (bound most x (means.TypeNamed y.0) y.1) f) h
 
     -- ---- what an initialiser adds
@@ -253,7 +252,7 @@ module _ (most : Limits) where
       -- of a name that may be declared so
       pub left_adds : (at : ℕ) (c : Category) (x : Name) (t u : CType) (entry : Option Entry) (s0 : State) (marks : List (At (List Attribute))) (value : Option (At Given)) (s : State) (r : List Expr × State) → is_name x ≡ true →
           name_judged target most.roles c x t entry s0 ≡ Ok u → IsGivenValue value → declared_left target most.roles defined at c x u marks value s ≡ Ok r → Adds most (1 + count_of value) s r.1
-      left_adds at declares.Typedef x t u entry s0 marks value s r n j q h = adds_more most 0 (1 + count_of value) s r.1 (omega arith) (typedef_adds x u marks s r h)
+      left_adds at declares.Typedef x t u entry s0 marks value s r n j q h = adds_more most 0 (1 + count_of value) s r.1 (omega arith) (typedef_adds at x u marks s r h)
       left_adds at (declares.Function asked) x t u entry s0 marks value s r n j q h = function_left_adds asked x u marks value s r n q h
       left_adds at (declares.Linked asked) x t u entry s0 marks value s r n j q h =
           linked_left_adds defined at asked x u value s r (n, object_own x t s0 (λ t. must (may_be_main x t) rule.MainOrIntrinsic (must (may_be_declared asked x t s0) rule.DeclaredTwice (Ok t))) u j) q h

@@ -1,10 +1,9 @@
 -- Which name may be declared so (C99 6.7, 3; 6.9).
-use Rattle.std.specs.Prelude.{Bool, true, false, not, ◌&&◌, ◌||◌, is_some, Option, Some, None, Ok, Err, if◌then◌else◌}
+use Rattle.std.specs.Prelude.{Bool, false, not, ◌&&◌, is_some, Option, Some, None, Ok, Err, if◌then◌else◌}
 use Rattle.cc_typed_terms.specs.Names.{new_name}
 use Rattle.cc_designators.specs.Calls.{intrinsic_signature}
 use Rattle.cc_linkage.specs.Linkage.{may_be_declared, may_be_main}
 use Rattle.cc_linkage.specs.declared.linkage.DeclaredAs.{DeclaredAs}
-use Rattle.cc_linkage.specs.declared.linkage.DeclaredAs.TheVariants.{AsStatic, AsObject, AsExtern}
 use Rattle.cc_num.specs.declared.target.Target.{Target}
 use Rattle.cc_operands.specs.Qualified.{plain}
 use Rattle.cc_operands.specs.Verdicts.{Judged, must, judge_then}
@@ -21,11 +20,6 @@ use Rattle.cc_objects.specs.Types.{is_complete_or_unbounded}
 use Rattle.cc_objects.specs.declared.category.Category.{Category}
 use Rattle.cc_objects.specs.declared.category.Category.TheVariants as declares
 
-abbrev pub is_asked_static : DeclaredAs → Bool
-is_asked_static AsStatic = true
-is_asked_static AsObject = false
-is_asked_static AsExtern = false
-
 abbrev pub function_judged : DeclaredAs → Name → CType → State → Judged CType
 function_judged asked x t s =
     must (may_be_main x t) rule.MainOrIntrinsic (must (may_be_declared asked x t s) rule.DeclaredTwice (Ok t))
@@ -35,10 +29,10 @@ is_prototype t None = false
 is_prototype t (Some i) = same_type t (plain (Func (intrinsic_signature i)))
 
 module _ (roles : Roles) where
-  -- an intrinsic has its prototype alone, and is no handler
+  -- an intrinsic has its prototype alone, static or not, and is no handler
   abbrev pub prototype_judged : DeclaredAs → Name → CType → Option Entry → State → Judged CType
   prototype_judged asked x t entry s =
-      if is_intrinsic roles x then must (is_prototype t (intrinsic_named roles x) && not (is_asked_static asked || is_some entry)) rule.MainOrIntrinsic (Ok t)
+      if is_intrinsic roles x then must (is_prototype t (intrinsic_named roles x) && not (is_some entry)) rule.MainOrIntrinsic (Ok t)
       else function_judged asked x t s
 
   abbrev pub typedef_judged : Name → CType → State → Judged CType

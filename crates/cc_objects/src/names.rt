@@ -3,7 +3,7 @@
 ghost use Rattle.std.specs.Prelude.{◌≡◌, IfOk};
 ghost use Rattle.cc_typed_terms.specs.Names.{new_name as new_name_of};
 ghost use Rattle.cc_designators.specs.Calls.{byte_type as byte_type_of, intrinsic_signature as intrinsic_signature_of};
-ghost use Rattle.cc_objects.specs.Names.{is_asked_static as is_asked_static_of, function_judged as function_judged_of, is_prototype as is_prototype_of, prototype_judged as prototype_judged_of, object_judged as object_judged_of, linked_judged as linked_judged_of, typedef_judged as typedef_judged_of, local_judged as local_judged_of, name_judged as name_judged_of};
+ghost use Rattle.cc_objects.specs.Names.{function_judged as function_judged_of, is_prototype as is_prototype_of, prototype_judged as prototype_judged_of, object_judged as object_judged_of, linked_judged as linked_judged_of, typedef_judged as typedef_judged_of, local_judged as local_judged_of, name_judged as name_judged_of};
 ghost use Rattle.cc_operands.specs.Qualified.{plain as plain_of};
 ghost use Rattle.cc_operands.specs.Verdicts.{Judges};
 ghost use Rattle.cc_scopes.specs.View.{state_of};
@@ -17,16 +17,6 @@ use cc_scopes::State;
 use cc_syntax::{CType, Entry, Intr, Roles, Shape, Sig};
 use cc_typed_terms::{intrinsic_named, is_intrinsic, new_name};
 use std::alloc::Global;
-
-fn is_asked_static(asked: DeclaredAs) -> bool
-    ensures { result ≡ is_asked_static_of asked }
-{
-    match asked {
-        DeclaredAs::AsStatic => true,
-        DeclaredAs::AsObject => false,
-        DeclaredAs::AsExtern => false,
-    }
-}
 
 /// A name may be declared as a function of the type.
 pub fn function_judged(asked: DeclaredAs, x: &[u8], t: &CType, state: &State) -> Result<(), Breach>
@@ -89,7 +79,7 @@ fn is_prototype(alloc: Global, t: &CType, i: Option<Intr>) -> Result<bool, NoMem
     }
 }
 
-/// A name may be declared as a function, or as the intrinsic that it is.
+/// A name may be declared as a function, or as the intrinsic that it is, by its prototype alone, static or not.
 fn prototype_judged(
     alloc: Global,
     roles: &Roles,
@@ -105,7 +95,7 @@ fn prototype_judged(
         return function_judged(asked, x, t, state);
     }
     let good = is_prototype(alloc, t, intrinsic_named(roles, x))?;
-    if good && !(is_asked_static(asked) || entry.is_some()) {
+    if good && entry.is_none() {
         Ok(())
     } else {
         Err(Breach::Breaks(Rule::MainOrIntrinsic))

@@ -9,7 +9,6 @@ use Rattle.cc_packing.specs.Asked.{Asked}
 use Rattle.cc_packing.specs.Ends.{FilesEnd, AtProfile, AtSources, ProgramEnds, NotNormal, AboveLimit, LongText, TextsEnd, AreRefused, NotPacked, PackEnds, AtFiles, AtTexts}
 use Rattle.cc_packing.specs.Headline.{AreRead, AreAsked, IsPackable}
 use Rattle.cc_program.specs.declared.program.Program.{Program}
-use Rattle.cc_status.specs.Settled.{settled_status}
 use Rattle.cc_status.specs.Statuses.{for_unread}
 use Rattle.cc_status.specs.declared.status.Status.{Status}
 use Rattle.cc_status.specs.declared.status.Status.TheVariants as status
@@ -56,12 +55,12 @@ module _ (names : List (List ℕ)) (profile : Profile) (texts : List (List ℕ))
   no_texts_end p s h k (AreRefused _ r) = program_not_refused names profile texts p s h r
   no_texts_end p s h k (NotPacked q _ i r) = no_end (slice_index_or names 0 []) p s k (ends_of p q s (same_program profile texts p q h i) r)
 
-  one_texts_end : (s t : Status) → TextsEnd names profile texts s → TextsEnd names profile texts t → settled_status s ≡ settled_status t
+  one_texts_end : (s t : Status) → TextsEnd names profile texts s → TextsEnd names profile texts t → s ≡ t
   one_texts_end s t (AreRefused _ h) (AreRefused _ k) = one_refusal names profile texts s t h k
   one_texts_end s t (AreRefused _ h) (NotPacked q _ i r) = absurd (program_not_refused names profile texts q s i h)
   one_texts_end s t (NotPacked p _ h r) (AreRefused _ k) = absurd (program_not_refused names profile texts p t h k)
   one_texts_end s t (NotPacked p _ h r) (NotPacked q _ i o) =
-      ap settled_status (one_program_end (slice_index_or names 0 []) p s t r (ends_of p q t (same_program profile texts p q h i) o))
+      one_program_end (slice_index_or names 0 []) p s t r (ends_of p q t (same_program profile texts p q h i) o)
 
 module _ (names : List (List ℕ)) (p q : Profile) (same : SaySame p q) (texts : List (List ℕ)) where
   texts_end_as : (s : Status) → TextsEnd names q texts s → TextsEnd names p texts s
@@ -81,8 +80,8 @@ module _ (files : Files) (a : Asked) where
   asked_or_ends bytes rows s h (AtTexts q us _ k e) =
       no_texts_end a.sources h.profile h.texts h.made.read s h.made.is_program h.made.packable (texts_end_for h.profile q h.texts us s h.are_read k e)
 
-  pub one_end : (s t : Status) → PackEnds files ⊥ a s → PackEnds files ⊥ a t → settled_status s ≡ settled_status t
-  one_end s t (AtFiles _ h) (AtFiles _ k) = ap settled_status (one_files_end files a s t h k)
+  pub one_end : (s t : Status) → PackEnds files ⊥ a s → PackEnds files ⊥ a t → s ≡ t
+  one_end s t (AtFiles _ h) (AtFiles _ k) = one_files_end files a s t h k
   one_end s t (AtFiles _ h) (AtTexts q us _ k e) = absurd (files_read files a q us s k h)
   one_end s t (AtTexts p ts _ h e) (AtFiles _ k) = absurd (files_read files a p ts t h k)
   one_end s t (AtTexts p ts _ h e) (AtTexts q us _ k d) = one_texts_end a.sources p ts s t e (texts_end_for p q ts us t h k d)

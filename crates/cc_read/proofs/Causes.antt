@@ -10,12 +10,12 @@ use Rattle.cc_lex.specs.declared.token.Token.{Token}
 use Rattle.cc_num.specs.declared.target.Target.{Target}
 use Rattle.cc_program.specs.declared.program.Roles.{Roles}
 use Rattle.cc_read.specs.Faults.{for_lex, for_gram, for_types}
-use Rattle.cc_read.specs.Refusals.{HasCause, HasNoTokens, IsNoSentence, BreaksRule, fault_settled, settled, IsTooHigh}
+use Rattle.cc_read.specs.Refusals.{HasCause, HasNoTokens, IsNoSentence, BreaksRule, IsTooHigh}
 use Rattle.cc_read.specs.Texts.{identifiers_of, IsTypedText, IsTypedSentence, IsLow}
 use Rattle.cc_read.specs.declared.refusal.ReadRefusal.{ReadRefusal}
 use Rattle.cc_read.specs.declared.refusal.ReadRefusal.TheVariants as why
 use Rattle.cc_things.specs.declared.text.Text.{Text}
-use Rattle.cc_tree.proofs.Faults.{not_read}
+use Rattle.cc_tree.proofs.Faults.{not_read, one_fault as one_gram_fault}
 use Rattle.cc_tree.proofs.Outcomes.{unique}
 use Rattle.cc_tree.specs.Faults.{IsRead, HasFault as HasGramFault, IsOutside, IsTooDeep, IsWrong}
 use Rattle.cc_tree.specs.Height.{unit_height, greatest_height}
@@ -69,8 +69,8 @@ module _ (target : Target) (roles : Roles) (text : List ℕ) where
 
   high_fault : (ts : List Token) (u : UnitTree) (e : GramFault) → IsSentence ts u → HasGramFault ts e → IsTooHigh (why.Gram e)
   high_fault ts u _ h (IsOutside _ x n e) = absurd (cc (h.inside, e))
-  high_fault ts u _ h (IsTooDeep _ before t e k there far) = tt
-  high_fault ts u _ h (IsWrong _ n e k) = absurd (k u h)
+  high_fault ts u _ h (IsTooDeep _ ahead before t e k _ _ _ _) = tt
+  high_fault ts u _ h (IsWrong _ ahead n e k _ _) = absurd (k u h)
 
   pub only_high : (t : Text) (e : ReadRefusal) → IsTypedText target roles text t → HasCause target roles text e → IsTooHigh e
   only_high t _ h (HasNoTokens _ e k) = absurd (not-both text h.tokens e h.tokens_of k)
@@ -78,20 +78,6 @@ module _ (target : Target) (roles : Roles) (text : List ℕ) where
   only_high t _ h (BreaksRule _ ts u rule at a r k) = absurd (no_rule t ts u rule at h a r k)
 
 -- ---- a text has one cause
-
-same_fault : (ts : List Token) (e f : GramFault) → HasGramFault ts e → HasGramFault ts f → fault_settled e ≡ fault_settled f
-same_fault ts _ _ (IsOutside _ x n h) (IsOutside _ y m k) =
-    let same : Some (x, n) ≡ Some (y, m) = sym h ∙ k in
-    let pair : (x, n) ≡ (y, m) = cc in
-    ap (λ (p : List ℕ × ℕ). gram.Outside p.0 p.1) pair
-same_fault ts _ _ (IsOutside _ x n h) (IsTooDeep _ before t e k there far) = absurd (cc)
-same_fault ts _ _ (IsOutside _ x n h) (IsWrong _ m e k) = absurd (cc)
-same_fault ts _ _ (IsTooDeep _ before t e k there far) (IsOutside _ y m h) = absurd (cc)
-same_fault ts _ _ (IsTooDeep _ before t e k there far) (IsTooDeep _ other s d j here long) = refl
-same_fault ts _ _ (IsTooDeep _ before t e k there far) (IsWrong _ m d j) = refl
-same_fault ts _ _ (IsWrong _ n e k) (IsOutside _ y m h) = absurd (cc)
-same_fault ts _ _ (IsWrong _ n e k) (IsTooDeep _ before t d j there far) = refl
-same_fault ts _ _ (IsWrong _ n e k) (IsWrong _ m d j) = refl
 
 module _ (target : Target) (roles : Roles) (text : List ℕ) where
   gram_or_types : (ts us : List Token) (e : GramFault) (u : UnitTree) → Tokens text ts → Tokens text us → HasGramFault ts e → IsRead us u → ⊥
@@ -103,12 +89,12 @@ module _ (target : Target) (roles : Roles) (text : List ℕ) where
       types.one_fault target roles v (type_fault.Broken rule at) (type_fault.Broken other place) (broken rule at) (broken other place)
       (subst (λ x. Refuses target roles x (type_fault.Broken rule at)) (same_tree text ts us u v a b r.sentence s.sentence) h) k
 
-  pub same_cause : (e f : ReadRefusal) → HasCause target roles text e → HasCause target roles text f → settled e ≡ settled f
+  pub same_cause : (e f : ReadRefusal) → HasCause target roles text e → HasCause target roles text f → e ≡ f
   same_cause _ _ (HasNoTokens _ e h) (HasNoTokens _ f k) = ap why.Lex (one-fault text e f h k)
   same_cause _ _ (HasNoTokens _ e h) (IsNoSentence _ ts f a k) = absurd (not-both text ts e a h)
   same_cause _ _ (HasNoTokens _ e h) (BreaksRule _ ts u rule at a r k) = absurd (not-both text ts e a h)
   same_cause _ _ (IsNoSentence _ ts e a h) (HasNoTokens _ f k) = absurd (not-both text ts f a k)
-  same_cause _ _ (IsNoSentence _ ts e a h) (IsNoSentence _ us f b k) = ap why.Gram (same_fault us e f (subst (λ x. HasGramFault x e) (one-list text ts us a b) h) k)
+  same_cause _ _ (IsNoSentence _ ts e a h) (IsNoSentence _ us f b k) = ap why.Gram (one_gram_fault us e f (subst (λ x. HasGramFault x e) (one-list text ts us a b) h) k)
   same_cause _ _ (IsNoSentence _ ts e a h) (BreaksRule _ us u rule at b r k) = absurd (gram_or_types ts us e u a b h r)
   same_cause _ _ (BreaksRule _ ts u rule at a r h) (HasNoTokens _ f k) = absurd (not-both text ts f a k)
   same_cause _ _ (BreaksRule _ ts u rule at a r h) (IsNoSentence _ us f b k) = absurd (gram_or_types us ts f u b a k r)

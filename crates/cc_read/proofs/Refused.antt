@@ -14,12 +14,15 @@ use Rattle.cc_program.specs.declared.program.Program.{Program}
 use Rattle.cc_program.specs.declared.program.Roles.{Roles}
 use Rattle.cc_read.proofs.Causes.{one_typed_text, no_cause, only_high, same_cause}
 use Rattle.cc_read.specs.Faults.{for_link}
-use Rattle.cc_read.specs.Refusals.{HasCause, IsFirstRefused, ThisText, LaterText, IsRefused, AtText, AtLinking, settled, IsTooHigh, AreForOneCause}
+use Rattle.cc_read.specs.Refusals.{HasCause, IsFirstRefused, ThisText, LaterText, IsRefused, AtText, AtLinking, IsTooHigh}
 use Rattle.cc_read.specs.Texts.{IsTypedText, IsLow, Reads}
 use Rattle.cc_read.specs.declared.refusal.ReadRefusal.{ReadRefusal}
 use Rattle.cc_read.specs.declared.refusal.ReadRefusal.TheVariants as why
 use Rattle.cc_read.specs.declared.refusal.Refusal.{Refusal}
 use Rattle.cc_things.specs.declared.text.Text.{Text}
+
+abbrev refusal_of : ℕ → ReadRefusal → Refusal
+refusal_of n e = record { file = n; why = e }
 
 module _ (target : Target) (roles : Roles) where
   pub one_units : (texts : List (List ℕ)) (ts us : List Text) → AllZip (IsTypedText target roles) texts ts → AllZip (IsTypedText target roles) texts us → ts ≡ us
@@ -47,8 +50,8 @@ module _ (target : Target) (roles : Roles) where
   high_first n _ [] e h (LaterText _ text texts u _ i l r) = absurd h
   high_first n _ (t ∷ ts) e h (LaterText _ text texts u _ i l r) = high_first (n + 1) texts ts e h.1 r
 
-  one_first : (n : ℕ) (texts : List (List ℕ)) (e f : Refusal) → IsFirstRefused target roles n texts e → IsFirstRefused target roles n texts f → AreForOneCause e f
-  one_first n _ _ _ (ThisText _ text texts e h) (ThisText _ _ _ f k) = record { file = refl; cause = same_cause target roles text e f h k }
+  one_first : (n : ℕ) (texts : List (List ℕ)) (e f : Refusal) → IsFirstRefused target roles n texts e → IsFirstRefused target roles n texts f → e ≡ f
+  one_first n _ _ _ (ThisText _ text texts e h) (ThisText _ _ _ f k) = ap (refusal_of n) (same_cause target roles text e f h k)
   one_first n _ _ f (ThisText _ text texts e h) (LaterText _ _ _ t _ i l r) = absurd (no_cause target roles text t e i l h)
   one_first n _ e _ (LaterText _ text texts t _ i l r) (ThisText _ _ _ f k) = absurd (no_cause target roles text t f i l k)
   one_first n _ e f (LaterText _ text texts t _ i l r) (LaterText _ _ _ u _ j m s) = one_first (n + 1) texts e f r s
@@ -62,14 +65,12 @@ module _ (target : Target) (roles : Roles) where
   high_alone texts p e h (AtText _ r) = high_first 0 texts h.units e h.typed r
   high_alone texts p _ h (AtLinking us f k l b) = absurd (not_refused texts p _ h l (AtLinking us f k l b))
 
-  pub one_cause : (texts : List (List ℕ)) (e f : Refusal) → IsRefused target roles texts e → IsRefused target roles texts f → AreForOneCause e f
+  pub one_cause : (texts : List (List ℕ)) (e f : Refusal) → IsRefused target roles texts e → IsRefused target roles texts f → e ≡ f
   one_cause texts e f (AtText _ r) (AtText _ s) = one_first 0 texts e f r s
   one_cause texts e _ (AtText _ r) (AtLinking us f k l b) = absurd (none_first 0 texts us e k l r)
   one_cause texts _ f (AtLinking us e k l b) (AtText _ r) = absurd (none_first 0 texts us f k l r)
-  one_cause texts _ _ (AtLinking us e k l b) (AtLinking vs f i m d) = record {
-    file = refl;
-    cause = ap why.Link (links.one_cause vs roles e f (subst (λ x. Breaks x roles e) (one_units texts us vs k i) b) d);
-  }
+  one_cause texts _ _ (AtLinking us e k l b) (AtLinking vs f i m d) =
+      ap (λ f. refusal_of 0 (why.Link f)) (links.one_cause vs roles e f (subst (λ x. Breaks x roles e) (one_units texts us vs k i) b) d)
 
 -- ---- what is answered
 
@@ -87,7 +88,7 @@ module _ (texts : List (List ℕ)) (target : Target) (roles : Roles) where
   answered (Err e) h k p reads low = only_memory e.why (λ n. not_refused target roles texts p e reads low (k n))
 
   pub told : (r : Result Program Refusal) → IfOk r (λ p. Reads texts target roles p) → IfOk r (λ p. All IsLow texts) → IfErr r (λ e. e.why ≢ why.NoMemory → IsRefused target roles texts e) →
-      (e : Refusal) → IsRefused target roles texts e → MatchResult r (λ p. ⊥) (λ f. f.why ≢ why.NoMemory → AreForOneCause f e)
+      (e : Refusal) → IsRefused target roles texts e → MatchResult r (λ p. ⊥) (λ f. f.why ≢ why.NoMemory → f ≡ e)
   told (Ok p) h low k e refused = not_refused target roles texts p e h low refused
   told (Err f) h low k e refused = λ n. one_cause target roles texts f e (k n) refused
 

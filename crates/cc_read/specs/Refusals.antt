@@ -1,5 +1,5 @@
 -- Why texts are refused: the first text that has a cause by itself, with that cause; where none has, the first cause of linking.
-use Rattle.std.specs.Prelude.{◌≡◌, ℕ, ◌+◌, ⊤, List, ◌∷◌}
+use Rattle.std.specs.Prelude.{ℕ, ◌+◌, ⊤, List, ◌∷◌}
 use Rattle.std.specs.List.{All, AllZip}
 use Rattle.cc_causes.specs.declared.fault.LinkFault.{LinkFault}
 use Rattle.cc_lex.specs.Faults.{HasFault as HasLexFault}
@@ -41,26 +41,7 @@ pub data IsRefused (target : Target) (roles : Roles) (texts : List (List ℕ)) :
   AtLinking : (units : List Text) (f : LinkFault) → AllZip (IsTypedText target roles) texts units → All IsLow texts → Breaks units roles f →
       IsRefused target roles texts (record { file = 0; why = why.Link f })
 
--- a refusal without what is open in it: where tokens are no sentence, the offset that is told, and whether they are told to be too high
-abbrev pub fault_settled : GramFault → GramFault
-fault_settled (gram.Outside x at) = gram.Outside x at
-fault_settled (gram.TooDeep at) = gram.Syntax 0
-fault_settled (gram.Syntax at) = gram.Syntax 0
-fault_settled gram.NoMemory = gram.NoMemory
-
-abbrev pub settled : ReadRefusal → ReadRefusal
-settled (why.Lex e) = why.Lex e
-settled (why.Gram e) = why.Gram (fault_settled e)
-settled (why.Types e) = why.Types e
-settled (why.Link f) = why.Link f
-settled why.NoMemory = why.NoMemory
-
 -- a sentence is refused only where it is too high
 abbrev pub IsTooHigh : ReadRefusal → Type 0
 IsTooHigh (why.Gram (gram.TooDeep at)) = ⊤
 IsTooHigh _ = ⊥
-
--- both are for one cause
-pub record AreForOneCause (e f : Refusal) : Type 0 where
-  pub file : e.file ≡ f.file
-  pub cause : settled e.why ≡ settled f.why

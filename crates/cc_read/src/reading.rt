@@ -5,7 +5,7 @@ ghost use Rattle.std.specs.List.{All, AllZip};
 ghost use Rattle.cc_causes.specs.declared.fault.LinkFault.{LinkFault as LinkFaultOf};
 ghost use Rattle.cc_link.specs.Linked.{Links, Breaks};
 ghost use Rattle.cc_program.specs.declared.program.Program.{Program as ProgramOf};
-ghost use Rattle.cc_read.specs.Refusals.{IsFirstRefused, IsRefused, AreForOneCause};
+ghost use Rattle.cc_read.specs.Refusals.{IsFirstRefused, IsRefused};
 ghost use Rattle.cc_read.specs.Texts.{bytes_of, IsTypedText, IsLow, Reads};
 ghost use Rattle.cc_read.specs.declared.refusal.ReadRefusal.TheVariants.{Link, NoMemory as NoRoom};
 ghost use Rattle.cc_read.specs.declared.refusal.Refusal.{Refusal as RefusalOf};
@@ -103,7 +103,7 @@ pub fn read(
 
     // A refusal has its cause, and where there is one, it is told.
     ensures refused { IfErr result (λ e. e.why ≢ NoRoom → IsRefused target.now roles.now (bytes_of texts.now) e) }
-    ensures only_refused { (e : RefusalOf) → IsRefused target.now roles.now (bytes_of texts.now) e → MatchResult result (λ _. ⊥) (λ f. f.why ≢ NoRoom → AreForOneCause f e) }
+    ensures only_refused { (e : RefusalOf) → IsRefused target.now roles.now (bytes_of texts.now) e → MatchResult result (λ _. ⊥) (λ f. f.why ≢ NoRoom → f ≡ e) }
 {
     answer(alloc, texts, target, roles)
 }

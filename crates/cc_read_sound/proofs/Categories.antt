@@ -1,9 +1,8 @@
 -- What is left of a declarator keeps what is so of entries, and what it defines at file scope is settled.
-use Rattle.std.proofs.Common.{◌≡◌, ◌⊎◌, inl, inr, ℕ, Bool, true, false, not, ◌&&◌, ◌||◌, List, [], ◌∷◌, length, Option, Some, None, Ok, Err, refl, ap, sym, ◌∙◌, subst}
+use Rattle.std.proofs.Common.{◌≡◌, ◌⊎◌, inl, inr, ℕ, Bool, true, false, not, ◌&&◌, List, [], ◌∷◌, length, Option, Some, None, Ok, Err, refl, ap, sym, ◌∙◌, subst}
 use Rattle.std.specs.Prelude.{is_some, slice_get, if◌then◌else◌}
 use Rattle.std.specs.List.{list_any}
 use Rattle.std.specs.Str.{bytes_eq}
-use Rattle.cc_typed_terms.specs.Located.{located}
 use Rattle.cc_typed_terms.specs.Names.{new_name}
 use Rattle.cc_read_sound.proofs.Linked.{IsDefinition, external_definition}
 use Rattle.cc_read_sound.specs.External.{AreEntries}
@@ -12,7 +11,7 @@ use Rattle.cc_linkage.specs.Linkage.{declared, is_free_for, may_be_declared, may
 use Rattle.cc_linkage.specs.declared.linkage.DeclaredAs.{DeclaredAs}
 use Rattle.cc_linkage.specs.declared.linkage.DeclaredAs.TheVariants.{AsStatic, AsObject, AsExtern}
 use Rattle.cc_objects.specs.Linked.{is_extern, object_declared, object_kind, static_object, with_static, with_automatic}
-use Rattle.cc_objects.specs.Names.{function_judged, is_asked_static, is_prototype, linked_judged, local_judged, name_judged, object_judged, prototype_judged, typedef_judged}
+use Rattle.cc_objects.specs.Names.{function_judged, is_prototype, linked_judged, local_judged, name_judged, object_judged, prototype_judged, typedef_judged}
 use Rattle.cc_objects.specs.Types.{composite, composite_by, contents_in, is_complete_or_unbounded, type_given}
 use Rattle.cc_objects.specs.Values.{assignments, expr_given, leaf_given, no_expr, no_leaf}
 use Rattle.cc_objects.specs.declared.category.Category.{Category}
@@ -48,11 +47,11 @@ use Rattle.cc_read_sound.proofs.Kept.{changed_well, same_well}
 use Rattle.cc_read_sound.proofs.Lists.{linked_changed, linked_there, same_some}
 use Rattle.cc_read_sound.proofs.Objects.{complete_no_function, defined_counts, given_no_function, initialised_linked, initialised_well, may_be_tentative, may_define, may_fill, object_declared_well, object_no_function, object_there, tentative_counts, with_static_well}
 use Rattle.cc_read_sound.specs.Entries.{AreWell, IsDone, IsSettled, is_function_kind}
-use Rattle.cc_sound_terms.proofs.Founds.{answer_is, then_found, located_found, then_judged}
+use Rattle.cc_sound_terms.proofs.Founds.{answer_is, then_found, whole_found, then_judged}
 use Rattle.cc_sound_terms.proofs.Growth.{changed_there, get_last}
 use Rattle.cc_sound_terms.specs.Behind.{SameKind}
 use Rattle.cc_specifiers.specs.Attributes.{entry_by}
-use Rattle.cc_specifiers.specs.Modes.{modes_found}
+use Rattle.cc_specifiers.specs.Modes.{modes_judged}
 use Rattle.cc_specifiers.specs.declared.attribute.Attribute.{Attribute}
 use Rattle.cc_syntax.proofs.Prefixes.{both_true}
 use Rattle.cc_syntax.specs.Views.{View}
@@ -95,7 +94,7 @@ module _ (v : View) (roles : Roles) (defined : List Name) (P : CType → Func �
       record { main = a.0; agrees = (must_ok (may_be_declared asked x t s) rule.DeclaredTwice (Ok t) u a.1).0 }
 
   prototype_by : (b : Bool) (asked : DeclaredAs) (x : Name) (t u : CType) (entry : Option Entry) (s : State) →
-      (if b then must (is_prototype t (intrinsic_named roles x) && not (is_asked_static asked || is_some entry)) rule.MainOrIntrinsic (Ok t) else function_judged asked x t s) ≡ Ok u → (b ≡ true) ⊎ ((b ≡ false) × IsFunctionName asked x t s)
+      (if b then must (is_prototype t (intrinsic_named roles x) && not (is_some entry)) rule.MainOrIntrinsic (Ok t) else function_judged asked x t s) ≡ Ok u → (b ≡ true) ⊎ ((b ≡ false) × IsFunctionName asked x t s)
   prototype_by true asked x t u entry s h = inl refl
   prototype_by false asked x t u entry s h = inr (refl, function_is asked x t u s h)
 
@@ -288,15 +287,15 @@ module _ (v : View) (roles : Roles) (defined : List Name) (P : CType → Func �
     pub among : (asked : DeclaredAs) → c ≡ declares.Linked asked → is_extern asked ≡ false → list_any (bytes_eq x) defined ≡ true
     pub given : (asked : DeclaredAs) (g : At Given) → c ≡ declares.Linked asked → value ≡ Some g → list_any (bytes_eq x) defined ≡ true
 
-  typedef_same : (x : Name) (t : CType) (marks : List (At (List Attribute))) (s : State) (r : List Expr × State) → typedef_left v.target x t marks s ≡ Ok r → r.1.names ≡ s.names
-  typedef_same x t marks s r h =
-      let a = then_found (located s (modes_found v.target marks t)) (λ t s. Ok ([], bind x (means.TypeNamed t) s)) r h in
-      let e = located_found s (modes_found v.target marks t) a.0 a.1 in
+  typedef_same : (at : ℕ) (x : Name) (t : CType) (marks : List (At (List Attribute))) (s : State) (r : List Expr × State) → typedef_left v.target at x t marks s ≡ Ok r → r.1.names ≡ s.names
+  typedef_same at x t marks s r h =
+      let a = then_found (whole at s (modes_judged v.target marks t)) (λ t s. Ok ([], bind x (means.TypeNamed t) s)) r h in
+      let e = whole_found at s (modes_judged v.target marks t) a.0 a.1 in
       ap (λ (z : State). z.names) (answer_is [] (bind x (means.TypeNamed a.0.0) a.0.1) r a.2).1 ∙ ap (λ (z : State). z.names) e.1
 
   pub category_keeps : (at : ℕ) (c : Category) (x : Name) (t : CType) (marks : List (At (List Attribute))) (value : Option (At Given)) (s : State) (r : List Expr × State) → JudgedAs c x t s → MayBe c x t value → value_fits value ≡ true → Entries s →
       declared_left v.target roles defined at c x t marks value s ≡ Ok r → (done : List Name) → All done s → All done r.1
-  category_keeps at declares.Typedef x t marks value s r j m f e h done w = same_well v roles defined P done s r.1 (typedef_same x t marks s r h) w
+  category_keeps at declares.Typedef x t marks value s r j m f e h done w = same_well v roles defined P done s r.1 (typedef_same at x t marks s r h) w
   category_keeps at (declares.Function asked) x t marks value s r j m f e h done w = function_keeps asked x t marks value s r h j (m.functions asked refl) done w
   category_keeps at (declares.Linked asked) x t marks None s r j m f e h done w = none_by at asked x t s r j e (m.among asked refl) asked (composite x t s) h done w
   category_keeps at (declares.Linked asked) x t marks (Some g) s r j m f e h done w = some_keeps at asked x t s r j e (m.among asked refl) g f (m.given asked g refl refl) h done w

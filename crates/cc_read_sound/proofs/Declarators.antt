@@ -68,7 +68,7 @@ use Rattle.cc_sound_terms.specs.Ranges.{declr_in_range}
 use Rattle.cc_sound_terms.specs.Typing.{Knows}
 use Rattle.cc_specifiers.specs.Attributes.{attributes, entry_by}
 use Rattle.cc_specifiers.specs.Declarators.{is_unbounded, type_found}
-use Rattle.cc_specifiers.specs.Modes.{modes_found}
+use Rattle.cc_specifiers.specs.Modes.{modes_judged}
 use Rattle.cc_specifiers.specs.declared.attribute.Attribute.{Attribute}
 use Rattle.cc_specifiers.specs.declared.specifier.Specified.{Specified}
 use Rattle.cc_specifiers.specs.declared.storage.Where.{Where}
@@ -106,10 +106,10 @@ module _ (v : View) (roles : Roles) (defined : List Name) (D : List Named) where
 
     -- ---- typedefs, functions, automatic objects
 
-    typedef_keeps : (x : Name) (t : CType) (marks : List (At (List Attribute))) (s : State) (r : List Expr × State) → typedef_left v.target x t marks s ≡ Ok r → Keeps P s r.1
-    typedef_keeps x t marks s r h =
-        let a = then_found (located s (modes_found v.target marks t)) (λ t s. Ok ([], bind x (means.TypeNamed t) s)) r h in
-        let e = located_found s (modes_found v.target marks t) a.0 a.1 in
+    typedef_keeps : (at : ℕ) (x : Name) (t : CType) (marks : List (At (List Attribute))) (s : State) (r : List Expr × State) → typedef_left v.target at x t marks s ≡ Ok r → Keeps P s r.1
+    typedef_keeps at x t marks s r h =
+        let a = then_found (whole at s (modes_judged v.target marks t)) (λ t s. Ok ([], bind x (means.TypeNamed t) s)) r h in
+        let e = whole_found at s (modes_judged v.target marks t) a.0 a.1 in
         let b = answer_is [] (bind x (means.TypeNamed a.0.0) a.0.1) r a.2 in
         keeps_as s (bind x (means.TypeNamed a.0.0) s) r.1 (b.1 ∙ ap (bind x (means.TypeNamed a.0.0)) e.1) (plainly s (bind x (means.TypeNamed a.0.0) s) (all_kept s.structures) (λ i. i))
 
@@ -280,7 +280,7 @@ module _ (v : View) (roles : Roles) (defined : List Name) (D : List Named) where
 
     category_keeps : (at : ℕ) (c : Category) (x : Name) (t : CType) (marks : List (At (List Attribute))) (value : Option (At Given)) (s : State) (r : List Expr × State) → value_fits value ≡ true → IsReady c x t value s →
         declared_left v.target roles defined at c x t marks value s ≡ Ok r → Keeps P s r.1
-    category_keeps at declares.Typedef x t marks value s r f a h = typedef_keeps x t marks s r h
+    category_keeps at declares.Typedef x t marks value s r f a h = typedef_keeps at x t marks s r h
     category_keeps at (declares.Function asked) x t marks value s r f a h = function_keeps asked x t marks value s r h
     category_keeps at (declares.Linked asked) x t marks None s r f a h = none_keeps (linked_name x s) h
       where

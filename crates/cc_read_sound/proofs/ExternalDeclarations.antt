@@ -138,7 +138,7 @@ module _ (v : View) (roles : Roles) (defined : List Name) (D : List Named) where
 
   pub category_stays : (at : ℕ) (c : Category) (x : Name) (t : CType) (marks : List (At (List Attribute))) (value : Option (At Given)) (s : State) (r : List Expr × State) → Entries s → IsAllowed c x t value → value_fits value ≡ true →
       (IsOfObject c → is_complete_or_unbounded v.target s t ≡ true) → declared_left v.target roles defined at c x t marks value s ≡ Ok r → Stays (Derived v roles defined 0 value t) s r.1
-  category_stays at declares.Typedef x t marks None s r i a f o h = typedef_goes v roles defined x t marks D s r h
+  category_stays at declares.Typedef x t marks None s r i a f o h = typedef_goes v roles defined at x t marks D s r h
   category_stays at declares.Typedef x t marks (Some g) s r i a f o h = absurd (some_none g (a.typedefs refl))
   category_stays at (declares.Function asked) x t marks value s r i a f o h =
       function_stays v roles defined (Derived v roles defined 0 value t) D asked x t marks value s r (a.functions asked refl) (λ p. sig_derived v roles defined 0 (is_some value) t (a.functions asked refl) p) h

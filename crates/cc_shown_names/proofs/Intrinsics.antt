@@ -1,5 +1,5 @@
 -- The prototypes of intrinsics leave known what was known in front of them, whatever that was.
-use Rattle.std.proofs.Common.{arith, ◌≡◌, ◌⊎◌, inl, inr, ℕ, true, false, not, ◌&&◌, ◌||◌, List, [], ◌∷◌, ◌++◌, map, Some, None, Ok, refl, ap, sym, ◌∙◌, subst}
+use Rattle.std.proofs.Common.{arith, ◌≡◌, ◌⊎◌, inl, inr, ℕ, true, false, not, ◌&&◌, List, [], ◌∷◌, ◌++◌, map, Some, None, Ok, refl, ap, sym, ◌∙◌, subst}
 use Rattle.std.specs.Prelude.{if◌then◌else◌}
 use Rattle.std.specs.List.{list_all}
 use Rattle.std.specs.Option.{is_some}
@@ -210,7 +210,7 @@ module _ (p : Program) (apart : Distinct (intrinsic_names p.roles)) (defined : L
 
   judged-is : prototype_judged p.roles AsExtern name type None s ≡ Ok type
   judged-is =
-      ap (λ o. if is_some o then must (is_prototype type o && not (false || false)) rule.MainOrIntrinsic (Ok type) else function_judged AsExtern name type s) (named-intrinsic p.roles apart i)
+      ap (λ o. if is_some o then must (is_prototype type o && not false) rule.MainOrIntrinsic (Ok type) else function_judged AsExtern name type s) (named-intrinsic p.roles apart i)
       ∙ ap (λ b. must (b && true) rule.MainOrIntrinsic (Ok type)) prototype-is
 
   left-is : function_left p.target p.roles AsExtern name type [] None s ≡ Ok ([], s)

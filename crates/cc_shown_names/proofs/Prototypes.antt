@@ -1,5 +1,5 @@
 -- The prototypes of a program's functions, one behind another.
-use Rattle.std.proofs.Common.{arith, ◌≡◌, ℕ, ◌+◌, false, not, ◌&&◌, ◌||◌, List, [], ◌∷◌, ◌++◌, map, length, Option, Some, None, Ok, refl, ap, sym, ◌∙◌, subst, slice_get, append_assoc, All}
+use Rattle.std.proofs.Common.{arith, ◌≡◌, ℕ, ◌+◌, false, not, ◌&&◌, List, [], ◌∷◌, ◌++◌, map, length, Option, Some, None, Ok, refl, ap, sym, ◌∙◌, subst, slice_get, append_assoc, All}
 use Rattle.std.specs.Prelude.{if◌then◌else◌}
 use Rattle.std.specs.Option.{is_some}
 use Rattle.std.proofs.lemmas.List.{map-append, append-nil}
@@ -76,7 +76,7 @@ module _ (p : Program) (sound : IsSound p) (known : KnowsStructures p (structure
 
     judged-is : (e : Option Entry) → prototype_judged p.roles AsExtern f.name type e now ≡ Ok type
     judged-is e =
-        ap (λ o. if is_some o then must (is_prototype type o && not (false || is_some e)) rule.MainOrIntrinsic (Ok type) else function_judged AsExtern f.name type now) own
+        ap (λ o. if is_some o then must (is_prototype type o && not (is_some e)) rule.MainOrIntrinsic (Ok type) else function_judged AsExtern f.name type now) own
         ∙ ap (λ b. must b rule.MainOrIntrinsic (must (may_be_declared AsExtern f.name type now) rule.DeclaredTwice (Ok type))) (main-fits (read_numbers p) f good.form)
         ∙ ap (λ b. must b rule.DeclaredTwice (Ok type)) (may-be-new p names f.name new AsExtern type)
 

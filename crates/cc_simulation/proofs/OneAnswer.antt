@@ -12,7 +12,6 @@ use Rattle.cc_run.specs.Outcomes.{first_none}
 use Rattle.cc_simulation.specs.Asked.{Asked}
 use Rattle.cc_simulation.specs.Ends.{FilesEnd, AtProfile, AtInputs, AtArrivals, AtSources, RowsEnd, WrongInput, WrongArrival, ProgramEnds, AboveLimit, WrongRow, SourcesEnd, AreRefused, NotRun, RunEnds, ManySteps, AtFiles, AtProgram}
 use Rattle.cc_simulation.specs.Traces.{IsTrace, IsRunnable, AreRead, IsAsked}
-use Rattle.cc_status.specs.Settled.{settled_status}
 use Rattle.cc_status.specs.Statuses.{for_unread}
 use Rattle.cc_status.specs.declared.status.Status.{Status}
 use Rattle.cc_status.specs.declared.status.Status.TheVariants as status
@@ -98,11 +97,11 @@ module _ (names : List (List ℕ)) (profile : Profile) (sources : List (List ℕ
   no_sources_end p steps text s h k t (AreRefused _ r) = program_not_refused names profile sources p s h r
   no_sources_end p steps text s h k t (NotRun q _ i r) = no_end inputs arrivals p steps text s k t (ends_of p q s (same_program profile sources p q h i) r)
 
-  one_sources_end : (s t : Status) → SourcesEnd names profile sources inputs arrivals s → SourcesEnd names profile sources inputs arrivals t → settled_status s ≡ settled_status t
+  one_sources_end : (s t : Status) → SourcesEnd names profile sources inputs arrivals s → SourcesEnd names profile sources inputs arrivals t → s ≡ t
   one_sources_end s t (AreRefused _ h) (AreRefused _ k) = one_refusal names profile sources s t h k
   one_sources_end s t (AreRefused _ h) (NotRun q _ i r) = absurd (program_not_refused names profile sources q s i h)
   one_sources_end s t (NotRun p _ h r) (AreRefused _ k) = absurd (program_not_refused names profile sources p t h k)
-  one_sources_end s t (NotRun p _ h r) (NotRun q _ i o) = ap settled_status (one_program_end inputs arrivals p s t r (ends_of p q t (same_program profile sources p q h i) o))
+  one_sources_end s t (NotRun p _ h r) (NotRun q _ i o) = one_program_end inputs arrivals p s t r (ends_of p q t (same_program profile sources p q h i) o)
 
 module _ (names : List (List ℕ)) (p q : Profile) (same : SaySame p q) (sources : List (List ℕ)) (inputs arrivals : List ℕ) where
   sources_end_as : (s : Status) → SourcesEnd names q sources inputs arrivals s → SourcesEnd names p sources inputs arrivals s
@@ -126,12 +125,12 @@ module _ (files : Files) (a : Asked) where
       no_sources_end a.sources h.profile h.sources h.inputs h.arrivals h.made.read a.steps text s h.made.is_program h.made.runnable h.made.trace
       (sources_end_for h.profile q h.inputs js h.arrivals bs h.sources us s h.are_read k e)
 
-  pub one_end : (s t : Status) → RunEnds files ⊥ a s → RunEnds files ⊥ a t → settled_status s ≡ settled_status t
+  pub one_end : (s t : Status) → RunEnds files ⊥ a s → RunEnds files ⊥ a t → s ≡ t
   one_end _ _ (ManySteps h) (ManySteps k) = refl
   one_end _ t (ManySteps h) (AtFiles few _ k) = absurd (omega (arith, h, few))
   one_end _ t (ManySteps h) (AtProgram few q js bs us _ k e) = absurd (omega (arith, h, few))
   one_end s _ (AtFiles few _ h) (ManySteps k) = absurd (omega (arith, k, few))
-  one_end s t (AtFiles few _ h) (AtFiles less _ k) = ap settled_status (one_files_end files a s t h k)
+  one_end s t (AtFiles few _ h) (AtFiles less _ k) = one_files_end files a s t h k
   one_end s t (AtFiles few _ h) (AtProgram less q js bs us _ k e) = absurd (files_read files a q js bs us s k h)
   one_end s _ (AtProgram few p is os ts _ h e) (ManySteps k) = absurd (omega (arith, k, few))
   one_end s t (AtProgram few p is os ts _ h e) (AtFiles less _ k) = absurd (files_read files a p is os ts t h k)

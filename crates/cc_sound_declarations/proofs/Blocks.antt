@@ -92,7 +92,7 @@ module _ (v : View) (roles : Roles) (defined : List Name) (k : ℕ) where
 
   pub category_leaves : (at : ℕ) (c : Category) (x : Name) (t : CType) (marks : List (At (List Attribute))) (value : Option (At Given)) (D : List Named) (s : State) (r : List Expr × State) → AreDeclared k D s → IsAllowed c t value → value_fits value ≡ true →
       (IsOfObject c → is_complete_or_unbounded v.target s t ≡ true) → declared_left v.target roles defined at c x t marks value s ≡ Ok r → Leaves v defined (Derived value t) D s r.1
-  category_leaves at declares.Typedef x t marks None D s r d a f o h = typedef_leaves v roles defined x t marks D s r h
+  category_leaves at declares.Typedef x t marks None D s r d a f o h = typedef_leaves v roles defined at x t marks D s r h
   category_leaves at declares.Typedef x t marks (Some g) D s r d a f o h = absurd (some_none g (a.typedefs refl))
   category_leaves at (declares.Function asked) x t marks value D s r d a f o h =
       function_leaves v roles defined (Derived value t) D asked x t marks value s r (a.functions asked refl) (λ p. sig_derived (is_some value) t (a.functions asked refl) p) h

@@ -52,7 +52,7 @@ use Rattle.cc_sound_terms.specs.Ranges.{all_fit, declr_in_range, spec_in_range}
 use Rattle.cc_sound_terms.specs.Standing.{DerivationsStand, IsDerived}
 use Rattle.cc_specifiers.specs.Attributes.{attributes, entry_by}
 use Rattle.cc_specifiers.specs.Declarators.{declares_function, form_of, is_unbounded, type_found}
-use Rattle.cc_specifiers.specs.Modes.{modes_found}
+use Rattle.cc_specifiers.specs.Modes.{modes_judged}
 use Rattle.cc_specifiers.specs.declared.attribute.Attribute.{Attribute}
 use Rattle.cc_specifiers.specs.declared.derivation.Declarator.{Declarator}
 use Rattle.cc_specifiers.specs.declared.specifier.Specified.{Specified}
@@ -76,9 +76,9 @@ use Rattle.cc_unit.specs.declared.unit.UnitKind.TheVariants as kind
 module _ (v : View) (roles : Roles) (defined : List Name) (k : ℕ) where
   -- ---- what declares no automatic object with an initialiser gives nothing
 
-  typedef_nothing : (x : Name) (t : CType) (marks : List (At (List Attribute))) (s : State) (r : List Expr × State) → typedef_left v.target x t marks s ≡ Ok r → r.0 ≡ []
-  typedef_nothing x t marks s r h =
-      let a = then_found (located s (modes_found v.target marks t)) (λ t s. Ok ([], bind x (means.TypeNamed t) s)) r h in
+  typedef_nothing : (at : ℕ) (x : Name) (t : CType) (marks : List (At (List Attribute))) (s : State) (r : List Expr × State) → typedef_left v.target at x t marks s ≡ Ok r → r.0 ≡ []
+  typedef_nothing at x t marks s r h =
+      let a = then_found (whole at s (modes_judged v.target marks t)) (λ t s. Ok ([], bind x (means.TypeNamed t) s)) r h in
       (answer_is [] (bind x (means.TypeNamed a.0.0) a.0.1) r a.2).0
 
   refused_nothing : (value : Option (At Given)) (s : State) (r : List Expr × State) → function_refused v.target roles value s ≡ Ok r → r.0 ≡ []
@@ -123,7 +123,7 @@ module _ (v : View) (roles : Roles) (defined : List Name) (k : ℕ) where
       IsAllowed v roles defined k c t value → value_fits value ≡ true → (P → Derived v roles defined k value t) → (P → is_unbounded t ≡ true → is_complete (structures_of s) (element_type t) ≡ true) →
       (IsOfObject c → is_complete_or_unbounded v.target s t ≡ true) → declared_left v.target roles defined at c x t marks value s ≡ Ok r → Gives v defined k (Typed v defined k) P D s r
   category_gives P at declares.Typedef x t marks value D s r has a f d el o h =
-      leaves_nothing P at x t marks value D s r has f d declares.Typedef a o h (typedef_nothing x t marks s r h)
+      leaves_nothing P at x t marks value D s r has f d declares.Typedef a o h (typedef_nothing at x t marks s r h)
   category_gives P at (declares.Function asked) x t marks value D s r has a f d el o h =
       leaves_nothing P at x t marks value D s r has f d (declares.Function asked) a o h
       (function_nothing (is_intrinsic roles x) value s (with_function (entry_by marks) (declared x asked t (kind.Func None None) s)) r h)

@@ -3,7 +3,6 @@ use Rattle.std.proofs.Common.{◌≡◌, ℕ, Bool, true, false, ◌&&◌, List,
 use Rattle.std.specs.Prelude.{not, slice_get, if◌then◌else◌}
 use Rattle.std.specs.List.{list_any}
 use Rattle.std.specs.Str.{bytes_eq}
-use Rattle.cc_typed_terms.specs.Located.{located}
 use Rattle.cc_initialisers.specs.Contents.{Contents}
 use Rattle.cc_initialisers.specs.Initialisers.{here as given_here, initialised}
 use Rattle.cc_initialisers.specs.Scalars.{scalars_from}
@@ -43,11 +42,11 @@ use Rattle.cc_sound_terms.specs.Behind.{KindStands, SigStands, Extends, SameKind
 use Rattle.cc_sound_terms.specs.Knowing.{Stands, KnowsStructures}
 use Rattle.cc_sound_terms.specs.Standing.{IsDerived}
 use Rattle.cc_sound_terms.specs.Typing.{KnowsTypes}
-use Rattle.cc_sound_terms.proofs.Founds.{answer_is, then_found, whole_found, located_found}
+use Rattle.cc_sound_terms.proofs.Founds.{answer_is, then_found, whole_found}
 use Rattle.cc_sound_terms.proofs.Growth.{get_last}
 use Rattle.cc_specifiers.specs.Attributes.{entry_by}
 use Rattle.cc_specifiers.specs.Declarators.{is_unbounded}
-use Rattle.cc_specifiers.specs.Modes.{modes_found}
+use Rattle.cc_specifiers.specs.Modes.{modes_judged}
 use Rattle.cc_specifiers.specs.declared.attribute.Attribute.{Attribute}
 use Rattle.cc_syntax.specs.Kinds.{is_object_type}
 use Rattle.cc_syntax.specs.Types.{Named}
@@ -109,17 +108,17 @@ type_named_is t u h = cc
 module _ (v : View) (roles : Roles) (defined : List Name) where
   -- ---- typedefs
 
-  pub typedef_goes : (x : Name) (t : CType) (marks : List (At (List Attribute))) (D : List Named) (s : State) (r : List Expr × State) → typedef_left v.target x t marks s ≡ Ok r → DeclaresGiven v defined (IsDerived v false false t) s D r.1 D
-  typedef_goes x t marks D s r h =
-      let a = then_found (located s (modes_found v.target marks t)) (λ t s. Ok ([], bind x (means.TypeNamed t) s)) r h in
-      let e = located_found s (modes_found v.target marks t) a.0 a.1 in
+  pub typedef_goes : (at : ℕ) (x : Name) (t : CType) (marks : List (At (List Attribute))) (D : List Named) (s : State) (r : List Expr × State) → typedef_left v.target at x t marks s ≡ Ok r → DeclaresGiven v defined (IsDerived v false false t) s D r.1 D
+  typedef_goes at x t marks D s r h =
+      let a = then_found (whole at s (modes_judged v.target marks t)) (λ t s. Ok ([], bind x (means.TypeNamed t) s)) r h in
+      let e = whole_found at s (modes_judged v.target marks t) a.0 a.1 in
       let b = answer_is [] (bind x (means.TypeNamed a.0.0) a.0.1) r a.2 in
       goes_as v defined (IsDerived v false false t) D D s (bind x (means.TypeNamed a.0.0) s) r.1 (b.1 ∙ ap (bind x (means.TypeNamed a.0.0)) e.1)
       (bound v defined (IsDerived v false false t) x (means.TypeNamed a.0.0) s D
       (λ p k w q. subst (Stands v) (type_named_is a.0.0 w q) (modes_stand v marks t a.0.0 e.0 (plainly_derived v t p))) tt)
 
-  pub typedef_leaves : (x : Name) (t : CType) (marks : List (At (List Attribute))) (D : List Named) (s : State) (r : List Expr × State) → typedef_left v.target x t marks s ≡ Ok r → Leaves v defined (IsDerived v false false t) D s r.1
-  typedef_leaves x t marks D s r h = one_left v defined (IsDerived v false false t) D s r.1 (typedef_goes x t marks D s r h)
+  pub typedef_leaves : (at : ℕ) (x : Name) (t : CType) (marks : List (At (List Attribute))) (D : List Named) (s : State) (r : List Expr × State) → typedef_left v.target at x t marks s ≡ Ok r → Leaves v defined (IsDerived v false false t) D s r.1
+  typedef_leaves at x t marks D s r h = one_left v defined (IsDerived v false false t) D s r.1 (typedef_goes at x t marks D s r h)
 
   -- ---- names with linkage
 

@@ -1,11 +1,11 @@
 -- What is judged of names that are declared, and how an entry is told more of.
-use Rattle.std.proofs.Common.{◌≡◌, Bool, true, false, not, ◌&&◌, ◌||◌, Option, Ok, Err, ◌∙◌}
+use Rattle.std.proofs.Common.{◌≡◌, Bool, true, false, not, ◌&&◌, Option, Ok, Err, ◌∙◌}
 use Rattle.std.specs.Prelude.{is_some, if◌then◌else◌}
 use Rattle.cc_typed_terms.specs.Names.{new_name}
 use Rattle.cc_linkage.specs.Linkage.{may_be_declared, may_be_main}
 use Rattle.cc_linkage.specs.declared.linkage.DeclaredAs.{DeclaredAs}
 use Rattle.cc_num.specs.declared.target.Target.{Target}
-use Rattle.cc_objects.specs.Names.{is_asked_static, function_judged, is_prototype, prototype_judged, typedef_judged, object_judged, linked_judged, local_judged, name_judged}
+use Rattle.cc_objects.specs.Names.{function_judged, is_prototype, prototype_judged, typedef_judged, object_judged, linked_judged, local_judged, name_judged}
 use Rattle.cc_objects.specs.Types.{is_complete_or_unbounded}
 use Rattle.cc_objects.specs.declared.category.Category.{Category}
 use Rattle.cc_objects.specs.declared.category.Category.TheVariants as declares
@@ -54,8 +54,8 @@ module _ (target : Target) (roles : Roles) where
   prototype_is : (asked : DeclaredAs) (x : Name) (t u : CType) (entry : Option Entry) (s : State) → prototype_judged roles asked x t entry s ≡ Ok u → t ≡ u
   prototype_is asked x t u entry s h = by_name (is_intrinsic roles x) h
     where
-      by_name : (b : Bool) → (if b then must (is_prototype t (intrinsic_named roles x) && not (is_asked_static asked || is_some entry)) rule.MainOrIntrinsic (Ok t) else function_judged asked x t s) ≡ Ok u → t ≡ u
-      by_name true g = type_same t u (must_ok (is_prototype t (intrinsic_named roles x) && not (is_asked_static asked || is_some entry)) rule.MainOrIntrinsic (Ok t) u g).1
+      by_name : (b : Bool) → (if b then must (is_prototype t (intrinsic_named roles x) && not (is_some entry)) rule.MainOrIntrinsic (Ok t) else function_judged asked x t s) ≡ Ok u → t ≡ u
+      by_name true g = type_same t u (must_ok (is_prototype t (intrinsic_named roles x) && not (is_some entry)) rule.MainOrIntrinsic (Ok t) u g).1
       by_name false g = function_is asked x t u s g
 
   linked_is : (asked : DeclaredAs) (x : Name) (t u : CType) (s : State) → linked_judged target roles asked x t s ≡ Ok u → (t ≡ u) × (is_complete_or_unbounded target s t ≡ true)

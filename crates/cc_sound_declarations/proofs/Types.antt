@@ -21,12 +21,11 @@ use Rattle.cc_scopes.specs.State.{State, structures_of, layouts_of}
 use Rattle.cc_sound_terms.specs.Behind.{SigStands}
 use Rattle.cc_sound_terms.specs.Knowing.{Stands, KnowsStructures}
 use Rattle.cc_sound_terms.specs.Standing.{IsDerived, Standing, VoidPointer, Unbounded}
-use Rattle.cc_sound_terms.proofs.Founds.{then_judged, then_judged_at}
+use Rattle.cc_sound_terms.proofs.Founds.{then_judged}
 use Rattle.cc_sound_terms.proofs.TypeKinds.{sizes_known, object_stands, array_kind_is}
 use Rattle.cc_specifiers.specs.Bounds.{is_bound}
 use Rattle.cc_specifiers.specs.Declarators.{is_unbounded_shape, is_unbounded, bound_or_none}
-use Rattle.cc_specifiers.specs.Modes.{mode_type, with_mode, moded_by, moded, all_moded, modes_found}
-use Rattle.cc_specifiers.specs.Places.{judged_at}
+use Rattle.cc_specifiers.specs.Modes.{mode_type, with_mode, moded_by, moded, all_moded, modes_judged}
 use Rattle.cc_specifiers.specs.declared.attribute.Attribute.{Attribute}
 use Rattle.cc_specifiers.specs.declared.attribute.Attribute.TheVariants as attribute
 use Rattle.cc_syntax.specs.Initial.{bound_shape}
@@ -189,21 +188,11 @@ module _ (v : View) where
   all_moded_stand [] t u h k = subst (Stands v) (type_same t u h) k
   all_moded_stand (m ∷ ms) t u h k = let a = then_judged (moded v.target m t) (λ u. all_moded v.target ms u) u h in all_moded_stand ms a.0 u a.2 (moded_stands m t a.0 a.1 k)
 
-  at_judged : (at : ℕ) (j : Judged CType) (u : CType) → judged_at at j ≡ Ok u → j ≡ Ok u
-  at_judged at (Ok t) u h = ap Ok (ok_at t u h)
-    where
-      ok_at : (t u : CType) → judged_at at (Ok t) ≡ Ok u → t ≡ u
-      ok_at t u h = cc
-  at_judged at (Err broken) u h = absurd (cc)
-
-  pub modes_stand : (marks : List (At (List Attribute))) (t u : CType) → modes_found v.target marks t ≡ Ok u → Stands v t → Stands v u
-  modes_stand [] t u h k = subst (Stands v) (at_same t u h) k
-    where
-      at_same : (t u : CType) → modes_found v.target [] t ≡ Ok u → t ≡ u
-      at_same t u h = cc
+  pub modes_stand : (marks : List (At (List Attribute))) (t u : CType) → modes_judged v.target marks t ≡ Ok u → Stands v t → Stands v u
+  modes_stand [] t u h k = subst (Stands v) (type_same t u h) k
   modes_stand (ms ∷ rest) t u h k =
-      let a = then_judged_at (judged_at ms.at (all_moded v.target ms.node t)) (λ u. modes_found v.target rest u) u h in
-      modes_stand rest a.0 u a.2 (all_moded_stand ms.node t a.0 (at_judged ms.at (all_moded v.target ms.node t) a.0 a.1) k)
+      let a = then_judged (all_moded v.target ms.node t) (λ u. modes_judged v.target rest u) u h in
+      modes_stand rest a.0 u a.2 (all_moded_stand ms.node t a.0 a.1 k)
 
   -- ---- functions
 

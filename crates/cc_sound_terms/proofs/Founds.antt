@@ -4,7 +4,7 @@ use Rattle.cc_typed_terms.specs.Located.{located}
 use Rattle.cc_operands.specs.Verdicts.{Judged, judge_then}
 use Rattle.cc_scopes.specs.State.{State}
 use Rattle.cc_scopes.specs.Verdicts.{Found, whole, and_then}
-use Rattle.cc_specifiers.specs.Places.{JudgedAt, at_then}
+use Rattle.cc_specifiers.specs.Places.{JudgedAt}
 
 abbrev pub answer : {A : Type 0} → A → State → Found A
 answer x s = Ok (x, s)
@@ -27,7 +27,3 @@ located_found s (Err broken) r h = absurd (cc)
 pub then_judged : {A B : Type 0} (judged : Judged A) (next : A → Judged B) (r : B) → judge_then judged next ≡ Ok r → (x : A) × (judged ≡ Ok x) × (next x ≡ Ok r)
 then_judged (Ok x) next r h = (x, refl, h)
 then_judged (Err broken) next r h = absurd (cc)
-
-pub then_judged_at : {A B : Type 0} (judged : JudgedAt A) (next : A → JudgedAt B) (r : B) → at_then judged next ≡ Ok r → (x : A) × (judged ≡ Ok x) × (next x ≡ Ok r)
-then_judged_at (Ok x) next r h = (x, refl, h)
-then_judged_at (Err broken) next r h = absurd (cc)

@@ -10,7 +10,6 @@ use Rattle.cc_program.specs.declared.types.CType.{CType}
 use Rattle.cc_program.specs.declared.types.Shape.{Shape, Int, out-Shape}
 use Rattle.cc_program.specs.declared.types.Shape.TheOpen as shape
 use Rattle.cc_program.specs.declared.types.Sig.{Sig}
-use Rattle.cc_specifiers.specs.Places.{JudgedAt, judged_at, at_then}
 use Rattle.cc_specifiers.specs.declared.attribute.Attribute.{Attribute}
 use Rattle.cc_specifiers.specs.declared.attribute.Attribute.TheVariants as attribute
 use Rattle.cc_tree.specs.declared.at.At.{At}
@@ -47,6 +46,6 @@ all_moded target [] t = Ok t
 all_moded target (m ∷ ms) t = judge_then (moded target m t) (λ u. all_moded target ms u)
 
 -- and with all of these
-abbrev pub modes_found : Target → List (At (List Attribute)) → CType → JudgedAt CType
-modes_found target [] t = Ok t
-modes_found target (ms ∷ rest) t = at_then (judged_at ms.at (all_moded target ms.node t)) (λ u. modes_found target rest u)
+abbrev pub modes_judged : Target → List (At (List Attribute)) → CType → Judged CType
+modes_judged target [] t = Ok t
+modes_judged target (ms ∷ rest) t = judge_then (all_moded target ms.node t) (λ u. modes_judged target rest u)

@@ -26,7 +26,7 @@ pub use derivation::{
 };
 pub use derived::type_found;
 pub use fault::{BreachAt, breach_at};
-pub use mode::modes_found;
+pub use mode::modes_judged;
 pub use object::{is_object, object_size};
 pub use parameter::{adjusted, parameter_type};
 pub use specifier::{Base, Specified, Specifier, Specs, no_specifier};

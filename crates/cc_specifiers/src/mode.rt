@@ -3,11 +3,9 @@
 ghost use Rattle.std.specs.Prelude.{◌≡◌, find, nat_eq};
 ghost use Rattle.cc_num.specs.Integers.{bytes_of};
 ghost use Rattle.cc_operands.specs.Verdicts.{Judges};
-ghost use Rattle.cc_specifiers.specs.Modes.{with_bytes as with_bytes_of, mode_type as mode_type_of, moded as moded_of, all_moded as all_moded_of, modes_found as modes_found_of};
-ghost use Rattle.cc_specifiers.specs.Places.{JudgesAt};
+ghost use Rattle.cc_specifiers.specs.Modes.{with_bytes as with_bytes_of, mode_type as mode_type_of, moded as moded_of, all_moded as all_moded_of, modes_judged as modes_judged_of};
 
 use crate::attribute::Attribute;
-use crate::fault::{BreachAt, breach_at};
 use cc_num::{IntType, List, Target};
 use cc_operands::{Breach, Rule};
 use cc_syntax::{CType, Shape};
@@ -83,19 +81,16 @@ fn all_moded(target: &Target, attributes: &[Attribute], t: CType) -> Result<CTyp
 
 /// What a typedef with all of these attributes names.
 #[tactic(auto, using(crate::proofs::Lists::of_lists))]
-pub fn modes_found(
+pub fn modes_judged(
     target: &Target,
     marks: &[At<List<Attribute>>],
     t: CType,
-) -> Result<CType, BreachAt>
-    ensures { JudgesAt (λ u. u) result (modes_found_of target.now marks.now t) }
+) -> Result<CType, Breach>
+    ensures { Judges (λ u. u) result (modes_judged_of target.now marks.now t) }
 {
     let mut u = t;
     for ms in marks {
-        u = match all_moded(target, ms.node.all(), u) {
-            Ok(next) => next,
-            Err(broken) => return Err(breach_at(ms.at, broken)),
-        };
+        u = all_moded(target, ms.node.all(), u)?;
     }
     Ok(u)
 }

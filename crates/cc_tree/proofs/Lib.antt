@@ -26,6 +26,7 @@ pub mod ForLeads
 pub mod CompleteLines
 pub mod CompleteUnits
 pub mod Outcomes
+pub mod Stops
 pub mod Faults
 pub mod Firsts
 pub mod CompleteTrees

@@ -21,6 +21,7 @@ use Rattle.cc_tree.proofs.CompleteUnits.{complete}
 use Rattle.cc_tree.proofs.Ends.{through}
 use Rattle.cc_tree.proofs.Leading.{state}
 use Rattle.cc_tree.proofs.Outcomes.{parts, done-ends}
+use Rattle.cc_tree.proofs.Stops.{leads-within}
 use Rattle.cc_tree.proofs.ReachSteps.{over, whole, so_far, above, reached, Climbs, height-so_far, whole-more, whole-one_more, whole-by, depth-whole}
 use Rattle.cc_tree.proofs.ReachTrees.{expr-climbs, operand-climbs, postfix-climbs, operators-climbs}
 use Rattle.cc_tree.proofs.ReachTypes.{specifiers-climbs, structure-climbs, enumr-climbs, enumeration-climbs, declarator-climbs, suffix-climbs}
@@ -123,8 +124,8 @@ far limit ts s t r h l =
 
 -- Where turns exceed the limit, the tokens are no sentence of its height at most,
 pub exceeds-unread : (limit n : ℕ) (u : UnitTree) (a : Scope) (ts : Tokens) → Exceeds limit ts n → IsItems [] a u.items ts [] → unit_height u ≤ limit → ⊥
-exceeds-unread limit n u a ts h d k = not_deeper limit h.last h.next u a ts h.led h.turned h.high d k
+exceeds-unread limit n u a ts h d k = not_deeper limit h.last h.next u a ts (leads-within limit (start ts) h.last h.led) h.turned h.high d k
 
 -- and at least as many tokens stand before.
 pub exceeds-far : (limit n : ℕ) (ts : Tokens) → Exceeds limit ts n → limit + n ≤ length ts
-exceeds-far limit n ts h = subst (λ (x : ℕ). limit + x ≤ length ts) (sym h.ahead) (far limit ts h.last h.next h.led h.turned h.high)
+exceeds-far limit n ts h = subst (λ (x : ℕ). limit + x ≤ length ts) (sym h.ahead) (far limit ts h.last h.next (leads-within limit (start ts) h.last h.led) h.turned h.high)

@@ -117,21 +117,30 @@ pub record Reads (limit : ℕ) (ts : Tokens) (u : Tall UnitTree) : Type 0 where
   pub done : last.control ≡ control.Done u
   pub low : u.height ≤ limit
 
--- Turns lead to a state from which there is none, since what stands n tokens in front of the end cannot stand there.
+-- how high what waits and what has just been read are together
+abbrev pub whole_height : State → ℕ
+whole_height s = depth s.frames + height_of s.control
+
+-- Turns lead from one state to another, over states in which what waits and what has just been read are together no higher than this.
+pub data LeadsWithin (limit : ℕ) : State → State → Type 0 where
+  Stays : (s : State) → LeadsWithin limit s s
+  Goes : (s t u : State) → turn s ≡ Ok t → whole_height t ≤ limit → LeadsWithin limit t u → LeadsWithin limit s u
+
+-- Turns lead, within the limit, to a state from which there is none, since what stands n tokens in front of the end cannot stand there.
 pub record Refuses (limit : ℕ) (ts : Tokens) (n : ℕ) : Type 0 where
   pub last : State
-  pub led : Leads limit (start ts) last
+  pub led : LeadsWithin limit (start ts) last
   pub unfinished : is_done last.control ≡ false
   pub refused : turn last ≡ Err (stop.Wrong n)
 
--- Turns lead to a state, n tokens in front of the end, behind whose turn the nodes that wait and what has just been read
--- are together higher than the limit.
+-- Turns lead, within the limit, to a state, n tokens in front of the end, behind whose turn the nodes that wait and what has
+-- just been read are together higher than the limit.
 pub record Exceeds (limit : ℕ) (ts : Tokens) (n : ℕ) : Type 0 where
   pub last : State
-  pub led : Leads limit (start ts) last
+  pub led : LeadsWithin limit (start ts) last
   pub next : State
   pub turned : turn last ≡ Ok next
-  pub high : limit < depth next.frames + height_of next.control
+  pub high : limit < whole_height next
   pub ahead : n ≡ length last.rest
 
 -- where a fault is one of syntax, at n tokens in front of the end

@@ -2,12 +2,14 @@
 
 ghost use Rattle.std.specs.Prelude.{◌≡◌, ◌≤◌, ◌<◌, ◌+◌, ℕ, Ok, Err, length};
 ghost use Rattle.cc_tree.specs.Depth.{depth};
+ghost use Rattle.cc_tree.specs.Faults.{IsRead, HasFault};
 ghost use Rattle.cc_tree.specs.Height.{unit_height};
 ghost use Rattle.cc_tree.specs.Machine.{State, Leads, start, turn, height_of};
 ghost use Rattle.cc_tree.specs.Measure.{measure};
 ghost use Rattle.cc_tree.specs.Outside.{first_outside};
 ghost use Rattle.cc_tree.specs.Sentences.{IsSentence};
 ghost use Rattle.cc_tree.specs.Tokens.{Tokens};
+ghost use Rattle.cc_tree.specs.declared.fault.GramFault.{GramFault};
 ghost use Rattle.cc_tree.specs.declared.state.Control.TheVariants as control;
 ghost use Rattle.cc_tree.specs.declared.state.Tall.{Tall};
 ghost use Rattle.cc_tree.specs.declared.stop.Stop.{Stop};
@@ -17,6 +19,12 @@ ghost use Rattle.std.specs.Prelude.{None};
 /// Tokens are a sentence of at most one tree.
 pub fn tokens_have_one_tree()
     ensures { (ts : Tokens) (u v : UnitTree) → IsSentence ts u → IsSentence ts v → u ≡ v }
+{}
+
+/// Tokens that are refused have one fault at most, at one place, and are read as no tree.
+pub fn tokens_have_one_fault()
+    ensures one_fault { (ts : Tokens) (e f : GramFault) → HasFault ts e → HasFault ts f → e ≡ f }
+    ensures not_read { (ts : Tokens) (e : GramFault) (u : UnitTree) → HasFault ts e → IsRead ts u → ⊥ }
 {}
 
 /// For the crate that runs the machine. It comes to an end on all tokens. Where none is an outside word, what it ends with is the tree of a

@@ -11,6 +11,6 @@ mod unit;
 
 pub use at::At;
 pub use fault::GramFault;
-pub use laws::{the_machine_reads_sentences, tokens_have_one_tree};
+pub use laws::{the_machine_reads_sentences, tokens_have_one_fault, tokens_have_one_tree};
 pub use tree::{Attr, Declr, Enumr, MemberDecl, Param, Params, Spec, Tree, TypeName};
 pub use unit::{Decl, First, Given, Init, Item, Line, Unit};

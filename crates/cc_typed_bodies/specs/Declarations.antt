@@ -42,7 +42,7 @@ init_allowed i = record { unbounded = is_some i.value; void = false; unnamed = t
 module _ (target : Target) (roles : Roles) (defined : List Name) where
   -- what is left of a declarator, with what its attributes say
   abbrev pub declared_left : ℕ → Category → Name → CType → List (At (List Attribute)) → Option (At Given) → State → Found (List Expr)
-  declared_left at declares.Typedef x t marks value s = typedef_left target x t marks s
+  declared_left at declares.Typedef x t marks value s = typedef_left target at x t marks s
   declared_left at (declares.Function asked) x t marks value s = function_left target roles asked x t marks value s
   declared_left at (declares.Linked asked) x t marks value s = linked_left target roles defined at asked x t value s
   declared_left at declares.StaticLocal x t marks value s = static_left target roles at x t value s

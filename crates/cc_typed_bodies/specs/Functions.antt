@@ -1,6 +1,5 @@
 -- Typedefs and functions that are declared (C99 6.7.5.3, 6.7.7). Nothing is assigned there.
 use Rattle.std.specs.Prelude.{ℕ, List, [], Option, Some, None, Ok, if◌then◌else◌}
-use Rattle.cc_typed_terms.specs.Located.{located}
 use Rattle.cc_initialisers.specs.Initialisers.{here as given_here, refused_by}
 use Rattle.cc_linkage.specs.Linkage.{declared}
 use Rattle.cc_linkage.specs.declared.linkage.DeclaredAs.{DeclaredAs}
@@ -14,18 +13,19 @@ use Rattle.cc_program.specs.declared.types.CType.{CType}
 use Rattle.cc_objects.specs.Values.{expr_given, no_expr}
 use Rattle.cc_scopes.specs.Definitions.{with_entry}
 use Rattle.cc_scopes.specs.State.{State, Name, bind, change_name}
-use Rattle.cc_scopes.specs.Verdicts.{Found, and_then}
+use Rattle.cc_scopes.specs.Verdicts.{Found, whole, and_then}
 use Rattle.cc_scopes.specs.declared.designated.Designated.TheVariants as means
 use Rattle.cc_unit.specs.declared.unit.UnitKind.TheVariants as kind
 use Rattle.cc_specifiers.specs.Attributes.{entry_by}
-use Rattle.cc_specifiers.specs.Modes.{modes_found}
+use Rattle.cc_specifiers.specs.Modes.{modes_judged}
 use Rattle.cc_specifiers.specs.declared.attribute.Attribute.{Attribute}
 use Rattle.cc_tree.specs.declared.at.At.{At}
 use Rattle.cc_tree.specs.declared.unit.Given.{Given}
 use Rattle.cc_typed_bodies.specs.Plans.{steps_done}
 
-abbrev pub typedef_left : Target → Name → CType → List (At (List Attribute)) → State → Found (List Expr)
-typedef_left target x t marks s = and_then (located s (modes_found target marks t)) (λ t s. Ok ([], bind x (means.TypeNamed t) s))
+-- a mode that does not fit the type is at fault at the declarator
+abbrev pub typedef_left : Target → ℕ → Name → CType → List (At (List Attribute)) → State → Found (List Expr)
+typedef_left target at x t marks s = and_then (whole at s (modes_judged target marks t)) (λ t s. Ok ([], bind x (means.TypeNamed t) s))
 
 -- a function that is declared with this number, whose attributes make it such a handler, if any
 abbrev pub with_function : Option Entry → ℕ × State → State

@@ -52,7 +52,7 @@ fn declared_left(
     ensures { Gives (λ es. es) result (state_of state.new) (declared_left_of target.now roles.now defined.now at category x.now t marks.now (option_copied value.entry) (state_of state.old)) }
 {
     match category {
-        Category::Typedef => typedef_left(x, t, marks, alloc, target, state),
+        Category::Typedef => typedef_left(at, x, t, marks, alloc, target, state),
         Category::Function(asked) => {
             function_left(asked, x, t, marks, value, alloc, target, roles, state)
         }

@@ -12,16 +12,17 @@ use crate::plans::exprs;
 use cc_initialisers::refused;
 use cc_linkage::{DeclaredAs, declare_linked};
 use cc_num::{List, Name, NoMemory, Target};
-use cc_scopes::{Designated, State, Stop, UnitKind};
-use cc_specifiers::{Attribute, entry_by, modes_found};
+use cc_scopes::{Designated, State, Stop, UnitKind, placed};
+use cc_specifiers::{Attribute, entry_by, modes_judged};
 use cc_syntax::{CType, Expr, Roles};
 use cc_tree::{At, Given};
-use cc_typed_terms::{is_intrinsic, located};
+use cc_typed_terms::is_intrinsic;
 use std::alloc::Global;
 
-/// A typedef name.
-#[tactic(auto, using(cc_typed_terms::proofs::Placed::of_placed))]
+/// A typedef name. A mode that does not fit the type is at fault at the declarator.
+#[tactic(auto, using(cc_scopes::proofs::Outcomes::of_outcomes))]
 pub fn typedef_left(
+    at: u32,
     x: &Name,
     t: CType,
     marks: &[At<List<Attribute>>],
@@ -29,9 +30,9 @@ pub fn typedef_left(
     target: &Target,
     state: &mut State,
 ) -> Result<List<Expr>, Stop>
-    ensures { Gives (λ es. es) result (state_of state.new) (typedef_left_of target.now x.now t marks.now (state_of state.old)) }
+    ensures { Gives (λ es. es) result (state_of state.new) (typedef_left_of target.now at x.now t marks.now (state_of state.old)) }
 {
-    let t = located(modes_found(target, marks, t))?;
+    let t = placed(at, modes_judged(target, marks, t))?;
     state.bind(alloc, x.all(), Designated::TypeNamed(t))?;
     Ok(List::of(Vec::new(alloc)))
 }
