@@ -57,7 +57,10 @@ fn write_ops<D: IntDomain>(
     let t = type_of(t)?;
     let a: D = set_of(alloc, a)?;
     let b: D = set_of(alloc, b)?;
-    if is_promoted(t, target) && lies_in(&a, t, target) && is_second(op, &b, t, target) {
+    if is_promoted(t, target)
+        && lies_in(alloc, &a, t, target)
+        && is_second(alloc, op, &b, t, target)
+    {
         page.show(room_of_ops(op, &a, &b, t, target, times));
         Some(())
     } else {

@@ -36,27 +36,34 @@ fn is_below<D: IntDomain>(a: &D, b: &D) -> bool
 }
 
 /// Whether all members of a set are values of a type.
-pub fn lies_in<D: IntDomain>(set: &D, t: IntType, target: &Target) -> bool
+pub fn lies_in<D: IntDomain>(alloc: Global, set: &D, t: IntType, target: &Target) -> bool
     ensures { IsTrue result → (v : ℤ) → D.Has set.now v → IsValueOf t target.now v }
 {
-    is_below(set, &D::whole(t, target))
+    is_below(set, &D::whole(alloc, t, target))
 }
 
 /// Whether all members of a set are values of some integer type.
-fn lies_in_some<D: IntDomain>(set: &D, target: &Target) -> bool
+fn lies_in_some<D: IntDomain>(alloc: Global, set: &D, target: &Target) -> bool
     ensures { IsTrue result → (v : ℤ) → D.Has set.now v → IsIntValue v }
 {
     cc_lattice::laws();
-    lies_in(set, IntType::LongLong, target) || lies_in(set, IntType::ULongLong, target)
+    lies_in(alloc, set, IntType::LongLong, target)
+        || lies_in(alloc, set, IntType::ULongLong, target)
 }
 
 /// Whether a set may be the second operand of an operator in a type.
-pub fn is_second<D: IntDomain>(op: BinOp, set: &D, t: IntType, target: &Target) -> bool
+pub fn is_second<D: IntDomain>(
+    alloc: Global,
+    op: BinOp,
+    set: &D,
+    t: IntType,
+    target: &Target,
+) -> bool
     ensures { IsTrue result → (v : ℤ) → D.Has set.now v → IsSecond (is_shift op) t target.now v }
 {
     match op {
-        BinOp::Shl | BinOp::Shr => lies_in_some(set, target),
-        _ => lies_in(set, t, target),
+        BinOp::Shl | BinOp::Shr => lies_in_some(alloc, set, target),
+        _ => lies_in(alloc, set, t, target),
     }
 }
 
@@ -84,7 +91,10 @@ fn write_op<D: IntDomain>(
     let t = type_of(t)?;
     let a: D = set_of(alloc, a)?;
     let b: D = set_of(alloc, b)?;
-    if is_promoted(t, target) && lies_in(&a, t, target) && is_second(op, &b, t, target) {
+    if is_promoted(t, target)
+        && lies_in(alloc, &a, t, target)
+        && is_second(alloc, op, &b, t, target)
+    {
         write_set(page, &D::op(op, &a, &b, t, target));
         Some(())
     } else {
@@ -103,7 +113,7 @@ fn write_op_one<D: IntDomain>(
     let (a, t) = split(operand);
     let t = type_of(t)?;
     let a: D = set_of(alloc, a)?;
-    if is_promoted(t, target) && lies_in(&a, t, target) {
+    if is_promoted(t, target) && lies_in(alloc, &a, t, target) {
         write_set(page, &D::op_one(op, &a, t, target));
         Some(())
     } else {
@@ -137,8 +147,8 @@ fn write_call<D: IntDomain>(
     }
     match call {
         "keep" => write_keep::<D>(alloc, page, rest),
-        "one" => Some(write_set::<D>(page, &one_in(rest)?)),
-        "whole" => Some(write_set(page, &D::whole(type_of(rest)?, target))),
+        "one" => Some(write_set::<D>(page, &one_in(alloc, rest)?)),
+        "whole" => Some(write_set(page, &D::whole(alloc, type_of(rest)?, target))),
         _ => {
             let (set, rest) = split(rest);
             write_of_set::<D>(alloc, page, target, call, &set_of(alloc, set)?, rest)

@@ -11,17 +11,17 @@ use std::alloc::Global;
 const MANY: u8 = 65;
 
 /// The set of a number, where it is a value of an integer type.
-fn one_of<D: IntDomain>(v: i128) -> Option<D> {
+fn one_of<D: IntDomain>(alloc: Global, v: i128) -> Option<D> {
     if -(2i128.pow(63)) <= v && v < 2i128.pow(64) {
-        Some(D::one(v))
+        Some(D::one(alloc, v))
     } else {
         None
     }
 }
 
 /// The set of the number that a word writes, where it is a value of an integer type.
-pub fn one_in<D: IntDomain>(word: &str) -> Option<D> {
-    one_of(word.parse::<i128>().ok()?)
+pub fn one_in<D: IntDomain>(alloc: Global, word: &str) -> Option<D> {
+    one_of(alloc, word.parse::<i128>().ok()?)
 }
 
 /// The least set with the members of both.
@@ -31,20 +31,20 @@ pub fn join<D: IntDomain>(alloc: Global, a: &D, b: &D) -> Option<D> {
 
 /// The least set that has the numbers of a text, with commas between them.
 fn listed<D: IntDomain>(alloc: Global, numbers: &str) -> Option<D> {
-    let mut set = D::none();
+    let mut set = D::none(alloc);
     for word in numbers.split(',') {
-        set = join(alloc, &set, &one_in(word)?)?;
+        set = join(alloc, &set, &one_in(alloc, word)?)?;
     }
     Some(set)
 }
 
 /// The least set that has all numbers from `low` to `high`.
 fn all_between<D: IntDomain>(alloc: Global, low: i128, high: i128) -> Option<D> {
-    let mut set = join(alloc, &one_of(low)?, &one_of(high)?)?;
+    let mut set = join(alloc, &one_of(alloc, low)?, &one_of(alloc, high)?)?;
     for k in 1..MANY {
         let v = low.saturating_add(i128::from(k));
         if v < high {
-            set = join(alloc, &set, &one_of(v)?)?;
+            set = join(alloc, &set, &one_of(alloc, v)?)?;
         }
     }
     Some(set)
@@ -53,7 +53,7 @@ fn all_between<D: IntDomain>(alloc: Global, low: i128, high: i128) -> Option<D> 
 /// The set that a word writes.
 pub fn set_of<D: IntDomain>(alloc: Global, word: &str) -> Option<D> {
     if word == "none" {
-        return Some(D::none());
+        return Some(D::none(alloc));
     }
     match word.split_once("..") {
         Some((low, high)) => all_between(

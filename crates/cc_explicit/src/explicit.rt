@@ -4,7 +4,8 @@ ghost use Rattle.cc_lattice.specs.Domains.{Ascends};
 ghost use Rattle.cc_explicit.specs.Sets.{most_members, IsInReach, AreInReach, list_ends};
 
 use crate::search::search;
-use arrayvec::ArrayVec;
+use smallvec::SmallVec;
+use std::alloc::Global;
 
 /// The most members of an explicit set.
 pub const MOST_MEMBERS: usize = 64;
@@ -12,7 +13,8 @@ pub const MOST_MEMBERS: usize = 64;
 /// A set of at most `MOST_MEMBERS` numbers, in ascending order. Each has at most 65 bits in two's complement.
 #[derive(Drop)]
 pub struct Explicit {
-    pub items: ArrayVec<i128, MOST_MEMBERS>,
+    pub items: SmallVec<i128, MOST_MEMBERS>,
+    pub ghost inline: { items.capacity ≡ most_members },
     pub ghost ascending: { Ascends items.items },
     pub ghost few: { length items.items ≤ most_members },
     pub ghost reach: { AreInReach items.items },
@@ -20,12 +22,17 @@ pub struct Explicit {
 
 impl Explicit {
     /// The empty set.
-    pub fn none() -> Explicit
+    pub fn none(alloc: Global) -> Explicit
         ensures { result.items.items ≡ [] }
     {
         Explicit {
-            items: ArrayVec::new(),
+            items: SmallVec::new(alloc),
         }
+    }
+
+    /// The allocator, of which the set takes no memory.
+    pub fn allocator(&self) -> Global {
+        *self.items.allocator()
     }
 
     /// The members, ascending.
@@ -76,11 +83,8 @@ impl Explicit {
     {
         match search(self.items.as_slice(), v) {
             Ok(_) => true,
-            Err(_) if self.items.is_full() => false,
-            Err(at) => {
-                self.items.insert(at, v);
-                true
-            }
+            Err(_) if self.items.len() == MOST_MEMBERS => false,
+            Err(at) => self.items.insert(at, v).is_ok(),
         }
     }
 }

@@ -11,6 +11,7 @@ ghost use Rattle.cc_lattice.specs.Domains.{IsIntValue, AreOperands, AreOperandsO
 
 use crate::Lattice;
 use cc_num::{BinOp, IntType, Target, UnOp};
+use std::alloc::Global;
 
 /// Sets of numbers.
 pub trait Concrete {
@@ -27,6 +28,8 @@ pub trait Concrete {
 /// All values are of one kind. A value may have more members than the results that it stands for,
 /// never fewer. An operator's operands are of its type, which is promoted; a shift's count may be of
 /// any type.
+///
+/// A domain may keep an allocator in its values, so the calls that make a value of none take one. No call can fail.
 pub trait IntDomain: Lattice + Concrete {
     /// `OpGives op a b t c r`: `op` of a and b gives r.
     ghost OpGives: { BinOp → Self → Self → IntType → Target → Self → Type 0 };
@@ -50,18 +53,18 @@ pub trait IntDomain: Lattice + Concrete {
     ghost room_of: { Self → ℕ };
 
     /// The empty set.
-    fn none() -> Self
+    fn none(alloc: Global) -> Self
         ensures empty { (v : ℤ) → Self.Has result v → ⊥ }
         ensures least { (x : Self) → Self.IsBelow result x };
 
     /// The set of one number.
-    fn one(v: i128) -> Self
+    fn one(alloc: Global, v: i128) -> Self
         requires { IsIntValue v }
         ensures has { (w : ℤ) → Self.Has result w ↔ w ≡ v }
         ensures least { (x : Self) → Self.Has x v → Self.IsBelow result x };
 
     /// The set of all values of a type.
-    fn whole(t: IntType, target: &Target) -> Self
+    fn whole(alloc: Global, t: IntType, target: &Target) -> Self
         ensures { (v : ℤ) → Self.Has result v ↔ IsValueOf t target.now v };
 
     /// The results of `v op w`, of members v and w, in the type t.

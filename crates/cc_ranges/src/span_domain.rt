@@ -77,15 +77,15 @@ impl IntDomain for Span {
 
     ghost room_of = { room_of_span };
 
-    fn none() -> Span {
+    fn none(_alloc: Global) -> Span {
         Span::Empty
     }
 
-    fn one(v: i128) -> Span {
+    fn one(_alloc: Global, v: i128) -> Span {
         Span::Between(Interval { low: v, high: v })
     }
 
-    fn whole(t: IntType, target: &Target) -> Span {
+    fn whole(_alloc: Global, t: IntType, target: &Target) -> Span {
         whole(t, target)
     }
 

@@ -1,14 +1,28 @@
 -- The rows of a text, as they are read one after another. Each takes a byte at least, so they are no more than its bytes.
-use Rattle.std.proofs.Common.{◌≡◌, ◌<◌, ◌≤◌, ◌+◌, ℕ, zero, suc, Bool, true, false, List, [], ◌∷◌, ◌++◌, length, refl, ap, map, Some, None, arith, subst}
+use Rattle.std.proofs.Common.{◌≡◌, ◌<◌, ◌≤◌, ◌+◌, ℕ, zero, suc, Bool, true, false, true≢false, List, [], ◌∷◌, ◌++◌, length, refl, sym, ◌∙◌, ap, map, Option, Some, None, arith, subst}
 use Rattle.std.specs.Prelude.{◌==◌, ◌&&◌, ◌||◌, if◌then◌else◌}
 use Rattle.std.proofs.lemmas.List.{length-map}
 use Rattle.csv.specs.Machine.{Read, next_record, step, in_field, start_field, start_record, ends_at_end, is_end, fields_after, field_after}
-use Rattle.csv.specs.Reading.{AreRecords, Reached, default_config, records_from, strip_bom}
+use Rattle.csv.specs.Reading.{AreRecords, ExplainsRead, Reached, default_config, is_flexible, records_from, stops_reader, strip_bom}
+use Rattle.csv.specs.declared.error.ErrorKind.{ErrorKind}
+use Rattle.csv.specs.declared.error.ErrorKind.TheVariants as kind
+use Rattle.csv.specs.declared.reader.Reader.{Reader}
 use Rattle.csv.specs.declared.parser.Action.{Action}
 use Rattle.csv.specs.declared.parser.Action.TheVariants as act
 use Rattle.csv.specs.declared.parser.State.{State}
 use Rattle.csv.specs.declared.parser.State.TheVariants as st
 use Rattle.cc_rows.specs.Rows.{Row, rows_of}
+
+-- ---- what ends a reading
+
+-- a reader of bytes that takes rows of any length is ended by its source or by memory alone
+pub only-stopped : {R : Type 0} (rem : R → Option (List ℕ)) (a b : Reader R) (k : ErrorKind) → is_flexible a ≡ true → ExplainsRead rem a b false k → stops_reader k ≡ true
+only-stopped rem a b (kind.Io e) f h = refl
+only-stopped rem a b kind.OutOfMemory f h = refl
+only-stopped rem a b (kind.UnequalLengths at expected len) f h = absurd (true≢false (sym f ∙ h.0))
+only-stopped rem a b (kind.Utf8 at err) f h = absurd (true≢false (sym h.0))
+only-stopped rem a b (kind.Serialize why) f h = absurd h
+only-stopped rem a b (kind.Deserialize at err) f h = absurd h
 
 -- ---- all records
 

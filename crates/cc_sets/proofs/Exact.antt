@@ -1,5 +1,6 @@
 -- Some hulls, worked out.
 use Rattle.std.proofs.Common.{◌≡◌, ◌⊎◌, ◌∙◌, ℕ, ◌-◌, ◌<◌, ◌*◌, ap₂, pow_mono, pow_pos, ◌^◌, ◌≤◌, Bool, true, false, ℤ, pos, ◌≤ℤ◌, List, [], ◌∷◌, Option, Some, None, refl, sym, ap, subst, inl, inr, ⊎_elim, arith}
+use Rattle.std.specs.Global.{Global}
 use Rattle.std.specs.List.{Contains}
 use Rattle.std.specs.Int.Signed.{≤ℤ_refl}
 use Rattle.std.proofs.lemmas.Int.{ints}
@@ -12,7 +13,7 @@ use Rattle.cc_num.specs.Results.{result_of}
 use Rattle.cc_num.proofs.Conversions.{int_bytes_is}
 use Rattle.cc_num.proofs.ResultLaws.{least_low, represented_same}
 use Rattle.cc_lattice.specs.Domains.{passes}
-use Rattle.cc_explicit.specs.Sets.{IsInReach}
+use Rattle.cc_explicit.specs.Sets.{most_members, IsInReach}
 use Rattle.cc_explicit.specs.declared.explicit.Explicit.{Explicit}
 use Rattle.cc_explicit.proofs.Lists.{In, in_list, in_contains, rises, ascends, no_longer}
 use Rattle.cc_sets.specs.declared.range.Range.{Range}
@@ -36,7 +37,8 @@ hull_is P r s p to back = ap vals_members (sets_same r (Few s) (p.least (Few s) 
 
 alone : (n : ℕ) → n ≤ 100 → Explicit
 alone n l = record {
-  items = record { items = pos n ∷ [] };
+  items = record { items = pos n ∷ []; capacity = most_members };
+  inline = refl;
   ascending = ascends (pos n ∷ []) ((λ v t. absurd t), tt);
   few = omega arith;
   reach = λ v h. ⊎_elim (λ (e : pos n ≡ v). subst IsInReach e (record { least = omega (arith, ints); most = omega (arith, ints) })) (λ (t : In v []). absurd t) (in_list (pos n ∷ []) v h);
@@ -132,8 +134,8 @@ kept_of_two a b r e f p =
 
 -- the numbers from 0 to 63, and 80, are more than 64
 
-abbrev seven : Range
-seven = record { signed = false; bits = 7; many = omega arith; few = omega arith }
+abbrev seven : Global → Range
+seven alloc = record { signed = false; bits = 7; alloc = alloc; many = omega arith; few = omega arith }
 
 high_seven : (s : Bool) (b : ℕ) → pos 0 ≤ℤ least_of_bits s b → pos 80 ≤ℤ most_of_bits s b → most_of_bits s b ≤ℤ pos 127 → (least_of_bits s b ≡ pos 0) × (most_of_bits s b ≡ pos 127)
 high_seven true b h k l = let some = pow_pos (b - 1) in absurd (omega (arith, ints))
@@ -155,7 +157,7 @@ joined_range s q (Few t) e f p =
     (more.3 v h))) in
     absurd (omega (arith, n, m, few, l))
 joined_range s q (Many t) e f p =
-    let below = p.least (Many seven) (λ v h. ⊎_elim
+    let below = p.least (Many (seven t.alloc)) (λ v h. ⊎_elim
     (λ (k : Contains s.items.items v). let b = run_between (pos 0) 64 v (in_list (numbers_from (pos 0) 64) v (subst (λ (ys : List ℤ). Contains ys v) e k)) in let b0 = b.0 in let b1 = b.1 in (b0, omega (arith, ints)))
     (λ (k : Contains q.items.items v). let g = only 80 v q.items.items f k in (omega (arith, ints), omega (arith, ints)))
     h) in

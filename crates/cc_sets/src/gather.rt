@@ -12,14 +12,15 @@ use crate::gathered::{Gathered, Spread};
 use crate::{Range, Vals};
 use cc_explicit::Explicit;
 use cc_num::bits_for;
+use std::alloc::Global;
 
 impl Gathered {
     /// No number.
-    pub(crate) fn nothing() -> Gathered
+    pub(crate) fn nothing(alloc: Global) -> Gathered
         ensures { (x : Set) → Holds x result }
     {
         Gathered {
-            members: Explicit::none(),
+            members: Explicit::none(alloc),
             spread: None,
         }
     }
@@ -111,7 +112,7 @@ impl Gathered {
         ensures least { (x : Set) → Holds x self → ValsBelow result x }
     {
         match self.spread {
-            Some(spread) => Vals::Many(range(spread)),
+            Some(spread) => Vals::Many(range(self.members.allocator(), spread)),
             None => Vals::Few(self.members),
         }
     }
@@ -157,29 +158,30 @@ fn overflow(members: &Explicit, v: i128) -> Spread
 }
 
 /// The least range that has two ends.
-pub(crate) fn range(spread: Spread) -> Range
+pub(crate) fn range(alloc: Global, spread: Spread) -> Range
     ensures { AreLeastBits spread.low spread.high result.signed result.bits }
 {
     if spread.low >= 0 {
-        unsigned(spread)
+        unsigned(alloc, spread)
     } else {
-        signed(spread)
+        signed(alloc, spread)
     }
 }
 
 /// The least range without a sign.
-fn unsigned(spread: Spread) -> Range
+fn unsigned(alloc: Global, spread: Spread) -> Range
     requires { pos 0 ≤ℤ spread.low }
     ensures { AreLeastBits spread.low spread.high result.signed result.bits }
 {
     Range {
         signed: false,
         bits: bits_for(spread.high as u128 + 1),
+        alloc,
     }
 }
 
 /// The least range with a sign.
-fn signed(spread: Spread) -> Range
+fn signed(alloc: Global, spread: Spread) -> Range
     requires { spread.low <ℤ pos 0 }
     ensures { AreLeastBits spread.low spread.high result.signed result.bits }
 {
@@ -188,6 +190,7 @@ fn signed(spread: Spread) -> Range
     Range {
         signed: true,
         bits: 1 + below.max(above),
+        alloc,
     }
 }
 

@@ -12,6 +12,7 @@ use crate::Vals;
 use crate::gathered::{Gathered, Spread};
 use cc_explicit::{Explicit, MOST_MEMBERS};
 use cc_num::{BinOp, IntType, Target, UnOp, apply, apply_one, convert};
+use std::alloc::Global;
 
 impl Gathered {
     /// Adds the results of `v op w`, of all w of a list.
@@ -94,36 +95,36 @@ impl Gathered {
 }
 
 /// The least set that has all numbers from `low` to `high`, of which there are none where `high` is less.
-pub(crate) fn hull_between(low: i128, high: i128) -> Vals
+pub(crate) fn hull_between(alloc: Global, low: i128, high: i128) -> Vals
     requires least { neg_ℤ (pos (2 ^ 64)) ≤ℤ low }
     requires most { high <ℤ pos (2 ^ 64) }
     ensures { IsHull (EndsHave (between low high)) result }
 {
     if high < low {
-        Gathered::nothing().hull()
+        Gathered::nothing(alloc).hull()
     } else if high - low < MOST_MEMBERS as i128 {
-        hull_of_run(low, (high - low) as u32 + 1)
+        hull_of_run(alloc, low, (high - low) as u32 + 1)
     } else {
-        hull_of_spread(Spread { low, high })
+        hull_of_spread(alloc, Spread { low, high })
     }
 }
 
 /// The hull of a few numbers one after another.
-fn hull_of_run(low: i128, count: u32) -> Vals
+fn hull_of_run(alloc: Global, low: i128, count: u32) -> Vals
     requires reach { IsInReach low }
     requires few { (low +ℤ pos count) ≤ℤ pos (2 ^ 64) }
     ensures { IsHull (λ z. (low ≤ℤ z) × (z <ℤ (low +ℤ pos count))) result }
 {
-    let mut gathered = Gathered::nothing();
+    let mut gathered = Gathered::nothing(alloc);
     gathered.add_run(low, count);
     gathered.hull()
 }
 
 /// The hull of all between two ends that lie far apart.
-fn hull_of_spread(spread: Spread) -> Vals
+fn hull_of_spread(alloc: Global, spread: Spread) -> Vals
     ensures { IsHull (EndsHave (Some (spread.low, spread.high))) result }
 {
-    let mut gathered = Gathered::nothing();
+    let mut gathered = Gathered::nothing(alloc);
     gathered.add_spread(spread);
     gathered.hull()
 }
@@ -135,7 +136,7 @@ pub(crate) fn image(op: BinOp, a: &Explicit, b: &Explicit, t: IntType, target: &
     requires second { (w : ℤ) → Contains b.now.items.items w → is_shift op ≡ false → IsValueOf t target.now w }
     ensures { IsHull (λ z. (v : ℤ) × (w : ℤ) × Contains a.now.items.items v × Contains b.now.items.items w × (result_of op v w t target.now ≡ Some z)) result }
 {
-    let mut gathered = Gathered::nothing();
+    let mut gathered = Gathered::nothing(a.allocator());
     gathered.add_image(op, a.members(), b.members(), t, target);
     gathered.hull()
 }
@@ -146,7 +147,7 @@ pub(crate) fn image_of_one(op: UnOp, a: &Explicit, t: IntType, target: &Target) 
     requires first { (v : ℤ) → Contains a.now.items.items v → IsValueOf t target.now v }
     ensures { IsHull (λ z. (v : ℤ) × Contains a.now.items.items v × (unary_result_of op v t target.now ≡ Some z)) result }
 {
-    let mut gathered = Gathered::nothing();
+    let mut gathered = Gathered::nothing(a.allocator());
     gathered.add_image_of_one(op, a.members(), t, target);
     gathered.hull()
 }
@@ -155,7 +156,7 @@ pub(crate) fn image_of_one(op: UnOp, a: &Explicit, t: IntType, target: &Target) 
 pub(crate) fn convert_few(a: &Explicit, t: IntType, target: &Target) -> Vals
     ensures { IsHull (λ z. (v : ℤ) × Contains a.now.items.items v × (converted v t target.now ≡ z)) result }
 {
-    let mut gathered = Gathered::nothing();
+    let mut gathered = Gathered::nothing(a.allocator());
     gathered.add_converted(a.members(), t, target);
     gathered.hull()
 }

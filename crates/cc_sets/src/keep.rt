@@ -15,8 +15,17 @@ use crate::image::hull_between;
 use crate::{Range, Vals};
 use cc_explicit::Explicit;
 use cc_num::BinOp;
+use std::alloc::Global;
 
 impl Vals {
+    /// The allocator that the set keeps.
+    pub(crate) fn allocator(&self) -> Global {
+        match self {
+            Vals::Few(few) => few.allocator(),
+            Vals::Many(range) => range.alloc,
+        }
+    }
+
     /// The least and the greatest member.
     pub(crate) fn ends(&self) -> Option<(i128, i128)>
         ensures { result ≡ vals_ends self.now }
@@ -70,33 +79,33 @@ impl Gathered {
 }
 
 /// The hull of the part of a range that can pass a comparison with a number between two ends.
-pub(crate) fn keep_between(test: BinOp, range: Spread, low: i128, high: i128) -> Vals
+pub(crate) fn keep_between(alloc: Global, test: BinOp, range: Spread, low: i128, high: i128) -> Vals
     requires comparison { is_comparison test ≡ true }
     requires low { IsInReach low }
     requires high { IsInReach high }
     ensures { IsHull (EndsHave (keep_rule test range.low range.high low high)) result }
 {
     match test {
-        BinOp::Lt => hull_between(range.low, range.high.min(high - 1)),
-        BinOp::Le => hull_between(range.low, range.high.min(high)),
-        BinOp::Gt => hull_between(range.low.max(low + 1), range.high),
-        BinOp::Ge => hull_between(range.low.max(low), range.high),
-        BinOp::Eq => hull_between(range.low.max(low), range.high.min(high)),
-        _ if low == high => without(range, low),
-        _ => hull_between(range.low, range.high),
+        BinOp::Lt => hull_between(alloc, range.low, range.high.min(high - 1)),
+        BinOp::Le => hull_between(alloc, range.low, range.high.min(high)),
+        BinOp::Gt => hull_between(alloc, range.low.max(low + 1), range.high),
+        BinOp::Ge => hull_between(alloc, range.low.max(low), range.high),
+        BinOp::Eq => hull_between(alloc, range.low.max(low), range.high.min(high)),
+        _ if low == high => without(alloc, range, low),
+        _ => hull_between(alloc, range.low, range.high),
     }
 }
 
 /// The hull of a range without a number that stands at an end.
-fn without(range: Spread, v: i128) -> Vals
+fn without(alloc: Global, range: Spread, v: i128) -> Vals
     ensures { IsHull (EndsHave (without range.low range.high v)) result }
 {
     if range.low == v {
-        hull_between(range.low + 1, range.high)
+        hull_between(alloc, range.low + 1, range.high)
     } else if range.high == v {
-        hull_between(range.low, range.high - 1)
+        hull_between(alloc, range.low, range.high - 1)
     } else {
-        hull_between(range.low, range.high)
+        hull_between(alloc, range.low, range.high)
     }
 }
 
@@ -105,7 +114,7 @@ pub(crate) fn keep_few(test: BinOp, a: &Explicit, other: &Vals) -> Vals
     requires { is_comparison test ≡ true }
     ensures { IsHull (λ v. Contains a.now.items.items v × PassesSome test v other.now) result }
 {
-    let mut gathered = Gathered::nothing();
+    let mut gathered = Gathered::nothing(a.allocator());
     gathered.add_passing(test, a.members(), other);
     gathered.hull()
 }
@@ -116,7 +125,7 @@ pub(crate) fn keep_range(test: BinOp, a: &Range, other: &Vals) -> Vals
     ensures { IsHull (EndsHave (keep_ends test (Some (low_of a.now, high_of a.now)) (vals_ends other.now))) result }
 {
     match other.ends() {
-        Some((low, high)) => keep_between(test, spread_of(a), low, high),
-        None => Gathered::nothing().hull(),
+        Some((low, high)) => keep_between(a.alloc, test, spread_of(a), low, high),
+        None => Gathered::nothing(a.alloc).hull(),
     }
 }

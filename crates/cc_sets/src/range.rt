@@ -2,12 +2,16 @@ ghost use Rattle.std.specs.Prelude.{◌≤◌, ◌<◌, ◌^◌};
 ghost use Rattle.cc_explicit.specs.Sets.{most_members};
 ghost use Rattle.cc_sets.specs.Ranges.{most_bits};
 
+use std::alloc::Global;
+
 /// All numbers of some bits: from 0 to 2^bits - 1, or with a sign in two's complement, from
-/// -2^(bits-1) to 2^(bits-1) - 1. There are more of them than an explicit set may have members.
+/// -2^(bits-1) to 2^(bits-1) - 1. There are more of them than an explicit set may have members. The
+/// allocator is kept for explicit sets that are made of the range.
 #[derive(Clone, Copy)]
 pub struct Range {
     pub signed: bool,
     pub bits: u32,
+    pub alloc: Global,
     pub ghost many: { most_members < 2 ^ bits },
     pub ghost few: { bits ≤ most_bits signed },
 }

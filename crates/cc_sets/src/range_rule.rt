@@ -13,26 +13,27 @@ use crate::{Range, Vals};
 use cc_lattice::IntDomain;
 use cc_num::{BinOp, IntType, Target, UnOp};
 use cc_ranges::{Interval, Span};
+use std::alloc::Global;
 
 /// The hull of an interval.
-fn hull_of_span(span: &Span) -> Vals
+fn hull_of_span(alloc: Global, span: &Span) -> Vals
     ensures { IsHull (EndsHave (ends_of span.now)) result }
 {
     match span {
-        Span::Empty => Gathered::nothing().hull(),
-        Span::Between(interval) => hull_between(interval.low, interval.high),
+        Span::Empty => Gathered::nothing(alloc).hull(),
+        Span::Between(interval) => hull_between(alloc, interval.low, interval.high),
     }
 }
 
 /// The hull of what the rule of the operator gives.
-fn rule(op: BinOp, a: Interval, b: Interval, t: IntType, target: &Target) -> Vals
+fn rule(alloc: Global, op: BinOp, a: Interval, b: Interval, t: IntType, target: &Target) -> Vals
     requires promotion { promoted t target.now ≡ t }
     requires first { LieIn a.low a.high t target.now }
     requires second { is_shift op ≡ false → LieIn b.low b.high t target.now }
     ensures { IsHull (EndsHave (rule_of op a.low a.high b.low b.high t target.now)) result }
 {
     let span = Span::op(op, &Span::Between(a), &Span::Between(b), t, target);
-    hull_of_span(&span)
+    hull_of_span(alloc, &span)
 }
 
 /// The hull of what the rule of the operator gives, of two sets.
@@ -40,13 +41,14 @@ pub(crate) fn op_range(op: BinOp, a: &Vals, b: &Vals, t: IntType, target: &Targe
     requires { AreOperands ValsHas op a.now b.now t target.now }
     ensures { IsHull (EndsHave (op_ends op (vals_ends a.now) (vals_ends b.now) t target.now)) result }
 {
+    let alloc = a.allocator();
     match (a.ends(), b.ends()) {
         (Some((la, ha)), Some((lb, hb))) => {
             let a = Interval { low: la, high: ha };
             let b = Interval { low: lb, high: hb };
-            rule(op, a, b, t, target)
+            rule(alloc, op, a, b, t, target)
         }
-        _ => Gathered::nothing().hull(),
+        _ => Gathered::nothing(alloc).hull(),
     }
 }
 
@@ -56,12 +58,13 @@ pub(crate) fn op_one_range(op: UnOp, a: &Range, t: IntType, target: &Target) -> 
     requires first { LieIn (low_of a.now) (high_of a.now) t target.now }
     ensures { IsHull (EndsHave (op_one_ends op (Some (low_of a.now, high_of a.now)) t target.now)) result }
 {
+    let alloc = a.alloc;
     let a = Interval {
         low: a.low(),
         high: a.high(),
     };
     let span = Span::op_one(op, &Span::Between(a), t, target);
-    hull_of_span(&span)
+    hull_of_span(alloc, &span)
 }
 
 /// Whether the numbers from `low` to `high` are values of a type.
@@ -76,8 +79,8 @@ pub(crate) fn convert_range(a: &Range, t: IntType, target: &Target) -> Vals
     ensures { IsHull (EndsHave (to_ends (Some (low_of a.now, high_of a.now)) t target.now)) result }
 {
     match t {
-        IntType::Bool => hull_between(0, 1),
-        _ if fits(a.low(), a.high(), t, target) => hull_between(a.low(), a.high()),
-        _ => hull_between(t.least(target), t.most(target)),
+        IntType::Bool => hull_between(a.alloc, 0, 1),
+        _ if fits(a.low(), a.high(), t, target) => hull_between(a.alloc, a.low(), a.high()),
+        _ => hull_between(a.alloc, t.least(target), t.most(target)),
     }
 }

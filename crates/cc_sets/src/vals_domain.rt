@@ -73,16 +73,16 @@ impl IntDomain for Vals {
 
     ghost room_of = { vals_room };
 
-    fn none() -> Vals {
-        Vals::Few(Explicit::none())
+    fn none(alloc: Global) -> Vals {
+        Vals::Few(Explicit::none(alloc))
     }
 
-    fn one(v: i128) -> Vals {
-        one(v)
+    fn one(alloc: Global, v: i128) -> Vals {
+        one(alloc, v)
     }
 
-    fn whole(t: IntType, target: &Target) -> Vals {
-        whole(t, target)
+    fn whole(alloc: Global, t: IntType, target: &Target) -> Vals {
+        whole(alloc, t, target)
     }
 
     fn op(op: BinOp, a: &Vals, b: &Vals, t: IntType, target: &Target) -> Vals {

@@ -133,15 +133,15 @@ pub fn set_of(alloc: Global, word: &str) -> Option<Addrs> {
 /// The least set that has the numbers between braces, or all values of a type.
 pub fn numbers_of<D: IntDomain>(alloc: Global, word: &str) -> Option<D> {
     if let Some(t) = type_of(word) {
-        return Some(D::whole(t, &small_target()));
+        return Some(D::whole(alloc, t, &small_target()));
     }
     let words = word.strip_prefix('{')?.strip_suffix('}')?;
-    let mut set = D::none();
+    let mut set = D::none(alloc);
     if words.is_empty() {
         return Some(set);
     }
     for word in words.split(',') {
-        set = set.join(alloc, &one_in(word)?).ok()?;
+        set = set.join(alloc, &one_in(alloc, word)?).ok()?;
     }
     Some(set)
 }

@@ -5,6 +5,8 @@ use Rattle.std.specs.List.{Contains}
 use Rattle.std.specs.Int.Signed.{≤ℤ_refl}
 use Rattle.std.proofs.Math.Bridge.{le_prop}
 use Rattle.std.proofs.Math.Dec.{T_prop}
+use native.Mathlib.Nat.{ℕ_set}
+use Rattle.std.specs.Global.{Global}
 use Rattle.std.proofs.Math.Pow.{pow-lt}
 use Rattle.std.proofs.lemmas.Int.{ints}
 use Rattle.std.proofs.lemmas.Bool.{cases_lt}
@@ -27,8 +29,11 @@ not_few r s h = too_wide (low_of r) (high_of r) s (range_spread r).wide (λ v a 
 
 -- an explicit set is known by its members
 
-abbrev explicit : (xs : List ℤ) → Ascends xs → length xs ≤ most_members → AreInReach xs → Explicit
-explicit xs a f r = record { items = record { items = xs }; ascending = a; few = f; reach = r }
+abbrev explicit : (xs : List ℤ) (n : ℕ) → n ≡ most_members → Ascends xs → length xs ≤ most_members → AreInReach xs → Explicit
+explicit xs n i a f r = record { items = record { items = xs; capacity = n }; inline = i; ascending = a; few = f; reach = r }
+
+inline_prop : (n : ℕ) (p q : n ≡ most_members) → p ≡ q
+inline_prop n = hlevel (ℕ_set)
 
 ascends_prop : (xs : List ℤ) (p q : Ascends xs) → p ≡ q
 ascends_prop xs = hlevel (T_prop)
@@ -39,21 +44,29 @@ few_prop xs = hlevel (T_prop, le_prop)
 reach_prop : (xs : List ℤ) (p q : AreInReach xs) → p ≡ q
 reach_prop xs = hlevel (T_prop)
 
-same_facts : (xs : List ℤ) (a a' : Ascends xs) (f f' : length xs ≤ most_members) (r r' : AreInReach xs) → explicit xs a f r ≡ explicit xs a' f' r'
-same_facts xs a a' f f' r r' =
-    ap (λ p. explicit xs p f r) (ascends_prop xs a a') ∙ (ap (λ p. explicit xs a' p r) (few_prop xs f f') ∙ ap (λ p. explicit xs a' f' p) (reach_prop xs r r'))
+same_facts : (xs : List ℤ) (n : ℕ) (i i' : n ≡ most_members) (a a' : Ascends xs) (f f' : length xs ≤ most_members) (r r' : AreInReach xs)
+    → explicit xs n i a f r ≡ explicit xs n i' a' f' r'
+same_facts xs n i i' a a' f f' r r' =
+    ap (λ p. explicit xs n p a f r) (inline_prop n i i') ∙ (ap (λ p. explicit xs n i' p f r) (ascends_prop xs a a')
+    ∙ (ap (λ p. explicit xs n i' a' p r) (few_prop xs f f') ∙ ap (λ p. explicit xs n i' a' f' p) (reach_prop xs r r')))
 
-same_members : (xs ys : List ℤ) (a : Ascends xs) (f : length xs ≤ most_members) (r : AreInReach xs) (a' : Ascends ys) (f' : length ys ≤ most_members) (r' : AreInReach ys)
-    → xs ≡ ys → explicit xs a f r ≡ explicit ys a' f' r'
-same_members xs ys a f r a' f' r' e =
-    subst (λ (zs : List ℤ). (b : Ascends zs) (g : length zs ≤ most_members) (s : AreInReach zs) → explicit xs a f r ≡ explicit zs b g s) e
-    (λ b g s. same_facts xs a b f g r s) a' f' r'
+same_members : (xs ys : List ℤ) (n : ℕ) (i i' : n ≡ most_members) (a : Ascends xs) (f : length xs ≤ most_members) (r : AreInReach xs) (a' : Ascends ys) (f' : length ys ≤ most_members) (r' : AreInReach ys)
+    → xs ≡ ys → explicit xs n i a f r ≡ explicit ys n i' a' f' r'
+same_members xs ys n i i' a f r a' f' r' e =
+    subst (λ (zs : List ℤ). (b : Ascends zs) (g : length zs ≤ most_members) (s : AreInReach zs) → explicit xs n i a f r ≡ explicit zs n i' b g s) e
+    (λ b g s. same_facts xs n i i' a b f g r s) a' f' r'
+
+same_sets : (xs ys : List ℤ) (n m : ℕ) (i : n ≡ most_members) (k : m ≡ most_members) (a : Ascends xs) (f : length xs ≤ most_members) (r : AreInReach xs) (a' : Ascends ys) (f' : length ys ≤ most_members) (r' : AreInReach ys)
+    → xs ≡ ys → explicit xs n i a f r ≡ explicit ys m k a' f' r'
+same_sets xs ys n m i k a f r a' f' r' e =
+    subst (λ (j : ℕ). (l : j ≡ most_members) → explicit xs n i a f r ≡ explicit ys j l a' f' r') (i ∙ sym k)
+    (λ l. same_members xs ys n i l a f r a' f' r' e) k
 
 within : (s t : Explicit) → ValsBelow (Few s) (Few t) → Within s.items.items t.items.items
 within s t h v k = in_list t.items.items v (h v (in_contains s.items.items v k))
 
 few_same : (s t : Explicit) → ValsBelow (Few s) (Few t) → ValsBelow (Few t) (Few s) → s ≡ t
-few_same s t h k = same_members s.items.items t.items.items s.ascending s.few s.reach t.ascending t.few t.reach
+few_same s t h k = same_sets s.items.items t.items.items s.items.capacity t.items.capacity s.inline t.inline s.ascending s.few s.reach t.ascending t.few t.reach
     (same_list s.items.items t.items.items (rises s.items.items s.ascending) (rises t.items.items t.ascending) (within s t h) (within t s k))
 
 fewer : (s t : Explicit) → ValsBelow (Few s) (Few t) → (s ≡ t → ⊥) → length s.items.items < length t.items.items
@@ -69,8 +82,8 @@ fewer s t h other =
 
 -- a range is known by its sign and its bits
 
-abbrev range : (s : Bool) (b : ℕ) → most_members < 2 ^ b → b ≤ most_bits s → Range
-range s b m f = record { signed = s; bits = b; many = m; few = f }
+abbrev range : Global → (s : Bool) (b : ℕ) → most_members < 2 ^ b → b ≤ most_bits s → Range
+range alloc s b m f = record { signed = s; bits = b; alloc = alloc; many = m; few = f }
 
 many_prop : (b : ℕ) (p q : most_members < 2 ^ b) → p ≡ q
 many_prop b = hlevel (T_prop, le_prop)
@@ -78,13 +91,13 @@ many_prop b = hlevel (T_prop, le_prop)
 bits_prop : (s : Bool) (b : ℕ) (p q : b ≤ most_bits s) → p ≡ q
 bits_prop s b = hlevel (T_prop, le_prop)
 
-same_range : (s : Bool) (b : ℕ) (m m' : most_members < 2 ^ b) (f f' : b ≤ most_bits s) → range s b m f ≡ range s b m' f'
-same_range s b m m' f f' = ap (λ p. range s b p f) (many_prop b m m') ∙ ap (λ p. range s b m' p) (bits_prop s b f f')
+same_range : (alloc other : Global) (s : Bool) (b : ℕ) (m m' : most_members < 2 ^ b) (f f' : b ≤ most_bits s) → range alloc s b m f ≡ range other s b m' f'
+same_range alloc other s b m m' f f' = ap (λ p. range alloc s b p f) (many_prop b m m') ∙ ap (λ p. range other s b m' p) (bits_prop s b f f')
 
-same_bits : (s s' : Bool) (b b' : ℕ) (m : most_members < 2 ^ b) (f : b ≤ most_bits s) (m' : most_members < 2 ^ b') (f' : b' ≤ most_bits s') → s ≡ s' → b ≡ b' → range s b m f ≡ range s' b' m' f'
-same_bits s s' b b' m f m' f' e g =
-    subst (λ (x : Bool). (h : b' ≤ most_bits x) → range s b m f ≡ range x b' m' h) e
-    (subst (λ (x : ℕ). (n : most_members < 2 ^ x) (h : x ≤ most_bits s) → range s b m f ≡ range s x n h) g (λ n h. same_range s b m n f h) m')
+same_bits : (alloc other : Global) (s s' : Bool) (b b' : ℕ) (m : most_members < 2 ^ b) (f : b ≤ most_bits s) (m' : most_members < 2 ^ b') (f' : b' ≤ most_bits s') → s ≡ s' → b ≡ b' → range alloc s b m f ≡ range other s' b' m' f'
+same_bits alloc other s s' b b' m f m' f' e g =
+    subst (λ (x : Bool). (h : b' ≤ most_bits x) → range alloc s b m f ≡ range other x b' m' h) e
+    (subst (λ (x : ℕ). (n : most_members < 2 ^ x) (h : x ≤ most_bits s) → range alloc s b m f ≡ range other s x n h) g (λ n h. same_range alloc other s b m n f h) m')
     f'
 
 no_less : (a b : ℕ) → 2 ^ a ≤ 2 ^ b → a ≤ b
@@ -119,7 +132,7 @@ many_bits r q h =
     let e = inner r q h in
     ⊎_elim
     (λ (less : r.bits < q.bits). inl less)
-    (λ (same : (r.signed ≡ q.signed) × (r.bits ≡ q.bits)). inr (same_bits r.signed q.signed r.bits q.bits r.many r.few q.many q.few same.0 same.1))
+    (λ (same : (r.signed ≡ q.signed) × (r.bits ≡ q.bits)). inr (same_bits r.alloc q.alloc r.signed q.signed r.bits q.bits r.many r.few q.many q.few same.0 same.1))
     (by_bits r.signed q.signed r.bits q.bits (some_bits r.bits r.many) (some_bits q.bits q.many) e.0 e.1)
 
 many_same : (r q : Range) → ValsBelow (Many r) (Many q) → ValsBelow (Many q) (Many r) → r ≡ q

@@ -1,7 +1,6 @@
 -- A binary search of ascending numbers finds the number or its place.
-use Rattle.std.proofs.Common.{rules, ◌≡◌, ◌∙◌, ℤ, ◌<ℤ◌, ℕ, zero, suc, ◌+◌, ◌<◌, ◌≤◌, Bool, true, false, List, [], ◌∷◌, length, get_or, Ok, Err, Some, None, Result, Ordering, sym, refl, subst, ap, to_z, of_z, to_z-of_z, arith}
-use Rattle.std.specs.Int.{w128}
-use Rattle.std.specs.List.{Contains, HoldsAt, slice_get}
+use Rattle.std.proofs.Common.{◌≡◌, ◌∙◌, ℤ, ◌<ℤ◌, ℕ, zero, suc, ◌+◌, ◌<◌, ◌≤◌, false, List, [], ◌∷◌, length, get_or, Ok, Err, Some, Result, Ordering, sym, refl, subst, to_z-of_z, arith}
+use Rattle.std.specs.List.{Contains, slice_get}
 use Rattle.std.specs.List.Sorted.{IsBinarySearchResult, IsNonDecreasingBy, IsSortedBy}
 use Rattle.std.specs.Ordering.{int_cmp, is_lt, ordering_index}
 use Rattle.std.specs.declared.cmp.Ordering.TheVariants.{Less, Equal, Greater}

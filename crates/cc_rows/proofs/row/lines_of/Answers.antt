@@ -1,11 +1,11 @@
 use Rattle.std.proofs.Common.{Bor, List, ℕ, ◌≡◌, ◌∙◌, sym, refl, rules, inl, inr, true, ap, map, Some, ◌∷◌, ◌++◌, []}
 use Rattle.std.specs.Result.{is_ok}
 use Rattle.std.proofs.lemmas.List.{map-append}
-use Rattle.csv.specs.Reading.{AreRecords, Reached, default_config, strip_bom}
+use Rattle.csv.specs.Reading.{AreRecords, Reached, default_config, error_kind, stops_reader, strip_bom}
 use Rattle.csv.specs.Records.{fields_of}
 use Rattle.csv.specs.declared.parser.State.TheVariants as st
 use Rattle.csv.proofs.ReadFacts.{rows-end, rows-more}
-use Rattle.cc_rows.proofs.RowLemmas.{rows-are, rows-few, lines-few}
+use Rattle.cc_rows.proofs.RowLemmas.{only-stopped, rows-are, rows-few, lines-few}
 use Rattle.cc_rows.proofs.row.lines_of.Goals as goal
 
 pub loop-row-init : goal.loop-row-init
@@ -27,6 +27,7 @@ loop-row-init g c =
       [],
       (sym fr.state, refl),
       refl,
+      rw f at fr.flexible,
     )
 
 pub loop-row-preserved : goal.loop-row-preserved
@@ -45,7 +46,14 @@ loop-row-preserved g c =
       inv.6 ++ fields_of c.in-Ok.row ∷ [],
       m.2,
       items ∙ ap (λ t. t ++ c.in_ok-from_row-in-Ok.field-0 ∷ []) inv.8 ∙ ap (λ l. map g.R.FromRow.said_by inv.6 ++ l ∷ []) c.in_ok-from_row-in-Ok.ensures ∙ sym (map-append g.R.FromRow.said_by inv.6 (fields_of c.in-Ok.row ∷ [])),
+      (rw (c.in-Some.is, c.in-Ok.is) at (c.next.ensures.steps inv.2 inv.0).3) ∙ inv.9,
     )
+
+pub want_of_memory-requires : goal.want_of_memory-requires
+want_of_memory-requires g c =
+    let inv = c.loop-row.invariant in
+    let s = rw (c.in-Some.is, c.in-Err.is) at ((c.next.ensures.steps inv.2 inv.0).0 inv.1) in
+    ap stops_reader c.into_kind.ensures ∙ only-stopped (λ (s : Bor (List ℕ)). Some s.now) c.loop-row.row-iterator.rdr.now c.next.new.self.rdr.now (error_kind c.in-Err.error) inv.9 s
 
 pub returns : goal.returns
 returns g c =

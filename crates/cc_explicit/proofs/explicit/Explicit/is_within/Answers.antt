@@ -1,6 +1,5 @@
 -- One member more.
-use Rattle.std.proofs.Common.{rules, ◌≡◌, ℤ, pos, ℕ, ◌+◌, ◌<◌, ◌≤◌, length, Bool, true, false, List, slice_index_or, subst, sym, FitsSigned, to_z, of_z, to_z-of_z, arith, get_or}
-use Rattle.std.specs.Int.{w128}
+use Rattle.std.proofs.Common.{rules, ◌≡◌, ℤ, pos, ℕ, ◌+◌, ◌<◌, ◌≤◌, length, List, subst, sym, arith, get_or}
 use Rattle.std.specs.List.{Contains, AllWithin}
 use Rattle.std.proofs.lemmas.List.{get_or_default}
 use Rattle.std.proofs.lemmas.List.Elements.{AllWithin-more}
@@ -19,7 +18,7 @@ loop-v-preserved c =
     let xs = c.as_slice-v-items.result.now in
     let i = c.loop-v.v-index in
     let l = c.loop-v-test.true in
-    let r = reached c.args.self.now.items.items xs c.as_slice-v-items.ensures.value c.args.self.now.reach in
+    let r = reached c.args.self.now.items.items xs c.as_slice-v-items.ensures c.args.self.now.reach in
     one_more xs c.args.other.now.items.items i (pos 0) c.loop-v.invariant l
     (subst (λ (v : ℤ). Contains c.args.other.now.items.items v) (read_same xs i (pos 0) r l) (c.if-not-has.ensures.0 (search rules)))
 
@@ -30,4 +29,4 @@ at_all xs ys zs i e l h v k =
     subst (Contains ys) k2.2 (h k2.0 v (omega arith) (omega arith))
 
 pub returns : goal.returns
-returns c = let u = c.loop-v-test.false in ((λ _. at_all c.args.self.now.items.items c.args.other.now.items.items _ c.loop-v.v-index c.as_slice-v-items.ensures.value (omega arith) c.loop-v.invariant), (λ _. search rules))
+returns c = let u = c.loop-v-test.false in ((λ _. at_all c.args.self.now.items.items c.args.other.now.items.items _ c.loop-v.v-index c.as_slice-v-items.ensures (omega arith) c.loop-v.invariant), (λ _. search rules))
