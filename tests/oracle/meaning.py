@@ -6,8 +6,9 @@ apart from the runs of crates/cc_steps: a function that runs is a coroutine here
 
 A case is a program in the words of crates/cases_program, and behind bars the rows of its inputs, those of its arrivals
 `TURN,HANDLER`, and how many turns there are at the most: `WORDS | 1 2 | 5,tick 7,tick | 100`. Behind `$ trace` the number of
-turns is left out. Behind any other setting nothing is judged: such a case is answered as it stands in crates/cases_meaning/stdout. How
-many are judged is told on standard error.
+turns is left out, and behind `$ states` each state of the run is written, as crates/cases_meaning/src/states.rt says. Behind any
+other setting nothing is judged: such a case is answered as it stands in crates/cases_meaning/stdout. How many are judged is told
+on standard error.
 """
 import os
 import sys
@@ -17,7 +18,7 @@ from programs import BAD, Program, alike, plain
 sys.setrecursionlimit(100000)
 
 # the settings of sections whose programs are run
-RUNS = ("", "trace")
+RUNS = ("", "trace", "states")
 
 
 class Trap(Exception):
@@ -117,6 +118,17 @@ class Activation:
         for i, value in enumerate(args):
             self.cells[i, ()] = value
         self.registers = registers_of(f)
+        # where it stands: the position in each list, what the present full expression was given, and whether nothing was
+        # done yet of a statement, of a loop's turn, or of the return at the function's end
+        self.path, self.operands, self.begins = [], [], True
+
+    def works(self, begins):
+        """A full expression is worked from its start, or what a statement without one does."""
+        self.operands, self.begins = [], begins
+
+    def is_given(self, value):
+        self.operands.append(value)
+        return value
 
 
 def registers_of(f):
@@ -161,6 +173,7 @@ class Run:
             for k, (path, u) in enumerate(p.scalars(t)):
                 self.statics[i, path] = self.first(leaves[k]) if leaves else (0 if u["shape"][0] == "int" else ("null",))
         self.open = {}
+        self.stack = []            # activations, the running one last
         self.running = []          # coroutines: main's, and one for each handler that entered and has not returned
         self.begin(p.main, None)
 
@@ -390,8 +403,8 @@ class Run:
         place = yield from self.place(a, e[1], later)
         yield
         if isinstance(place, tuple):
-            return self.load_device(place[1])
-        return self.load(place, self.is_pure(a, e, later))
+            return a.is_given(self.load_device(place[1]))
+        return a.is_given(self.load(place, self.is_pure(a, e, later)))
 
     def value_addr(self, a, e, later):
         if e[1][0] == "deref":
@@ -511,8 +524,8 @@ class Run:
         """The read of what the same operator writes."""
         yield
         if isinstance(place, tuple):
-            return self.load_device(place[1])
-        return self.load(place, self.is_pure(a, ("load", e[1]), later))
+            return a.is_given(self.load_device(place[1]))
+        return a.is_given(self.load(place, self.is_pure(a, ("load", e[1]), later)))
 
     def place_int(self, a, e):
         if e[0] == "device":
@@ -557,7 +570,7 @@ class Run:
         if x is BAD:
             raise Trap
         was, self.flag = self.flag, {"off": False, "on": True, "save": False, "restore": x is not None and x != 0}[e[1]]
-        return int(was) if e[1] == "save" else None
+        return a.is_given(int(was)) if e[1] == "save" else None
 
     def value_call(self, a, e, later):
         operands = [e[1], *e[2]]
@@ -567,7 +580,8 @@ class Run:
         yield
         if BAD in values or values[0][0] != "func":
             raise Trap
-        return (yield from self.work(values[0][1], values[1:]))
+        x = yield from self.work(values[0][1], values[1:])
+        return x if is_void(self.p.funcs[values[0][1]]) else a.is_given(x)
 
     # ---- statements
 
@@ -592,9 +606,16 @@ class Run:
     def steps_of(self, a):
         return self.steps
 
-    def stmts(self, a, list):
-        for s in list:
-            yield from getattr(self, "stmt_" + s[0])(a, *s[1:])
+    def stmts(self, a, list, first=0):
+        """The statements of a list, of which the first has this position."""
+        a.path.append(first)
+        try:
+            for position, s in enumerate(list, first):
+                a.path[-1] = position
+                a.works(True)
+                yield from getattr(self, "stmt_" + s[0])(a, *s[1:])
+        finally:
+            a.path.pop()
 
     def stmt_do(self, a, e):
         if not (yield from self.full(a, e)):
@@ -602,7 +623,10 @@ class Run:
 
     def stmt_if(self, a, e, these, those):
         taken = self.is_true((yield from self.choice(a, e)))
-        yield from self.stmts(a, these if taken else those)
+        if taken:
+            yield from self.stmts(a, these)
+        else:
+            yield from self.stmts(a, those, len(these))
 
     def turn(self, a, body):
         """One turn of a loop's body; whether the loop goes on."""
@@ -618,11 +642,13 @@ class Run:
         while self.is_true((yield from self.choice(a, e))):
             if not (yield from self.turn(a, body)):
                 return
+            a.works(True)
 
     def stmt_dowhile(self, a, e, body):
         while True:
             if not (yield from self.turn(a, body)):
                 return
+            a.works(body == [])
             if not self.is_true((yield from self.choice(a, e))):
                 return
 
@@ -630,6 +656,7 @@ class Run:
         if first:
             yield from self.full(a, first)
         while True:
+            a.works(True)
             if test:
                 x = yield from self.choice(a, test)
             else:
@@ -638,14 +665,17 @@ class Run:
             if not self.is_true(x) or not (yield from self.turn(a, body)):
                 return
             if again:
+                a.works(False)
                 yield from self.full(a, again)
 
     def stmt_switch(self, a, e, cases):
         x = yield from self.choice(a, e)
         chosen = [i for i, (labels, _) in enumerate(cases) if str(x) in labels] or [i for i, (labels, _) in enumerate(cases) if "default" in labels]
+        if not chosen:
+            return
+        first = sum(len(body) for _, body in cases[:chosen[0]])
         try:
-            for _, body in cases[chosen[0]:] if chosen else []:
-                yield from self.stmts(a, body)
+            yield from self.stmts(a, [s for _, body in cases[chosen[0]:] for s in body], first)
         except Break:
             pass
 
@@ -679,11 +709,14 @@ class Run:
         a = Activation(self, self.opened, func, args)
         self.opened += 1
         self.open[a.number] = a
+        self.stack.append(a)
         f = self.p.funcs[func]
         try:
             yield from self.stmts(a, f["body"])
+            a.path.append(len(f["body"]))
+            a.works(True)
             yield
-            if f["result"]["shape"][0] == "void":
+            if is_void(f):
                 x = None
             elif func == self.p.main:
                 x = 0
@@ -692,6 +725,7 @@ class Run:
         except Broken as returned:
             x = returned.value
         del self.open[a.number]
+        self.stack.pop()
         return x
 
     def work_whole(self, func, handler):
@@ -716,6 +750,7 @@ class Run:
             self.begin(handler, handler)
             return
         self.steps += 1
+        self.stack[-1].begins = False
         try:
             next(self.running[-1][0])
         except StopIteration:
@@ -726,6 +761,33 @@ class Run:
             self.end = "starved,"
         except Exit as e:
             self.end = f"exit,{e.args[0]}"
+
+    # ---- what a state is written as
+
+    def state(self):
+        if self.end is not None:
+            return f"end,{self.end}"
+        a = self.stack[-1]
+        path = ".".join(map(str, a.path))
+        operands = f"({' '.join(map(show, a.operands))})" if a.operands else ""
+        return f"{self.p.funcs[a.func]['name']}:{path}{operands}{'*' if a.begins else ''}"
+
+
+def show(value):
+    """A value as the first values of a script are written, an address in a local with its activation in front."""
+    if value is BAD:
+        return "bad"
+    if not isinstance(value, tuple):
+        return str(value)
+    if value[0] != "at":
+        return ":".join(map(str, value))
+    _, root, path, index, count = value
+    of = root[1] if root[0] == "static" else f"{root[1]}.{root[3]}"
+    return f"at:{of}:{index}:{count}" + (":" + ",".join(f"{kind}{n}" for kind, n in path) if path else "")
+
+
+def is_void(f):
+    return f["result"]["shape"][0] == "void"
 
 
 def is_volatile(t):
@@ -751,10 +813,13 @@ def outcome(setting, case):
     p = Program(words)
     run = Run(p, [int(n) for n in inputs.split()])
     due = arrivals_of(p, arrivals)
-    turns = 0
+    turns, states = 0, [run.state()]
     while run.end is None and turns < int(most or 1000):
         turns += 1
         run.take(due.get(turns))
+        states.append(run.state())
+    if setting == "states":
+        return " ".join(states)
     count = "" if setting == "trace" else str(turns)
     return " ".join(run.trace + [f"end,{run.end or 'going,'}", count])
 

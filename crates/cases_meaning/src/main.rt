@@ -10,6 +10,7 @@
 //! settings:
 //!
 //!     $ trace     programs are run, and the number of turns is left out
+//!     $ states    programs are run, and what is printed is the states that they go through; `states.rt` says how
 //!     $ normal    what is printed is whether a program is in normal form
 //!     $ printed   what is printed is the text of a program
 //!     $ profile   the text of a profile, and what is printed is what it has other than the default, or the row that
@@ -26,6 +27,7 @@ mod profiles;
 mod rows;
 mod runs;
 mod section;
+mod states;
 
 use cases_script::{Line, Page, line_of};
 use section::Section;

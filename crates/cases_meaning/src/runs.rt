@@ -3,6 +3,7 @@
 ghost use Rattle.std.specs.Prelude.{◌≡◌};
 ghost use Rattle.cc_syntax.specs.Sound.{IsSound};
 
+use crate::states::write_state;
 use cases_script::Page;
 use cc_meaning::{End, start};
 use cc_run::{drive, read_arrivals, read_inputs};
@@ -93,6 +94,24 @@ fn turns_made(alloc: Global, p: &Program, script: Script) -> Option<u32>
     Some(turns)
 }
 
+/// Writes the states of a run before its first turn and behind each of those of a script, up to its end.
+fn write_turns(alloc: Global, page: &mut Page, p: &Program, script: Script) -> Option<()>
+    requires { IsSound p.now }
+{
+    let inputs = read_inputs(alloc, &rows(alloc, script.inputs)?).ok()?;
+    let arrivals = read_arrivals(alloc, p, &rows(alloc, script.arrivals)?).ok()?;
+    let mut m = start(alloc, p, inputs).ok()?;
+    write_state(alloc, page, &m)?;
+    let mut turns = 0;
+    while turns < script.most && m.end() == End::Going && m.opened() < u64::MAX {
+        turns += 1;
+        m.step(alloc, arrival_at(&arrivals, turns)).ok()?;
+        page.put(" ");
+        write_state(alloc, page, &m)?;
+    }
+    Some(())
+}
+
 /// The rows of a trace, each with a blank behind it.
 fn put_trace(page: &mut Page, text: &[u8]) {
     for byte in text {
@@ -121,4 +140,13 @@ pub fn write_run(
         page.show(turns_made(alloc, p, script)?);
     }
     Some(())
+}
+
+/// Writes the states of a run.
+pub fn write_states(alloc: Global, page: &mut Page, p: &Program, script: Script) -> Option<()> {
+    if !is_sound(p) {
+        page.put("not sound");
+        return Some(());
+    }
+    write_turns(alloc, page, p, script)
 }

@@ -1,7 +1,7 @@
 //! A section of the script: what its cases are about.
 
 use crate::normal::{write_form, write_text};
-use crate::runs::{Script, write_run};
+use crate::runs::{Script, write_run, write_states};
 use crate::{profiles, rows};
 use cases_program::program_of;
 use cases_script::Page;
@@ -14,6 +14,8 @@ enum Question {
     Trace,
     /// Its trace and the number of its turns.
     Run,
+    /// The states that it goes through.
+    States,
     /// Whether it is in normal form.
     Form,
     Text,
@@ -41,6 +43,7 @@ pub struct Section {
 fn subject_of(setting: &str) -> Option<Subject> {
     match setting {
         "trace" => Some(Subject::Program(Question::Trace)),
+        "states" => Some(Subject::Program(Question::States)),
         "normal" => Some(Subject::Program(Question::Form)),
         "printed" => Some(Subject::Program(Question::Text)),
         "profile" => Some(Subject::Profile),
@@ -103,6 +106,7 @@ fn write_program(
     match question {
         Question::Trace => write_run(alloc, page, &p, script, false),
         Question::Run => write_run(alloc, page, &p, script, true),
+        Question::States => write_states(alloc, page, &p, script),
         Question::Text => write_text(alloc, page, &p),
         Question::Form => {
             write_form(page, &p);

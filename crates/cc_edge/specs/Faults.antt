@@ -1,5 +1,5 @@
 -- Counts of calls, of faults and of bytes: how they rise, and when a fault may be answered.
-use Rattle.std.specs.Prelude.{ℕ, ◌+◌, ◌-◌, ◌^◌, ◌≤◌, max, min, Option, Some, None}
+use Rattle.std.specs.Prelude.{◌≡◌, ℕ, ◌+◌, ◌-◌, ◌^◌, ◌≤◌, ◌<◌, max, min, Option, Some, None}
 use Rattle.cc_edge.specs.declared.store.Got.{Got}
 use Rattle.cc_edge.specs.declared.store.Got.TheVariants as got
 use Rattle.cc_edge.specs.declared.store.Made.{Made}
@@ -14,6 +14,10 @@ risen count = min (count + 1) (2 ^ 64 - 1)
 -- the count has risen, or stands at the end of its type
 abbrev pub Rose : ℕ → ℕ → Type 0
 Rose before now = risen before ≤ now
+
+-- no call had a fault: the count is as before, and not at the end of its type, where every call may fail
+abbrev pub HasNoFault : ℕ → ℕ → Type 0
+HasNoFault before now = (now ≡ before) × (before < 2 ^ 64 - 1)
 
 -- the count of faults after a call: one more where it failed
 abbrev pub faults_after_got : Got → ℕ → ℕ

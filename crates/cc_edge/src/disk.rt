@@ -1,6 +1,7 @@
-ghost use Rattle.std.specs.Prelude.{◌≡◌, ◌≤◌, ◌<◌, ◌-◌, ◌^◌, false, None, length, IfOk};
+ghost use Rattle.std.specs.Prelude.{◌≡◌, ◌≤◌, ◌<◌, ◌-◌, ◌^◌, false, None, length, IfOk, IsErr};
 ghost use Rattle.cc_edge.specs.Faults.{Rose, faults_after_got, faults_after_made, faults_after_put, taken_after, end_after};
 ghost use Rattle.cc_edge.specs.Files.{IsReadWithin, IsPutWithin};
+ghost use Rattle.cc_edge.specs.System.{got_of, made_of, put_of};
 
 use crate::count::{more, one_more};
 use crate::store::{Got, Made, Put, Store};
@@ -37,6 +38,62 @@ impl<'r, R: Files> DiskStore<'r, R> {
             end: None,
         }
     }
+
+    // The answer to a read from the byte `at`, by what the system gave.
+    fn read_gave(&mut self, at: u64, given: io::Result<usize>) -> Got
+        ensures answer { result ≡ got_of given }
+        ensures counted { self.new.faults ≡ faults_after_got (got_of given) self.old.faults }
+        ensures taken { self.new.taken ≡ taken_after (got_of given) self.old.taken }
+        ensures end { self.new.end ≡ end_after (got_of given) at }
+    {
+        self.end = None;
+        match given {
+            Ok(0) => {
+                self.end = Some(at);
+                Got::End
+            }
+            Ok(n) => {
+                self.taken = more(self.taken, n);
+                Got::Bytes(n)
+            }
+            Err(_) => {
+                self.faults = one_more(self.faults);
+                Got::Failed
+            }
+        }
+    }
+
+    // The answer to the making of a file, by what the system gave.
+    fn create_gave<F: Drop>(&mut self, given: io::Result<F>) -> Made
+        ensures answer { result ≡ made_of given }
+        ensures counted { self.new.faults ≡ faults_after_made (made_of given) self.old.faults }
+        ensures taken { self.new.taken ≡ self.old.taken }
+        ensures end { self.new.end ≡ self.old.end }
+    {
+        match given {
+            Ok(_) => Made::Done,
+            Err(_) => {
+                self.faults = one_more(self.faults);
+                Made::Failed
+            }
+        }
+    }
+
+    // The answer to a write, by what the system gave.
+    fn write_gave(&mut self, given: io::Result<usize>) -> Put
+        ensures answer { result ≡ put_of given }
+        ensures counted { self.new.faults ≡ faults_after_put (put_of given) self.old.faults }
+        ensures taken { self.new.taken ≡ self.old.taken }
+        ensures end { self.new.end ≡ self.old.end }
+    {
+        match given {
+            Ok(0) | Err(_) => {
+                self.faults = one_more(self.faults);
+                Put::Failed
+            }
+            Ok(n) => Put::Bytes(n),
+        }
+    }
 }
 
 impl<R: Files> Store for DiskStore<'_, R> {
@@ -59,24 +116,12 @@ impl<R: Files> Store for DiskStore<'_, R> {
         ensures taken { self.new.taken ≡ taken_after result self.old.taken }
         ensures end { self.new.end ≡ end_after result at }
     {
-        self.end = None;
         if self.faults == u64::MAX {
+            self.end = None;
             return Got::Failed;
         }
-        match read_from(self.rt, name, at, piece) {
-            Ok(0) => {
-                self.end = Some(at);
-                Got::End
-            }
-            Ok(n) => {
-                self.taken = more(self.taken, n);
-                Got::Bytes(n)
-            }
-            Err(_) => {
-                self.faults = one_more(self.faults);
-                Got::Failed
-            }
-        }
+        let given = read_from(self.rt, name, at, piece);
+        self.read_gave(at, given)
     }
 
     fn create(&mut self, name: &str) -> Made
@@ -90,13 +135,8 @@ impl<R: Files> Store for DiskStore<'_, R> {
         if self.faults == u64::MAX {
             return Made::Failed;
         }
-        match File::create(self.rt, name) {
-            Ok(_) => Made::Done,
-            Err(_) => {
-                self.faults = one_more(self.faults);
-                Made::Failed
-            }
-        }
+        let given = File::create(self.rt, name);
+        self.create_gave(given)
     }
 
     // One write of the system.
@@ -112,13 +152,8 @@ impl<R: Files> Store for DiskStore<'_, R> {
         if self.faults == u64::MAX {
             return Put::Failed;
         }
-        match append_to(self.rt, name, piece) {
-            Ok(0) | Err(_) => {
-                self.faults = one_more(self.faults);
-                Put::Failed
-            }
-            Ok(n) => Put::Bytes(n),
-        }
+        let given = append_to(self.rt, name, piece);
+        self.write_gave(given)
     }
 }
 
@@ -126,8 +161,33 @@ impl<R: Files> Store for DiskStore<'_, R> {
 fn read_from<R: Files>(rt: &R, name: &str, at: u64, piece: &mut [u8]) -> io::Result<usize>
     ensures { IfOk result (λ n. n ≤ length piece.new) }
 {
-    let mut file = File::open(rt, name)?;
-    file.seek(SeekFrom::Start(at))?;
+    read_opened(File::open(rt, name), at, piece)
+}
+
+// What a read gives of what was opened, from the byte `at`.
+fn read_opened<F: Read + Seek + Drop>(
+    opened: io::Result<F>,
+    at: u64,
+    piece: &mut [u8],
+) -> io::Result<usize>
+    ensures fails { IsErr opened → IsErr result }
+    ensures count { IfOk result (λ n. n ≤ length piece.new) }
+{
+    let mut file = opened?;
+    let sought = file.seek(SeekFrom::Start(at));
+    read_sought(sought, &mut file, piece)
+}
+
+// What a read gives of a file that was sought in.
+fn read_sought<F: Read>(
+    sought: io::Result<u64>,
+    file: &mut F,
+    piece: &mut [u8],
+) -> io::Result<usize>
+    ensures fails { IsErr sought → IsErr result }
+    ensures count { IfOk result (λ n. n ≤ length piece.new) }
+{
+    sought?;
     file.read(piece)
 }
 
@@ -135,6 +195,14 @@ fn read_from<R: Files>(rt: &R, name: &str, at: u64, piece: &mut [u8]) -> io::Res
 fn append_to<R: Files>(rt: &R, name: &str, piece: &[u8]) -> io::Result<usize>
     ensures { IfOk result (λ n. n ≤ length piece.now) }
 {
-    let mut file = OpenOptions::new().append(true).open(rt, name)?;
-    file.write(piece)
+    write_opened(OpenOptions::new().append(true).open(rt, name), piece)
+}
+
+// Writes the first bytes of a piece to what was opened, and answers how many.
+fn write_opened<F: Write + Drop>(opened: io::Result<F>, piece: &[u8]) -> io::Result<usize>
+    ensures fails { IsErr opened → IsErr result }
+    ensures count { IfOk result (λ n. n ≤ length piece.now) }
+{
+    let mut out = opened?;
+    out.write(piece)
 }

@@ -1,10 +1,12 @@
 ghost use Rattle.std.specs.Prelude.{◌≡◌, ◌≤◌, ◌-◌, ◌^◌, false, [], length};
 ghost use Rattle.cc_edge.specs.Faults.{Rose, faults_after_put};
 ghost use Rattle.cc_edge.specs.Files.{IsPutWithin};
+ghost use Rattle.cc_edge.specs.System.{put_of};
 
 use crate::count::one_more;
 use crate::sink::Sink;
 use crate::store::Put;
+use std::io;
 
 /// The standard output. It tells nothing of what was said.
 ///
@@ -23,6 +25,20 @@ impl<'r, R: Print> OutSink<'r, R> {
         ensures { result.faults ≡ 0 }
     {
         OutSink { rt, faults: 0 }
+    }
+
+    // The answer to a write, by what the system gave.
+    fn write_gave(&mut self, given: io::Result<usize>) -> Put
+        ensures answer { result ≡ put_of given }
+        ensures counted { self.new.faults ≡ faults_after_put (put_of given) self.old.faults }
+    {
+        match given {
+            Ok(0) | Err(_) => {
+                self.faults = one_more(self.faults);
+                Put::Failed
+            }
+            Ok(n) => Put::Bytes(n),
+        }
     }
 }
 
@@ -44,12 +60,7 @@ impl<R: Print> Sink for OutSink<'_, R> {
         if self.faults == u64::MAX {
             return Put::Failed;
         }
-        match self.rt.write_some(piece) {
-            Ok(0) | Err(_) => {
-                self.faults = one_more(self.faults);
-                Put::Failed
-            }
-            Ok(n) => Put::Bytes(n),
-        }
+        let given = self.rt.write_some(piece);
+        self.write_gave(given)
     }
 }

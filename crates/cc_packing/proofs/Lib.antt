@@ -1,3 +1,4 @@
+pub mod Complete
 pub mod OneAnswer
 pub mod PackLaws
 pub mod ProgramTexts

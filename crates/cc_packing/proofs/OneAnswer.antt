@@ -7,7 +7,7 @@ use Rattle.cc_material.proofs.OneCause.{same_texts, sources_read, one_first, pro
 use Rattle.cc_material.specs.Programs.{IsProgram}
 use Rattle.cc_packing.specs.Asked.{Asked}
 use Rattle.cc_packing.specs.Ends.{FilesEnd, AtProfile, AtSources, ProgramEnds, NotNormal, AboveLimit, LongText, TextsEnd, AreRefused, NotPacked, PackEnds, AtFiles, AtTexts}
-use Rattle.cc_packing.specs.Headline.{AreRead, AreAsked, IsPackable}
+use Rattle.cc_packing.specs.Headline.{AreRead, AreAsked, CanBePacked, IsPackable}
 use Rattle.cc_program.specs.declared.program.Program.{Program}
 use Rattle.cc_status.specs.Statuses.{for_unread}
 use Rattle.cc_status.specs.declared.status.Status.{Status}
@@ -75,10 +75,17 @@ module _ (files : Files) (a : Asked) where
       texts_end_as a.sources p q (one_profile files a.profile p q h.profile_is k.profile_is) ts s
       (subst (λ x. TextsEnd a.sources q x s) (sym (same_texts files a.sources ts us h.sources_are.there k.sources_are.there)) e)
 
+  pub packed_or_ends : (s : Status) → CanBePacked files a → PackEnds files ⊥ a s → ⊥
+  packed_or_ends s h (AtFiles _ k) = files_read files a h.profile h.texts s h.are_read k
+  packed_or_ends s h (AtTexts q us _ k e) =
+      no_texts_end a.sources h.profile h.texts h.read s h.is_program h.packable (texts_end_for h.profile q h.texts us s h.are_read k e)
+
+  can_be_packed : (bytes rows : List ℕ) → AreAsked files a bytes rows → CanBePacked files a
+  can_be_packed bytes rows h =
+      record { profile = h.profile; texts = h.texts; are_read = h.are_read; read = h.made.read; is_program = h.made.is_program; packable = h.made.packable }
+
   pub asked_or_ends : (bytes rows : List ℕ) (s : Status) → AreAsked files a bytes rows → PackEnds files ⊥ a s → ⊥
-  asked_or_ends bytes rows s h (AtFiles _ k) = files_read files a h.profile h.texts s h.are_read k
-  asked_or_ends bytes rows s h (AtTexts q us _ k e) =
-      no_texts_end a.sources h.profile h.texts h.made.read s h.made.is_program h.made.packable (texts_end_for h.profile q h.texts us s h.are_read k e)
+  asked_or_ends bytes rows s h k = packed_or_ends s (can_be_packed bytes rows h) k
 
   pub one_end : (s t : Status) → PackEnds files ⊥ a s → PackEnds files ⊥ a t → s ≡ t
   one_end s t (AtFiles _ h) (AtFiles _ k) = one_files_end files a s t h k

@@ -34,7 +34,7 @@ module _ (p : Program) where
 
   pub packed-text : IsNormal p → Reads (text p ∷ []) p.target p.roles p → (bytes rows : List ℕ) (taken : ℕ) → bytes ≡ text p → taken ≡ ram p → rows ≡ table_text taken taken → IsPackedText p.target p.roles p bytes rows
   packed-text n h bytes rows taken e r t =
-      record { packed = p; normal = n; printed = e; reads_back = subst (λ b. Reads (b ∷ []) p.target p.roles p) (sym e) h; is_packed = is-packed-self p; tabled = t ∙ ap (λ k. table_text k k) r }
+      record { normal = n; printed = e; reads_back = subst (λ b. Reads (b ∷ []) p.target p.roles p) (sym e) h; is_packed = is-packed-self p; tabled = t ∙ ap (λ k. table_text k k) r }
 
 -- ---- why none are written
 

@@ -7,7 +7,7 @@ use Rattle.cc_files.specs.declared.unread.Unread.{Unread}
 use Rattle.cc_material.specs.Material.{IsProfile, ProfileEnds, is_refusal}
 use Rattle.cc_material.specs.Programs.{IsAbove, IsProgram, IsWithin, TellsRefusal}
 use Rattle.cc_packing.specs.Asked.{Asked}
-use Rattle.cc_packing.specs.Headline.{AreRead}
+use Rattle.cc_packing.specs.Headline.{AreRead, output_of}
 use Rattle.cc_print.specs.Printed.{text}
 use Rattle.cc_program.specs.declared.program.Program.{Program}
 use Rattle.cc_status.specs.Statuses.{for_unread, is_over}
@@ -27,7 +27,7 @@ pub data FilesEnd (files : Files) (rose : Type 0) (a : Asked) : Status → Type 
 pub data ProgramEnds (first : List ℕ) (p : Program) : Status → Type 0 where
   NotNormal : (IsNormal p → ⊥) → ProgramEnds first p (status.Later first)
   AboveLimit : IsNormal p → (w : What) (n : ℕ) → IsAbove p w n → ProgramEnds first p (status.Limit w n)
-  LongText : IsNormal p → IsWithin p → 16777216 < length (text p) → ProgramEnds first p (status.Limit what.Out (length (text p)))
+  LongText : IsNormal p → IsWithin p → 16777216 < length (text (output_of p)) → ProgramEnds first p (status.Limit what.Out (length (text (output_of p))))
 
 -- sources of these names are refused, or their program is not packed
 pub data TextsEnd (names : List (List ℕ)) (profile : Profile) (texts : List (List ℕ)) : Status → Type 0 where

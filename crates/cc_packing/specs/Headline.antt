@@ -23,21 +23,24 @@ pub record IsPacked (q p : Program) : Type 0 where
   pub answers : Answers q p
   pub ram : ram q ≤ ram p
 
--- the program is one that is packed today: it is in normal form, and it and its printed text are within the limits
+-- the program whose text the output is: a program that is in normal form is written as it is
+abbrev pub output_of : Program → Program
+output_of p = p
+
+-- the program is one that is packed today: it is in normal form, and it and the text of the output are within the limits
 pub record IsPackable (p : Program) : Type 0 where
   pub normal : IsNormal p
   pub within : IsWithin p
-  pub short : length (text p) ≤ 16777216
+  pub short : length (text (output_of p)) ≤ 16777216
 
--- the bytes are the printed text of a packed program in normal form, as which they alone read, with this target and these
--- roles; the rows tell the RAM of both
+-- the bytes are the printed text of the program that is written for this one, which is in normal form and packed, and as
+-- which they alone read, with this target and these roles; the rows tell the RAM of both
 pub record IsPackedText (target : Target) (roles : Roles) (p : Program) (bytes rows : List ℕ) : Type 0 where
-  pub packed : Program
-  pub normal : IsNormal packed
-  pub printed : bytes ≡ text packed
-  pub reads_back : Reads (bytes ∷ []) target roles packed
-  pub is_packed : IsPacked packed p
-  pub tabled : rows ≡ table_text (ram p) (ram packed)
+  pub normal : IsNormal (output_of p)
+  pub printed : bytes ≡ text (output_of p)
+  pub reads_back : Reads (bytes ∷ []) target roles (output_of p)
+  pub is_packed : IsPacked (output_of p) p
+  pub tabled : rows ≡ table_text (ram p) (ram (output_of p))
 
 -- the output and the table of the program that texts are
 pub record AreMade (profile : Profile) (texts : List (List ℕ)) (bytes rows : List ℕ) : Type 0 where
@@ -50,6 +53,16 @@ pub record AreMade (profile : Profile) (texts : List (List ℕ)) (bytes rows : L
 pub record AreRead (files : Files) (a : Asked) (profile : Profile) (texts : List (List ℕ)) : Type 0 where
   pub profile_is : IsProfile files a.profile profile
   pub sources_are : AreSources files a.sources texts
+
+-- all that packing needs is there: the profile and the sources are read, they are a program, and that is one that is packed
+-- today
+pub record CanBePacked (files : Files) (a : Asked) : Type 0 where
+  pub profile : Profile
+  pub texts : List (List ℕ)
+  pub are_read : AreRead files a profile texts
+  pub read : Program
+  pub is_program : IsProgram profile texts read
+  pub packable : IsPackable read
 
 -- the output and the table that are asked for
 pub record AreAsked (files : Files) (a : Asked) (bytes rows : List ℕ) : Type 0 where

@@ -96,4 +96,8 @@ for-pack k a P Q R e h = subst (λ c. ForEach c P Q R) e h
 pub for-run : (k : Command) (a : Simulated) (P : Packed → Type 0) (Q : Simulated → Type 0) (R : ℕ → ℕ → Type 0) → Run a ≡ k → Q a → ForEach k P Q R
 for-run k a P Q R e h = subst (λ c. ForEach c P Q R) e h
 
+-- what `pack` asks for where the words ask for this
+pub packs-as : (k : Command) (a b : Packed) → Pack a ≡ k → k ≡ Pack b → a ≡ b
+packs-as k a b e h = let same : Pack a ≡ Pack b = e ∙ h in cc
+
 pub ruleset of_commands = (command-meant)

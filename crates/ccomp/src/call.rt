@@ -3,12 +3,12 @@
 ghost use Rattle.std.specs.Prelude.{⊤, ◌≡◌, ◌≢◌, ◌≤◌, ◌<◌, ◌⊎◌, ◌++◌, ℕ, take, codes, IsTrue, List as ListOf, true, false};
 ghost use Rattle.cc_cost.specs.declared.fault.ProfileFault.{ProfileFault as ProfileFaultOf};
 ghost use Rattle.cc_cost.specs.declared.fault.ProfileFault.TheVariants.{NoMemory as NoRoomForRows};
-ghost use Rattle.cc_edge.specs.Faults.{Rose};
+ghost use Rattle.cc_edge.specs.Faults.{HasNoFault, Rose};
 ghost use Rattle.cc_edge.specs.Files.{KeepsFiles};
 ghost use Rattle.cc_make.specs.Source.{made};
-ghost use Rattle.cc_packing.specs.Asked.{IsUntold};
+ghost use Rattle.cc_packing.specs.Asked.{Asked as Packed, IsUntold};
 ghost use Rattle.cc_packing.specs.Ends.{PackEnds};
-ghost use Rattle.cc_packing.specs.Headline.{Packs, IsAtFault};
+ghost use Rattle.cc_packing.specs.Headline.{CanBePacked, Packs, IsAtFault};
 ghost use Rattle.cc_read.specs.declared.refusal.ReadRefusal.{ReadRefusal as ReadRefusalOf};
 ghost use Rattle.cc_read.specs.declared.refusal.ReadRefusal.TheVariants.{NoMemory as NoRoom};
 ghost use Rattle.cc_simulation.specs.Asked.{Asked as Simulated, IsUntold as IsUntoldRun};
@@ -16,7 +16,7 @@ ghost use Rattle.cc_simulation.specs.Ends.{RunEnds};
 ghost use Rattle.cc_simulation.specs.Traces.{Says, SaysFront};
 ghost use Rattle.cc_status.specs.Statuses.{may_write, is_of_files, is_over};
 ghost use Rattle.cc_status.specs.declared.status.What.{What as WhatOf};
-ghost use Rattle.ccomp.specs.Command.{Command, Run, Make, Wrong, ForEach, ForFiles, IsRunLimit, says, command_of, texts};
+ghost use Rattle.ccomp.specs.Command.{Command, Pack, Run, Make, Wrong, ForEach, ForFiles, IsRunLimit, says, command_of, texts};
 
 use crate::command::{Asked, command};
 use crate::make::make;
@@ -48,6 +48,9 @@ pub fn ccomp<F: Store, O: Sink>(
     // nothing else has changed. Of `run` and `make`, nothing has.
     ensures headline { result ≡ Status.Done → IsTrue (F.told store.old) →
         ForEach (command_of (texts words.now)) (λ a. Packs a (F.files store.old) (F.files store.new)) (λ a. KeepsFiles (F.files store.old) (F.files store.new)) (λ seed count. KeepsFiles (F.files store.old) (F.files store.new)) }
+    // Where all that packing needs is there, and no call of the store has a fault, it is done, or memory ran out.
+    ensures complete { (a : Packed) → command_of (texts words.now) ≡ Pack a → IsTrue (F.told store.old) → HasNoFault (F.faults store.old) (F.faults store.new) →
+        CanBePacked (F.files store.old) a → (result ≡ Status.Done) ⊎ (result ≡ Status.NoMemory) }
     // `run` says exactly the trace of the program that the sources are, and `make` the made source.
     ensures said { result ≡ Status.Done → IsTrue (O.told sink.old) →
         ForEach (command_of (texts words.now)) (λ a. O.said sink.new ≡ O.said sink.old)

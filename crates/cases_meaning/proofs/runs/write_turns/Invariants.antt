@@ -1,0 +1,9 @@
+use Rattle.std.proofs.Common.{◌-◌}
+use Rattle.cc_syntax.specs.Sound.{IsSound}
+use Rattle.cases_meaning.proofs.runs.write_turns.Given as goal
+
+abbrev pub invariant-loop-turns : goal.invariant-loop-turns
+invariant-loop-turns l = IsSound l.m.program.now
+
+abbrev pub decreases-loop-turns : goal.decreases-loop-turns
+decreases-loop-turns l = l.script.most - l.turns
