@@ -15,3 +15,4 @@ pub mod StructureLemmas
 pub mod ExamplePrograms
 pub mod SameLemmas
 pub mod AlikeLemmas
+pub mod NameRules

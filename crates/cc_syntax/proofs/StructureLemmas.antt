@@ -10,7 +10,7 @@ use Rattle.cc_syntax.specs.Kinds.{Kind, bytes_in, is_small, is_object_kind, is_o
 use Rattle.cc_program.specs.declared.program.Program.{Program}
 use Rattle.cc_syntax.specs.Layout.{size_of, HasSmallParts, IsSmall, HasSizes}
 use Rattle.cc_syntax.specs.Names.{are_names, local_names}
-use Rattle.cc_syntax.specs.Sound.{have_ids, is_member, is_structure, are_structures, is_object, IsSound}
+use Rattle.cc_syntax.specs.Sound.{have_ids, is_member, is_structure_by, is_structure, are_structures_by, are_structures, is_object, IsSoundBy, IsSound}
 use Rattle.cc_syntax.specs.Types.{Named, is_complete}
 use Rattle.cc_syntax.specs.declared.sizes.Layout.{Layout}
 use Rattle.cc_syntax.proofs.Prefixes.{both_true, layout-taken, complete-taken}
@@ -93,13 +93,13 @@ module _ (structures : List Structure) (count : ℕ) (target : Target) (sized : 
   pub object_tested : (t : CType) → is_object_type (kind_of target (extent_with structures count target) t) ≡ true → IsObject structures target t
   object_tested t h = object_from t (kind_of target (extent_with structures count target) t) refl h
 
-module _ (structures : List Structure) (i : ℕ) (s : Structure) (count : ℕ) (target : Target) (sized : AreSized (take i structures) target)
-    (last : slice_get structures i ≡ Some s) (long : length structures ≡ i + 1) (good : is_structure (take i structures) count target s ≡ true) where
+module _ (named : List (List ℕ) → Bool) (structures : List Structure) (i : ℕ) (s : Structure) (count : ℕ) (target : Target) (sized : AreSized (take i structures) target)
+    (last : slice_get structures i ≡ Some s) (long : length structures ≡ i + 1) (good : is_structure_by named (take i structures) count target s ≡ true) where
   few : have_ids (length s.members) ≡ true
   few = (both_true (have_ids (length s.members)) _ good).0
 
   members : list_all (is_member (take i structures) count target) s.members ≡ true
-  members = (both_true (are_names (local_names s.members)) _ (both_true (have_ids (length s.members)) _ good).1).1
+  members = (both_true (named (local_names s.members)) _ (both_true (have_ids (length s.members)) _ good).1).1
 
   -- over the structures before it, what its members are
   member_objects : All (λ m. IsObject (take i structures) target m.1) s.members
@@ -158,20 +158,24 @@ module _ (count : ℕ) (target : Target) where
     small = λ k r g. absurd (cc);
   }
 
-  one_more : (before : List Structure) (s : Structure) → AreSized before target → is_structure before count target s ≡ true → AreSized (before ++ s ∷ []) target
-  one_more before s sized good =
+  one_more : (named : List (List ℕ) → Bool) (before : List Structure) (s : Structure) → AreSized before target → is_structure_by named before count target s ≡ true → AreSized (before ++ s ∷ []) target
+  one_more named before s sized good =
       let front : take (length before) (before ++ s ∷ []) ≡ before = take_front before (s ∷ []) in
-      more (before ++ s ∷ []) (length before) s count target (subst (λ ss. AreSized ss target) (sym front) sized) (get_last before s) (length-append before (s ∷ []))
-      (subst (λ ss. is_structure ss count target s ≡ true) (sym front) good)
+      more named (before ++ s ∷ []) (length before) s count target (subst (λ ss. AreSized ss target) (sym front) sized) (get_last before s) (length-append before (s ∷ []))
+      (subst (λ ss. is_structure_by named ss count target s ≡ true) (sym front) good)
 
-  all_sized : (before rest : List Structure) → AreSized before target → are_structures before count target rest ≡ true → AreSized (before ++ rest) target
-  all_sized before [] sized h = subst (λ ss. AreSized ss target) (sym (append-nil before)) sized
-  all_sized before (s ∷ rest) sized h =
-      let t = both_true (is_structure before count target s) (are_structures (before ++ s ∷ []) count target rest) h in
-      subst (λ ss. AreSized ss target) (append_assoc before (s ∷ []) rest) (all_sized (before ++ s ∷ []) rest (one_more before s sized t.0) t.1)
+  all_sized : (named : List (List ℕ) → Bool) (before rest : List Structure) → AreSized before target → are_structures_by named before count target rest ≡ true → AreSized (before ++ rest) target
+  all_sized named before [] sized h = subst (λ ss. AreSized ss target) (sym (append-nil before)) sized
+  all_sized named before (s ∷ rest) sized h =
+      let t = both_true (is_structure_by named before count target s) (are_structures_by named (before ++ s ∷ []) count target rest) h in
+      subst (λ ss. AreSized ss target) (append_assoc before (s ∷ []) rest) (all_sized named (before ++ s ∷ []) rest (one_more named before s sized t.0) t.1)
+
+  -- whatever the rule for names is
+  pub structures_sized_by : (named : List (List ℕ) → Bool) (structures : List Structure) → are_structures_by named [] count target structures ≡ true → AreSized structures target
+  structures_sized_by named structures h = all_sized named [] structures none_sized h
 
   pub structures_sized : (structures : List Structure) → are_structures [] count target structures ≡ true → AreSized structures target
-  structures_sized structures h = all_sized [] structures none_sized h
+  structures_sized structures h = structures_sized_by are_names structures h
 
   -- as far as a loop over them has come
   pub structures_from : (structures : List Structure) (i : ℕ) (s : Structure) → i < length structures → s ≡ get_or structures i s →
@@ -183,7 +187,7 @@ module _ (count : ℕ) (target : Target) where
       )
 
   pub sized_more : (structures : List Structure) (i : ℕ) (s : Structure) → i < length structures → s ≡ get_or structures i s → AreSized (take i structures) target → is_structure (take i structures) count target s ≡ true → AreSized (take (i + 1) structures) target
-  sized_more structures i s h e sized good = rw add-one (subst (λ ss. AreSized ss target) (taken structures i s h e) (one_more (take i structures) s sized good))
+  sized_more structures i s h e sized good = rw add-one (subst (λ ss. AreSized ss target) (taken structures i s h e) (one_more are_names (take i structures) s sized good))
 
   -- an object of a type that has passed the test has a complete type
   pub object_complete : (structures : List Structure) (t : CType) → AreSized structures target → is_object_type (kind_of target (extent_with structures count target) t) ≡ true → is_complete structures t ≡ true
@@ -196,11 +200,14 @@ object_sized t structures target sized o = record {
   bytes = o.bytes;
 }
 
--- the objects of a sound program have sizes
-pub sound_sizes : (p : Program) → IsSound p → HasSizes p
-sound_sizes p sound =
-    let sized = structures_sized (length p.structures) p.target p.structures sound.structures in
+-- the objects of a sound program have sizes, whatever the rule for names is
+pub typed_sizes : (named : List (List ℕ) → Bool) (p : Program) → IsSoundBy p named → HasSizes p
+typed_sizes named p sound =
+    let sized = structures_sized_by (length p.structures) p.target named p.structures sound.structures in
     record {
       objects = λ k d b. object_sized (get_or p.objects k d).ctype p.structures p.target sized (object_tested p.structures (length p.structures) p.target sized (get_or p.objects k d).ctype (all_from (is_object p) p.objects sound.objects k d b));
       few = few_of (length p.objects) sound.few_objects;
     }
+
+pub sound_sizes : (p : Program) → IsSound p → HasSizes p
+sound_sizes p sound = typed_sizes are_names p sound

@@ -37,12 +37,24 @@ is_only_named s = nat_eq (length s.members) 0
 abbrev pub is_member : List Structure → ℕ → Target → Named → Bool
 is_member before count target m = is_object_type (kind_of target (extent_with before count target) m.1)
 
+-- no rule for names
+abbrev pub any_names : List (List ℕ) → Bool
+any_names names = true
+
+-- the rule for the names that stand in one scope or space is `are_names`, or none
+module _ (named : List (List ℕ) → Bool) where
+  abbrev pub is_structure_by : List Structure → ℕ → Target → Structure → Bool
+  is_structure_by before count target s = have_ids (length s.members) && (named (local_names s.members) && list_all (is_member before count target) s.members)
+
+  abbrev pub are_structures_by : List Structure → ℕ → Target → List Structure → Bool
+  are_structures_by before count target [] = true
+  are_structures_by before count target (s ∷ rest) = is_structure_by before count target s && are_structures_by (before ++ s ∷ []) count target rest
+
 abbrev pub is_structure : List Structure → ℕ → Target → Structure → Bool
-is_structure before count target s = have_ids (length s.members) && (are_names (local_names s.members) && list_all (is_member before count target) s.members)
+is_structure before count target s = is_structure_by are_names before count target s
 
 abbrev pub are_structures : List Structure → ℕ → Target → List Structure → Bool
-are_structures before count target [] = true
-are_structures before count target (s ∷ rest) = is_structure before count target s && are_structures (before ++ s ∷ []) count target rest
+are_structures before count target list = are_structures_by are_names before count target list
 
 -- devices: a named one has no number, the number of another is an address; no two without names are equal
 abbrev pub is_numbered : Device → Bool
@@ -115,35 +127,54 @@ module _ (p : Program) where
   abbrev pub is_local : Named → Bool
   is_local l = is_object_type (kind_in p l.1)
 
-  pub record IsFunc (f : Func) : Type 0 where
-    pub result : is_result (kind_in p (out-Sig f.sig).result) ≡ true
-    pub parameters : list_all (λ t. is_plain_scalar (kind_in p t)) (out-Sig f.sig).params ≡ true
-    pub form : form_fits f ≡ true
-    pub entry : entry_fits f f.entry ≡ true
-    pub count : nat_eq f.params (length (out-Sig f.sig).params) ≡ true
-    pub first : are_parameters (out-Sig f.sig).params f.locals ≡ true
-    pub few : have_ids (length f.locals) ≡ true
-    pub locals : list_all is_local f.locals ≡ true
-    pub automatic : list_all is_automatic (drop f.params f.locals) ≡ true
-    pub names : are_names (local_names f.locals ++ file_names p) ≡ true
-    pub body : is_sound_body p f f.body ≡ true
+  -- by the rule for the names that stand in one scope or space (6.2.1, 6.2.3)
+  module _ (named : List (List ℕ) → Bool) where
+    pub record IsFuncBy (f : Func) : Type 0 where
+      pub result : is_result (kind_in p (out-Sig f.sig).result) ≡ true
+      pub parameters : list_all (λ t. is_plain_scalar (kind_in p t)) (out-Sig f.sig).params ≡ true
+      pub form : form_fits f ≡ true
+      pub entry : entry_fits f f.entry ≡ true
+      pub count : nat_eq f.params (length (out-Sig f.sig).params) ≡ true
+      pub first : are_parameters (out-Sig f.sig).params f.locals ≡ true
+      pub few : have_ids (length f.locals) ≡ true
+      pub locals : list_all is_local f.locals ≡ true
+      pub automatic : list_all is_automatic (drop f.params f.locals) ≡ true
+      pub names : named (local_names f.locals ++ file_names p) ≡ true
+      pub body : is_sound_body p f f.body ≡ true
 
-  pub record IsSound : Type 0 where
-    -- ids are of 32 bits
-    pub few_structures : have_ids (length p.structures) ≡ true
-    pub few_devices : have_ids (length p.devices) ≡ true
-    pub few_objects : have_ids (length p.objects) ≡ true
-    pub few_funcs : have_ids (length p.funcs) ≡ true
-    -- names and tags
+    pub record IsSoundBy : Type 0 where
+      -- ids are of 32 bits
+      pub few_structures : have_ids (length p.structures) ≡ true
+      pub few_devices : have_ids (length p.devices) ≡ true
+      pub few_objects : have_ids (length p.objects) ≡ true
+      pub few_funcs : have_ids (length p.funcs) ≡ true
+      -- names and tags
+      pub tag_names : named (tags p) ≡ true
+      pub names : named (file_names p) ≡ true
+      -- what they name
+      pub order : come_first is_only_named p.structures ≡ true
+      pub structures : are_structures_by named [] (length p.structures) p.target p.structures ≡ true
+      pub devices : list_all (is_device p.target) p.devices ≡ true
+      pub distinct_devices : devices_differ p.devices ≡ true
+      pub objects : list_all is_object p.objects ≡ true
+      pub initial : All (λ o. IsInitial p o.ctype o.init) p.objects
+      pub funcs : All IsFuncBy p.funcs
+      pub handlers : handlers_are_there ≡ true
+      pub main : is_main_there (slice_get p.funcs p.main) ≡ true
+
+  abbrev pub IsFunc : Func → Type 0
+  IsFunc f = IsFuncBy are_names f
+
+  abbrev pub IsSound : Type 0
+  IsSound = IsSoundBy are_names
+
+  -- the rules of types, sizes and order, whatever the names are: what the meaning of a program rests on
+  abbrev pub IsTypedProgram : Type 0
+  IsTypedProgram = IsSoundBy any_names
+
+  -- the rules of names: of structures, of members, of what a file declares, and of the locals of each function beside that
+  pub record AreNamesApart : Type 0 where
     pub tag_names : are_names (tags p) ≡ true
     pub names : are_names (file_names p) ≡ true
-    -- what they name
-    pub order : come_first is_only_named p.structures ≡ true
-    pub structures : are_structures [] (length p.structures) p.target p.structures ≡ true
-    pub devices : list_all (is_device p.target) p.devices ≡ true
-    pub distinct_devices : devices_differ p.devices ≡ true
-    pub objects : list_all is_object p.objects ≡ true
-    pub initial : All (λ o. IsInitial p o.ctype o.init) p.objects
-    pub funcs : All IsFunc p.funcs
-    pub handlers : handlers_are_there ≡ true
-    pub main : is_main_there (slice_get p.funcs p.main) ≡ true
+    pub members : list_all (λ s. are_names (local_names s.members)) p.structures ≡ true
+    pub locals : list_all (λ f. are_names (local_names f.locals ++ file_names p)) p.funcs ≡ true

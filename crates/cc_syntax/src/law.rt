@@ -1,4 +1,4 @@
-ghost use Rattle.std.specs.Prelude.{◌≡◌, ◌≤◌, ◌*◌, ◌%◌, ℕ, pos, true, false, List, [], ◌∷◌, Some, None, slice_get};
+ghost use Rattle.std.specs.Prelude.{◌≡◌, ◌↔◌, ◌≤◌, ◌*◌, ◌%◌, ℕ, pos, true, false, List, [], ◌∷◌, Some, None, slice_get};
 ghost use Rattle.std.specs.List.{All};
 ghost use Rattle.cc_num.specs.declared.int_type.IntType.TheVariants as int;
 ghost use Rattle.cc_num.specs.declared.op.BinOp.TheVariants as op;
@@ -17,7 +17,7 @@ ghost use Rattle.cc_syntax.specs.Kinds.{kind_of, is_object_type, extent_with};
 ghost use Rattle.cc_syntax.specs.Normal.{IsNormal, next_of};
 ghost use Rattle.cc_syntax.specs.Operators.{choice_type, changes_by};
 ghost use Rattle.cc_syntax.specs.Values.{ValueType, PlaceType, NoValue, Integer};
-ghost use Rattle.cc_syntax.specs.Sound.{IsSound};
+ghost use Rattle.cc_syntax.specs.Sound.{IsSound, IsTypedProgram, AreNamesApart};
 ghost use Rattle.cc_syntax.specs.Types.{IsInOrder};
 
 /// What the definitions of sizes, of sound programs and of normal form keep: laws over all types, targets
@@ -38,8 +38,12 @@ pub fn laws()
     ensures lowest { (n : ℕ) (objects : List Layout) (places : List ℕ) → All (λ o. IsAlign o.align) objects →
         ArePlaced n objects places → NoneAbove (places_from n objects) places }
 
-    // A program in normal form is sound, and the objects of a sound program have sizes.
+    // A sound program is one that is typed, and whose names are apart.
+    ensures sound_is { (p : Program) → IsSound p ↔ (IsTypedProgram p × AreNamesApart p) }
+
+    // A program in normal form is sound, and the objects of a typed program have sizes.
     ensures normal_is_sound { (p : Program) → IsNormal p → IsSound p }
+    ensures typed_has_sizes { (p : Program) → IsTypedProgram p → HasSizes p }
     ensures sound_has_sizes { (p : Program) → IsSound p → HasSizes p }
 
     // char, int, char at the greatest alignment 4 and at 1.

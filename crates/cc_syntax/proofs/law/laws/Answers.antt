@@ -1,11 +1,13 @@
 use Rattle.std.proofs.Common.{ap}
 use Rattle.cc_syntax.specs.declared.sizes.Layout.{Layout}
 use Rattle.cc_syntax.specs.Layout.{IsAlign}
+use Rattle.cc_syntax.specs.Sound.{any_names}
+use Rattle.cc_syntax.proofs.NameRules.{sound-typed, sound-named, typed-sound}
 use Rattle.cc_syntax.proofs.ExampleLayouts.{offsets, padded, unpadded, array_of_structures, nested_offsets, large}
 use Rattle.cc_syntax.proofs.ExamplePrograms.{element_by_path, pointer_to_own_structure, array_of_own_structure, arms_of_two_types, sum_in_long, sum_in_char, division_traps, division_not_evaluated, in_order, out_of_order}
 use Rattle.cc_syntax.proofs.Places.{each_from_all, placed, lowest}
 use Rattle.cc_syntax.proofs.Shapes.{layout-Array, layout-structure}
-use Rattle.cc_syntax.proofs.StructureLemmas.{sound_sizes}
+use Rattle.cc_syntax.proofs.StructureLemmas.{typed_sizes, sound_sizes}
 use Rattle.cc_syntax.proofs.Whole.{whole}
 use Rattle.cc_syntax.proofs.law.laws.Goals as goal
 
@@ -29,6 +31,12 @@ returns-clause-lowest c = λ n objects places all h. lowest n objects places (ea
 
 pub returns-clause-normal_is_sound : goal.returns-clause-normal_is_sound
 returns-clause-normal_is_sound c = λ p h. h.sound
+
+pub returns-clause-sound_is : goal.returns-clause-sound_is
+returns-clause-sound_is c = λ p. ((λ h. (sound-typed p h, sound-named p h)), λ h. typed-sound p h.0 h.1)
+
+pub returns-clause-typed_has_sizes : goal.returns-clause-typed_has_sizes
+returns-clause-typed_has_sizes c = typed_sizes any_names
 
 pub returns-clause-sound_has_sizes : goal.returns-clause-sound_has_sizes
 returns-clause-sound_has_sizes c = sound_sizes
