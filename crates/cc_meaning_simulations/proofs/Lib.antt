@@ -1,0 +1,14 @@
+pub mod Actions
+pub mod CellsApart
+pub mod ContinuationLemmas
+pub mod HiddenLocals
+pub mod LocalStepLemmas
+pub mod Locksteps
+pub mod MoreLocals
+pub mod OtherBodies
+pub mod Positions
+pub mod RowsAlike
+pub mod SameStatements
+pub mod ScalarPlaces
+pub mod TransitionLemmas
+pub mod Turns

@@ -1,0 +1,9 @@
+pub mod Bodies
+pub mod Continuations
+pub mod LocalSimulations
+pub mod LocalSteps
+pub mod Locksteps
+pub mod NamedLocals
+pub mod Positions
+pub mod StepSimulations
+pub mod Transitions
