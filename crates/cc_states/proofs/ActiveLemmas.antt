@@ -73,7 +73,9 @@ module _ (p : Program) (openings : List ℕ) where
     func = h.func;
     function = h.function;
     number = h.number;
+    entry = h.entry;
     locals = h.locals;
+    parameters = h.parameters;
     control = k.0;
     inside = k.1;
     marks = no_marks (context_in p a h.func) openings (expression_of (moved a at));
@@ -119,7 +121,9 @@ module _ (p : Program) (openings : List ℕ) where
     func = h.func;
     function = h.function;
     number = h.number;
+    entry = h.entry;
     locals = h.locals;
+    parameters = h.parameters;
     control = h.control;
     inside = h.inside;
     marks = marks_by a h m action (expression_of a) h.marks (ap (λ (f : Option Func). progress_in p a.number a.func a.marks f (expression_of a)) (sym h.function) ∙ w) i;

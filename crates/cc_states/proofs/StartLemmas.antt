@@ -163,7 +163,7 @@ module _ (p : Program) (order : IsInOrder p.structures) where
     constant_address : (to : ValueType) (a : Address) → is_address p to a ≡ true → IsAddress p openings to a
     constant_address to address.Null h = tt
     constant_address to (address.Func f) h = h
-    constant_address to (address.At (root.Static i) path index count) h = (tt, h)
+    constant_address to (address.At (root.Static i) path index count) h = (tt, h, tt)
     constant_address to (address.At (root.Auto number func local) path index count) h = absurd (cc)
 
     pointer_has : (to : CType) (x : shape.Shape-F Shape CType Sig) (a : Address) → IsAddress p openings (pointer_shape to x) a → HasType p openings (pointer_shape to x) (Place a)
@@ -229,7 +229,7 @@ module _ (p : Program) (sound : IsSound p) where
   first_active : (f : Func) → slice_get p.funcs p.main ≡ Some f → AreActive p one (activation p 0 p.main false [] f ∷ [])
   first_active f e =
       let k = function_sound p sound p.main f e in
-      (opened_active p one (order_of p sound) 0 p.main false [] f e refl k (no_arguments p sound one (out-Sig f.sig).params (main_empty f k (main_there p sound (slice_get p.funcs p.main) f e sound.main))), tt)
+      (opened_active p one (order_of p sound) 0 p.main false [] f e refl k (λ entered. absurd (cc)) (no_arguments p sound one (out-Sig f.sig).params (main_empty f k (main_there p sound (slice_get p.funcs p.main) f e sound.main))), tt)
 
   static_start : (i : ℕ) (o : Object) → slice_get p.objects i ≡ Some o → (values : List Value) × (slice_get (map (first_values p) p.objects) i ≡ Some values) × AreScalars p (HasType p one) o.ctype values
   static_start i o e =

@@ -34,13 +34,15 @@ use Rattle.cc_syntax.specs.Effects.{no_one}
 use Rattle.cc_syntax.specs.Expressions.{of_one}
 use Rattle.cc_syntax.specs.Programs.{type_of}
 use Rattle.cc_syntax.specs.Initial.{place_at}
+use Rattle.cc_syntax.specs.Operators.{is_handler}
 use Rattle.cc_syntax.specs.Sound.{IsSound, IsFunc}
 use Rattle.cc_syntax.specs.Types.{Named}
 use Rattle.cc_syntax.specs.Values.{ValueType, Integer, PlaceType, object_place, read_from}
 use Rattle.cc_syntax.proofs.Parts.{all_at}
 use Rattle.cc_states.specs.Answers.{IsAction, IsCall}
-use Rattle.cc_states.specs.States.{AreStatics, expression_of, AreMarks, context_in, IsActive, AreActive, IsState, local_scalar, IsCellThere, IsCalleeThere, IsPossible}
+use Rattle.cc_states.specs.States.{AreWritten, AreStatics, expression_of, AreMarks, context_in, IsActive, AreActive, IsState, local_scalar, IsCellThere, IsCalleeThere, IsPossible}
 use Rattle.cc_states.specs.Typed.{HasType, MayHave, cell_type, IsThere, AreArguments}
+use Rattle.cc_states.proofs.AddressLemmas.{expression_takes}
 use Rattle.cc_states.proofs.EvalTypes.{meaning_typed}
 use Rattle.cc_states.proofs.Options.{mapped}
 use Rattle.cc_states.proofs.SoundLemmas.{level_typed}
@@ -54,7 +56,7 @@ module _ (p : Program) (openings : List ℕ) where
   asked_by a h action None e m w = absurd (cc)
   asked_by a h action (Some e') e m w =
       let t = level_typed p h.func a.here a.around h.control e' e in
-      (meaning_typed (context_in p a h.func) openings (record { function = h.function; number = h.number }) e' t.0 (type_linked (context_in p a h.func) e' ∙ t.1) no_one).waits a.marks action (answers_of p openings (next_of (context_in p a h.func) e') a.marks m) w
+      (meaning_typed (context_in p a h.func) openings (record { function = h.function; number = h.number }) e' (expression_takes h.func a e' h.inside e) t.0 (type_linked (context_in p a h.func) e' ∙ t.1) no_one).waits a.marks action (answers_of p openings (next_of (context_in p a h.func) e') a.marks m) w
 
   pub asked : (a : Active) → IsActive p openings a → (action : Action) → progress_of p a (expression_of a) ≡ Waits action → IsAction p openings action
   asked a h action w =
@@ -144,6 +146,21 @@ module _ (p : Program) (openings : List ℕ) where
   pub functions_there : (stack : List Active) → AreActive p openings stack → All FunctionThere stack
   functions_there [] h = All-nil FunctionThere
   functions_there (a ∷ below) h = All-cons FunctionThere a below (h.0.func, h.0.function) (functions_there below h.1)
+
+  -- what the entry of a handler opened
+  abbrev pub IsEntry : Active → Type 0
+  IsEntry a = a.handler ≡ true → (f : Func) × (slice_get p.funcs a.func ≡ Some f) × (is_handler f ≡ true)
+
+  pub entries_there : (stack : List Active) → AreActive p openings stack → All IsEntry stack
+  entries_there [] h = All-nil IsEntry
+  entries_there (a ∷ below) h = All-cons IsEntry a below (λ entered. (h.0.func, h.0.function, h.0.entry entered)) (entries_there below h.1)
+
+  abbrev pub HasParameters : Active → Type 0
+  HasParameters a = (f : Func) × (slice_get p.funcs a.func ≡ Some f) × AreWritten f.params a.locals
+
+  pub parameters_there : (stack : List Active) → AreActive p openings stack → All HasParameters stack
+  parameters_there [] h = All-nil HasParameters
+  parameters_there (a ∷ below) h = All-cons HasParameters a below (h.0.func, h.0.function, h.0.parameters) (parameters_there below h.1)
 
 module _ (p : Program) (sound : IsSound p) (s : State) (h : IsState p s) (a : Active) (below : List Active) (top : s.stack ≡ a ∷ below) where
   on_top : IsActive p h.0 a

@@ -48,6 +48,7 @@ use Rattle.cc_states.specs.States.{may_break, may_continue, AreSound, worked_at,
 use Rattle.cc_states.specs.Typed.{HasType, AreArguments}
 use Rattle.cc_states.proofs.ActiveLemmas.{marked_active, goes_active, marked_call, called_again, gone, in_order_again}
 use Rattle.cc_states.proofs.ControlLemmas.{next_sound, statement_sound}
+use Rattle.cc_states.proofs.AddressLemmas.{expression_takes}
 use Rattle.cc_states.proofs.EvalTypes.{meaning_typed}
 use Rattle.cc_states.proofs.KeepLemmas.{get_last, statics_more, actives_more, arguments_more}
 use Rattle.cc_states.proofs.Options.{either_true}
@@ -72,13 +73,13 @@ module _ (p : Program) (sound : IsSound p) where
   new_in_order openings a n [] e f h k = tt
   new_in_order openings a n (b ∷ below) e f h k = (subst (λ (m : ℕ). b.number < m) (e ∙ sym f) (slice_get_within openings b.number b.func h.0.number), k)
 
-  pub opened_state : (openings : List ℕ) (s : State) → IsStateOf p openings s → (id : ℕ) (handler : Bool) (args : List Value) (f : Func) → slice_get p.funcs id ≡ Some f → AreArguments p openings (out-Sig f.sig).params args →
+  pub opened_state : (openings : List ℕ) (s : State) → IsStateOf p openings s → (id : ℕ) (handler : Bool) (args : List Value) (f : Func) → slice_get p.funcs id ≡ Some f → (handler ≡ true → is_handler f ≡ true) → AreArguments p openings (out-Sig f.sig).params args →
       AreCalled p (activation p s.opened id handler args f ∷ s.stack) → IsStateOf p (openings ++ id ∷ []) (opened p s id handler args f)
-  opened_state openings s h id handler args f e k c = record {
+  opened_state openings s h id handler args f e entry k c = record {
     count = length-append openings (id ∷ []) ∙ ap (λ (n : ℕ). n + 1) h.count;
     statics = statics_more p openings (id ∷ []) s.memory.statics h.statics;
     stack = (
-      opened_active p (openings ++ id ∷ []) order_of s.opened id handler args f e (get_last openings id s.opened h.count) (function_sound id f e) (arguments_more p openings (id ∷ []) (out-Sig f.sig).params args k),
+      opened_active p (openings ++ id ∷ []) order_of s.opened id handler args f e (get_last openings id s.opened h.count) (function_sound id f e) entry (arguments_more p openings (id ∷ []) (out-Sig f.sig).params args k),
       actives_more p openings (id ∷ []) s.stack h.stack,
     );
     called = c;
@@ -193,7 +194,7 @@ module _ (p : Program) (sound : IsSound p) where
         IsState p (opened p s id false args fn)
     called_function id args fn e k w = (
       openings ++ id ∷ [],
-      opened_state openings s h id false args fn e k
+      opened_state openings s h id false args fn e (λ entered. absurd (cc)) k
           (subst (λ (stack : List Active). AreCalled p (activation p s.opened id false args fn ∷ stack)) (sym top) ((λ g. (args, w)), subst (AreCalled p) top h.called)),
     )
 
@@ -237,7 +238,7 @@ module _ (p : Program) (sound : IsSound p) where
 
     value_typed : (e : Expr) (t : ValueType) (v : Value) (ms : List Mark) → expression_of a ≡ Some e → type_of p fn.locals e ≡ Some t → progress_of p a (Some e) ≡ Known (Some v) ms → HasType p openings t v
     value_typed e t v ms x k w =
-        ((meaning_typed (context_in p a fn) openings (record { function = act.function; number = act.number }) e t (type_linked (context_in p a fn) e ∙ k) no_one).known a.marks ms (Some v)
+        ((meaning_typed (context_in p a fn) openings (record { function = act.function; number = act.number }) e (expression_takes fn a e act.inside x) t (type_linked (context_in p a fn) e ∙ k) no_one).known a.marks ms (Some v)
         (answers_of p openings (next_of (context_in p a fn) e) a.marks (subst (λ (y : Option Expr). AreMarks (context_in p a fn) openings y a.marks) x act.marks)) (ap (λ (y : Option Func). progress_in p a.number a.func a.marks y (Some e)) (sym act.function) ∙ w)).1
 
     returned_results : (x : Option Expr) (v : Value) (ms : List Mark) → returns p fn x ≡ true → expression_of a ≡ x → progress_of p a x ≡ Known (Some v) ms → Results openings s h a below top v
@@ -348,7 +349,7 @@ module _ (p : Program) (sound : IsSound p) where
       let run = h.1.running g in
       let t : State = with_event true (with_flag s false) (Enter id) in (
         h.0 ++ id ∷ [],
-        opened_state h.0 t (event_state p h.0 true (with_flag s false) (Enter id) (flag_state p h.0 s false h.1)) id true [] f e
+        opened_state h.0 t (event_state p h.0 true (with_flag s false) (Enter id) (flag_state p h.0 s false h.1)) id true [] f e (λ entered. k)
             (no_arguments h.0 (out-Sig f.sig).params (handler_empty f (function_sound id f e) k (is_main f) refl))
             (subst (λ (stack : List Active). AreCalled p (activation p s.opened id true [] f ∷ stack)) (sym run.2) ((λ n. absurd (cc)), subst (AreCalled p) run.2 h.1.called)),
       )

@@ -164,7 +164,7 @@ module _ (p : Program) (openings : List ℕ) where
   widened_address : (to from : ValueType) (a : Address) → is_assignable to from ≡ true → IsAddress p openings from a → IsAddress p openings to a
   widened_address to from address.Null h k = tt
   widened_address to from (address.Func f) h k = assigned_on_some to from (function_type (slice_get p.funcs f)) h k
-  widened_address to from (address.At object path index count) h k = (k.0, names_on to from path index count (place_in p object path) h k.1)
+  widened_address to from (address.At object path index count) h k = (k.0, names_on to from path index count (place_in p object path) h k.1, k.2)
 
   widened_object : (constant volatile : Bool) (t : CType) (c v : Bool) (u : CType) (x : Value) → is_assignable (ToObject constant volatile t) (ToObject c v u) ≡ true →
       HasType p openings (ToObject c v u) x → HasType p openings (ToObject constant volatile t) x
@@ -215,7 +215,7 @@ module _ (p : Program) (openings : List ℕ) where
       (b : Address) → IsAddress p openings to (address.At object path index count) → option_map (λ i. address.At object path i count) o ≡ Some b → IsAddress p openings to b
   moved_to to object path index count None w b h e = absurd (cc)
   moved_to to object path index count (Some k) w b h e =
-      subst (IsAddress p openings to) (same_Some (address.At object path k count) b e) (h.0, names_there to path index k count (place_in p object path) h.1 (w k refl))
+      subst (IsAddress p openings to) (same_Some (address.At object path k count) b e) (h.0, names_there to path index k count (place_in p object path) h.1 (w k refl), h.2)
 
   moved_address_typed : (to : ValueType) (back : Bool) (n : ℤ) (a b : Address) → IsAddress p openings to a → moved_address back n a ≡ Some b → IsAddress p openings to b
   moved_address_typed to back n address.Null b h e = absurd (cc)

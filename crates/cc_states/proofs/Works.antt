@@ -91,3 +91,19 @@ module _ (p : Program) (openings : List ℕ) where
   pub works_needs : {A B : Type 0} (Q : B → Type 0) (v : Option A) (f : A → Get B) → ((a : A) → v ≡ Some a → Works Q (f a)) → Works Q (needs v f)
   works_needs Q None f h = works_trap Q
   works_needs Q (Some a) f h = h a refl
+
+  -- whatever else holds of what is given
+  pub works_and : {A : Type 0} (P Q : A → Type 0) (g : Get A) → Works P g → ((ms rest : List Mark) (a : A) → g ms ≡ Known a rest → Q a) → Works (λ a. P a × Q a) g
+  works_and P Q g w h = record {
+    known = λ ms rest a answers e. let u = w.known ms rest a answers e in (u.0, (u.1, h ms rest a e));
+    waits = w.waits;
+  }
+
+-- what is made of what is given
+pub gives_made : {A B : Type 0} (Q : B → Type 0) (g : Get A) (f : A → B) → ((a : A) → Q (f a)) → (ms rest : List Mark) (b : B) → bind g (λ a. known (f a)) ms ≡ Known b rest → Q b
+gives_made {A = A} Q g f h ms rest b e = by_progress (g ms) e
+  where
+    by_progress : (q : Progress A) → and_then q (λ a. known (f a)) ≡ Known b rest → Q b
+    by_progress (Known a mid) e = subst Q (same_known (f a) b mid rest e) (h a)
+    by_progress (Waits action) e = absurd (cc)
+    by_progress (Traps mid) e = absurd (cc)

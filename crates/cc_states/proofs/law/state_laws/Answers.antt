@@ -5,7 +5,7 @@ use Rattle.cc_states.proofs.ControlLemmas.{next_sound, body_sound, may_break_the
 use Rattle.cc_steps.proofs.TurnLemmas.{sound-sized}
 use Rattle.cc_states.proofs.PathLemmas.{zeros_typed, written_typed}
 use Rattle.cc_states.specs.Typed.{HasType}
-use Rattle.cc_states.proofs.StateLemmas.{step_possible, expression_typed, functions_there}
+use Rattle.cc_states.proofs.StateLemmas.{step_possible, expression_typed, functions_there, entries_there, parameters_there}
 use Rattle.cc_states.proofs.law.state_laws.Goals as goal
 
 pub returns-clause-expressions : goal.returns-clause-expressions
@@ -55,3 +55,9 @@ returns-clause-lists c = λ p f a s rest here sound places v. next_inside f.body
 
 pub returns-clause-begins : goal.returns-clause-begins
 returns-clause-begins c = λ f. body_inside f.body
+
+pub returns-clause-entries : goal.returns-clause-entries
+returns-clause-entries c = λ p sound s h. entries_there p h.0 s.stack h.1.stack
+
+pub returns-clause-parameters : goal.returns-clause-parameters
+returns-clause-parameters c = λ p sound s h. parameters_there p h.0 s.stack h.1.stack
