@@ -56,51 +56,51 @@ use Rattle.cc_states.proofs.Works.{Works, works_known, works_ask, works_bind, wo
 use Rattle.cc_states.proofs.GivenLemmas.{read_as_written, changed_type, TakesBoth, common, common_left, common_right, given_has, reached_cell, has_good, has_changed, InMemory, may_be_addressed, points, whole_object, MayBeArguments, good_arguments, is_call, call_gives, callee_typed}
 
 module _ (c : Context) (openings : List ℕ) (here : IsActivation c openings) where
-  abbrev Works-in : {A : Type 0} → (A → Type 0) → Get A → Type 0
+  abbrev pub Works-in : {A : Type 0} → (A → Type 0) → Get A → Type 0
   Works-in P g = Works c.program openings P g
 
-  abbrev Value-of : ValueType → Option Value → Type 0
+  abbrev pub Value-of : ValueType → Option Value → Type 0
   Value-of t v = MayHave c.program openings t v
 
-  abbrev Spot-of : PlaceType → Option Spot → Type 0
+  abbrev pub Spot-of : PlaceType → Option Spot → Type 0
   Spot-of u s = MayLead c.program openings u s
 
   -- an expression, or a place, whatever stands behind it
-  abbrev Typed : Meaning → Type 0
+  abbrev pub Typed : Meaning → Type 0
   Typed a = (t : ValueType) → a.ctype ≡ Some t → (later : Registers) → Works-in (Value-of t) (a.next later)
 
-  abbrev PlaceTyped : Designation → Type 0
+  abbrev pub PlaceTyped : Designation → Type 0
   PlaceTyped a = (u : PlaceType) → a.ctype ≡ Some u → (later : Registers) → Works-in (Spot-of u) (a.leads later)
 
   -- ---- a lemma for each way to work operands
 
-  typed_one : {A : Type 0} (P : A → Type 0) (f : Option Value → A) (a : Meaning) (t : ValueType) → Typed a → a.ctype ≡ Some t → ((v : Option Value) → Value-of t v → P (f v)) → (later : Registers) → Works-in P (from_one f a later)
+  pub typed_one : {A : Type 0} (P : A → Type 0) (f : Option Value → A) (a : Meaning) (t : ValueType) → Typed a → a.ctype ≡ Some t → ((v : Option Value) → Value-of t v → P (f v)) → (later : Registers) → Works-in P (from_one f a later)
   typed_one P f a t h e k later = works_bind c.program openings (Value-of t) P (a.next later) (λ v. known (f v)) (h t e later) (λ v m. works_known c.program openings P (f v) (k v m))
 
-  abbrev Both-of : ValueType → ValueType → Option Value × Option Value → Type 0
+  abbrev pub Both-of : ValueType → ValueType → Option Value × Option Value → Type 0
   Both-of t u q = Value-of t q.0 × Value-of u q.1
 
-  typed_both : (a b : Meaning) (t u : ValueType) → Typed a → Typed b → a.ctype ≡ Some t → b.ctype ≡ Some u → (later : Registers) → Works-in (Both-of t u) (both_values a b later)
+  pub typed_both : (a b : Meaning) (t u : ValueType) → Typed a → Typed b → a.ctype ≡ Some t → b.ctype ≡ Some u → (later : Registers) → Works-in (Both-of t u) (both_values a b later)
   typed_both a b t u h k e f later =
       works_bind c.program openings (Value-of t) (Both-of t u) (a.next (also b.effects.assigned later)) (λ v. bind (b.next later) (λ w. known (v, w))) (h t e (also b.effects.assigned later))
       (λ v m. works_bind c.program openings (Value-of u) (Both-of t u) (b.next later) (λ w. known (v, w)) (k u f later) (λ w n. works_known c.program openings (Both-of t u) (v, w) (m, n)))
 
-  typed_two : {A : Type 0} (P : A → Type 0) (f : Option Value → Option Value → A) (a b : Meaning) (t u : ValueType) → Typed a → Typed b → a.ctype ≡ Some t → b.ctype ≡ Some u →
+  pub typed_two : {A : Type 0} (P : A → Type 0) (f : Option Value → Option Value → A) (a b : Meaning) (t u : ValueType) → Typed a → Typed b → a.ctype ≡ Some t → b.ctype ≡ Some u →
       ((v w : Option Value) → Value-of t v → Value-of u w → P (f v w)) → (later : Registers) → Works-in P (from_two f a b later)
   typed_two P f a b t u h k e g j later =
       works_bind c.program openings (Both-of t u) P (both_values a b later) (λ q. known (f q.0 q.1)) (typed_both a b t u h k e g later) (λ q m. works_known c.program openings P (f q.0 q.1) (j q.0 q.1 m.0 m.1))
 
-  abbrev Place-and : PlaceType → ValueType → Option Spot × Option Value → Type 0
+  abbrev pub Place-and : PlaceType → ValueType → Option Spot × Option Value → Type 0
   Place-and u t q = Spot-of u q.0 × Value-of t q.1
 
-  typed_place_and_value : (a : Designation) (e : Meaning) (u : PlaceType) (t : ValueType) → PlaceTyped a → Typed e → a.ctype ≡ Some u → e.ctype ≡ Some t → (later : Registers) → Works-in (Place-and u t) (place_and_value a e later)
+  pub typed_place_and_value : (a : Designation) (e : Meaning) (u : PlaceType) (t : ValueType) → PlaceTyped a → Typed e → a.ctype ≡ Some u → e.ctype ≡ Some t → (later : Registers) → Works-in (Place-and u t) (place_and_value a e later)
   typed_place_and_value a e u t h k f g later =
       works_bind c.program openings (Spot-of u) (Place-and u t) (a.leads (also e.effects.assigned later)) (λ s. bind (e.next later) (λ v. known (s, v))) (h u f (also e.effects.assigned later))
       (λ s m. works_bind c.program openings (Value-of t) (Place-and u t) (e.next later) (λ v. known (s, v)) (k t g later) (λ v n. works_known c.program openings (Place-and u t) (s, v) (m, n)))
 
   -- ---- accesses
 
-  typed_fetched : (a : Designation) (u : PlaceType) (w : ValueType) → a.ctype ≡ Some u → read_from u ≡ Some w → (later : Registers) (s : Option Spot) → Spot-of u s → Works-in (Value-of w) (fetched c a later s)
+  pub typed_fetched : (a : Designation) (u : PlaceType) (w : ValueType) → a.ctype ≡ Some u → read_from u ≡ Some w → (later : Registers) (s : Option Spot) → Spot-of u s → Works-in (Value-of w) (fetched c a later s)
   typed_fetched a u w e k later s h =
       works_needs c.program openings (Value-of w) (reached c.program a.ctype s) (λ cell. ask (action.Read cell (manner a later)) given)
       (λ cell f.
@@ -108,7 +108,7 @@ module _ (c : Context) (openings : List ℕ) (here : IsActivation c openings) wh
       works_ask c.program openings (Value-of w) (action.Read cell (manner a later)) given (w, at.0, at.1)
       (given_has c.program openings w (action.Read cell (manner a later)) (λ t g. same_Some t w (sym g ∙ at.0))))
 
-  typed_stored : (a : Designation) (u : PlaceType) (w r : ValueType) → a.ctype ≡ Some u → read_from u ≡ Some w → (s : Option Spot) (v answer : Option Value) → Spot-of u s → Value-of w v → Value-of r answer →
+  pub typed_stored : (a : Designation) (u : PlaceType) (w r : ValueType) → a.ctype ≡ Some u → read_from u ≡ Some w → (s : Option Spot) (v answer : Option Value) → Spot-of u s → Value-of w v → Value-of r answer →
       Works-in (Value-of r) (stored c a s v answer)
   typed_stored a u w r e k s v answer h m n =
       works_needs c.program openings (Value-of r) (reached c.program a.ctype s) (λ cell. needs v (λ x. ask (action.Write cell (is_seen a.ctype) x) (λ m. answer)))
@@ -126,14 +126,14 @@ module _ (c : Context) (openings : List ℕ) (here : IsActivation c openings) wh
   changed_has a u w e k o t x y h =
       subst (λ (z : Option ValueType). Value-of w (changed c.program.target o t z x y)) (sym (value_type_is a u w e k)) (has_changed c.program openings o t w x y h)
 
-  typed_changed : (a : Designation) (u : PlaceType) (w t' : ValueType) → a.ctype ≡ Some u → read_from u ≡ Some w → (o : BinOp) (t : IntType) (later : Registers) (q : Option Spot × Option Value) → Place-and u t' q →
+  pub typed_changed : (a : Designation) (u : PlaceType) (w t' : ValueType) → a.ctype ≡ Some u → read_from u ≡ Some w → (o : BinOp) (t : IntType) (later : Registers) (q : Option Spot × Option Value) → Place-and u t' q →
       Works-in (Value-of w) (changed_with c a o t later q)
   typed_changed a u w t' e k o t later q h =
       works_bind c.program openings (Value-of w) (Value-of w) (fetched c a later q.0) (changed_back c a o t q.0 q.1) (typed_fetched a u w e k later q.0 h.0)
       (λ v m. typed_stored a u w w e k q.0 (changed c.program.target o t (value_type c a) v q.1) (changed c.program.target o t (value_type c a) v q.1) h.0
       (changed_has a u w e k o t v q.1 m) (changed_has a u w e k o t v q.1 m))
 
-  typed_stepped : (a : Designation) (u : PlaceType) (w : ValueType) → a.ctype ≡ Some u → read_from u ≡ Some w → (down : Bool) (later : Registers) (s : Option Spot) → Spot-of u s → Works-in (Value-of w) (stepped_with c a down later s)
+  pub typed_stepped : (a : Designation) (u : PlaceType) (w : ValueType) → a.ctype ≡ Some u → read_from u ≡ Some w → (down : Bool) (later : Registers) (s : Option Spot) → Spot-of u s → Works-in (Value-of w) (stepped_with c a down later s)
   typed_stepped a u w e k down later s h =
       works_bind c.program openings (Value-of w) (Value-of w) (fetched c a later s) (stepped_back c a down s) (typed_fetched a u w e k later s h)
       (λ v m. typed_stored a u w w e k s (changed c.program.target (sum_or_difference down) (one_more_type c.program.target (value_type c a)) (value_type c a) v (Some (Int (pos 1)))) v h
@@ -141,7 +141,7 @@ module _ (c : Context) (openings : List ℕ) (here : IsActivation c openings) wh
 
   -- ---- branches
 
-  abbrev Anything : Option Bool → Type 0
+  abbrev pub Anything : Option Bool → Type 0
   Anything b = Unit {0}
 
   typed_branch : (pure : Bool) (v : Option Value) → Works-in Anything (branch pure v)
@@ -159,7 +159,7 @@ module _ (c : Context) (openings : List ℕ) (here : IsActivation c openings) wh
   typed_arms r these those h k (Some true) = h
   typed_arms r these those h k (Some false) = k
 
-  typed_choice : (t r : ValueType) (pure : Bool) (condition these those : Get (Option Value)) → Works-in (Value-of t) condition → Works-in (Value-of r) these → Works-in (Value-of r) those →
+  pub typed_choice : (t r : ValueType) (pure : Bool) (condition these those : Get (Option Value)) → Works-in (Value-of t) condition → Works-in (Value-of r) these → Works-in (Value-of r) those →
       Works-in (Value-of r) (choice pure condition these those)
   typed_choice t r pure condition these those g h k =
       works_bind c.program openings (Value-of t) (Value-of r) condition (λ v. bind (branch pure v) (arms (bind these (outcome pure)) (bind those (outcome pure)))) g
@@ -167,7 +167,7 @@ module _ (c : Context) (openings : List ℕ) (here : IsActivation c openings) wh
       (λ b n. typed_arms r (bind these (outcome pure)) (bind those (outcome pure))
       (works_bind c.program openings (Value-of r) (Value-of r) these (outcome pure) h (typed_outcome r pure)) (works_bind c.program openings (Value-of r) (Value-of r) those (outcome pure) k (typed_outcome r pure)) b))
 
-  typed_condition : (b : Meaning) (t : ValueType) → Typed b → b.ctype ≡ Some t → (later : Registers) → Works-in (Value-of (Integer int.Int)) (as_condition b later)
+  pub typed_condition : (b : Meaning) (t : ValueType) → Typed b → b.ctype ≡ Some t → (later : Registers) → Works-in (Value-of (Integer int.Int)) (as_condition b later)
   typed_condition b t h e later =
       works_bind c.program openings (Value-of t) (Value-of (Integer int.Int)) (b.next later) (λ v. known (of_truth (truth v))) (h t e later)
       (λ v m. works_known c.program openings (Value-of (Integer int.Int)) (of_truth (truth v)) (has_truth c.program openings v))
@@ -180,13 +180,13 @@ module _ (c : Context) (openings : List ℕ) (here : IsActivation c openings) wh
 
   -- ---- calls
 
-  abbrev At : Expr → Type 0
+  abbrev pub At : Expr → Type 0
   At e = Typed (meaning c e)
 
-  abbrev PlaceAt : PlaceOf → Type 0
+  abbrev pub PlaceAt : PlaceOf → Type 0
   PlaceAt a = PlaceTyped (designation c a)
 
-  abbrev Arguments : List CType → List (Option Value) → Type 0
+  abbrev pub Arguments : List CType → List (Option Value) → Type 0
   Arguments ts vs = MayBeArguments c.program openings ts vs
 
   assigned_argument : (C : Type 0) (to from : Option ValueType) → is_assignable_some to from ≡ true → ((t u : ValueType) → to ≡ Some t → from ≡ Some u → is_assignable t u ≡ true → C) → C
@@ -194,7 +194,7 @@ module _ (c : Context) (openings : List ℕ) (here : IsActivation c openings) wh
   assigned_argument C (Some t) None h k = absurd (cc)
   assigned_argument C (Some t) (Some u) h k = k t u refl refl h
 
-  typed_each : (ts : List CType) (args : List Expr) → Each At args → are_assignable ts (map (λ (a : Meaning). a.ctype) (map (meaning c) args)) ≡ true → (later : Registers) →
+  pub typed_each : (ts : List CType) (args : List Expr) → Each At args → are_assignable ts (map (λ (a : Meaning). a.ctype) (map (meaning c) args)) ≡ true → (later : Registers) →
       Works-in (Arguments ts) (each (map (meaning c) args) later)
   typed_each [] [] h e later = works_known c.program openings (Arguments []) [] tt
   typed_each [] (a ∷ args) h e later = absurd (cc)
@@ -207,7 +207,7 @@ module _ (c : Context) (openings : List ℕ) (here : IsActivation c openings) wh
       (λ v m. works_bind c.program openings (Arguments ts) (Arguments (t ∷ ts)) (each (map (meaning c) args) later) (λ vs. known (v ∷ vs)) (typed_each ts args h.1 all.1 later)
       (λ vs n. works_known c.program openings (Arguments (t ∷ ts)) (v ∷ vs) ((to, f, may_widen c.program openings to from v k m), n))))
 
-  typed_called : (sig : Sig) (w : ValueType) (args : List Expr) → Each At args → are_assignable (out-Sig sig).params (map (λ (a : Meaning). a.ctype) (map (meaning c) args)) ≡ true → result_value (out-Sig sig).result ≡ Some w →
+  pub typed_called : (sig : Sig) (w : ValueType) (args : List Expr) → Each At args → are_assignable (out-Sig sig).params (map (λ (a : Meaning). a.ctype) (map (meaning c) args)) ≡ true → result_value (out-Sig sig).result ≡ Some w →
       (later : Registers) (v : Option Value) → Value-of (ToFunction sig) v → Works-in (Value-of w) (called_with (map (meaning c) args) later v)
   typed_called sig w args h e r later v m =
       works_bind c.program openings (Arguments (out-Sig sig).params) (Value-of w) (each (map (meaning c) args) later) (λ vs. needs (address_in v) (λ callee. needs (all_good vs) (λ good. ask (action.Call callee good) given)))
@@ -221,10 +221,10 @@ module _ (c : Context) (openings : List ℕ) (here : IsActivation c openings) wh
 
   -- ---- one level
 
-  abbrev opened : one.Expr-F Expr PlaceOf → Meaning
+  abbrev pub opened : one.Expr-F Expr PlaceOf → Meaning
   opened x = expr_meaning c (map-Expr Expr PlaceOf Meaning Designation (meaning c) (designation c) x)
 
-  abbrev place_opened : one.Place-F Expr PlaceOf → Designation
+  abbrev pub place_opened : one.Place-F Expr PlaceOf → Designation
   place_opened x = place_meaning c (map-Place Expr PlaceOf Meaning Designation (meaning c) (designation c) x)
 
   -- what is given has the type r, which the rule gives as t
@@ -275,19 +275,19 @@ module _ (c : Context) (openings : List ℕ) (here : IsActivation c openings) wh
       (works_bind c.program openings (Spot-of u) (Value-of w) (a.leads later) (stepped_with c a down later) (h u x later)
       (λ s m. typed_stepped a u w x (read_as_written u w y) down later s m))))
 
-  typed_load : (a : Designation) (t : ValueType) → PlaceTyped a → of_one a.ctype read_from ≡ Some t → (later : Registers) → Works-in (Value-of t) (bind (a.leads later) (fetched c a later))
+  pub typed_load : (a : Designation) (t : ValueType) → PlaceTyped a → of_one a.ctype read_from ≡ Some t → (later : Registers) → Works-in (Value-of t) (bind (a.leads later) (fetched c a later))
   typed_load a t h f later =
       with_one (Works-in (Value-of t) (bind (a.leads later) (fetched c a later))) a.ctype read_from t f
       (λ u x y. works_bind c.program openings (Spot-of u) (Value-of t) (a.leads later) (fetched c a later) (h u x later) (λ s m. typed_fetched a u t x y later s m))
 
   -- to what a place leads whose address is taken
-  abbrev In-memory : Option Spot → Type 0
+  abbrev pub In-memory : Option Spot → Type 0
   In-memory s = InMemory c.program openings s
 
-  abbrev Memory-spot : PlaceType → Option Spot → Type 0
+  abbrev pub Memory-spot : PlaceType → Option Spot → Type 0
   Memory-spot u s = Spot-of u s × In-memory s
 
-  typed_address : (a : Designation) (t : ValueType) → PlaceTyped a → ((later : Registers) (ms rest : List Mark) (s : Option Spot) → a.leads later ms ≡ Known s rest → In-memory s) → of_one a.ctype address_of ≡ Some t → (later : Registers) →
+  pub typed_address : (a : Designation) (t : ValueType) → PlaceTyped a → ((later : Registers) (ms rest : List Mark) (s : Option Spot) → a.leads later ms ≡ Known s rest → In-memory s) → of_one a.ctype address_of ≡ Some t → (later : Registers) →
       Works-in (Value-of t) (bind (a.leads later) (λ s. known (address_of_spot s)))
   typed_address a t h k f later =
       with_one (Works-in (Value-of t) (bind (a.leads later) (λ s. known (address_of_spot s)))) a.ctype address_of t f
@@ -295,11 +295,11 @@ module _ (c : Context) (openings : List ℕ) (here : IsActivation c openings) wh
       (λ s m. works_known c.program openings (Value-of t) (address_of_spot s) (may_be_addressed c.program openings u t s m.0 m.1 y)))
 
   -- the value of an operator over one operand
-  typed_unary : (t r : ValueType) (f : Option Value → Option Value) (a : Meaning) (g : ValueType → Option ValueType) → Typed a → of_one a.ctype g ≡ Some t →
+  pub typed_unary : (t r : ValueType) (f : Option Value → Option Value) (a : Meaning) (g : ValueType → Option ValueType) → Typed a → of_one a.ctype g ≡ Some t →
       ((u : ValueType) → g u ≡ Some t → (v : Option Value) → Value-of u v → Value-of t (f v)) → (later : Registers) → Works-in (Value-of t) (from_one f a later)
   typed_unary t r f a g h e k later = with_one (Works-in (Value-of t) (from_one f a later)) a.ctype g t e (λ u x y. typed_one (Value-of t) f a u h x (k u y) later)
 
-  typed_binary : (t : ValueType) (f : Option Value → Option Value → Option Value) (a b : Meaning) (g : ValueType → ValueType → Option ValueType) → Typed a → Typed b → of_two a.ctype b.ctype g ≡ Some t →
+  pub typed_binary : (t : ValueType) (f : Option Value → Option Value → Option Value) (a b : Meaning) (g : ValueType → ValueType → Option ValueType) → Typed a → Typed b → of_two a.ctype b.ctype g ≡ Some t →
       ((u w : ValueType) → g u w ≡ Some t → (x y : Option Value) → Value-of u x → Value-of w y → Value-of t (f x y)) → (later : Registers) → Works-in (Value-of t) (from_two f a b later)
   typed_binary t f a b g h k e j later = with_two (Works-in (Value-of t) (from_two f a b later)) a.ctype b.ctype g t e (λ u w x y z. typed_two (Value-of t) f a b u w h k x y (j u w z) later)
 
@@ -355,10 +355,10 @@ module _ (c : Context) (openings : List ℕ) (here : IsActivation c openings) wh
       (λ u w x y z. works_bind c.program openings (Value-of u) (Value-of t) (a.next (also b.effects.assigned later)) (λ v. needs v (λ i. b.next later)) (h u x (also b.effects.assigned later))
       (λ v m. works_needs c.program openings (Value-of t) v (λ i. b.next later) (λ i j. as_type w t (b.next later) (same_Some w t z) (k w y later))))
 
-  abbrev types_of : List Expr → List (Option ValueType)
+  abbrev pub types_of : List Expr → List (Option ValueType)
   types_of args = map (λ (a : Meaning). a.ctype) (map (meaning c) args)
 
-  abbrev call_of : Meaning → List Expr → Registers → Get (Option Value)
+  abbrev pub call_of : Meaning → List Expr → Registers → Get (Option Value)
   call_of f args later = bind (f.next (also (assigned_by (map (meaning c) args)) later)) (called_with (map (meaning c) args) later)
 
   call_by : (f : Meaning) (args : List Expr) (t : ValueType) (sig : Sig) (b : Bool) → Typed f → Each At args → f.ctype ≡ Some (ToFunction sig) → are_assignable (out-Sig sig).params (types_of args) ≡ b →
@@ -427,7 +427,7 @@ module _ (c : Context) (openings : List ℕ) (here : IsActivation c openings) wh
   -- ---- a whole object whose address is taken
 
   -- of a place that is a local, that is taken in the function
-  abbrev OwnTaken : one.Place-F Meaning Designation → Type 0
+  abbrev pub OwnTaken : one.Place-F Meaning Designation → Type 0
   OwnTaken (one.Local r) = is_addressed c.func r ≡ true
   OwnTaken (one.Static i) = Unit {0}
   OwnTaken (one.Device d) = Unit {0}
@@ -479,7 +479,7 @@ module _ (c : Context) (openings : List ℕ) (here : IsActivation c openings) wh
   leads_in_memory (one.Deref a) own later ms rest s e object f = gives_made In-memory (a.next later) (λ v. option_map spot.Address (address_in v)) (λ v. no_object (address_in v)) ms rest s e object f
 
   -- an address that an expression takes
-  abbrev AddressTaken : one.Expr-F Expr PlaceOf → Type 0
+  abbrev pub AddressTaken : one.Expr-F Expr PlaceOf → Type 0
   AddressTaken x = (a : PlaceOf) → x ≡ one.AddrOf a → (r : ℕ) → out-Place a ≡ one.Local r → is_addressed c.func r ≡ true
 
   own_taken : (a : PlaceOf) (x : one.Place-F Expr PlaceOf) → out-Place a ≡ x → ((r : ℕ) → out-Place a ≡ one.Local r → is_addressed c.func r ≡ true) → OwnTaken (map-Place Expr PlaceOf Meaning Designation (meaning c) (designation c) x)
@@ -589,10 +589,10 @@ module _ (c : Context) (openings : List ℕ) (here : IsActivation c openings) wh
   place_typed_level (one.Member a m) h u e later = member_typed (designation c a) m u h e later
   place_typed_level (one.Deref e) h u f later = pointed_typed (meaning c e) u h f later
 
-  abbrev Claim : Expr → Type 0
+  abbrev pub Claim : Expr → Type 0
   Claim e = IfTaken c.func At PlaceAt e
 
-  abbrev PlaceClaim : PlaceOf → Type 0
+  abbrev pub PlaceClaim : PlaceOf → Type 0
   PlaceClaim a = PlaceIfTaken c.func At PlaceAt a
 
   made : (x : one.Expr-F Expr PlaceOf) → Parts Claim PlaceClaim x → Claim (roll-Expr x)

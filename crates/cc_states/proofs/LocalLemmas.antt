@@ -21,7 +21,7 @@ use Rattle.cc_steps.specs.Step.{activation, passes}
 use Rattle.cc_syntax.specs.Expressions.{of_one}
 use Rattle.cc_syntax.specs.Operators.{is_handler}
 use Rattle.cc_syntax.specs.SameTypes.{same_shape}
-use Rattle.cc_syntax.specs.Sound.{IsFunc, are_parameters}
+use Rattle.cc_syntax.specs.Sound.{any_names, IsFuncBy, are_parameters}
 use Rattle.cc_syntax.specs.Types.{Named, IsInOrder}
 use Rattle.cc_syntax.specs.Values.{ValueType, scalar_shape, scalar_value, object_place, read_from}
 use Rattle.cc_syntax.proofs.Prefixes.{both_true}
@@ -101,7 +101,7 @@ module _ (p : Program) (openings : List ℕ) (order : IsInOrder p.structures) wh
   given_written (t ∷ ts) (x ∷ locals) (v ∷ args) h k (suc i) b = given_written ts locals args (both_true (same_shape t.shape x.1.shape) (are_parameters ts locals) h).1 k.1 i (omega (arith, b))
 
   -- an activation before its first step
-  pub opened_active : (number id : ℕ) (handler : Bool) (args : List Value) (f : Func) → slice_get p.funcs id ≡ Some f → slice_get openings number ≡ Some id → IsFunc p f → (handler ≡ true → is_handler f ≡ true) → AreArguments p openings (out-Sig f.sig).params args →
+  pub opened_active : (number id : ℕ) (handler : Bool) (args : List Value) (f : Func) → slice_get p.funcs id ≡ Some f → slice_get openings number ≡ Some id → IsFuncBy p any_names f → (handler ≡ true → is_handler f ≡ true) → AreArguments p openings (out-Sig f.sig).params args →
       IsActive p openings (activation p number id handler args f)
   opened_active number id handler args f e n sound entry h =
       let begun = begun_by p openings f (close f.body 0 []) (passes p number id [] (close f.body 0 []).0) (body_sound p f sound.body, body_inside f.body) in

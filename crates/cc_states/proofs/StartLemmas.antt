@@ -29,7 +29,7 @@ use Rattle.cc_steps.specs.Turn.{start, turn, first_of_stack}
 use Rattle.cc_syntax.specs.Initial.{OfInteger, OfPointer, OfArray, OfStructure, NoElement, Element, NoMember, Member}
 use Rattle.cc_syntax.specs.Programs.{is_address, AreLeaves, AreElements, AreMembers, IsInitial}
 use Rattle.cc_syntax.specs.Operators.{is_handler}
-use Rattle.cc_syntax.specs.Sound.{IsSound, IsFunc, is_main, is_main_there, is_plain_int, is_plain_void, takes_nothing}
+use Rattle.cc_syntax.specs.Sound.{any_names, IsTypedProgram, IsFuncBy, is_main, is_main_there, is_plain_int, is_plain_void, takes_nothing}
 use Rattle.cc_syntax.specs.Types.{Named, IsInOrder}
 use Rattle.cc_syntax.specs.Values.{ValueType, Integer, pointer_shape, pointer_to, scalar_shape, scalar_value}
 use Rattle.cc_program.specs.Qualifiers.{is_const, is_volatile}
@@ -217,8 +217,8 @@ module _ (p : Program) (order : IsInOrder p.structures) where
 
 -- ---- the first state
 
-module _ (p : Program) (sound : IsSound p) where
-  main_empty : (f : Func) → IsFunc p f → is_main f ≡ true → takes_nothing f ≡ true
+module _ (p : Program) (sound : IsTypedProgram p) where
+  main_empty : (f : Func) → IsFuncBy p any_names f → is_main f ≡ true → takes_nothing f ≡ true
   main_empty f k m =
       let form = ap (λ (b : Bool). if b then not (is_handler f) && (takes_nothing f && (is_plain_int (out-Sig f.sig).result || is_plain_void (out-Sig f.sig).result)) else (if is_handler f then takes_nothing f && is_plain_void (out-Sig f.sig).result else true)) (sym m) ∙ k.form in
       (both_true (takes_nothing f) (is_plain_int (out-Sig f.sig).result || is_plain_void (out-Sig f.sig).result) (both_true (not (is_handler f)) (takes_nothing f && (is_plain_int (out-Sig f.sig).result || is_plain_void (out-Sig f.sig).result)) form).1).0

@@ -35,7 +35,7 @@ use Rattle.cc_syntax.specs.Expressions.{of_one}
 use Rattle.cc_syntax.specs.Programs.{type_of}
 use Rattle.cc_syntax.specs.Initial.{place_at}
 use Rattle.cc_syntax.specs.Operators.{is_handler}
-use Rattle.cc_syntax.specs.Sound.{IsSound, IsFunc}
+use Rattle.cc_syntax.specs.Sound.{any_names, IsTypedProgram, IsFuncBy}
 use Rattle.cc_syntax.specs.Types.{Named}
 use Rattle.cc_syntax.specs.Values.{ValueType, Integer, PlaceType, object_place, read_from}
 use Rattle.cc_syntax.proofs.Parts.{all_at}
@@ -125,13 +125,13 @@ module _ (p : Program) (openings : List ℕ) where
   as_many (t ∷ ts) [] h = absurd h
   as_many (t ∷ ts) (v ∷ vs) h = ap suc (as_many ts vs h.1)
 
-  callee_there : IsSound p → (callee : Address) (args : List Value) → IsCall p openings callee args → IsCalleeThere p callee args
+  callee_there : IsTypedProgram p → (callee : Address) (args : List Value) → IsCall p openings callee args → IsCalleeThere p callee args
   callee_there sound address.Null args h = tt
   callee_there sound (address.Func f) args h =
-      (h.0, h.1, as_many (out-Sig h.0.sig).params args h.2 ∙ sym (eqb-true h.0.params (length (out-Sig h.0.sig).params) (all_at (IsFunc p) p.funcs f h.0 h.1 sound.funcs).count))
+      (h.0, h.1, as_many (out-Sig h.0.sig).params args h.2 ∙ sym (eqb-true h.0.params (length (out-Sig h.0.sig).params) (all_at (IsFuncBy p any_names) p.funcs f h.0 h.1 sound.funcs).count))
   callee_there sound (address.At object path index count) args h = tt
 
-  pub possible : IsSound p → (s : State) → AreStatics p openings s.memory.statics → AreActive p openings s.stack → (action : Action) → IsAction p openings action → IsPossible p s action
+  pub possible : IsTypedProgram p → (s : State) → AreStatics p openings s.memory.statics → AreActive p openings s.stack → (action : Action) → IsAction p openings action → IsPossible p s action
   possible sound s h k (Read at manner) i = cell_there s at i.0 h k i.1 i.2
   possible sound s h k (Write at is_event v) i = cell_there s at i.0 h k i.1 i.2
   possible sound s h k (Choose b) i = tt
@@ -162,7 +162,7 @@ module _ (p : Program) (openings : List ℕ) where
   parameters_there [] h = All-nil HasParameters
   parameters_there (a ∷ below) h = All-cons HasParameters a below (h.0.func, h.0.function, h.0.parameters) (parameters_there below h.1)
 
-module _ (p : Program) (sound : IsSound p) (s : State) (h : IsState p s) (a : Active) (below : List Active) (top : s.stack ≡ a ∷ below) where
+module _ (p : Program) (sound : IsTypedProgram p) (s : State) (h : IsState p s) (a : Active) (below : List Active) (top : s.stack ≡ a ∷ below) where
   on_top : IsActive p h.0 a
   on_top = (subst (AreActive p h.0) top h.1.stack).0
 

@@ -55,7 +55,7 @@ holds_same : (v w : Value) → Holds v ≡ Holds w → v ≡ w
 holds_same v w h = cc
 
 module _ (p : Program) (openings : List ℕ) where
-  abbrev Is : State → Type 0
+  abbrev pub Is : State → Type 0
   Is s = IsStateOf p openings s
 
   -- ---- parts of the state
@@ -98,13 +98,13 @@ module _ (p : Program) (openings : List ℕ) where
 
   -- ---- what a cell holds
 
-  static_held : (s : State) (i : ℕ) (path : List Part) (w : ValueType) (v : Value) → AreStatics p openings s.memory.statics → cell_type p (cell.At (root.Static i) path) ≡ Some w →
+  pub static_held : (s : State) (i : ℕ) (path : List Part) (w : ValueType) (v : Value) → AreStatics p openings s.memory.statics → cell_type p (cell.At (root.Static i) path) ≡ Some w →
       content_at s (root.Static i) (cell_position p (root.Static i) path) ≡ Holds v → HasType p openings w v
   static_held s i path w v h k e =
       let x = static_there p openings s.memory.statics i path w (slice_get p.objects i) h refl k in
       subst (HasType p openings w) (holds_same x.0 v (ap static_content (sym x.1) ∙ e)) x.2
 
-  content_held : (x : Option Value) (w : ValueType) (v : Value) → MayHave p openings w x → content (Some x) ≡ Holds v → HasType p openings w v
+  pub content_held : (x : Option Value) (w : ValueType) (v : Value) → MayHave p openings w x → content (Some x) ≡ Holds v → HasType p openings w v
   content_held None w v h e = absurd (cc)
   content_held (Some y) w v h e = subst (HasType p openings w) (holds_same y v e) h
 
@@ -117,13 +117,13 @@ module _ (p : Program) (openings : List ℕ) where
       content_held x.0 w v x.2 (ap content (sym x.1) ∙ subst (λ (g : ℕ). content (scalar_in a.locals local (cell_position p (root.Auto number g local) path)) ≡ Holds v) (sym same) f)
   local_by a h below number func local path w v false e o k next f = next f
 
-  local_held : (stack : List Active) → AreActive p openings stack → (number func local : ℕ) (path : List Part) (w : ValueType) (v : Value) → slice_get openings number ≡ Some func →
+  pub local_held : (stack : List Active) → AreActive p openings stack → (number func local : ℕ) (path : List Part) (w : ValueType) (v : Value) → slice_get openings number ≡ Some func →
       cell_type p (cell.At (root.Auto number func local) path) ≡ Some w → local_content stack number local (cell_position p (root.Auto number func local) path) ≡ Holds v → HasType p openings w v
   local_held [] h number func local path w v o k e = absurd (cc)
   local_held (a ∷ below) h number func local path w v o k e =
       local_by a h.0 below number func local path w v (a.number == number) refl o k (λ f. local_held below h.1 number func local path w v o k f) e
 
-  held : (s : State) → Is s → (object : Root) (path : List Part) (w : ValueType) (v : Value) → cell_type p (cell.At object path) ≡ Some w → IsOpened openings object →
+  pub held : (s : State) → Is s → (object : Root) (path : List Part) (w : ValueType) (v : Value) → cell_type p (cell.At object path) ≡ Some w → IsOpened openings object →
       content_at s object (cell_position p object path) ≡ Holds v → HasType p openings w v
   held s h (root.Static i) path w v k o e = static_held s i path w v h.statics k e
   held s h (root.Auto number func local) path w v k o e = local_held s.stack h.stack number func local path w v o k e

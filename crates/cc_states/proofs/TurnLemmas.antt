@@ -35,13 +35,13 @@ use Rattle.cc_steps.specs.Turn.{is_going, only_handler, may_enter, entering, ent
 use Rattle.cc_syntax.specs.Effects.{no_one}
 use Rattle.cc_syntax.specs.Programs.{type_of, is_sound_stmt, returns, sound_step}
 use Rattle.cc_syntax.specs.Operators.{is_handler}
-use Rattle.cc_syntax.specs.Sound.{IsSound, IsFunc, is_main, is_main_there, is_plain_int, is_plain_void, takes_nothing}
+use Rattle.cc_syntax.specs.Sound.{any_names, IsTypedProgram, IsFuncBy, is_main, is_main_there, is_plain_int, is_plain_void, takes_nothing}
 use Rattle.cc_syntax.specs.Statements.{Labelled, labels_fit, are_apart, has_label}
 use Rattle.cc_syntax.specs.Types.{IsInOrder}
 use Rattle.cc_syntax.specs.Values.{ValueType, NoValue, Integer, scalar_value, is_void, is_assignable_some, ToObject, ToFunction}
 use Rattle.cc_syntax.proofs.Parts.{all_at}
 use Rattle.cc_syntax.proofs.Prefixes.{both_true}
-use Rattle.cc_steps.proofs.TurnLemmas.{sound-sized}
+use Rattle.cc_states.proofs.SoundLemmas.{typed-sized}
 use Rattle.cc_states.specs.Answers.{IsAction, IsMarkOf, result_in}
 use Rattle.cc_states.specs.Inside.{AreInside}
 use Rattle.cc_states.specs.States.{may_break, may_continue, AreSound, worked_at, expression_of, AreMarks, context_in, IsActive, AreActive, AreCalled, IsStateOf, IsState, AreInOrder}
@@ -61,12 +61,12 @@ use Rattle.cc_states.proofs.TypedLemmas.{promoted_value, widened}
 use Rattle.cc_states.proofs.LocalLemmas.{opened_active}
 use Rattle.cc_states.proofs.TestLemmas.{not_void, both_not, not_empty, plain, void_returns, handler_by}
 
-module _ (p : Program) (sound : IsSound p) where
+module _ (p : Program) (sound : IsTypedProgram p) where
   pub order_of : IsInOrder p.structures
-  order_of = (sound-sized p sound).in_order
+  order_of = (typed-sized p sound).in_order
 
-  pub function_sound : (id : ℕ) (f : Func) → slice_get p.funcs id ≡ Some f → IsFunc p f
-  function_sound id f e = all_at (IsFunc p) p.funcs id f e sound.funcs
+  pub function_sound : (id : ℕ) (f : Func) → slice_get p.funcs id ≡ Some f → IsFuncBy p any_names f
+  function_sound id f e = all_at (IsFuncBy p any_names) p.funcs id f e sound.funcs
 
   -- the newest number is above all others
   new_in_order : (openings : List ℕ) (a : Active) (n : ℕ) (stack : List Active) → length openings ≡ n → a.number ≡ n → AreActive p openings stack → AreInOrder stack → AreInOrder (a ∷ stack)
@@ -161,7 +161,7 @@ module _ (p : Program) (sound : IsSound p) where
   returned_state openings s h a (b ∷ rest) top v r = returned_by openings s h a b rest top a.handler refl v r
 
   -- main gives an int, where it gives anything
-  main_result : (f : Func) → IsFunc p f → is_main f ≡ true → is_void (out-Sig f.sig).result ≡ false → scalar_value (out-Sig f.sig).result ≡ Some (Integer int.Int)
+  main_result : (f : Func) → IsFuncBy p any_names f → is_main f ≡ true → is_void (out-Sig f.sig).result ≡ false → scalar_value (out-Sig f.sig).result ≡ Some (Integer int.Int)
   main_result f k m e =
       let form : not (is_handler f) && (takes_nothing f && (is_plain_int (out-Sig f.sig).result || is_plain_void (out-Sig f.sig).result)) ≡ true =
       ap (λ (b : Bool). if b then not (is_handler f) && (takes_nothing f && (is_plain_int (out-Sig f.sig).result || is_plain_void (out-Sig f.sig).result)) else (if is_handler f then takes_nothing f && is_plain_void (out-Sig f.sig).result else true)) (sym m) ∙ k.form in
@@ -332,7 +332,7 @@ module _ (p : Program) (sound : IsSound p) where
   goes_on s h false e = h
 
   -- a handler takes nothing
-  handler_empty : (f : Func) → IsFunc p f → is_handler f ≡ true → (b : Bool) → is_main f ≡ b → takes_nothing f ≡ true
+  handler_empty : (f : Func) → IsFuncBy p any_names f → is_handler f ≡ true → (b : Bool) → is_main f ≡ b → takes_nothing f ≡ true
   handler_empty f k e true m =
       let form = ap (λ (b : Bool). if b then not (is_handler f) && (takes_nothing f && (is_plain_int (out-Sig f.sig).result || is_plain_void (out-Sig f.sig).result)) else (if is_handler f then takes_nothing f && is_plain_void (out-Sig f.sig).result else true)) (sym m) ∙ k.form in
       both_not (is_handler f) (takes_nothing f && (is_plain_int (out-Sig f.sig).result || is_plain_void (out-Sig f.sig).result)) form e

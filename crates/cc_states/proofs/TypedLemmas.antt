@@ -86,7 +86,7 @@ either_there : (to : ValueType) (path : List Part) (index other count : ℕ) (a 
 either_there to path index other count a (inl k) b = left_true (names_element to other count a) (names_whole to path other count a) (element_there to index other count a k b)
 either_there to path index other count a (inr k) b = right_true (names_element to other count a) (names_whole to path other count a) (whole_there to path index other count a k b)
 
-names_there : (to : ValueType) (path : List Part) (index other count : ℕ) (a : Option PlaceType) → names to path index count a ≡ true → nat_le other count ≡ true → names to path other count a ≡ true
+pub names_there : (to : ValueType) (path : List Part) (index other count : ℕ) (a : Option PlaceType) → names to path index count a ≡ true → nat_le other count ≡ true → names to path other count a ≡ true
 names_there to path index other count None k b = absurd (cc)
 names_there to path index other count (Some a) k b = either_there to path index other count a (either_true (names_element to index count a) (names_whole to path index count a) k) b
 
@@ -161,7 +161,7 @@ unary_typed : (o : UnOp) (t : IntType) (target : Target) (x z : ℤ) → value.u
 unary_typed o t target x z h = unary_by o t target x z (takes t target x) h
 
 module _ (p : Program) (openings : List ℕ) where
-  widened_address : (to from : ValueType) (a : Address) → is_assignable to from ≡ true → IsAddress p openings from a → IsAddress p openings to a
+  pub widened_address : (to from : ValueType) (a : Address) → is_assignable to from ≡ true → IsAddress p openings from a → IsAddress p openings to a
   widened_address to from address.Null h k = tt
   widened_address to from (address.Func f) h k = assigned_on_some to from (function_type (slice_get p.funcs f)) h k
   widened_address to from (address.At object path index count) h k = (k.0, names_on to from path index count (place_in p object path) h k.1, k.2)

@@ -15,7 +15,7 @@ same_known v w ms ns h = cc
 pub same_action : {A : Type 0} (q : Progress A) (a b : Action) → q ≡ Waits a → q ≡ Waits b → a ≡ b
 same_action q a b h k = cc
 
-both_used : {A B : Type 0} (g : Get A) (f : A → Get B) (b : A) (ms mid rest : List Mark) (outcome : List Mark → Progress B) →
+pub both_used : {A B : Type 0} (g : Get A) (f : A → Get B) (b : A) (ms mid rest : List Mark) (outcome : List Mark → Progress B) →
     IsUsed g (Known b) ms mid → IsUsed (f b) outcome mid rest → IsUsed (bind g f) outcome ms rest
 both_used g f b ms mid rest outcome u v = (
   u.0 ++ v.0,
@@ -59,10 +59,10 @@ module _ (p : Program) (openings : List ℕ) where
   works_ask P action f i h = record { known = asked P action f h; waits = λ ms other answers e. asked-waits action f i ms other e }
 
   -- what was asked first has its answers, and so has what comes behind it
-  left_answers : {A B : Type 0} (g : Get A) (f : A → Get B) (ms : List Mark) → AreAnswers p openings (bind g f) ms → AreAnswers p openings g ms
+  pub left_answers : {A B : Type 0} (g : Get A) (f : A → Get B) (ms : List Mark) → AreAnswers p openings (bind g f) ms → AreAnswers p openings g ms
   left_answers g f ms answers front back m action split w = answers front back m action split (ap (λ q. and_then q f) w)
 
-  right_answers : {A B : Type 0} (g : Get A) (f : A → Get B) (ms mid : List Mark) (a : A) → IsUsed g (Known a) ms mid → AreAnswers p openings (bind g f) ms → AreAnswers p openings (f a) mid
+  pub right_answers : {A B : Type 0} (g : Get A) (f : A → Get B) (ms mid : List Mark) (a : A) → IsUsed g (Known a) ms mid → AreAnswers p openings (bind g f) ms → AreAnswers p openings (f a) mid
   right_answers g f ms mid a u answers front back m action split w =
       answers (u.0 ++ front) back m action (u.1 ∙ ap (λ (ns : List Mark). u.0 ++ ns) split ∙ sym (append_assoc u.0 front (m ∷ back))) (ap (λ q. and_then q f) (u.2 front) ∙ w)
 
