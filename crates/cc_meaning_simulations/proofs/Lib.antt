@@ -1,4 +1,5 @@
 pub mod Actions
+pub mod Catching
 pub mod CellsApart
 pub mod ContinuationLemmas
 pub mod HiddenLocals

@@ -25,7 +25,7 @@ use Rattle.cc_states.proofs.InsideLemmas.{HasFirst, behind_inside}
 
 -- ---- marks
 
-nothing_in : (front back : List Mark) (m : Mark) → [] ≡ front ++ m ∷ back → ⊥
+pub nothing_in : (front back : List Mark) (m : Mark) → [] ≡ front ++ m ∷ back → ⊥
 nothing_in [] back m h = absurd (cc)
 nothing_in (x ∷ front) back m h = absurd (cc)
 
@@ -47,7 +47,7 @@ one_further : (x y m n : Mark) (ms front : List Mark) → y ≡ x → IsLast ms 
 one_further x y m n ms front e (inl h) = inl (ap (λ (z : Mark). z ∷ front) (sym e) ∙ ap (λ (zs : List Mark). y ∷ zs) h.0, h.1)
 one_further x y m n ms front e (inr h) = inr (h.0, ap (λ (z : Mark). z ∷ ms) e ∙ ap (λ (zs : List Mark). x ∷ zs) h.1)
 
-last_or_not : (ms : List Mark) (m : Mark) (front back : List Mark) (n : Mark) → ms ++ m ∷ [] ≡ front ++ n ∷ back → IsLast ms m front n
+pub last_or_not : (ms : List Mark) (m : Mark) (front back : List Mark) (n : Mark) → ms ++ m ∷ [] ≡ front ++ n ∷ back → IsLast ms m front n
 last_or_not [] m [] back n h = inl (refl, sym (head_same m n [] back h))
 last_or_not [] m (x ∷ front) back n h = absurd (nothing_in front back n (tail_same m x [] (front ++ n ∷ back) h))
 last_or_not (y ∷ ms) m [] back n h = inr (ms, ap (λ (z : Mark). z ∷ ms) (head_same y n (ms ++ m ∷ []) back h))
@@ -73,7 +73,9 @@ module _ (p : Program) (openings : List ℕ) where
     func = h.func;
     function = h.function;
     number = h.number;
+    entry = h.entry;
     locals = h.locals;
+    parameters = h.parameters;
     control = k.0;
     inside = k.1;
     marks = no_marks (context_in p a h.func) openings (expression_of (moved a at));
@@ -119,7 +121,9 @@ module _ (p : Program) (openings : List ℕ) where
     func = h.func;
     function = h.function;
     number = h.number;
+    entry = h.entry;
     locals = h.locals;
+    parameters = h.parameters;
     control = h.control;
     inside = h.inside;
     marks = marks_by a h m action (expression_of a) h.marks (ap (λ (f : Option Func). progress_in p a.number a.func a.marks f (expression_of a)) (sym h.function) ∙ w) i;

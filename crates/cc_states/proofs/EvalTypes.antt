@@ -1,5 +1,5 @@
 -- What an expression gives has its type, and each step that it asks for can be done: by induction over expressions and places.
-use Rattle.std.proofs.Common.{◌≡◌, ℕ, pos, Bool, true, false, not, List, [], ◌∷◌, map, Option, Some, None, refl, ap, sym, ◌∙◌, subst}
+use Rattle.std.proofs.Common.{◌≡◌, ℕ, ℤ, pos, Bool, true, false, not, List, [], ◌∷◌, ◌++◌, map, Option, Some, None, refl, ap, sym, ◌∙◌, subst}
 use Rattle.std.proofs.lemmas.Option.{same_Some}
 use Rattle.std.specs.Prelude.{option_map, option_and_then, slice_get, if◌then◌else◌}
 use Rattle.cc_num.specs.declared.int_type.IntType.{IntType}
@@ -8,7 +8,7 @@ use Rattle.cc_num.specs.declared.op.BinOp.{BinOp}
 use Rattle.cc_program.specs.declared.expr.Expr.{Expr, roll-Expr, map-Expr}
 use Rattle.cc_program.specs.declared.expr.Expr.TheOpen as one
 use Rattle.cc_program.specs.declared.expr.Intr.TheVariants as intr
-use Rattle.cc_program.specs.declared.expr.Place.{Place as PlaceOf, roll-Place, map-Place}
+use Rattle.cc_program.specs.declared.expr.Place.{Place as PlaceOf, out-Place, roll-Place, roll-out-Place, map-Place}
 use Rattle.cc_program.specs.declared.func.Func.{Func}
 use Rattle.cc_program.specs.declared.object.Device.{Device}
 use Rattle.cc_program.specs.declared.types.CType.{CType}
@@ -16,82 +16,91 @@ use Rattle.cc_program.specs.declared.types.Shape.{Shape, out-Shape}
 use Rattle.cc_program.specs.declared.types.Shape.TheOpen as shape
 use Rattle.cc_program.specs.declared.types.Sig.{Sig, out-Sig}
 use Rattle.cc_program.specs.declared.types.Structure.{Structure}
+use Rattle.cc_program.specs.declared.value.Address.{Address}
 use Rattle.cc_program.specs.declared.value.Address.TheVariants as address
+use Rattle.cc_program.specs.declared.value.Part.{Part}
+use Rattle.cc_program.specs.declared.value.Part.TheVariants as part
+use Rattle.cc_program.specs.declared.value.Root.{Root}
 use Rattle.cc_program.specs.declared.value.Root.TheVariants as root
 use Rattle.cc_program.specs.declared.value.Value.{Value}
 use Rattle.cc_program.specs.declared.value.Value.TheVariants.{Int, Place}
 use Rattle.cc_program.proofs.Each.{Each}
 use Rattle.cc_program.proofs.ExprInduction.{Parts, PlaceParts, by_expr, by_place}
 use Rattle.cc_eval.specs.declared.action.Action.TheVariants as action
+use Rattle.cc_eval.specs.declared.mark.Mark.{Mark}
 use Rattle.cc_eval.specs.declared.spots.Spot.{Spot}
 use Rattle.cc_eval.specs.declared.spots.Spot.TheVariants as spot
-use Rattle.cc_eval.specs.Context.{Context, local_type, reached, is_seen, member}
+use Rattle.cc_eval.specs.Context.{Context, local_type, designated, element, element_in, reached, is_seen, member}
 use Rattle.cc_eval.specs.Eval.{Meaning, Designation, expr_meaning, place_meaning, meaning, designation, manner, from_one, both_values, from_two, place_and_value, branch, outcome, arms, choice, as_condition, each, assigned_by, all_good, called_with, restored, sequence, changed, sum_or_difference, one_more_type, address_of as address_of_spot, element_at, value_type, fetched, stored, changed_back, changed_with, stepped_back, stepped_with}
-use Rattle.cc_eval.specs.Progress.{Get, known, ask, bind, needs, given, chosen}
+use Rattle.cc_eval.specs.Progress.{Known, Get, known, ask, bind, needs, given, chosen}
 use Rattle.cc_eval.proofs.Links.{level, place_level}
 use Rattle.cc_syntax.specs.Effects.{Registers, also}
 use Rattle.cc_syntax.specs.Expressions.{of_one, of_two}
+use Rattle.cc_syntax.specs.Initial.{bound_of}
 use Rattle.cc_syntax.specs.Operators as rule
 use Rattle.cc_syntax.specs.Operators.{when, constant_type, function_type, common_type, change_type, after_type, call_type, is_promoted, is_integer, is_of}
 use Rattle.cc_syntax.specs.Programs.{null_type, pointer_type, qualified_type}
+use Rattle.cc_syntax.specs.Registers.{is_addressed}
 use Rattle.cc_syntax.specs.Values.{ValueType, NoValue, Integer, ToObject, ToFunction, PlaceType, DevicePlace, pointer_shape, pointer_to, member_of, scalar_value, result_value, object_place, read_from, written_to, address_of, pointed_to, element_of, is_assignable, is_assignable_some, are_assignable}
 use Rattle.cc_syntax.proofs.Prefixes.{both_true}
-use Rattle.cc_values.specs.Values.{address_in, truth, of_truth, unary, binary, conversion, movement, gap, comparison}
-use Rattle.cc_states.specs.Answers.{IsActivation}
-use Rattle.cc_states.specs.Typed.{MayHave, MayLead}
+use Rattle.cc_values.specs.Values.{integer, element_at as element_at_address, address_in, truth, of_truth, unary, binary, conversion, movement, gap, comparison}
+use Rattle.cc_states.specs.Answers.{IsActivation, TakesAddressesOf, PlaceTakesAddressesOf}
+use Rattle.cc_states.specs.Typed.{is_register_in, IsInMemory, MayHave, MayLead}
 use Rattle.cc_syntax.proofs.AlikeLemmas.{function_itself}
 use Rattle.cc_states.proofs.Options.{with_one, with_two, when_true, when_is, mapped}
 use Rattle.cc_states.proofs.SpotLemmas.{may_lead_member, may_lead_element}
 use Rattle.cc_states.proofs.TypedLemmas.{may_widen, promoted_value, has_unary, has_binary, has_conversion, has_truth, has_movement, has_gap, has_comparison}
-use Rattle.cc_states.proofs.Works.{Works, works_known, works_ask, works_bind, works_needs}
-use Rattle.cc_states.proofs.GivenLemmas.{read_as_written, changed_type, TakesBoth, common, common_left, common_right, given_has, reached_cell, has_good, has_changed, may_be_addressed, points, whole_object, MayBeArguments, good_arguments, is_call, call_gives, callee_typed}
+use Rattle.cc_states.proofs.AddressLemmas.{TakesOwn, expr_takes, IfTaken, PlaceIfTaken, parts_at, place_parts_at, rolled_takes, rolled_place_takes, local_taken}
+use Rattle.cc_states.proofs.MemoryLemmas.{addressed_in_memory}
+use Rattle.cc_states.proofs.Works.{Works, works_known, works_ask, works_bind, works_needs, works_and, gives_made}
+use Rattle.cc_states.proofs.GivenLemmas.{read_as_written, changed_type, TakesBoth, common, common_left, common_right, given_has, reached_cell, has_good, has_changed, InMemory, may_be_addressed, points, whole_object, MayBeArguments, good_arguments, is_call, call_gives, callee_typed}
 
 module _ (c : Context) (openings : List ℕ) (here : IsActivation c openings) where
-  abbrev Works-in : {A : Type 0} → (A → Type 0) → Get A → Type 0
+  abbrev pub Works-in : {A : Type 0} → (A → Type 0) → Get A → Type 0
   Works-in P g = Works c.program openings P g
 
-  abbrev Value-of : ValueType → Option Value → Type 0
+  abbrev pub Value-of : ValueType → Option Value → Type 0
   Value-of t v = MayHave c.program openings t v
 
-  abbrev Spot-of : PlaceType → Option Spot → Type 0
+  abbrev pub Spot-of : PlaceType → Option Spot → Type 0
   Spot-of u s = MayLead c.program openings u s
 
   -- an expression, or a place, whatever stands behind it
-  abbrev Typed : Meaning → Type 0
+  abbrev pub Typed : Meaning → Type 0
   Typed a = (t : ValueType) → a.ctype ≡ Some t → (later : Registers) → Works-in (Value-of t) (a.next later)
 
-  abbrev PlaceTyped : Designation → Type 0
+  abbrev pub PlaceTyped : Designation → Type 0
   PlaceTyped a = (u : PlaceType) → a.ctype ≡ Some u → (later : Registers) → Works-in (Spot-of u) (a.leads later)
 
   -- ---- a lemma for each way to work operands
 
-  typed_one : {A : Type 0} (P : A → Type 0) (f : Option Value → A) (a : Meaning) (t : ValueType) → Typed a → a.ctype ≡ Some t → ((v : Option Value) → Value-of t v → P (f v)) → (later : Registers) → Works-in P (from_one f a later)
+  pub typed_one : {A : Type 0} (P : A → Type 0) (f : Option Value → A) (a : Meaning) (t : ValueType) → Typed a → a.ctype ≡ Some t → ((v : Option Value) → Value-of t v → P (f v)) → (later : Registers) → Works-in P (from_one f a later)
   typed_one P f a t h e k later = works_bind c.program openings (Value-of t) P (a.next later) (λ v. known (f v)) (h t e later) (λ v m. works_known c.program openings P (f v) (k v m))
 
-  abbrev Both-of : ValueType → ValueType → Option Value × Option Value → Type 0
+  abbrev pub Both-of : ValueType → ValueType → Option Value × Option Value → Type 0
   Both-of t u q = Value-of t q.0 × Value-of u q.1
 
-  typed_both : (a b : Meaning) (t u : ValueType) → Typed a → Typed b → a.ctype ≡ Some t → b.ctype ≡ Some u → (later : Registers) → Works-in (Both-of t u) (both_values a b later)
+  pub typed_both : (a b : Meaning) (t u : ValueType) → Typed a → Typed b → a.ctype ≡ Some t → b.ctype ≡ Some u → (later : Registers) → Works-in (Both-of t u) (both_values a b later)
   typed_both a b t u h k e f later =
       works_bind c.program openings (Value-of t) (Both-of t u) (a.next (also b.effects.assigned later)) (λ v. bind (b.next later) (λ w. known (v, w))) (h t e (also b.effects.assigned later))
       (λ v m. works_bind c.program openings (Value-of u) (Both-of t u) (b.next later) (λ w. known (v, w)) (k u f later) (λ w n. works_known c.program openings (Both-of t u) (v, w) (m, n)))
 
-  typed_two : {A : Type 0} (P : A → Type 0) (f : Option Value → Option Value → A) (a b : Meaning) (t u : ValueType) → Typed a → Typed b → a.ctype ≡ Some t → b.ctype ≡ Some u →
+  pub typed_two : {A : Type 0} (P : A → Type 0) (f : Option Value → Option Value → A) (a b : Meaning) (t u : ValueType) → Typed a → Typed b → a.ctype ≡ Some t → b.ctype ≡ Some u →
       ((v w : Option Value) → Value-of t v → Value-of u w → P (f v w)) → (later : Registers) → Works-in P (from_two f a b later)
   typed_two P f a b t u h k e g j later =
       works_bind c.program openings (Both-of t u) P (both_values a b later) (λ q. known (f q.0 q.1)) (typed_both a b t u h k e g later) (λ q m. works_known c.program openings P (f q.0 q.1) (j q.0 q.1 m.0 m.1))
 
-  abbrev Place-and : PlaceType → ValueType → Option Spot × Option Value → Type 0
+  abbrev pub Place-and : PlaceType → ValueType → Option Spot × Option Value → Type 0
   Place-and u t q = Spot-of u q.0 × Value-of t q.1
 
-  typed_place_and_value : (a : Designation) (e : Meaning) (u : PlaceType) (t : ValueType) → PlaceTyped a → Typed e → a.ctype ≡ Some u → e.ctype ≡ Some t → (later : Registers) → Works-in (Place-and u t) (place_and_value a e later)
+  pub typed_place_and_value : (a : Designation) (e : Meaning) (u : PlaceType) (t : ValueType) → PlaceTyped a → Typed e → a.ctype ≡ Some u → e.ctype ≡ Some t → (later : Registers) → Works-in (Place-and u t) (place_and_value a e later)
   typed_place_and_value a e u t h k f g later =
       works_bind c.program openings (Spot-of u) (Place-and u t) (a.leads (also e.effects.assigned later)) (λ s. bind (e.next later) (λ v. known (s, v))) (h u f (also e.effects.assigned later))
       (λ s m. works_bind c.program openings (Value-of t) (Place-and u t) (e.next later) (λ v. known (s, v)) (k t g later) (λ v n. works_known c.program openings (Place-and u t) (s, v) (m, n)))
 
   -- ---- accesses
 
-  typed_fetched : (a : Designation) (u : PlaceType) (w : ValueType) → a.ctype ≡ Some u → read_from u ≡ Some w → (later : Registers) (s : Option Spot) → Spot-of u s → Works-in (Value-of w) (fetched c a later s)
+  pub typed_fetched : (a : Designation) (u : PlaceType) (w : ValueType) → a.ctype ≡ Some u → read_from u ≡ Some w → (later : Registers) (s : Option Spot) → Spot-of u s → Works-in (Value-of w) (fetched c a later s)
   typed_fetched a u w e k later s h =
       works_needs c.program openings (Value-of w) (reached c.program a.ctype s) (λ cell. ask (action.Read cell (manner a later)) given)
       (λ cell f.
@@ -99,7 +108,7 @@ module _ (c : Context) (openings : List ℕ) (here : IsActivation c openings) wh
       works_ask c.program openings (Value-of w) (action.Read cell (manner a later)) given (w, at.0, at.1)
       (given_has c.program openings w (action.Read cell (manner a later)) (λ t g. same_Some t w (sym g ∙ at.0))))
 
-  typed_stored : (a : Designation) (u : PlaceType) (w r : ValueType) → a.ctype ≡ Some u → read_from u ≡ Some w → (s : Option Spot) (v answer : Option Value) → Spot-of u s → Value-of w v → Value-of r answer →
+  pub typed_stored : (a : Designation) (u : PlaceType) (w r : ValueType) → a.ctype ≡ Some u → read_from u ≡ Some w → (s : Option Spot) (v answer : Option Value) → Spot-of u s → Value-of w v → Value-of r answer →
       Works-in (Value-of r) (stored c a s v answer)
   typed_stored a u w r e k s v answer h m n =
       works_needs c.program openings (Value-of r) (reached c.program a.ctype s) (λ cell. needs v (λ x. ask (action.Write cell (is_seen a.ctype) x) (λ m. answer)))
@@ -117,14 +126,14 @@ module _ (c : Context) (openings : List ℕ) (here : IsActivation c openings) wh
   changed_has a u w e k o t x y h =
       subst (λ (z : Option ValueType). Value-of w (changed c.program.target o t z x y)) (sym (value_type_is a u w e k)) (has_changed c.program openings o t w x y h)
 
-  typed_changed : (a : Designation) (u : PlaceType) (w t' : ValueType) → a.ctype ≡ Some u → read_from u ≡ Some w → (o : BinOp) (t : IntType) (later : Registers) (q : Option Spot × Option Value) → Place-and u t' q →
+  pub typed_changed : (a : Designation) (u : PlaceType) (w t' : ValueType) → a.ctype ≡ Some u → read_from u ≡ Some w → (o : BinOp) (t : IntType) (later : Registers) (q : Option Spot × Option Value) → Place-and u t' q →
       Works-in (Value-of w) (changed_with c a o t later q)
   typed_changed a u w t' e k o t later q h =
       works_bind c.program openings (Value-of w) (Value-of w) (fetched c a later q.0) (changed_back c a o t q.0 q.1) (typed_fetched a u w e k later q.0 h.0)
       (λ v m. typed_stored a u w w e k q.0 (changed c.program.target o t (value_type c a) v q.1) (changed c.program.target o t (value_type c a) v q.1) h.0
       (changed_has a u w e k o t v q.1 m) (changed_has a u w e k o t v q.1 m))
 
-  typed_stepped : (a : Designation) (u : PlaceType) (w : ValueType) → a.ctype ≡ Some u → read_from u ≡ Some w → (down : Bool) (later : Registers) (s : Option Spot) → Spot-of u s → Works-in (Value-of w) (stepped_with c a down later s)
+  pub typed_stepped : (a : Designation) (u : PlaceType) (w : ValueType) → a.ctype ≡ Some u → read_from u ≡ Some w → (down : Bool) (later : Registers) (s : Option Spot) → Spot-of u s → Works-in (Value-of w) (stepped_with c a down later s)
   typed_stepped a u w e k down later s h =
       works_bind c.program openings (Value-of w) (Value-of w) (fetched c a later s) (stepped_back c a down s) (typed_fetched a u w e k later s h)
       (λ v m. typed_stored a u w w e k s (changed c.program.target (sum_or_difference down) (one_more_type c.program.target (value_type c a)) (value_type c a) v (Some (Int (pos 1)))) v h
@@ -132,7 +141,7 @@ module _ (c : Context) (openings : List ℕ) (here : IsActivation c openings) wh
 
   -- ---- branches
 
-  abbrev Anything : Option Bool → Type 0
+  abbrev pub Anything : Option Bool → Type 0
   Anything b = Unit {0}
 
   typed_branch : (pure : Bool) (v : Option Value) → Works-in Anything (branch pure v)
@@ -150,7 +159,7 @@ module _ (c : Context) (openings : List ℕ) (here : IsActivation c openings) wh
   typed_arms r these those h k (Some true) = h
   typed_arms r these those h k (Some false) = k
 
-  typed_choice : (t r : ValueType) (pure : Bool) (condition these those : Get (Option Value)) → Works-in (Value-of t) condition → Works-in (Value-of r) these → Works-in (Value-of r) those →
+  pub typed_choice : (t r : ValueType) (pure : Bool) (condition these those : Get (Option Value)) → Works-in (Value-of t) condition → Works-in (Value-of r) these → Works-in (Value-of r) those →
       Works-in (Value-of r) (choice pure condition these those)
   typed_choice t r pure condition these those g h k =
       works_bind c.program openings (Value-of t) (Value-of r) condition (λ v. bind (branch pure v) (arms (bind these (outcome pure)) (bind those (outcome pure)))) g
@@ -158,7 +167,7 @@ module _ (c : Context) (openings : List ℕ) (here : IsActivation c openings) wh
       (λ b n. typed_arms r (bind these (outcome pure)) (bind those (outcome pure))
       (works_bind c.program openings (Value-of r) (Value-of r) these (outcome pure) h (typed_outcome r pure)) (works_bind c.program openings (Value-of r) (Value-of r) those (outcome pure) k (typed_outcome r pure)) b))
 
-  typed_condition : (b : Meaning) (t : ValueType) → Typed b → b.ctype ≡ Some t → (later : Registers) → Works-in (Value-of (Integer int.Int)) (as_condition b later)
+  pub typed_condition : (b : Meaning) (t : ValueType) → Typed b → b.ctype ≡ Some t → (later : Registers) → Works-in (Value-of (Integer int.Int)) (as_condition b later)
   typed_condition b t h e later =
       works_bind c.program openings (Value-of t) (Value-of (Integer int.Int)) (b.next later) (λ v. known (of_truth (truth v))) (h t e later)
       (λ v m. works_known c.program openings (Value-of (Integer int.Int)) (of_truth (truth v)) (has_truth c.program openings v))
@@ -171,13 +180,13 @@ module _ (c : Context) (openings : List ℕ) (here : IsActivation c openings) wh
 
   -- ---- calls
 
-  abbrev At : Expr → Type 0
+  abbrev pub At : Expr → Type 0
   At e = Typed (meaning c e)
 
-  abbrev PlaceAt : PlaceOf → Type 0
+  abbrev pub PlaceAt : PlaceOf → Type 0
   PlaceAt a = PlaceTyped (designation c a)
 
-  abbrev Arguments : List CType → List (Option Value) → Type 0
+  abbrev pub Arguments : List CType → List (Option Value) → Type 0
   Arguments ts vs = MayBeArguments c.program openings ts vs
 
   assigned_argument : (C : Type 0) (to from : Option ValueType) → is_assignable_some to from ≡ true → ((t u : ValueType) → to ≡ Some t → from ≡ Some u → is_assignable t u ≡ true → C) → C
@@ -185,7 +194,7 @@ module _ (c : Context) (openings : List ℕ) (here : IsActivation c openings) wh
   assigned_argument C (Some t) None h k = absurd (cc)
   assigned_argument C (Some t) (Some u) h k = k t u refl refl h
 
-  typed_each : (ts : List CType) (args : List Expr) → Each At args → are_assignable ts (map (λ (a : Meaning). a.ctype) (map (meaning c) args)) ≡ true → (later : Registers) →
+  pub typed_each : (ts : List CType) (args : List Expr) → Each At args → are_assignable ts (map (λ (a : Meaning). a.ctype) (map (meaning c) args)) ≡ true → (later : Registers) →
       Works-in (Arguments ts) (each (map (meaning c) args) later)
   typed_each [] [] h e later = works_known c.program openings (Arguments []) [] tt
   typed_each [] (a ∷ args) h e later = absurd (cc)
@@ -198,7 +207,7 @@ module _ (c : Context) (openings : List ℕ) (here : IsActivation c openings) wh
       (λ v m. works_bind c.program openings (Arguments ts) (Arguments (t ∷ ts)) (each (map (meaning c) args) later) (λ vs. known (v ∷ vs)) (typed_each ts args h.1 all.1 later)
       (λ vs n. works_known c.program openings (Arguments (t ∷ ts)) (v ∷ vs) ((to, f, may_widen c.program openings to from v k m), n))))
 
-  typed_called : (sig : Sig) (w : ValueType) (args : List Expr) → Each At args → are_assignable (out-Sig sig).params (map (λ (a : Meaning). a.ctype) (map (meaning c) args)) ≡ true → result_value (out-Sig sig).result ≡ Some w →
+  pub typed_called : (sig : Sig) (w : ValueType) (args : List Expr) → Each At args → are_assignable (out-Sig sig).params (map (λ (a : Meaning). a.ctype) (map (meaning c) args)) ≡ true → result_value (out-Sig sig).result ≡ Some w →
       (later : Registers) (v : Option Value) → Value-of (ToFunction sig) v → Works-in (Value-of w) (called_with (map (meaning c) args) later v)
   typed_called sig w args h e r later v m =
       works_bind c.program openings (Arguments (out-Sig sig).params) (Value-of w) (each (map (meaning c) args) later) (λ vs. needs (address_in v) (λ callee. needs (all_good vs) (λ good. ask (action.Call callee good) given)))
@@ -212,10 +221,10 @@ module _ (c : Context) (openings : List ℕ) (here : IsActivation c openings) wh
 
   -- ---- one level
 
-  abbrev opened : one.Expr-F Expr PlaceOf → Meaning
+  abbrev pub opened : one.Expr-F Expr PlaceOf → Meaning
   opened x = expr_meaning c (map-Expr Expr PlaceOf Meaning Designation (meaning c) (designation c) x)
 
-  abbrev place_opened : one.Place-F Expr PlaceOf → Designation
+  abbrev pub place_opened : one.Place-F Expr PlaceOf → Designation
   place_opened x = place_meaning c (map-Place Expr PlaceOf Meaning Designation (meaning c) (designation c) x)
 
   -- what is given has the type r, which the rule gives as t
@@ -266,23 +275,31 @@ module _ (c : Context) (openings : List ℕ) (here : IsActivation c openings) wh
       (works_bind c.program openings (Spot-of u) (Value-of w) (a.leads later) (stepped_with c a down later) (h u x later)
       (λ s m. typed_stepped a u w x (read_as_written u w y) down later s m))))
 
-  typed_load : (a : Designation) (t : ValueType) → PlaceTyped a → of_one a.ctype read_from ≡ Some t → (later : Registers) → Works-in (Value-of t) (bind (a.leads later) (fetched c a later))
+  pub typed_load : (a : Designation) (t : ValueType) → PlaceTyped a → of_one a.ctype read_from ≡ Some t → (later : Registers) → Works-in (Value-of t) (bind (a.leads later) (fetched c a later))
   typed_load a t h f later =
       with_one (Works-in (Value-of t) (bind (a.leads later) (fetched c a later))) a.ctype read_from t f
       (λ u x y. works_bind c.program openings (Spot-of u) (Value-of t) (a.leads later) (fetched c a later) (h u x later) (λ s m. typed_fetched a u t x y later s m))
 
-  typed_address : (a : Designation) (t : ValueType) → PlaceTyped a → of_one a.ctype address_of ≡ Some t → (later : Registers) → Works-in (Value-of t) (bind (a.leads later) (λ s. known (address_of_spot s)))
-  typed_address a t h f later =
+  -- to what a place leads whose address is taken
+  abbrev pub In-memory : Option Spot → Type 0
+  In-memory s = InMemory c.program openings s
+
+  abbrev pub Memory-spot : PlaceType → Option Spot → Type 0
+  Memory-spot u s = Spot-of u s × In-memory s
+
+  pub typed_address : (a : Designation) (t : ValueType) → PlaceTyped a → ((later : Registers) (ms rest : List Mark) (s : Option Spot) → a.leads later ms ≡ Known s rest → In-memory s) → of_one a.ctype address_of ≡ Some t → (later : Registers) →
+      Works-in (Value-of t) (bind (a.leads later) (λ s. known (address_of_spot s)))
+  typed_address a t h k f later =
       with_one (Works-in (Value-of t) (bind (a.leads later) (λ s. known (address_of_spot s)))) a.ctype address_of t f
-      (λ u x y. works_bind c.program openings (Spot-of u) (Value-of t) (a.leads later) (λ s. known (address_of_spot s)) (h u x later)
-      (λ s m. works_known c.program openings (Value-of t) (address_of_spot s) (may_be_addressed c.program openings u t s m y)))
+      (λ u x y. works_bind c.program openings (Memory-spot u) (Value-of t) (a.leads later) (λ s. known (address_of_spot s)) (works_and c.program openings (Spot-of u) In-memory (a.leads later) (h u x later) (k later))
+      (λ s m. works_known c.program openings (Value-of t) (address_of_spot s) (may_be_addressed c.program openings u t s m.0 m.1 y)))
 
   -- the value of an operator over one operand
-  typed_unary : (t r : ValueType) (f : Option Value → Option Value) (a : Meaning) (g : ValueType → Option ValueType) → Typed a → of_one a.ctype g ≡ Some t →
+  pub typed_unary : (t r : ValueType) (f : Option Value → Option Value) (a : Meaning) (g : ValueType → Option ValueType) → Typed a → of_one a.ctype g ≡ Some t →
       ((u : ValueType) → g u ≡ Some t → (v : Option Value) → Value-of u v → Value-of t (f v)) → (later : Registers) → Works-in (Value-of t) (from_one f a later)
   typed_unary t r f a g h e k later = with_one (Works-in (Value-of t) (from_one f a later)) a.ctype g t e (λ u x y. typed_one (Value-of t) f a u h x (k u y) later)
 
-  typed_binary : (t : ValueType) (f : Option Value → Option Value → Option Value) (a b : Meaning) (g : ValueType → ValueType → Option ValueType) → Typed a → Typed b → of_two a.ctype b.ctype g ≡ Some t →
+  pub typed_binary : (t : ValueType) (f : Option Value → Option Value → Option Value) (a b : Meaning) (g : ValueType → ValueType → Option ValueType) → Typed a → Typed b → of_two a.ctype b.ctype g ≡ Some t →
       ((u w : ValueType) → g u w ≡ Some t → (x y : Option Value) → Value-of u x → Value-of w y → Value-of t (f x y)) → (later : Registers) → Works-in (Value-of t) (from_two f a b later)
   typed_binary t f a b g h k e j later = with_two (Works-in (Value-of t) (from_two f a b later)) a.ctype b.ctype g t e (λ u w x y z. typed_two (Value-of t) f a b u w h k x y (j u w z) later)
 
@@ -338,10 +355,10 @@ module _ (c : Context) (openings : List ℕ) (here : IsActivation c openings) wh
       (λ u w x y z. works_bind c.program openings (Value-of u) (Value-of t) (a.next (also b.effects.assigned later)) (λ v. needs v (λ i. b.next later)) (h u x (also b.effects.assigned later))
       (λ v m. works_needs c.program openings (Value-of t) v (λ i. b.next later) (λ i j. as_type w t (b.next later) (same_Some w t z) (k w y later))))
 
-  abbrev types_of : List Expr → List (Option ValueType)
+  abbrev pub types_of : List Expr → List (Option ValueType)
   types_of args = map (λ (a : Meaning). a.ctype) (map (meaning c) args)
 
-  abbrev call_of : Meaning → List Expr → Registers → Get (Option Value)
+  abbrev pub call_of : Meaning → List Expr → Registers → Get (Option Value)
   call_of f args later = bind (f.next (also (assigned_by (map (meaning c) args)) later)) (called_with (map (meaning c) args) later)
 
   call_by : (f : Meaning) (args : List Expr) (t : ValueType) (sig : Sig) (b : Bool) → Typed f → Each At args → f.ctype ≡ Some (ToFunction sig) → are_assignable (out-Sig sig).params (types_of args) ≡ b →
@@ -407,49 +424,119 @@ module _ (c : Context) (openings : List ℕ) (here : IsActivation c openings) wh
   function_has : (f : ℕ) (t : ValueType) → function_type (slice_get c.program.funcs f) ≡ Some t → Value-of t (Some (Place (address.Func f)))
   function_has f t e = function_at f t (slice_get c.program.funcs f) refl e
 
-  typed_level : (x : one.Expr-F Expr PlaceOf) → Parts At PlaceAt x → Typed (opened x)
-  typed_level (one.Const n i) h t e later =
+  -- ---- a whole object whose address is taken
+
+  -- of a place that is a local, that is taken in the function
+  abbrev pub OwnTaken : one.Place-F Meaning Designation → Type 0
+  OwnTaken (one.Local r) = is_addressed c.func r ≡ true
+  OwnTaken (one.Static i) = Unit {0}
+  OwnTaken (one.Device d) = Unit {0}
+  OwnTaken (one.Element a i) = Unit {0}
+  OwnTaken (one.Member a m) = Unit {0}
+  OwnTaken (one.Deref e) = Unit {0}
+
+  root_of : (s : Option Spot) (object other : Root) (ms rest : List Mark) → Known (Some (spot.Object object [])) ms ≡ Known s rest → s ≡ Some (spot.Object other []) → object ≡ other
+  root_of s object other ms rest e f = cc
+
+  no_object : (x : Option Address) → In-memory (option_map spot.Address x)
+  no_object None object e = absurd (cc)
+  no_object (Some a) object e = absurd (cc)
+
+  no_element : (bound : Option ℕ) (n : ℤ) (x : Option (Root × List Part)) → In-memory (option_and_then (element_in bound n) x)
+  no_element bound n None object e = absurd (cc)
+  no_element None n (Some o) object e = absurd (cc)
+  no_element (Some count) n (Some o) object e = no_object (element_at_address o.0 o.1 n count) object e
+
+  element_apart : (t : Option PlaceType) (s : Option Spot) (v : Option Value) → In-memory (element_at c t s v)
+  element_apart None s v object e = absurd (cc)
+  element_apart (Some t) None v object e = absurd (cc)
+  element_apart (Some t) (Some s) v object e = by_number (integer v) object e
+    where
+      by_number : (n : Option ℤ) → In-memory (option_and_then (λ n. element c.program n t s) n)
+      by_number None object e = absurd (cc)
+      by_number (Some n) object e = no_element (bound_of t) n (designated c.program t s) object e
+
+  longer : (path : List Part) (step : Part) → path ++ step ∷ [] ≡ [] → ⊥
+  longer [] step e = absurd (cc)
+  longer (x ∷ path) step e = absurd (cc)
+
+  no_member : (m : ℕ) (x : Option (Root × List Part)) → In-memory (option_map (λ o. spot.Object o.0 (o.1 ++ part.Member m ∷ [])) x)
+  no_member m None object e = absurd (cc)
+  no_member m (Some o) object e = let same : o.1 ++ part.Member m ∷ [] ≡ [] = cc in absurd (longer o.1 (part.Member m) same)
+
+  member_apart : (m : ℕ) (t : Option PlaceType) (s : Option Spot) → In-memory (of_two t s (member c.program m))
+  member_apart m None s object e = absurd (cc)
+  member_apart m (Some t) None object e = absurd (cc)
+  member_apart m (Some t) (Some s) object e = no_member m (designated c.program t s) object e
+
+  leads_in_memory : (x : one.Place-F Meaning Designation) → OwnTaken x → (later : Registers) (ms rest : List Mark) (s : Option Spot) → (place_meaning c x).leads later ms ≡ Known s rest → In-memory s
+  leads_in_memory (one.Local r) own later ms rest s e object f =
+      subst (IsInMemory c.program) (root_of s (root.Auto c.number c.id r) object ms rest e f) (ap (λ (g : Option Func). is_register_in g r) here.function ∙ addressed_in_memory c.program c.func r own)
+  leads_in_memory (one.Static i) own later ms rest s e object f = subst (IsInMemory c.program) (root_of s (root.Static i) object ms rest e f) tt
+  leads_in_memory (one.Device d) own later ms rest s e object f = absurd (cc)
+  leads_in_memory (one.Element a i) own later ms rest s e object f = gives_made In-memory (place_and_value a i later) (λ q. element_at c a.ctype q.0 q.1) (λ q. element_apart a.ctype q.0 q.1) ms rest s e object f
+  leads_in_memory (one.Member a m) own later ms rest s e object f = gives_made In-memory (a.leads later) (λ s. of_two a.ctype s (member c.program m)) (λ s. member_apart m a.ctype s) ms rest s e object f
+  leads_in_memory (one.Deref a) own later ms rest s e object f = gives_made In-memory (a.next later) (λ v. option_map spot.Address (address_in v)) (λ v. no_object (address_in v)) ms rest s e object f
+
+  -- an address that an expression takes
+  abbrev pub AddressTaken : one.Expr-F Expr PlaceOf → Type 0
+  AddressTaken x = (a : PlaceOf) → x ≡ one.AddrOf a → (r : ℕ) → out-Place a ≡ one.Local r → is_addressed c.func r ≡ true
+
+  own_taken : (a : PlaceOf) (x : one.Place-F Expr PlaceOf) → out-Place a ≡ x → ((r : ℕ) → out-Place a ≡ one.Local r → is_addressed c.func r ≡ true) → OwnTaken (map-Place Expr PlaceOf Meaning Designation (meaning c) (designation c) x)
+  own_taken a (one.Local r) e h = h r e
+  own_taken a (one.Static i) e h = tt
+  own_taken a (one.Device d) e h = tt
+  own_taken a (one.Element b i) e h = tt
+  own_taken a (one.Member b m) e h = tt
+  own_taken a (one.Deref b) e h = tt
+
+  place_in_memory : (a : PlaceOf) → ((r : ℕ) → out-Place a ≡ one.Local r → is_addressed c.func r ≡ true) → (later : Registers) (ms rest : List Mark) (s : Option Spot) → (designation c a).leads later ms ≡ Known s rest → In-memory s
+  place_in_memory a h later ms rest s e =
+      leads_in_memory (map-Place Expr PlaceOf Meaning Designation (meaning c) (designation c) (out-Place a)) (own_taken a (out-Place a) refl h) later ms rest s (ap (λ (d : Designation). d.leads later ms) (sym (place_level c (out-Place a)) ∙ ap (designation c) (roll-out-Place a)) ∙ e)
+
+  typed_level : (x : one.Expr-F Expr PlaceOf) → Parts At PlaceAt x → AddressTaken x → Typed (opened x)
+  typed_level (one.Const n i) h k t e later =
       works_known c.program openings (Value-of t) (Some (Int n)) (value_as (Integer i) t (Some (Int n)) (when_is _ (Integer i) t e) (when_true _ (Integer i) t e))
-  typed_level (one.Null u) h t e later = works_known c.program openings (Value-of t) (Some (Place address.Null)) (null_has u t e)
-  typed_level (one.FuncAddr f) h t e later = works_known c.program openings (Value-of t) (Some (Place (address.Func f))) (function_has f t e)
-  typed_level (one.Load a) h t e later = typed_load (designation c a) t h e later
-  typed_level (one.AddrOf a) h t e later = typed_address (designation c a) t h e later
-  typed_level (one.Un o i a) h t e later =
+  typed_level (one.Null u) h k t e later = works_known c.program openings (Value-of t) (Some (Place address.Null)) (null_has u t e)
+  typed_level (one.FuncAddr f) h k t e later = works_known c.program openings (Value-of t) (Some (Place (address.Func f))) (function_has f t e)
+  typed_level (one.Load a) h k t e later = typed_load (designation c a) t h e later
+  typed_level (one.AddrOf a) h k t e later = typed_address (designation c a) t h (place_in_memory a (k a refl)) e later
+  typed_level (one.Un o i a) h k t e later =
       typed_unary t t (unary o i c.program.target) (meaning c a) (rule.unary_type c.program.target o i) h e
       (λ u f v m. value_as (Integer (rule.unary_result o i)) t (unary o i c.program.target v) (when_is _ (Integer (rule.unary_result o i)) t f) (has_unary c.program openings o i v)) later
-  typed_level (one.Bin o i a b) h t e later =
+  typed_level (one.Bin o i a b) h k t e later =
       typed_binary t (binary o i c.program.target) (meaning c a) (meaning c b) (rule.binary_type c.program.target o i) h.0 h.1 e
       (λ u w f v y m n. value_as (Integer (rule.binary_result o i)) t (binary o i c.program.target v y) (when_is _ (Integer (rule.binary_result o i)) t f) (has_binary c.program openings o i v y)) later
-  typed_level (one.Conv i a) h t e later =
+  typed_level (one.Conv i a) h k t e later =
       typed_unary t t (conversion i c.program.target) (meaning c a) (rule.conversion_type i) h e
       (λ u f v m. value_as (Integer i) t (conversion i c.program.target v) (when_is _ (Integer i) t f) (has_conversion c.program openings i v)) later
-  typed_level (one.Qualify to a) h t e later =
+  typed_level (one.Qualify to a) h k t e later =
       typed_unary t t (λ v. v) (meaning c a) (qualified_type c.program to) h e (λ u f v m. assignable_as (pointer_type c.program to) u t v f m) later
-  typed_level (one.Move a b back) h t e later =
+  typed_level (one.Move a b back) h k t e later =
       typed_binary t (movement back) (meaning c a) (meaning c b) (rule.moved_type c.program.structures) h.0 h.1 e (λ u w f v y m n. moved_has c.program.structures u w t back v y f m) later
-  typed_level (one.Gap a b) h t e later =
+  typed_level (one.Gap a b) h k t e later =
       typed_binary t (gap c.program.target) (meaning c a) (meaning c b) (rule.gap_type c.program.structures c.program.target) h.0 h.1 e
       (λ u w f v y m n. value_as (Integer (rule.difference_type c.program.target)) t (gap c.program.target v y) (when_is _ (Integer (rule.difference_type c.program.target)) t f) (has_gap c.program openings v y)) later
-  typed_level (one.Compare o a b) h t e later =
+  typed_level (one.Compare o a b) h k t e later =
       typed_binary t (comparison o) (meaning c a) (meaning c b) (rule.comparison_type o) h.0 h.1 e
       (λ u w f v y m n. value_as (Integer int.Int) t (comparison o v y) (when_is _ (Integer int.Int) t f) (has_comparison c.program openings o v y)) later
-  typed_level (one.Both a b) h t e later = both_level _ (meaning c a) (meaning c b) t h.0 h.1 e later
-  typed_level (one.Either a b) h t e later = either_level _ (meaning c a) (meaning c b) t h.0 h.1 e later
-  typed_level (one.Choose d a b) h t e later = chosen_level _ (meaning c d) (meaning c a) (meaning c b) t h.0 h.1 h.2 e later
-  typed_level (one.Assign a e) h t f later = typed_assigned (designation c a) (meaning c e) t h.0 h.1 f later
-  typed_level (one.Change a o i e) h t f later = typed_change (designation c a) o i (meaning c e) t h.0 h.1 f later
-  typed_level (one.After a down) h t e later = typed_after (designation c a) down t h e later
-  typed_level (one.Call f args) h t e later = call_level (meaning c f) args t h.0 h.1 e later
-  typed_level (one.Intr intr.Off None) h t e later = flags false t (same_Some NoValue t e)
-  typed_level (one.Intr intr.Off (Some a)) h t e later = absurd (cc)
-  typed_level (one.Intr intr.On None) h t e later = flags true t (same_Some NoValue t e)
-  typed_level (one.Intr intr.On (Some a)) h t e later = absurd (cc)
-  typed_level (one.Intr intr.Save None) h t e later = saves t (same_Some (Integer int.UChar) t e)
-  typed_level (one.Intr intr.Save (Some a)) h t e later = absurd (cc)
-  typed_level (one.Intr intr.Restore None) h t e later = absurd (cc)
-  typed_level (one.Intr intr.Restore (Some a)) h t e later =
+  typed_level (one.Both a b) h k t e later = both_level _ (meaning c a) (meaning c b) t h.0 h.1 e later
+  typed_level (one.Either a b) h k t e later = either_level _ (meaning c a) (meaning c b) t h.0 h.1 e later
+  typed_level (one.Choose d a b) h k t e later = chosen_level _ (meaning c d) (meaning c a) (meaning c b) t h.0 h.1 h.2 e later
+  typed_level (one.Assign a e) h k t f later = typed_assigned (designation c a) (meaning c e) t h.0 h.1 f later
+  typed_level (one.Change a o i e) h k t f later = typed_change (designation c a) o i (meaning c e) t h.0 h.1 f later
+  typed_level (one.After a down) h k t e later = typed_after (designation c a) down t h e later
+  typed_level (one.Call f args) h k t e later = call_level (meaning c f) args t h.0 h.1 e later
+  typed_level (one.Intr intr.Off None) h k t e later = flags false t (same_Some NoValue t e)
+  typed_level (one.Intr intr.Off (Some a)) h k t e later = absurd (cc)
+  typed_level (one.Intr intr.On None) h k t e later = flags true t (same_Some NoValue t e)
+  typed_level (one.Intr intr.On (Some a)) h k t e later = absurd (cc)
+  typed_level (one.Intr intr.Save None) h k t e later = saves t (same_Some (Integer int.UChar) t e)
+  typed_level (one.Intr intr.Save (Some a)) h k t e later = absurd (cc)
+  typed_level (one.Intr intr.Restore None) h k t e later = absurd (cc)
+  typed_level (one.Intr intr.Restore (Some a)) h k t e later =
       restored_rule (Works-in (Value-of t) (restored (Some (meaning c a)) later)) (meaning c a).ctype t e (λ u x y. restores (meaning c a) u t h x y later)
-  typed_level (one.Seq a b) h t e later = sequence_level (meaning c a) (meaning c b) t h.0 h.1 e later
+  typed_level (one.Seq a b) h k t e later = sequence_level (meaning c a) (meaning c b) t h.0 h.1 e later
 
   -- ---- places
 
@@ -502,14 +589,22 @@ module _ (c : Context) (openings : List ℕ) (here : IsActivation c openings) wh
   place_typed_level (one.Member a m) h u e later = member_typed (designation c a) m u h e later
   place_typed_level (one.Deref e) h u f later = pointed_typed (meaning c e) u h f later
 
-  made : (x : one.Expr-F Expr PlaceOf) → Parts At PlaceAt x → At (roll-Expr x)
-  made x h = subst Typed (sym (level c x)) (typed_level x h)
+  abbrev pub Claim : Expr → Type 0
+  Claim e = IfTaken c.func At PlaceAt e
 
-  place_made : (x : one.Place-F Expr PlaceOf) → PlaceParts At PlaceAt x → PlaceAt (roll-Place x)
-  place_made x h = subst PlaceTyped (sym (place_level c x)) (place_typed_level x h)
+  abbrev pub PlaceClaim : PlaceOf → Type 0
+  PlaceClaim a = PlaceIfTaken c.func At PlaceAt a
 
-  pub meaning_typed : (e : Expr) → Typed (meaning c e)
-  meaning_typed = by_expr At PlaceAt made place_made
+  made : (x : one.Expr-F Expr PlaceOf) → Parts Claim PlaceClaim x → Claim (roll-Expr x)
+  made x h k =
+      let own = rolled_takes c.func At PlaceAt x k in
+      subst Typed (sym (level c x)) (typed_level x (parts_at c.func At PlaceAt x h own) (λ a e r f. local_taken c.func At PlaceAt a r f (subst (λ (y : one.Expr-F Expr PlaceOf). TakesOwn c.func At PlaceAt (expr_takes c.func At PlaceAt y)) e own)))
 
-  pub designation_typed : (a : PlaceOf) → PlaceTyped (designation c a)
-  designation_typed = by_place At PlaceAt made place_made
+  place_made : (x : one.Place-F Expr PlaceOf) → PlaceParts Claim PlaceClaim x → PlaceClaim (roll-Place x)
+  place_made x h k = subst PlaceTyped (sym (place_level c x)) (place_typed_level x (place_parts_at c.func At PlaceAt x h (rolled_place_takes c.func At PlaceAt x k)))
+
+  pub meaning_typed : (e : Expr) → TakesAddressesOf c.func e → Typed (meaning c e)
+  meaning_typed = by_expr Claim PlaceClaim made place_made
+
+  pub designation_typed : (a : PlaceOf) → PlaceTakesAddressesOf c.func a → PlaceTyped (designation c a)
+  designation_typed = by_place Claim PlaceClaim made place_made

@@ -36,10 +36,11 @@ use Rattle.cc_syntax.specs.Values.{ValueType, NoValue, Integer, ToObject, ToFunc
 use Rattle.cc_syntax.proofs.Prefixes.{both_true}
 use Rattle.cc_values.specs.Values.{address_in, binary, conversion}
 use Rattle.cc_states.specs.Answers.{IsCall, IsMarkOf, given_type, result_in}
-use Rattle.cc_states.specs.Typed.{IsOpened, place_in, IsAddress, HasType, MayHave, IsSpot, MayLead, cell_type, IsThere, AreArguments}
+use Rattle.cc_states.specs.Typed.{IsOpened, IsInMemory, place_in, IsAddress, HasType, MayHave, IsSpot, MayLead, cell_type, IsThere, AreArguments}
 use Rattle.cc_syntax.proofs.AlikeLemmas.{alike_itself, implies_itself, assignable_object, function_itself}
 use Rattle.cc_states.proofs.Options.{when_is, right_true}
 use Rattle.cc_syntax.proofs.SameLemmas.{and_true, int_itself, sig_compared}
+use Rattle.cc_states.proofs.MemoryLemmas.{part_in_memory}
 use Rattle.cc_states.proofs.SpotLemmas.{cell_there}
 use Rattle.cc_states.proofs.PlaceLemmas.{CanPoint, real}
 use Rattle.cc_states.proofs.TypedLemmas.{may_widen, has_conversion, has_movement}
@@ -159,28 +160,37 @@ module _ (p : Program) (openings : List ℕ) where
       (and_true (nat_eq 1 1) (nat_le 0 1 && is_assignable_some (Some (ToObject c v t)) (address_of y)) refl
       (and_true (nat_le 0 1) (is_assignable_some (Some (ToObject c v t)) (address_of y)) refl (subst (CanPoint c v t) e h)))
 
-  pub object_address : (c v : Bool) (t : CType) (object : Root) (path : List Part) → IsSpot p openings (ObjectPlace c v t) (spot.Object object path) → IsAddress p openings (ToObject c v t) (address.At object path 0 1)
-  object_address c v t object path h =
+  in_memory : (object : Root) (path : List Part) (a : PlaceType) → place_in p object path ≡ Some a → (path ≡ [] → IsInMemory p object) → IsInMemory p object
+  in_memory object [] a e k = k refl
+  in_memory object (step ∷ path) a e k = part_in_memory p object (step ∷ path) a e (λ whole scalar. absurd (cc))
+
+  -- a place that is a whole object is in memory
+  abbrev pub InMemory : Option Spot → Type 0
+  InMemory s = (object : Root) → s ≡ Some (spot.Object object []) → IsInMemory p object
+
+  pub object_address : (c v : Bool) (t : CType) (object : Root) (path : List Part) → IsSpot p openings (ObjectPlace c v t) (spot.Object object path) → (path ≡ [] → IsInMemory p object) → IsAddress p openings (ToObject c v t) (address.At object path 0 1)
+  object_address c v t object path h k =
       let r = real c v t (place_in p object path) h.2 in (
         h.0,
         ap (names (ToObject c v t) path 0 1) r.is
             ∙ right_true (names_element (ToObject c v t) 0 1 (ObjectPlace r.const r.volat r.to)) (names_whole (ToObject c v t) path 0 1 (ObjectPlace r.const r.volat r.to))
             (whole_named c v t path (place_in p object path) h.1 h.2 (ObjectPlace r.const r.volat r.to) r.is),
+        in_memory object path (ObjectPlace r.const r.volat r.to) r.is k,
       )
 
-  pub addressed : (u : PlaceType) (w : ValueType) (s : Spot) → IsSpot p openings u s → address_of u ≡ Some w → Has w (address_of_spot (Some s))
-  addressed (DevicePlace constant t) w s h e = absurd (cc)
-  addressed (ObjectPlace c v t) w (spot.Device d) h e = tt
-  addressed (ObjectPlace c v t) w (spot.Object object path) h e =
-      subst (λ (x : ValueType). HasType p openings x (Place (address.At object path 0 1))) (same_Some (ToObject c v t) w e) (object_address c v t object path h)
-  addressed (ObjectPlace c v t) w (spot.Address a) h e = subst (λ (x : ValueType). HasType p openings x (Place a)) (same_Some (ToObject c v t) w e) h
-  addressed (FunctionPlace sig) w (spot.Device d) h e = tt
-  addressed (FunctionPlace sig) w (spot.Object object path) h e = absurd h
-  addressed (FunctionPlace sig) w (spot.Address a) h e = subst (λ (x : ValueType). HasType p openings x (Place a)) (same_Some (ToFunction sig) w e) h
+  pub addressed : (u : PlaceType) (w : ValueType) (s : Spot) → IsSpot p openings u s → InMemory (Some s) → address_of u ≡ Some w → Has w (address_of_spot (Some s))
+  addressed (DevicePlace constant t) w s h k e = absurd (cc)
+  addressed (ObjectPlace c v t) w (spot.Device d) h k e = tt
+  addressed (ObjectPlace c v t) w (spot.Object object path) h k e =
+      subst (λ (x : ValueType). HasType p openings x (Place (address.At object path 0 1))) (same_Some (ToObject c v t) w e) (object_address c v t object path h (λ whole. k object (ap (λ (l : List Part). Some (spot.Object object l)) whole)))
+  addressed (ObjectPlace c v t) w (spot.Address a) h k e = subst (λ (x : ValueType). HasType p openings x (Place a)) (same_Some (ToObject c v t) w e) h
+  addressed (FunctionPlace sig) w (spot.Device d) h k e = tt
+  addressed (FunctionPlace sig) w (spot.Object object path) h k e = absurd h
+  addressed (FunctionPlace sig) w (spot.Address a) h k e = subst (λ (x : ValueType). HasType p openings x (Place a)) (same_Some (ToFunction sig) w e) h
 
-  pub may_be_addressed : (u : PlaceType) (w : ValueType) (s : Option Spot) → Leads u s → address_of u ≡ Some w → Has w (address_of_spot s)
-  may_be_addressed u w None h e = tt
-  may_be_addressed u w (Some s) h e = addressed u w s h e
+  pub may_be_addressed : (u : PlaceType) (w : ValueType) (s : Option Spot) → Leads u s → InMemory s → address_of u ≡ Some w → Has w (address_of_spot s)
+  may_be_addressed u w None h k e = tt
+  may_be_addressed u w (Some s) h k e = addressed u w s h k e
 
   pub pointed_object : (c v : Bool) (t : CType) (u : PlaceType) (b : Bool) (x : Option Value) → Has (ToObject c v t) x → (if b then None else Some (ObjectPlace c v t)) ≡ Some u → Leads u (option_map spot.Address (address_in x))
   pointed_object c v t u true x h e = absurd (cc)

@@ -25,7 +25,7 @@ use Rattle.cc_states.proofs.ControlLemmas.{may_break_there, may_continue_there}
 no_more : (n : ℕ) → counted n ≡ counted (n + 0)
 no_more n = ap counted (omega arith)
 
-one_on : (first n m : ℕ) → m ≡ n + 1 → counted (counted (first + n) + 1) ≡ counted (first + m)
+pub one_on : (first n m : ℕ) → m ≡ n + 1 → counted (counted (first + n) + 1) ≡ counted (first + m)
 one_on first n m e = omega (arith, e)
 
 from_front : (list : List Stmt) (first : ℕ) → IsLeft list first list (counted first)
@@ -38,7 +38,7 @@ whole_left : (list : List Stmt) → IsLeft list 0 list 0
 whole_left list = record { front = []; whole = refl; counts = zero_counted ∙ no_more 0 }
 
 -- behind the first statement that is left
-next_left : (list rest : List Stmt) (first position : ℕ) (s : Stmt) → IsLeft list first (s ∷ rest) position → IsLeft list first rest (counted (position + 1))
+pub next_left : (list rest : List Stmt) (first position : ℕ) (s : Stmt) → IsLeft list first (s ∷ rest) position → IsLeft list first rest (counted (position + 1))
 next_left list rest first position s h = record {
   front = h.front ++ s ∷ [];
   whole = h.whole ∙ sym (append_assoc h.front (s ∷ []) rest);

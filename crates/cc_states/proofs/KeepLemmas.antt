@@ -45,7 +45,7 @@ module _ (p : Program) (openings more : List ℕ) where
   address_more : (to : ValueType) (a : Address) → IsAddress p openings to a → IsAddress p all to a
   address_more to address.Null h = tt
   address_more to (address.Func f) h = h
-  address_more to (address.At object path index count) h = (object_more object h.0, h.1)
+  address_more to (address.At object path index count) h = (object_more object h.0, h.1, h.2)
 
   pub type_more : (t : ValueType) (v : Value) → HasType p openings t v → HasType p all t v
   type_more NoValue v h = tt
@@ -95,7 +95,9 @@ module _ (p : Program) (openings more : List ℕ) where
     func = h.func;
     function = h.function;
     number = get_more openings more a.number a.func h.number;
+    entry = h.entry;
     locals = locals_more h.func a.locals h.locals;
+    parameters = h.parameters;
     control = h.control;
     inside = h.inside;
     marks = marks_more (context_in p a h.func) (expression_of a) a.marks refl h.marks;

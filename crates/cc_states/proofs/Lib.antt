@@ -21,3 +21,6 @@ pub mod TurnLemmas
 pub mod TypedLemmas
 pub mod Works
 pub mod ZeroLemmas
+pub mod MemoryLemmas
+pub mod AddressLemmas
+pub mod ParameterLemmas

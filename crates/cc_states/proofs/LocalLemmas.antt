@@ -2,6 +2,7 @@
 use Rattle.std.proofs.Common.{arith, ◌≡◌, ◌<◌, ℕ, zero, suc, Bool, true, List, [], ◌∷◌, length, replicate, Option, Some, None, refl, ap, sym, ◌∙◌, subst}
 use Rattle.cc_syntax.specs.Initial.{place_at}
 use Rattle.cc_program.specs.Qualifiers.{is_const, is_volatile}
+use Rattle.std.proofs.lemmas.Bool.{eqb-true}
 use Rattle.std.proofs.lemmas.List.{length-replicate}
 use Rattle.std.proofs.lemmas.Option.{same_Some}
 use Rattle.std.specs.Prelude.{slice_get}
@@ -18,12 +19,13 @@ use Rattle.cc_control.specs.Control.{close}
 use Rattle.cc_steps.specs.State.{locals_with}
 use Rattle.cc_steps.specs.Step.{activation, passes}
 use Rattle.cc_syntax.specs.Expressions.{of_one}
+use Rattle.cc_syntax.specs.Operators.{is_handler}
 use Rattle.cc_syntax.specs.SameTypes.{same_shape}
-use Rattle.cc_syntax.specs.Sound.{IsFunc, are_parameters}
+use Rattle.cc_syntax.specs.Sound.{any_names, IsFuncBy, are_parameters}
 use Rattle.cc_syntax.specs.Types.{Named, IsInOrder}
 use Rattle.cc_syntax.specs.Values.{ValueType, scalar_shape, scalar_value, object_place, read_from}
 use Rattle.cc_syntax.proofs.Prefixes.{both_true}
-use Rattle.cc_states.specs.States.{AreScalars, IsActive, context_in, expression_of}
+use Rattle.cc_states.specs.States.{AreScalars, AreWritten, IsActive, context_in, expression_of}
 use Rattle.cc_states.specs.Typed.{HasType, MayHave, AreArguments}
 use Rattle.cc_states.proofs.ActiveLemmas.{no_marks, begun_by}
 use Rattle.cc_states.proofs.ControlLemmas.{body_sound}
@@ -90,15 +92,25 @@ module _ (p : Program) (openings : List ℕ) (order : IsInOrder p.structures) wh
       (Some v ∷ [], refl, subst (λ (y : Named). Local y.1 (Some v ∷ [])) (same_Some x l e) (given_local t x.1 k.0.0 v same k.0.1 k.0.2))
   given (t ∷ ts) (x ∷ locals) (v ∷ args) h k (suc i) l e = given ts locals args (both_true (same_shape t.shape x.1.shape) (are_parameters ts locals) h).1 k.1 i l e
 
+  -- the parameters are the arguments
+  given_written : (ts : List CType) (locals : List Named) (args : List Value) → are_parameters ts locals ≡ true → AreArguments p openings ts args → AreWritten (length ts) (locals_with p args locals)
+  given_written [] locals args h k i b = absurd (omega (arith, b))
+  given_written (t ∷ ts) [] args h k i b = absurd (cc)
+  given_written (t ∷ ts) (x ∷ locals) [] h k i b = absurd k
+  given_written (t ∷ ts) (x ∷ locals) (v ∷ args) h k zero b = (v, refl)
+  given_written (t ∷ ts) (x ∷ locals) (v ∷ args) h k (suc i) b = given_written ts locals args (both_true (same_shape t.shape x.1.shape) (are_parameters ts locals) h).1 k.1 i (omega (arith, b))
+
   -- an activation before its first step
-  pub opened_active : (number id : ℕ) (handler : Bool) (args : List Value) (f : Func) → slice_get p.funcs id ≡ Some f → slice_get openings number ≡ Some id → IsFunc p f → AreArguments p openings (out-Sig f.sig).params args →
+  pub opened_active : (number id : ℕ) (handler : Bool) (args : List Value) (f : Func) → slice_get p.funcs id ≡ Some f → slice_get openings number ≡ Some id → IsFuncBy p any_names f → (handler ≡ true → is_handler f ≡ true) → AreArguments p openings (out-Sig f.sig).params args →
       IsActive p openings (activation p number id handler args f)
-  opened_active number id handler args f e n sound h =
+  opened_active number id handler args f e n sound entry h =
       let begun = begun_by p openings f (close f.body 0 []) (passes p number id [] (close f.body 0 []).0) (body_sound p f sound.body, body_inside f.body) in
       record {
         func = f;
         function = e;
         number = n;
+        entry = entry;
+        parameters = subst (λ (n : ℕ). AreWritten n (locals_with p args f.locals)) (sym (eqb-true f.params (length (out-Sig f.sig).params) sound.count)) (given_written (out-Sig f.sig).params f.locals args sound.first h);
         locals = (as_many args f.locals, given (out-Sig f.sig).params f.locals args sound.first h);
         control = begun.0;
         inside = begun.1;

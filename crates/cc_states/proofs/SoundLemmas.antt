@@ -1,5 +1,5 @@
 -- Sound statements, opened at their top: what is worked in one has a type.
-use Rattle.std.proofs.Common.{◌≡◌, ℤ, Bool, true, ◌&&◌, List, [], ◌∷◌, map, Option, Some, None, refl, ap, sym, ◌∙◌, subst}
+use Rattle.std.proofs.Common.{◌≡◌, ℤ, Bool, true, ◌&&◌, List, [], ◌∷◌, length, map, Option, Some, None, refl, ap, sym, ◌∙◌, subst}
 use Rattle.std.proofs.lemmas.Option.{same_Some}
 use Rattle.std.specs.Prelude.{is_some}
 use Rattle.std.specs.List.{list_all, flat_map}
@@ -16,6 +16,9 @@ use Rattle.cc_control.specs.Control.{Level}
 use Rattle.cc_steps.specs.Step.{worked}
 use Rattle.cc_syntax.specs.Programs.{type_of, sound_step, is_sound_stmt, is_typed, is_optional_condition, returns}
 use Rattle.cc_syntax.specs.Statements.{SoundWhere, Labelled, sound_case, is_condition, labels_fit, are_apart, has_label}
+use Rattle.cc_syntax.specs.Sizes.{AreSized}
+use Rattle.cc_syntax.specs.Sound.{any_names, IsTypedProgram}
+use Rattle.cc_syntax.proofs.StructureLemmas.{structures_sized_by}
 use Rattle.cc_syntax.specs.Values.{ValueType, scalar_value, is_assignable_some}
 use Rattle.cc_syntax.proofs.Prefixes.{both_true}
 use Rattle.cc_states.specs.States.{may_break, may_continue, AreSound, worked_at}
@@ -98,3 +101,7 @@ module _ (p : Program) (f : Func) where
 
   pub level_typed : (here : Level) (around : List Level) → AreSound p f (here ∷ around) → (e : Expr) → worked_at here here.rest ≡ Some e → HasSome (typed e)
   level_typed here around h e k = first_typed here here.rest (may_break around) (may_continue around) h.0 e k
+
+-- the structures of a typed program have sizes
+pub typed-sized : (p : Program) → IsTypedProgram p → AreSized p.structures p.target
+typed-sized p h = structures_sized_by (length p.structures) p.target any_names p.structures h.structures

@@ -2,7 +2,7 @@
 use Rattle.std.proofs.Common.{◌≡◌, ℕ, ℤ, Bool, true, false, ◌&&◌, ◌||◌, ◌⊎◌, inl, inr, List, [], ◌∷◌, ◌++◌, Option, Some, None, refl, ap, sym, ◌∙◌, subst}
 use Rattle.std.proofs.lemmas.Bool.{eq-eqb}
 use Rattle.std.proofs.lemmas.Option.{same_Some}
-use Rattle.std.specs.Prelude.{nat_le, nat_lt, nat_eq, option_map, option_and_then, slice_get, if◌then◌else◌}
+use Rattle.std.specs.Prelude.{nat_le, nat_lt, nat_eq, is_some, option_map, option_and_then, slice_get, if◌then◌else◌}
 use Rattle.cc_num.specs.declared.int_type.IntType.{IntType}
 use Rattle.cc_program.specs.Qualifiers.{is_const, is_volatile}
 use Rattle.cc_program.specs.declared.object.Device.{Device}
@@ -27,12 +27,13 @@ use Rattle.cc_syntax.specs.Expressions.{of_one, of_two}
 use Rattle.cc_syntax.specs.Initial.{bound_shape, bound_of, is_below, step_into, place_at, names, names_element, names_whole}
 use Rattle.cc_syntax.specs.Lists.{is_count}
 use Rattle.cc_syntax.specs.Types.{Named}
-use Rattle.cc_syntax.specs.Values.{ValueType, Integer, ToObject, PlaceType, DevicePlace, ObjectPlace, FunctionPlace, scalar_value, read_from, address_of, element_shape, element_of, member_at, member_in, member_shape, member_of, implies, is_assignable_some}
+use Rattle.cc_syntax.specs.Values.{ValueType, Integer, ToObject, PlaceType, DevicePlace, ObjectPlace, FunctionPlace, scalar_shape, scalar_value, read_from, address_of, element_shape, element_of, member_at, member_in, member_shape, member_of, implies, is_assignable_some}
 use Rattle.cc_values.specs.Values.{integer, index_in}
 use Rattle.cc_states.specs.Typed.{IsOpened, place_in, IsAddress, IsSpot, MayLead, cell_type, IsThere}
 use Rattle.cc_syntax.proofs.AlikeLemmas.{alike_itself, shares, array_view, tested, alike-scalar, alike-struct, assignable_object}
 use Rattle.cc_states.proofs.Options.{one_as_then, either_true, left_true}
 use Rattle.cc_syntax.proofs.SameLemmas.{and_true}
+use Rattle.cc_states.proofs.MemoryLemmas.{part_in_memory}
 use Rattle.cc_states.proofs.TypedLemmas.{within}
 use Rattle.cc_states.proofs.PlaceLemmas.{in_more, leads_member, RealPlace, CanPoint, real, element_place, whole_place, below_count, taken_step, elements_by, not_whole, no_true}
 
@@ -178,6 +179,9 @@ module _ (p : Program) (openings : List ℕ) where
       and_true (is_count count (bound_shape (out-Shape r.to.shape))) (nat_le k count && is_assignable_some (Some (ToObject c v of)) (of_one (element_shape r.const r.volat (out-Shape r.to.shape)) address_of)) bound
       (and_true (nat_le k count) (is_assignable_some (Some (ToObject c v of)) (of_one (element_shape r.const r.volat (out-Shape r.to.shape)) address_of)) b can)
 
+  array_is_no_scalar : (x : shape.Shape-F Shape CType Sig) (of : CType) (n : ℕ) → x ≡ shape.Array of n → is_some (scalar_shape x) ≡ true → ⊥
+  array_is_no_scalar x of n e h = let z : false ≡ true = sym (ap (λ (y : shape.Shape-F Shape CType Sig). is_some (scalar_shape y)) e) ∙ h in absurd (cc)
+
   element_address : (c v : Bool) (t of : CType) (n k count : ℕ) (o : Root × List Part) → Designates c v t o → out-Shape t.shape ≡ shape.Array of n → Some n ≡ Some count → nat_le k count ≡ true →
       IsAddress p openings (ToObject c v of) (address.At o.0 o.1 k count)
   element_address c v t of n k count o d e f b =
@@ -186,6 +190,8 @@ module _ (p : Program) (openings : List ℕ) where
         subst (λ x. names (ToObject c v of) o.1 k count x ≡ true) (sym r.is)
             (left_true (names_element (ToObject c v of) k count (ObjectPlace r.const r.volat r.to)) (names_whole (ToObject c v of) o.1 k count (ObjectPlace r.const r.volat r.to))
             (element_real c v of n k count t (place_in p o.0 o.1) r e f b)),
+        part_in_memory p o.0 o.1 (ObjectPlace r.const r.volat r.to) r.is
+            (λ whole scalar. array_is_no_scalar (out-Shape r.to.shape) (array_view t r.to (shares t r.to r.one) of n e).0 n (array_view t r.to (shares t r.to r.one) of n e).1 scalar),
       )
 
   element_found : (c v : Bool) (t of : CType) (n count : ℕ) (x : Option ℕ) (o : Root × List Part) → ((k : ℕ) → x ≡ Some k → nat_le k count ≡ true) → Designates c v t o → out-Shape t.shape ≡ shape.Array of n → Some n ≡ Some count →

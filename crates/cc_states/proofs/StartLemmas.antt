@@ -29,7 +29,7 @@ use Rattle.cc_steps.specs.Turn.{start, turn, first_of_stack}
 use Rattle.cc_syntax.specs.Initial.{OfInteger, OfPointer, OfArray, OfStructure, NoElement, Element, NoMember, Member}
 use Rattle.cc_syntax.specs.Programs.{is_address, AreLeaves, AreElements, AreMembers, IsInitial}
 use Rattle.cc_syntax.specs.Operators.{is_handler}
-use Rattle.cc_syntax.specs.Sound.{IsSound, IsFunc, is_main, is_main_there, is_plain_int, is_plain_void, takes_nothing}
+use Rattle.cc_syntax.specs.Sound.{any_names, IsTypedProgram, IsFuncBy, is_main, is_main_there, is_plain_int, is_plain_void, takes_nothing}
 use Rattle.cc_syntax.specs.Types.{Named, IsInOrder}
 use Rattle.cc_syntax.specs.Values.{ValueType, Integer, pointer_shape, pointer_to, scalar_shape, scalar_value}
 use Rattle.cc_program.specs.Qualifiers.{is_const, is_volatile}
@@ -163,7 +163,7 @@ module _ (p : Program) (order : IsInOrder p.structures) where
     constant_address : (to : ValueType) (a : Address) → is_address p to a ≡ true → IsAddress p openings to a
     constant_address to address.Null h = tt
     constant_address to (address.Func f) h = h
-    constant_address to (address.At (root.Static i) path index count) h = (tt, h)
+    constant_address to (address.At (root.Static i) path index count) h = (tt, h, tt)
     constant_address to (address.At (root.Auto number func local) path index count) h = absurd (cc)
 
     pointer_has : (to : CType) (x : shape.Shape-F Shape CType Sig) (a : Address) → IsAddress p openings (pointer_shape to x) a → HasType p openings (pointer_shape to x) (Place a)
@@ -217,8 +217,8 @@ module _ (p : Program) (order : IsInOrder p.structures) where
 
 -- ---- the first state
 
-module _ (p : Program) (sound : IsSound p) where
-  main_empty : (f : Func) → IsFunc p f → is_main f ≡ true → takes_nothing f ≡ true
+module _ (p : Program) (sound : IsTypedProgram p) where
+  main_empty : (f : Func) → IsFuncBy p any_names f → is_main f ≡ true → takes_nothing f ≡ true
   main_empty f k m =
       let form = ap (λ (b : Bool). if b then not (is_handler f) && (takes_nothing f && (is_plain_int (out-Sig f.sig).result || is_plain_void (out-Sig f.sig).result)) else (if is_handler f then takes_nothing f && is_plain_void (out-Sig f.sig).result else true)) (sym m) ∙ k.form in
       (both_true (takes_nothing f) (is_plain_int (out-Sig f.sig).result || is_plain_void (out-Sig f.sig).result) (both_true (not (is_handler f)) (takes_nothing f && (is_plain_int (out-Sig f.sig).result || is_plain_void (out-Sig f.sig).result)) form).1).0
@@ -229,7 +229,7 @@ module _ (p : Program) (sound : IsSound p) where
   first_active : (f : Func) → slice_get p.funcs p.main ≡ Some f → AreActive p one (activation p 0 p.main false [] f ∷ [])
   first_active f e =
       let k = function_sound p sound p.main f e in
-      (opened_active p one (order_of p sound) 0 p.main false [] f e refl k (no_arguments p sound one (out-Sig f.sig).params (main_empty f k (main_there p sound (slice_get p.funcs p.main) f e sound.main))), tt)
+      (opened_active p one (order_of p sound) 0 p.main false [] f e refl k (λ entered. absurd (cc)) (no_arguments p sound one (out-Sig f.sig).params (main_empty f k (main_there p sound (slice_get p.funcs p.main) f e sound.main))), tt)
 
   static_start : (i : ℕ) (o : Object) → slice_get p.objects i ≡ Some o → (values : List Value) × (slice_get (map (first_values p) p.objects) i ≡ Some values) × AreScalars p (HasType p one) o.ctype values
   static_start i o e =

@@ -34,13 +34,15 @@ use Rattle.cc_syntax.specs.Effects.{no_one}
 use Rattle.cc_syntax.specs.Expressions.{of_one}
 use Rattle.cc_syntax.specs.Programs.{type_of}
 use Rattle.cc_syntax.specs.Initial.{place_at}
-use Rattle.cc_syntax.specs.Sound.{IsSound, IsFunc}
+use Rattle.cc_syntax.specs.Operators.{is_handler}
+use Rattle.cc_syntax.specs.Sound.{any_names, IsTypedProgram, IsFuncBy}
 use Rattle.cc_syntax.specs.Types.{Named}
 use Rattle.cc_syntax.specs.Values.{ValueType, Integer, PlaceType, object_place, read_from}
 use Rattle.cc_syntax.proofs.Parts.{all_at}
 use Rattle.cc_states.specs.Answers.{IsAction, IsCall}
-use Rattle.cc_states.specs.States.{AreStatics, expression_of, AreMarks, context_in, IsActive, AreActive, IsState, local_scalar, IsCellThere, IsCalleeThere, IsPossible}
+use Rattle.cc_states.specs.States.{AreWritten, AreStatics, expression_of, AreMarks, context_in, IsActive, AreActive, IsState, local_scalar, IsCellThere, IsCalleeThere, IsPossible}
 use Rattle.cc_states.specs.Typed.{HasType, MayHave, cell_type, IsThere, AreArguments}
+use Rattle.cc_states.proofs.AddressLemmas.{expression_takes}
 use Rattle.cc_states.proofs.EvalTypes.{meaning_typed}
 use Rattle.cc_states.proofs.Options.{mapped}
 use Rattle.cc_states.proofs.SoundLemmas.{level_typed}
@@ -54,7 +56,7 @@ module _ (p : Program) (openings : List ℕ) where
   asked_by a h action None e m w = absurd (cc)
   asked_by a h action (Some e') e m w =
       let t = level_typed p h.func a.here a.around h.control e' e in
-      (meaning_typed (context_in p a h.func) openings (record { function = h.function; number = h.number }) e' t.0 (type_linked (context_in p a h.func) e' ∙ t.1) no_one).waits a.marks action (answers_of p openings (next_of (context_in p a h.func) e') a.marks m) w
+      (meaning_typed (context_in p a h.func) openings (record { function = h.function; number = h.number }) e' (expression_takes h.func a e' h.inside e) t.0 (type_linked (context_in p a h.func) e' ∙ t.1) no_one).waits a.marks action (answers_of p openings (next_of (context_in p a h.func) e') a.marks m) w
 
   pub asked : (a : Active) → IsActive p openings a → (action : Action) → progress_of p a (expression_of a) ≡ Waits action → IsAction p openings action
   asked a h action w =
@@ -123,13 +125,13 @@ module _ (p : Program) (openings : List ℕ) where
   as_many (t ∷ ts) [] h = absurd h
   as_many (t ∷ ts) (v ∷ vs) h = ap suc (as_many ts vs h.1)
 
-  callee_there : IsSound p → (callee : Address) (args : List Value) → IsCall p openings callee args → IsCalleeThere p callee args
+  callee_there : IsTypedProgram p → (callee : Address) (args : List Value) → IsCall p openings callee args → IsCalleeThere p callee args
   callee_there sound address.Null args h = tt
   callee_there sound (address.Func f) args h =
-      (h.0, h.1, as_many (out-Sig h.0.sig).params args h.2 ∙ sym (eqb-true h.0.params (length (out-Sig h.0.sig).params) (all_at (IsFunc p) p.funcs f h.0 h.1 sound.funcs).count))
+      (h.0, h.1, as_many (out-Sig h.0.sig).params args h.2 ∙ sym (eqb-true h.0.params (length (out-Sig h.0.sig).params) (all_at (IsFuncBy p any_names) p.funcs f h.0 h.1 sound.funcs).count))
   callee_there sound (address.At object path index count) args h = tt
 
-  pub possible : IsSound p → (s : State) → AreStatics p openings s.memory.statics → AreActive p openings s.stack → (action : Action) → IsAction p openings action → IsPossible p s action
+  pub possible : IsTypedProgram p → (s : State) → AreStatics p openings s.memory.statics → AreActive p openings s.stack → (action : Action) → IsAction p openings action → IsPossible p s action
   possible sound s h k (Read at manner) i = cell_there s at i.0 h k i.1 i.2
   possible sound s h k (Write at is_event v) i = cell_there s at i.0 h k i.1 i.2
   possible sound s h k (Choose b) i = tt
@@ -145,7 +147,22 @@ module _ (p : Program) (openings : List ℕ) where
   functions_there [] h = All-nil FunctionThere
   functions_there (a ∷ below) h = All-cons FunctionThere a below (h.0.func, h.0.function) (functions_there below h.1)
 
-module _ (p : Program) (sound : IsSound p) (s : State) (h : IsState p s) (a : Active) (below : List Active) (top : s.stack ≡ a ∷ below) where
+  -- what the entry of a handler opened
+  abbrev pub IsEntry : Active → Type 0
+  IsEntry a = a.handler ≡ true → (f : Func) × (slice_get p.funcs a.func ≡ Some f) × (is_handler f ≡ true)
+
+  pub entries_there : (stack : List Active) → AreActive p openings stack → All IsEntry stack
+  entries_there [] h = All-nil IsEntry
+  entries_there (a ∷ below) h = All-cons IsEntry a below (λ entered. (h.0.func, h.0.function, h.0.entry entered)) (entries_there below h.1)
+
+  abbrev pub HasParameters : Active → Type 0
+  HasParameters a = (f : Func) × (slice_get p.funcs a.func ≡ Some f) × AreWritten f.params a.locals
+
+  pub parameters_there : (stack : List Active) → AreActive p openings stack → All HasParameters stack
+  parameters_there [] h = All-nil HasParameters
+  parameters_there (a ∷ below) h = All-cons HasParameters a below (h.0.func, h.0.function, h.0.parameters) (parameters_there below h.1)
+
+module _ (p : Program) (sound : IsTypedProgram p) (s : State) (h : IsState p s) (a : Active) (below : List Active) (top : s.stack ≡ a ∷ below) where
   on_top : IsActive p h.0 a
   on_top = (subst (AreActive p h.0) top h.1.stack).0
 

@@ -43,9 +43,10 @@ use Rattle.cc_syntax.specs.Initial.{place_at}
 use Rattle.cc_syntax.specs.Types.{Named, IsInOrder}
 use Rattle.cc_syntax.specs.Values.{ValueType, Integer, PlaceType, object_place, read_from}
 use Rattle.cc_states.specs.Answers.{IsAction, IsMarkOf}
-use Rattle.cc_states.specs.States.{AreScalars, AreStatics, AreLocals, expression_of, IsActive, AreActive, AreCalled, IsStateOf, AreInOrder}
+use Rattle.cc_states.specs.States.{AreWritten, AreScalars, AreStatics, AreLocals, expression_of, IsActive, AreActive, AreCalled, IsStateOf, AreInOrder}
 use Rattle.cc_states.specs.Typed.{IsOpened, HasType, MayHave, cell_type}
 use Rattle.cc_states.proofs.ActiveLemmas.{IsSameCall, marked_active, marked_call, called_again, in_order_again}
+use Rattle.cc_states.proofs.ParameterLemmas.{parameters_written}
 use Rattle.cc_states.proofs.PathLemmas.{written_typed}
 use Rattle.cc_states.proofs.ListLemmas.{set_here, set_elsewhere, not_equal}
 use Rattle.cc_states.proofs.StateLemmas.{nothing_there, static_there, local_in, same_opening}
@@ -54,7 +55,7 @@ holds_same : (v w : Value) → Holds v ≡ Holds w → v ≡ w
 holds_same v w h = cc
 
 module _ (p : Program) (openings : List ℕ) where
-  abbrev Is : State → Type 0
+  abbrev pub Is : State → Type 0
   Is s = IsStateOf p openings s
 
   -- ---- parts of the state
@@ -97,13 +98,13 @@ module _ (p : Program) (openings : List ℕ) where
 
   -- ---- what a cell holds
 
-  static_held : (s : State) (i : ℕ) (path : List Part) (w : ValueType) (v : Value) → AreStatics p openings s.memory.statics → cell_type p (cell.At (root.Static i) path) ≡ Some w →
+  pub static_held : (s : State) (i : ℕ) (path : List Part) (w : ValueType) (v : Value) → AreStatics p openings s.memory.statics → cell_type p (cell.At (root.Static i) path) ≡ Some w →
       content_at s (root.Static i) (cell_position p (root.Static i) path) ≡ Holds v → HasType p openings w v
   static_held s i path w v h k e =
       let x = static_there p openings s.memory.statics i path w (slice_get p.objects i) h refl k in
       subst (HasType p openings w) (holds_same x.0 v (ap static_content (sym x.1) ∙ e)) x.2
 
-  content_held : (x : Option Value) (w : ValueType) (v : Value) → MayHave p openings w x → content (Some x) ≡ Holds v → HasType p openings w v
+  pub content_held : (x : Option Value) (w : ValueType) (v : Value) → MayHave p openings w x → content (Some x) ≡ Holds v → HasType p openings w v
   content_held None w v h e = absurd (cc)
   content_held (Some y) w v h e = subst (HasType p openings w) (holds_same y v e) h
 
@@ -116,13 +117,13 @@ module _ (p : Program) (openings : List ℕ) where
       content_held x.0 w v x.2 (ap content (sym x.1) ∙ subst (λ (g : ℕ). content (scalar_in a.locals local (cell_position p (root.Auto number g local) path)) ≡ Holds v) (sym same) f)
   local_by a h below number func local path w v false e o k next f = next f
 
-  local_held : (stack : List Active) → AreActive p openings stack → (number func local : ℕ) (path : List Part) (w : ValueType) (v : Value) → slice_get openings number ≡ Some func →
+  pub local_held : (stack : List Active) → AreActive p openings stack → (number func local : ℕ) (path : List Part) (w : ValueType) (v : Value) → slice_get openings number ≡ Some func →
       cell_type p (cell.At (root.Auto number func local) path) ≡ Some w → local_content stack number local (cell_position p (root.Auto number func local) path) ≡ Holds v → HasType p openings w v
   local_held [] h number func local path w v o k e = absurd (cc)
   local_held (a ∷ below) h number func local path w v o k e =
       local_by a h.0 below number func local path w v (a.number == number) refl o k (λ f. local_held below h.1 number func local path w v o k f) e
 
-  held : (s : State) → Is s → (object : Root) (path : List Part) (w : ValueType) (v : Value) → cell_type p (cell.At object path) ≡ Some w → IsOpened openings object →
+  pub held : (s : State) → Is s → (object : Root) (path : List Part) (w : ValueType) (v : Value) → cell_type p (cell.At object path) ≡ Some w → IsOpened openings object →
       content_at s object (cell_position p object path) ≡ Holds v → HasType p openings w v
   held s h (root.Static i) path w v k o e = static_held s i path w v h.statics k e
   held s h (root.Auto number func local) path w v k o e = local_held s.stack h.stack number func local path w v o k e
@@ -216,8 +217,8 @@ module _ (p : Program) (openings : List ℕ) where
         subst (AreLocals p openings h.func) (sym set)
         (length-set a.locals local (slice_set values.0 (position p.structures path (Some (object_place l.1))) (Some v)) ∙ h.locals.0, λ j q i. locals_by h.func a.locals h.locals local l path w v e (ap (λ (y : Option PlaceType). of_one (of_one y (place_at p.structures path)) read_from) (sym place) ∙ k) t values.0 values.1 values.2 j q (local == j) refl i)
 
-    active_written : (a : Active) (h : IsActive p openings a) (locals : List (List (Option Value))) → AreLocals p openings h.func locals → IsActive p openings (with_locals a locals)
-    active_written a h locals k = record { func = h.func; function = h.function; number = h.number; locals = k; control = h.control; inside = h.inside; marks = h.marks }
+    active_written : (a : Active) (h : IsActive p openings a) (locals : List (List (Option Value))) → AreLocals p openings h.func locals → AreWritten h.func.params locals → IsActive p openings (with_locals a locals)
+    active_written a h locals k w = record { func = h.func; function = h.function; number = h.number; entry = h.entry; locals = k; parameters = w; control = h.control; inside = h.inside; marks = h.marks }
 
     stack_by : (a : Active) → IsActive p openings a → (below : List Active) → AreActive p openings below → (number func local : ℕ) (path : List Part) (w : ValueType) (v : Value) (b : Bool) → a.number == number ≡ b → slice_get openings number ≡ Some func →
         cell_type p (cell.At (root.Auto number func local) path) ≡ Some w → HasType p openings w v → AreActive p openings (with_local below number local (cell_position p (root.Auto number func local) path) v) →
@@ -226,7 +227,8 @@ module _ (p : Program) (openings : List ℕ) where
         let same : a.func ≡ func = same_opening p openings number a.func func (subst (λ (n : ℕ). slice_get openings n ≡ Some a.func) (eqb-true a.number number e) h.number) o in (
           active_written a h (with_scalar a.locals local (cell_position p (root.Auto number func local) path) (Some v))
               (subst (λ (g : ℕ). AreLocals p openings h.func (with_scalar a.locals local (cell_position p (root.Auto number g local) path) (Some v))) same
-              (locals_written a h number local path w v (slice_get h.func.locals local) refl (subst (λ (g : ℕ). cell_type p (cell.At (root.Auto number g local) path) ≡ Some w) (sym same) i) t)),
+              (locals_written a h number local path w v (slice_get h.func.locals local) refl (subst (λ (g : ℕ). cell_type p (cell.At (root.Auto number g local) path) ≡ Some w) (sym same) i) t))
+              (parameters_written h.func.params a.locals h.parameters local (cell_position p (root.Auto number func local) path) v),
           k,
         )
     stack_by a h below k number func local path w v false e o i t next = (h, next)

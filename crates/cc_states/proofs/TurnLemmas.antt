@@ -35,19 +35,20 @@ use Rattle.cc_steps.specs.Turn.{is_going, only_handler, may_enter, entering, ent
 use Rattle.cc_syntax.specs.Effects.{no_one}
 use Rattle.cc_syntax.specs.Programs.{type_of, is_sound_stmt, returns, sound_step}
 use Rattle.cc_syntax.specs.Operators.{is_handler}
-use Rattle.cc_syntax.specs.Sound.{IsSound, IsFunc, is_main, is_main_there, is_plain_int, is_plain_void, takes_nothing}
+use Rattle.cc_syntax.specs.Sound.{any_names, IsTypedProgram, IsFuncBy, is_main, is_main_there, is_plain_int, is_plain_void, takes_nothing}
 use Rattle.cc_syntax.specs.Statements.{Labelled, labels_fit, are_apart, has_label}
 use Rattle.cc_syntax.specs.Types.{IsInOrder}
 use Rattle.cc_syntax.specs.Values.{ValueType, NoValue, Integer, scalar_value, is_void, is_assignable_some, ToObject, ToFunction}
 use Rattle.cc_syntax.proofs.Parts.{all_at}
 use Rattle.cc_syntax.proofs.Prefixes.{both_true}
-use Rattle.cc_steps.proofs.TurnLemmas.{sound-sized}
+use Rattle.cc_states.proofs.SoundLemmas.{typed-sized}
 use Rattle.cc_states.specs.Answers.{IsAction, IsMarkOf, result_in}
 use Rattle.cc_states.specs.Inside.{AreInside}
 use Rattle.cc_states.specs.States.{may_break, may_continue, AreSound, worked_at, expression_of, AreMarks, context_in, IsActive, AreActive, AreCalled, IsStateOf, IsState, AreInOrder}
 use Rattle.cc_states.specs.Typed.{HasType, AreArguments}
 use Rattle.cc_states.proofs.ActiveLemmas.{marked_active, goes_active, marked_call, called_again, gone, in_order_again}
 use Rattle.cc_states.proofs.ControlLemmas.{next_sound, statement_sound}
+use Rattle.cc_states.proofs.AddressLemmas.{expression_takes}
 use Rattle.cc_states.proofs.EvalTypes.{meaning_typed}
 use Rattle.cc_states.proofs.KeepLemmas.{get_last, statics_more, actives_more, arguments_more}
 use Rattle.cc_states.proofs.Options.{either_true}
@@ -60,25 +61,25 @@ use Rattle.cc_states.proofs.TypedLemmas.{promoted_value, widened}
 use Rattle.cc_states.proofs.LocalLemmas.{opened_active}
 use Rattle.cc_states.proofs.TestLemmas.{not_void, both_not, not_empty, plain, void_returns, handler_by}
 
-module _ (p : Program) (sound : IsSound p) where
+module _ (p : Program) (sound : IsTypedProgram p) where
   pub order_of : IsInOrder p.structures
-  order_of = (sound-sized p sound).in_order
+  order_of = (typed-sized p sound).in_order
 
-  pub function_sound : (id : ℕ) (f : Func) → slice_get p.funcs id ≡ Some f → IsFunc p f
-  function_sound id f e = all_at (IsFunc p) p.funcs id f e sound.funcs
+  pub function_sound : (id : ℕ) (f : Func) → slice_get p.funcs id ≡ Some f → IsFuncBy p any_names f
+  function_sound id f e = all_at (IsFuncBy p any_names) p.funcs id f e sound.funcs
 
   -- the newest number is above all others
   new_in_order : (openings : List ℕ) (a : Active) (n : ℕ) (stack : List Active) → length openings ≡ n → a.number ≡ n → AreActive p openings stack → AreInOrder stack → AreInOrder (a ∷ stack)
   new_in_order openings a n [] e f h k = tt
   new_in_order openings a n (b ∷ below) e f h k = (subst (λ (m : ℕ). b.number < m) (e ∙ sym f) (slice_get_within openings b.number b.func h.0.number), k)
 
-  pub opened_state : (openings : List ℕ) (s : State) → IsStateOf p openings s → (id : ℕ) (handler : Bool) (args : List Value) (f : Func) → slice_get p.funcs id ≡ Some f → AreArguments p openings (out-Sig f.sig).params args →
+  pub opened_state : (openings : List ℕ) (s : State) → IsStateOf p openings s → (id : ℕ) (handler : Bool) (args : List Value) (f : Func) → slice_get p.funcs id ≡ Some f → (handler ≡ true → is_handler f ≡ true) → AreArguments p openings (out-Sig f.sig).params args →
       AreCalled p (activation p s.opened id handler args f ∷ s.stack) → IsStateOf p (openings ++ id ∷ []) (opened p s id handler args f)
-  opened_state openings s h id handler args f e k c = record {
+  opened_state openings s h id handler args f e entry k c = record {
     count = length-append openings (id ∷ []) ∙ ap (λ (n : ℕ). n + 1) h.count;
     statics = statics_more p openings (id ∷ []) s.memory.statics h.statics;
     stack = (
-      opened_active p (openings ++ id ∷ []) order_of s.opened id handler args f e (get_last openings id s.opened h.count) (function_sound id f e) (arguments_more p openings (id ∷ []) (out-Sig f.sig).params args k),
+      opened_active p (openings ++ id ∷ []) order_of s.opened id handler args f e (get_last openings id s.opened h.count) (function_sound id f e) entry (arguments_more p openings (id ∷ []) (out-Sig f.sig).params args k),
       actives_more p openings (id ∷ []) s.stack h.stack,
     );
     called = c;
@@ -160,7 +161,7 @@ module _ (p : Program) (sound : IsSound p) where
   returned_state openings s h a (b ∷ rest) top v r = returned_by openings s h a b rest top a.handler refl v r
 
   -- main gives an int, where it gives anything
-  main_result : (f : Func) → IsFunc p f → is_main f ≡ true → is_void (out-Sig f.sig).result ≡ false → scalar_value (out-Sig f.sig).result ≡ Some (Integer int.Int)
+  main_result : (f : Func) → IsFuncBy p any_names f → is_main f ≡ true → is_void (out-Sig f.sig).result ≡ false → scalar_value (out-Sig f.sig).result ≡ Some (Integer int.Int)
   main_result f k m e =
       let form : not (is_handler f) && (takes_nothing f && (is_plain_int (out-Sig f.sig).result || is_plain_void (out-Sig f.sig).result)) ≡ true =
       ap (λ (b : Bool). if b then not (is_handler f) && (takes_nothing f && (is_plain_int (out-Sig f.sig).result || is_plain_void (out-Sig f.sig).result)) else (if is_handler f then takes_nothing f && is_plain_void (out-Sig f.sig).result else true)) (sym m) ∙ k.form in
@@ -193,7 +194,7 @@ module _ (p : Program) (sound : IsSound p) where
         IsState p (opened p s id false args fn)
     called_function id args fn e k w = (
       openings ++ id ∷ [],
-      opened_state openings s h id false args fn e k
+      opened_state openings s h id false args fn e (λ entered. absurd (cc)) k
           (subst (λ (stack : List Active). AreCalled p (activation p s.opened id false args fn ∷ stack)) (sym top) ((λ g. (args, w)), subst (AreCalled p) top h.called)),
     )
 
@@ -237,7 +238,7 @@ module _ (p : Program) (sound : IsSound p) where
 
     value_typed : (e : Expr) (t : ValueType) (v : Value) (ms : List Mark) → expression_of a ≡ Some e → type_of p fn.locals e ≡ Some t → progress_of p a (Some e) ≡ Known (Some v) ms → HasType p openings t v
     value_typed e t v ms x k w =
-        ((meaning_typed (context_in p a fn) openings (record { function = act.function; number = act.number }) e t (type_linked (context_in p a fn) e ∙ k) no_one).known a.marks ms (Some v)
+        ((meaning_typed (context_in p a fn) openings (record { function = act.function; number = act.number }) e (expression_takes fn a e act.inside x) t (type_linked (context_in p a fn) e ∙ k) no_one).known a.marks ms (Some v)
         (answers_of p openings (next_of (context_in p a fn) e) a.marks (subst (λ (y : Option Expr). AreMarks (context_in p a fn) openings y a.marks) x act.marks)) (ap (λ (y : Option Func). progress_in p a.number a.func a.marks y (Some e)) (sym act.function) ∙ w)).1
 
     returned_results : (x : Option Expr) (v : Value) (ms : List Mark) → returns p fn x ≡ true → expression_of a ≡ x → progress_of p a x ≡ Known (Some v) ms → Results openings s h a below top v
@@ -331,7 +332,7 @@ module _ (p : Program) (sound : IsSound p) where
   goes_on s h false e = h
 
   -- a handler takes nothing
-  handler_empty : (f : Func) → IsFunc p f → is_handler f ≡ true → (b : Bool) → is_main f ≡ b → takes_nothing f ≡ true
+  handler_empty : (f : Func) → IsFuncBy p any_names f → is_handler f ≡ true → (b : Bool) → is_main f ≡ b → takes_nothing f ≡ true
   handler_empty f k e true m =
       let form = ap (λ (b : Bool). if b then not (is_handler f) && (takes_nothing f && (is_plain_int (out-Sig f.sig).result || is_plain_void (out-Sig f.sig).result)) else (if is_handler f then takes_nothing f && is_plain_void (out-Sig f.sig).result else true)) (sym m) ∙ k.form in
       both_not (is_handler f) (takes_nothing f && (is_plain_int (out-Sig f.sig).result || is_plain_void (out-Sig f.sig).result)) form e
@@ -348,7 +349,7 @@ module _ (p : Program) (sound : IsSound p) where
       let run = h.1.running g in
       let t : State = with_event true (with_flag s false) (Enter id) in (
         h.0 ++ id ∷ [],
-        opened_state h.0 t (event_state p h.0 true (with_flag s false) (Enter id) (flag_state p h.0 s false h.1)) id true [] f e
+        opened_state h.0 t (event_state p h.0 true (with_flag s false) (Enter id) (flag_state p h.0 s false h.1)) id true [] f e (λ entered. k)
             (no_arguments h.0 (out-Sig f.sig).params (handler_empty f (function_sound id f e) k (is_main f) refl))
             (subst (λ (stack : List Active). AreCalled p (activation p s.opened id true [] f ∷ stack)) (sym run.2) ((λ n. absurd (cc)), subst (AreCalled p) run.2 h.1.called)),
       )

@@ -86,7 +86,7 @@ either_there : (to : ValueType) (path : List Part) (index other count : ℕ) (a 
 either_there to path index other count a (inl k) b = left_true (names_element to other count a) (names_whole to path other count a) (element_there to index other count a k b)
 either_there to path index other count a (inr k) b = right_true (names_element to other count a) (names_whole to path other count a) (whole_there to path index other count a k b)
 
-names_there : (to : ValueType) (path : List Part) (index other count : ℕ) (a : Option PlaceType) → names to path index count a ≡ true → nat_le other count ≡ true → names to path other count a ≡ true
+pub names_there : (to : ValueType) (path : List Part) (index other count : ℕ) (a : Option PlaceType) → names to path index count a ≡ true → nat_le other count ≡ true → names to path other count a ≡ true
 names_there to path index other count None k b = absurd (cc)
 names_there to path index other count (Some a) k b = either_there to path index other count a (either_true (names_element to index count a) (names_whole to path index count a) k) b
 
@@ -161,10 +161,10 @@ unary_typed : (o : UnOp) (t : IntType) (target : Target) (x z : ℤ) → value.u
 unary_typed o t target x z h = unary_by o t target x z (takes t target x) h
 
 module _ (p : Program) (openings : List ℕ) where
-  widened_address : (to from : ValueType) (a : Address) → is_assignable to from ≡ true → IsAddress p openings from a → IsAddress p openings to a
+  pub widened_address : (to from : ValueType) (a : Address) → is_assignable to from ≡ true → IsAddress p openings from a → IsAddress p openings to a
   widened_address to from address.Null h k = tt
   widened_address to from (address.Func f) h k = assigned_on_some to from (function_type (slice_get p.funcs f)) h k
-  widened_address to from (address.At object path index count) h k = (k.0, names_on to from path index count (place_in p object path) h k.1)
+  widened_address to from (address.At object path index count) h k = (k.0, names_on to from path index count (place_in p object path) h k.1, k.2)
 
   widened_object : (constant volatile : Bool) (t : CType) (c v : Bool) (u : CType) (x : Value) → is_assignable (ToObject constant volatile t) (ToObject c v u) ≡ true →
       HasType p openings (ToObject c v u) x → HasType p openings (ToObject constant volatile t) x
@@ -215,7 +215,7 @@ module _ (p : Program) (openings : List ℕ) where
       (b : Address) → IsAddress p openings to (address.At object path index count) → option_map (λ i. address.At object path i count) o ≡ Some b → IsAddress p openings to b
   moved_to to object path index count None w b h e = absurd (cc)
   moved_to to object path index count (Some k) w b h e =
-      subst (IsAddress p openings to) (same_Some (address.At object path k count) b e) (h.0, names_there to path index k count (place_in p object path) h.1 (w k refl))
+      subst (IsAddress p openings to) (same_Some (address.At object path k count) b e) (h.0, names_there to path index k count (place_in p object path) h.1 (w k refl), h.2)
 
   moved_address_typed : (to : ValueType) (back : Bool) (n : ℤ) (a b : Address) → IsAddress p openings to a → moved_address back n a ≡ Some b → IsAddress p openings to b
   moved_address_typed to back n address.Null b h e = absurd (cc)

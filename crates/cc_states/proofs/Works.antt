@@ -15,7 +15,7 @@ same_known v w ms ns h = cc
 pub same_action : {A : Type 0} (q : Progress A) (a b : Action) → q ≡ Waits a → q ≡ Waits b → a ≡ b
 same_action q a b h k = cc
 
-both_used : {A B : Type 0} (g : Get A) (f : A → Get B) (b : A) (ms mid rest : List Mark) (outcome : List Mark → Progress B) →
+pub both_used : {A B : Type 0} (g : Get A) (f : A → Get B) (b : A) (ms mid rest : List Mark) (outcome : List Mark → Progress B) →
     IsUsed g (Known b) ms mid → IsUsed (f b) outcome mid rest → IsUsed (bind g f) outcome ms rest
 both_used g f b ms mid rest outcome u v = (
   u.0 ++ v.0,
@@ -59,10 +59,10 @@ module _ (p : Program) (openings : List ℕ) where
   works_ask P action f i h = record { known = asked P action f h; waits = λ ms other answers e. asked-waits action f i ms other e }
 
   -- what was asked first has its answers, and so has what comes behind it
-  left_answers : {A B : Type 0} (g : Get A) (f : A → Get B) (ms : List Mark) → AreAnswers p openings (bind g f) ms → AreAnswers p openings g ms
+  pub left_answers : {A B : Type 0} (g : Get A) (f : A → Get B) (ms : List Mark) → AreAnswers p openings (bind g f) ms → AreAnswers p openings g ms
   left_answers g f ms answers front back m action split w = answers front back m action split (ap (λ q. and_then q f) w)
 
-  right_answers : {A B : Type 0} (g : Get A) (f : A → Get B) (ms mid : List Mark) (a : A) → IsUsed g (Known a) ms mid → AreAnswers p openings (bind g f) ms → AreAnswers p openings (f a) mid
+  pub right_answers : {A B : Type 0} (g : Get A) (f : A → Get B) (ms mid : List Mark) (a : A) → IsUsed g (Known a) ms mid → AreAnswers p openings (bind g f) ms → AreAnswers p openings (f a) mid
   right_answers g f ms mid a u answers front back m action split w =
       answers (u.0 ++ front) back m action (u.1 ∙ ap (λ (ns : List Mark). u.0 ++ ns) split ∙ sym (append_assoc u.0 front (m ∷ back))) (ap (λ q. and_then q f) (u.2 front) ∙ w)
 
@@ -91,3 +91,19 @@ module _ (p : Program) (openings : List ℕ) where
   pub works_needs : {A B : Type 0} (Q : B → Type 0) (v : Option A) (f : A → Get B) → ((a : A) → v ≡ Some a → Works Q (f a)) → Works Q (needs v f)
   works_needs Q None f h = works_trap Q
   works_needs Q (Some a) f h = h a refl
+
+  -- whatever else holds of what is given
+  pub works_and : {A : Type 0} (P Q : A → Type 0) (g : Get A) → Works P g → ((ms rest : List Mark) (a : A) → g ms ≡ Known a rest → Q a) → Works (λ a. P a × Q a) g
+  works_and P Q g w h = record {
+    known = λ ms rest a answers e. let u = w.known ms rest a answers e in (u.0, (u.1, h ms rest a e));
+    waits = w.waits;
+  }
+
+-- what is made of what is given
+pub gives_made : {A B : Type 0} (Q : B → Type 0) (g : Get A) (f : A → B) → ((a : A) → Q (f a)) → (ms rest : List Mark) (b : B) → bind g (λ a. known (f a)) ms ≡ Known b rest → Q b
+gives_made {A = A} Q g f h ms rest b e = by_progress (g ms) e
+  where
+    by_progress : (q : Progress A) → and_then q (λ a. known (f a)) ≡ Known b rest → Q b
+    by_progress (Known a mid) e = subst Q (same_known (f a) b mid rest e) (h a)
+    by_progress (Waits action) e = absurd (cc)
+    by_progress (Traps mid) e = absurd (cc)

@@ -1,6 +1,8 @@
 -- The steps that full expressions ask for, and what they may give: each in its type (C99 6.5).
 use Rattle.std.specs.Prelude.{◌≡◌, ℕ, Bool, true, false, List, ◌∷◌, ◌++◌, Option, Some, None, slice_get}
 use Rattle.cc_num.specs.declared.int_type.IntType.TheVariants as int
+use Rattle.cc_program.specs.declared.expr.Expr.{Expr}
+use Rattle.cc_program.specs.declared.expr.Place.{Place}
 use Rattle.cc_program.specs.declared.func.Func.{Func}
 use Rattle.cc_program.specs.declared.program.Program.{Program}
 use Rattle.cc_program.specs.declared.types.Sig.{out-Sig}
@@ -13,6 +15,7 @@ use Rattle.cc_eval.specs.declared.mark.Mark.{Mark}
 use Rattle.cc_eval.specs.declared.mark.Mark.TheVariants.{Gave, Did, Chose}
 use Rattle.cc_eval.specs.Context.{Context}
 use Rattle.cc_eval.specs.Progress.{Waits, Get}
+use Rattle.cc_syntax.specs.Registers.{is_address_taken, place_use, is_addressed}
 use Rattle.cc_syntax.specs.Values.{ValueType, NoValue, Integer, result_value}
 use Rattle.cc_states.specs.Typed.{HasType, cell_type, IsThere, AreArguments}
 
@@ -80,3 +83,10 @@ module _ (p : Program) (openings : List ℕ) where
 pub record IsActivation (c : Context) (openings : List ℕ) : Type 0 where
   pub function : slice_get c.program.funcs c.id ≡ Some c.func
   pub number : slice_get openings c.number ≡ Some c.id
+
+-- the locals whose addresses an expression takes, or a place, are ones whose addresses are taken in a function
+abbrev pub TakesAddressesOf : Func → Expr → Type 0
+TakesAddressesOf f e = (r : ℕ) → is_address_taken r e ≡ true → is_addressed f r ≡ true
+
+abbrev pub PlaceTakesAddressesOf : Func → Place → Type 0
+PlaceTakesAddressesOf f a = (r : ℕ) → (place_use r a).address_taken ≡ true → is_addressed f r ≡ true

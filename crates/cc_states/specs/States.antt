@@ -31,6 +31,7 @@ use Rattle.cc_steps.specs.Step.{worked, progress_of, cell_position}
 use Rattle.cc_steps.specs.Turn.{is_going}
 use Rattle.cc_syntax.specs.Expressions.{of_one}
 use Rattle.cc_syntax.specs.Initial.{place_at}
+use Rattle.cc_syntax.specs.Operators.{is_handler}
 use Rattle.cc_syntax.specs.Programs.{is_sound_stmt}
 use Rattle.cc_syntax.specs.Types.{Named}
 use Rattle.cc_syntax.specs.Values.{ValueType, object_place, read_from}
@@ -92,11 +93,18 @@ AreMarks c openings (Some e) ms = AreItsMarks c.program openings (next_of c e) m
 abbrev pub context_in : Program → Active → Func → Context
 context_in p a f = record { program = p; number = a.number; id = a.func; func = f }
 
+-- the first locals, which are parameters, are written scalars
+abbrev pub AreWritten : ℕ → List (List (Option Value)) → Type 0
+AreWritten n locals = (i : ℕ) → i < n → (v : Value) × (slice_get locals i ≡ Some (Some v ∷ []))
+
 pub record IsActive (p : Program) (openings : List ℕ) (a : Active) : Type 0 where
   pub func : Func
   pub function : slice_get p.funcs a.func ≡ Some func
   pub number : slice_get openings a.number ≡ Some a.func
+  -- one that the entry of a handler opened is of a function that may be one
+  pub entry : a.handler ≡ true → is_handler func ≡ true
   pub locals : AreLocals p openings func a.locals
+  pub parameters : AreWritten func.params a.locals
   pub control : AreSound p func (a.here ∷ a.around)
   pub inside : AreInside func.body (a.here ∷ a.around)
   pub marks : AreMarks (context_in p a func) openings (expression_of a) a.marks

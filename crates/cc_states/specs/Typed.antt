@@ -1,6 +1,7 @@
 -- Which values have which types in a run (C99 6.2.5, 6.3.2.3), where activations of these functions were opened so far, by their numbers.
-use Rattle.std.specs.Prelude.{◌≡◌, ℕ, true, false, List, [], ◌∷◌, Option, Some, None, option_map, slice_get}
+use Rattle.std.specs.Prelude.{◌≡◌, ℕ, Bool, true, false, List, [], ◌∷◌, Option, Some, None, option_map, slice_get}
 use Rattle.cc_num.specs.Integers.{is_value_of}
+use Rattle.cc_program.specs.declared.func.Func.{Func}
 use Rattle.cc_program.specs.declared.program.Program.{Program}
 use Rattle.cc_program.specs.declared.types.CType.{CType}
 use Rattle.cc_program.specs.declared.value.Address.{Address}
@@ -18,6 +19,7 @@ use Rattle.cc_eval.specs.declared.spots.Spot.TheVariants as spot
 use Rattle.cc_syntax.specs.Expressions.{of_one}
 use Rattle.cc_syntax.specs.Initial.{place_at, names, leads_to_element}
 use Rattle.cc_syntax.specs.Operators.{function_type}
+use Rattle.cc_syntax.specs.Registers.{is_register}
 use Rattle.cc_syntax.specs.Values.{ValueType, NoValue, Integer, ToObject, ToFunction, PlaceType, DevicePlace, ObjectPlace, FunctionPlace, read_from, address_of, is_assignable_some, scalar_value}
 
 module _ (p : Program) where
@@ -30,6 +32,16 @@ module _ (p : Program) where
   cell_type (cell.Device d) = option_map (λ d. Integer d.int) (slice_get p.devices d)
   cell_type (cell.At object path) = of_one (place_in object path) read_from
 
+-- whether a local of a function is a register
+abbrev pub is_register_in : Option Func → ℕ → Bool
+is_register_in None local = false
+is_register_in (Some f) local = is_register f local
+
+-- an object to which pointers may lead: none leads to a register
+abbrev pub IsInMemory : Program → Root → Type 0
+IsInMemory p (root.Static i) = Unit {0}
+IsInMemory p (root.Auto number func local) = is_register_in (slice_get p.funcs func) local ≡ false
+
 module _ (openings : List ℕ) where
   -- a local is one of an activation that was opened, of its function
   abbrev pub IsOpened : Root → Type 0
@@ -41,11 +53,11 @@ module _ (openings : List ℕ) where
   IsThere (cell.At object path) = IsOpened object
 
 module _ (p : Program) (openings : List ℕ) where
-  -- what a pointer of a type may have as its value: null, a function, or an address in an object
+  -- what a pointer of a type may have as its value: null, a function, or an address in an object that is no register
   abbrev pub IsAddress : ValueType → Address → Type 0
   IsAddress to address.Null = Unit {0}
   IsAddress to (address.Func f) = is_assignable_some (Some to) (function_type (slice_get p.funcs f)) ≡ true
-  IsAddress to (address.At object path index count) = IsOpened openings object × (names to path index count (place_in p object path) ≡ true)
+  IsAddress to (address.At object path index count) = IsOpened openings object × (names to path index count (place_in p object path) ≡ true) × IsInMemory p object
 
   -- nobody uses the value of what is void
   abbrev pub HasType : ValueType → Value → Type 0

@@ -1,4 +1,4 @@
-ghost use Rattle.std.specs.Prelude.{◌≡◌, ℕ, ℤ, All, true, List, [], ◌∷◌, Option, Some, slice_get, slice_set};
+ghost use Rattle.std.specs.Prelude.{◌≡◌, ℕ, ℤ, Bool, All, true, List, [], ◌∷◌, Option, Some, slice_get, slice_set};
 ghost use Rattle.cc_num.specs.declared.int_type.IntType.{IntType};
 ghost use Rattle.cc_num.specs.declared.op.BinOp.{BinOp};
 ghost use Rattle.cc_num.specs.declared.op.UnOp.{UnOp};
@@ -11,8 +11,11 @@ ghost use Rattle.cc_program.specs.declared.stmt.Case.{Case};
 ghost use Rattle.cc_program.specs.declared.stmt.Stmt.{Stmt, out-Stmt};
 ghost use Rattle.cc_program.specs.declared.stmt.Stmt.TheOpen as is;
 ghost use Rattle.cc_program.specs.declared.types.CType.{CType};
+ghost use Rattle.cc_program.specs.declared.value.Address.TheVariants as address;
 ghost use Rattle.cc_program.specs.declared.value.Part.{Part};
+ghost use Rattle.cc_program.specs.declared.value.Root.{Root};
 ghost use Rattle.cc_program.specs.declared.value.Value.{Value};
+ghost use Rattle.cc_program.specs.declared.value.Value.TheVariants as value;
 ghost use Rattle.cc_program.specs.declared.value.Value.TheVariants.{Int};
 ghost use Rattle.cc_cells.specs.Scalars.{zeros, position};
 ghost use Rattle.cc_control.specs.Control.{close};
@@ -30,27 +33,30 @@ ghost use Rattle.cc_syntax.specs.Effects.{Registers};
 ghost use Rattle.cc_syntax.specs.Expressions.{of_one};
 ghost use Rattle.cc_syntax.specs.Programs.{type_of, place_type, is_sound_body};
 ghost use Rattle.cc_syntax.specs.Initial.{place_at};
-ghost use Rattle.cc_syntax.specs.Operators.{unary_type, binary_type, changes_by};
-ghost use Rattle.cc_syntax.specs.Sound.{IsSound};
-ghost use Rattle.cc_syntax.specs.Values.{ValueType, PlaceType, object_place, read_from};
+ghost use Rattle.cc_syntax.specs.Operators.{is_handler, unary_type, binary_type, changes_by};
+ghost use Rattle.cc_syntax.specs.Sound.{IsTypedProgram};
+ghost use Rattle.cc_syntax.specs.Values.{ValueType, ToObject, PlaceType, object_place, read_from};
 ghost use Rattle.cc_values.specs.Values.{takes, takes_both};
-ghost use Rattle.cc_states.specs.Answers.{IsActivation, AreAnswers, IsAction};
+ghost use Rattle.cc_states.specs.Answers.{IsActivation, AreAnswers, IsAction, TakesAddressesOf, PlaceTakesAddressesOf};
 ghost use Rattle.cc_states.specs.Inside.{AreInside};
-ghost use Rattle.cc_states.specs.States.{AreScalars, may_break, may_continue, AreSound, expression_of, IsState, IsPossible};
-ghost use Rattle.cc_states.specs.Typed.{HasType, IsSpot};
+ghost use Rattle.cc_states.specs.States.{AreScalars, AreWritten, may_break, may_continue, AreSound, expression_of, IsState, IsPossible};
+ghost use Rattle.cc_states.specs.Typed.{IsInMemory, HasType, IsSpot};
 
-/// What holds of expressions and places that have types, in an activation of their function, where each mark answers what was
-/// asked for. The call does nothing.
+/// What holds of expressions and places that have types, in an activation of their function, which takes the addresses of
+/// locals that they take, where each mark answers what was asked for. The call does nothing.
 pub fn expression_laws()
     // What an expression gives has its type, and a place leads to an object of its type.
-    ensures values { (c : Context) (openings : List ℕ) → IsActivation c openings → (e : Expr) (t : ValueType) → type_of c.program c.func.locals e ≡ Some t →
+    ensures values { (c : Context) (openings : List ℕ) → IsActivation c openings → (e : Expr) → TakesAddressesOf c.func e → (t : ValueType) → type_of c.program c.func.locals e ≡ Some t →
         (later : Registers) (ms rest : List Mark) (v : Value) → AreAnswers c.program openings ((meaning c e).next later) ms → (meaning c e).next later ms ≡ Known (Some v) rest → HasType c.program openings t v }
-    ensures places { (c : Context) (openings : List ℕ) → IsActivation c openings → (a : Place) (t : PlaceType) → place_type c.program c.func.locals a ≡ Some t →
+    ensures places { (c : Context) (openings : List ℕ) → IsActivation c openings → (a : Place) → PlaceTakesAddressesOf c.func a → (t : PlaceType) → place_type c.program c.func.locals a ≡ Some t →
         (later : Registers) (ms rest : List Mark) (s : Spot) → AreAnswers c.program openings ((designation c a).leads later) ms → (designation c a).leads later ms ≡ Known (Some s) rest → IsSpot c.program openings t s }
 
     // A step that one asks for can be done: its cell is there, what is called is a function that takes the arguments, and values have the types that they are taken in.
-    ensures steps { (c : Context) (openings : List ℕ) → IsActivation c openings → (e : Expr) (t : ValueType) → type_of c.program c.func.locals e ≡ Some t →
+    ensures steps { (c : Context) (openings : List ℕ) → IsActivation c openings → (e : Expr) → TakesAddressesOf c.func e → (t : ValueType) → type_of c.program c.func.locals e ≡ Some t →
         (later : Registers) (ms : List Mark) (action : Action) → AreAnswers c.program openings ((meaning c e).next later) ms → (meaning c e).next later ms ≡ Waits action → IsAction c.program openings action }
+
+    // No pointer leads to a register.
+    ensures pointers { (p : Program) (openings : List ℕ) (constant volatile : Bool) (t : CType) (object : Root) (path : List Part) (index count : ℕ) → HasType p openings (ToObject constant volatile t) (value.Place (address.At object path index count)) → IsInMemory p object }
 
     // Operators are worked on values that they take.
     ensures unary { (p : Program) (openings : List ℕ) (o : UnOp) (t : IntType) (a r : ValueType) → unary_type p.target o t a ≡ Some r → (x : Value) → HasType p openings a x → (n : ℤ) × (x ≡ Int n) × (takes t p.target n ≡ true) }
@@ -60,23 +66,27 @@ pub fn expression_laws()
         (n : ℤ) × (y ≡ Int n) × (takes_both o t p.target (converted m t p.target) n ≡ true) }
 {}
 
-/// What holds in a state of a sound program: what its next step needs is there. The call does nothing.
+/// What holds in a state of a typed program, whatever its names are: what its next step needs is there. The call does nothing.
 pub fn state_laws()
     // The full expression that is worked has a type.
-    ensures expressions { (p : Program) → IsSound p → (s : State) → IsState p s → (a : Active) (below : List Active) → s.stack ≡ a ∷ below →
+    ensures expressions { (p : Program) → IsTypedProgram p → (s : State) → IsState p s → (a : Active) (below : List Active) → s.stack ≡ a ∷ below →
         (e : Expr) → expression_of a ≡ Some e → (f : Func) × (t : ValueType) × (slice_get p.funcs a.func ≡ Some f) × (type_of p f.locals e ≡ Some t) }
 
     // The function of each activation is there.
-    ensures functions { (p : Program) → IsSound p → (s : State) → IsState p s → All (λ a. (f : Func) × (slice_get p.funcs a.func ≡ Some f)) s.stack }
+    ensures functions { (p : Program) → IsTypedProgram p → (s : State) → IsState p s → All (λ a. (f : Func) × (slice_get p.funcs a.func ≡ Some f)) s.stack }
+
+    // An activation that the entry of a handler opened is of one, and the parameters of each are written.
+    ensures entries { (p : Program) → IsTypedProgram p → (s : State) → IsState p s → All (λ a. a.handler ≡ true → (f : Func) × (slice_get p.funcs a.func ≡ Some f) × (is_handler f ≡ true)) s.stack }
+    ensures parameters { (p : Program) → IsTypedProgram p → (s : State) → IsState p s → All (λ a. (f : Func) × (slice_get p.funcs a.func ≡ Some f) × AreWritten f.params a.locals) s.stack }
 
     // What is read or written is there, or is of an activation that has ended; a function that is called is there, and takes as many arguments.
-    ensures steps { (p : Program) → IsSound p → (s : State) → IsState p s → (a : Active) (below : List Active) → s.stack ≡ a ∷ below →
+    ensures steps { (p : Program) → IsTypedProgram p → (s : State) → IsState p s → (a : Active) (below : List Active) → s.stack ≡ a ∷ below →
         (action : Action) → progress_of p a (expression_of a) ≡ Waits action → IsPossible p s action }
 
     // What a `switch` chooses by is an integer, and so is what main gives at the end.
-    ensures switches { (p : Program) → IsSound p → (s : State) → IsState p s → (a : Active) (below : List Active) → s.stack ≡ a ∷ below → (b : Stmt) (rest : List Stmt) → a.here.rest ≡ b ∷ rest →
+    ensures switches { (p : Program) → IsTypedProgram p → (s : State) → IsState p s → (a : Active) (below : List Active) → s.stack ≡ a ∷ below → (b : Stmt) (rest : List Stmt) → a.here.rest ≡ b ∷ rest →
         (e : Expr) (cases : List Case) (v : Value) (ms : List Mark) → out-Stmt b ≡ is.Switch e cases → progress_of p a (Some e) ≡ Known (Some v) ms → (n : ℤ) × (v ≡ Int n) }
-    ensures exits { (p : Program) → IsSound p → (s : State) → IsState p s → (a : Active) (below : List Active) → s.stack ≡ a ∷ below → (b : Stmt) (rest : List Stmt) → a.here.rest ≡ b ∷ rest →
+    ensures exits { (p : Program) → IsTypedProgram p → (s : State) → IsState p s → (a : Active) (below : List Active) → s.stack ≡ a ∷ below → (b : Stmt) (rest : List Stmt) → a.here.rest ≡ b ∷ rest →
         (e : Expr) (v : Value) (ms : List Mark) → below ≡ [] → out-Stmt b ≡ is.Return (Some e) → progress_of p a (Some e) ≡ Known (Some v) ms → (n : ℤ) × (v ≡ Int n) }
 
     // An activation stands inside the body of its function: what is left of each list, and its position.
@@ -92,17 +102,17 @@ pub fn state_laws()
     ensures continues { (p : Program) (f : Func) (a : Active) (s : Stmt) (rest : List Stmt) → a.here.rest ≡ s ∷ rest → AreSound p f (a.here ∷ a.around) → out-Stmt s ≡ is.Continue → may_continue a.around ≡ true }
 
     // What no value is given for starts as a value of its type, at the position of each path to a scalar.
-    ensures firsts { (p : Program) → IsSound p → (openings : List ℕ) (t : CType) → AreScalars p (HasType p openings) t (zeros p.structures t) }
+    ensures firsts { (p : Program) → IsTypedProgram p → (openings : List ℕ) (t : CType) → AreScalars p (HasType p openings) t (zeros p.structures t) }
 
     // A write of a value of its type keeps the types of all scalars of an object.
-    ensures writes { (p : Program) → IsSound p → (openings : List ℕ) (t : CType) (values : List Value) → AreScalars p (HasType p openings) t values →
+    ensures writes { (p : Program) → IsTypedProgram p → (openings : List ℕ) (t : CType) (values : List Value) → AreScalars p (HasType p openings) t values →
         (path : List Part) (w : ValueType) → of_one (place_at p.structures path (object_place t)) read_from ≡ Some w → (v : Value) → HasType p openings w v →
         AreScalars p (HasType p openings) t (slice_set values (position p.structures path (Some (object_place t))) v) }
 
     // Before the first turn, whatever the inputs are, there is a state of the program.
-    ensures starts { (p : Program) → IsSound p → (inputs : List ℤ) → IsState p (start p inputs) }
+    ensures starts { (p : Program) → IsTypedProgram p → (inputs : List ℤ) → IsState p (start p inputs) }
 
     // Each turn leads from a state of the program to one.
-    ensures turns { (p : Program) → IsSound p → (s : State) → IsState p s → (arrival : Option ℕ) → IsState p (turn p s arrival) }
-    ensures runs { (p : Program) → IsSound p → (inputs : List ℤ) (arrivals : Arrivals) → IsState p (run p (start p inputs) arrivals) }
+    ensures turns { (p : Program) → IsTypedProgram p → (s : State) → IsState p s → (arrival : Option ℕ) → IsState p (turn p s arrival) }
+    ensures runs { (p : Program) → IsTypedProgram p → (inputs : List ℤ) (arrivals : Arrivals) → IsState p (run p (start p inputs) arrivals) }
 {}

@@ -5,13 +5,13 @@ use Rattle.cc_states.proofs.EvalTypes.{meaning_typed, designation_typed}
 use Rattle.cc_states.proofs.law.expression_laws.Goals as goal
 
 pub returns-clause-values : goal.returns-clause-values
-returns-clause-values g = λ c openings here e t h later ms rest v answers k. ((meaning_typed c openings here e t (type_linked c e ∙ h) later).known ms rest _ answers k).1
+returns-clause-values g = λ c openings here e own t h later ms rest v answers k. ((meaning_typed c openings here e own t (type_linked c e ∙ h) later).known ms rest _ answers k).1
 
 pub returns-clause-places : goal.returns-clause-places
-returns-clause-places g = λ c openings here a t h later ms rest s answers k. ((designation_typed c openings here a t (place_type_linked c a ∙ h) later).known ms rest _ answers k).1
+returns-clause-places g = λ c openings here a own t h later ms rest s answers k. ((designation_typed c openings here a own t (place_type_linked c a ∙ h) later).known ms rest _ answers k).1
 
 pub returns-clause-steps : goal.returns-clause-steps
-returns-clause-steps g = λ c openings here e t h later ms action answers k. (meaning_typed c openings here e t (type_linked c e ∙ h) later).waits ms action answers k
+returns-clause-steps g = λ c openings here e own t h later ms action answers k. (meaning_typed c openings here e own t (type_linked c e ∙ h) later).waits ms action answers k
 
 pub returns-clause-unary : goal.returns-clause-unary
 returns-clause-unary g = λ p openings o t a r e x h. taken_one p openings o t a r e x h
@@ -21,3 +21,6 @@ returns-clause-binary g = λ p openings o t a b r e x y h k. taken_two p opening
 
 pub returns-clause-changes : goal.returns-clause-changes
 returns-clause-changes g = λ p openings s t o e c m y h. taken_change p openings s t o e c m y h
+
+pub returns-clause-pointers : goal.returns-clause-pointers
+returns-clause-pointers g = λ p openings constant volatile t object path index count h. h.2

@@ -2,10 +2,10 @@ use Rattle.cc_states.proofs.InsideLemmas.{next_inside, body_inside}
 use Rattle.cc_states.proofs.StartLemmas.{start_state, run_state}
 use Rattle.cc_states.proofs.TurnLemmas.{turn_state, switched_integer, exit_integer}
 use Rattle.cc_states.proofs.ControlLemmas.{next_sound, body_sound, may_break_there, may_continue_there}
-use Rattle.cc_steps.proofs.TurnLemmas.{sound-sized}
+use Rattle.cc_states.proofs.SoundLemmas.{typed-sized}
 use Rattle.cc_states.proofs.PathLemmas.{zeros_typed, written_typed}
 use Rattle.cc_states.specs.Typed.{HasType}
-use Rattle.cc_states.proofs.StateLemmas.{step_possible, expression_typed, functions_there}
+use Rattle.cc_states.proofs.StateLemmas.{step_possible, expression_typed, functions_there, entries_there, parameters_there}
 use Rattle.cc_states.proofs.law.state_laws.Goals as goal
 
 pub returns-clause-expressions : goal.returns-clause-expressions
@@ -27,10 +27,10 @@ pub returns-clause-continues : goal.returns-clause-continues
 returns-clause-continues c = λ p f a s rest here sound e. may_continue_there p f a s rest here sound e
 
 pub returns-clause-firsts : goal.returns-clause-firsts
-returns-clause-firsts c = λ p sound openings t. zeros_typed p openings (sound-sized p sound).in_order t
+returns-clause-firsts c = λ p sound openings t. zeros_typed p openings (typed-sized p sound).in_order t
 
 pub returns-clause-writes : goal.returns-clause-writes
-returns-clause-writes c = λ p sound openings t values all path w scalar v h. written_typed p openings (sound-sized p sound).in_order (HasType p openings) t values all path w scalar v h
+returns-clause-writes c = λ p sound openings t values all path w scalar v h. written_typed p openings (typed-sized p sound).in_order (HasType p openings) t values all path w scalar v h
 
 pub returns-clause-turns : goal.returns-clause-turns
 returns-clause-turns c = λ p sound s h arrival. turn_state p sound s h arrival
@@ -55,3 +55,9 @@ returns-clause-lists c = λ p f a s rest here sound places v. next_inside f.body
 
 pub returns-clause-begins : goal.returns-clause-begins
 returns-clause-begins c = λ f. body_inside f.body
+
+pub returns-clause-entries : goal.returns-clause-entries
+returns-clause-entries c = λ p sound s h. entries_there p h.0 s.stack h.1.stack
+
+pub returns-clause-parameters : goal.returns-clause-parameters
+returns-clause-parameters c = λ p sound s h. parameters_there p h.0 s.stack h.1.stack
