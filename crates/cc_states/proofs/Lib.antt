@@ -24,3 +24,4 @@ pub mod ZeroLemmas
 pub mod MemoryLemmas
 pub mod AddressLemmas
 pub mod ParameterLemmas
+pub mod ReachLemmas

@@ -7,7 +7,7 @@ use Rattle.cc_eval.specs.declared.mark.Mark.{Mark}
 use Rattle.cc_eval.specs.Marks.{IsUsed}
 use Rattle.cc_eval.specs.Progress.{Progress, Known, Waits, Traps, Get, known, trap, ask, and_then, bind, needs}
 use Rattle.cc_eval.proofs.Uses.{uses_known, uses_ask}
-use Rattle.cc_states.specs.Answers.{IsAction, IsMarkOf, AreAnswers, AreItsMarks}
+use Rattle.cc_states.specs.Answers.{IsAction, AreReached, IsMarkOf, AreAnswers, AreItsMarks}
 
 same_known : {A : Type 0} (v w : A) (ms ns : List Mark) → Known v ms ≡ Known w ns → v ≡ w
 same_known v w ms ns h = cc
@@ -30,9 +30,14 @@ module _ (p : Program) (openings : List ℕ) where
       let a = h front back m split in
       subst (λ (x : Action). IsMarkOf p openings x m) (same_action (g front) a.0 action a.1 w) a.2
 
+module _ (p : Program) (openings : List ℕ) (number : ℕ) where
+  -- a step that can be done, and touches nothing that the activation does not reach
+  abbrev pub IsStep : Action → Type 0
+  IsStep action = IsAction p openings action × AreReached p number action
+
   pub record Works {A : Type 0} (P : A → Type 0) (g : Get A) : Type 0 where
     pub known : (ms rest : List Mark) (a : A) → AreAnswers p openings g ms → g ms ≡ Known a rest → IsUsed g (Known a) ms rest × P a
-    pub waits : (ms : List Mark) (action : Action) → AreAnswers p openings g ms → g ms ≡ Waits action → IsAction p openings action
+    pub waits : (ms : List Mark) (action : Action) → AreAnswers p openings g ms → g ms ≡ Waits action → IsStep action
 
   pub works_known : {A : Type 0} (P : A → Type 0) (v : A) → P v → Works P (known v)
   works_known P v h = record {
@@ -51,11 +56,11 @@ module _ (p : Program) (openings : List ℕ) where
   asked P action f h [] rest a answers e = absurd (cc)
   asked P action f h (m ∷ ms) rest a answers e = ((uses_ask action f).known a (m ∷ ms) rest e, subst P (same_known (f m) a ms rest e) (h m (answers [] ms m action refl refl)))
 
-  asked-waits : {A : Type 0} (action : Action) (f : Mark → A) → IsAction p openings action → (ms : List Mark) (other : Action) → ask action f ms ≡ Waits other → IsAction p openings other
-  asked-waits action f h [] other e = subst (IsAction p openings) (same_action (ask action f []) action other refl e) h
+  asked-waits : {A : Type 0} (action : Action) (f : Mark → A) → IsStep action → (ms : List Mark) (other : Action) → ask action f ms ≡ Waits other → IsStep other
+  asked-waits action f h [] other e = subst IsStep (same_action (ask action f []) action other refl e) h
   asked-waits action f h (m ∷ ms) other e = absurd (cc)
 
-  pub works_ask : {A : Type 0} (P : A → Type 0) (action : Action) (f : Mark → A) → IsAction p openings action → ((m : Mark) → IsMarkOf p openings action m → P (f m)) → Works P (ask action f)
+  pub works_ask : {A : Type 0} (P : A → Type 0) (action : Action) (f : Mark → A) → IsStep action → ((m : Mark) → IsMarkOf p openings action m → P (f m)) → Works P (ask action f)
   works_ask P action f i h = record { known = asked P action f h; waits = λ ms other answers e. asked-waits action f i ms other e }
 
   -- what was asked first has its answers, and so has what comes behind it
@@ -77,10 +82,10 @@ module _ (p : Program) (openings : List ℕ) where
     bound ms rest b answers (Waits action) e h = absurd (cc)
     bound ms rest b answers (Traps mid) e h = absurd (cc)
 
-    then-waits : (ms mid : List Mark) (a : A) (action : Action) → AreAnswers p openings (bind g f) ms → IsUsed g (Known a) ms mid × P a → f a mid ≡ Waits action → IsAction p openings action
+    then-waits : (ms mid : List Mark) (a : A) (action : Action) → AreAnswers p openings (bind g f) ms → IsUsed g (Known a) ms mid × P a → f a mid ≡ Waits action → IsStep action
     then-waits ms mid a action answers first e = (t a first.1).waits mid action (right_answers g f ms mid a first.0 answers) e
 
-    bound-waits : (ms : List Mark) (action : Action) → AreAnswers p openings (bind g f) ms → (q : Progress A) → g ms ≡ q → and_then q f ≡ Waits action → IsAction p openings action
+    bound-waits : (ms : List Mark) (action : Action) → AreAnswers p openings (bind g f) ms → (q : Progress A) → g ms ≡ q → and_then q f ≡ Waits action → IsStep action
     bound-waits ms action answers (Known a mid) e h = then-waits ms mid a action answers (s.known ms mid a (left_answers g f ms answers) e) h
     bound-waits ms action answers (Waits other) e h = s.waits ms action (left_answers g f ms answers) (e ∙ ap (λ (x : Action). Waits x) (same_action (and_then (Waits other) f) other action refl h))
     bound-waits ms action answers (Traps mid) e h = absurd (cc)

@@ -1,5 +1,5 @@
 -- The steps that full expressions ask for, and what they may give: each in its type (C99 6.5).
-use Rattle.std.specs.Prelude.{◌≡◌, ℕ, Bool, true, false, List, ◌∷◌, ◌++◌, Option, Some, None, slice_get}
+use Rattle.std.specs.Prelude.{◌≡◌, ◌⊎◌, ℕ, Bool, true, false, List, ◌∷◌, ◌++◌, Option, Some, None, slice_get}
 use Rattle.cc_num.specs.declared.int_type.IntType.TheVariants as int
 use Rattle.cc_program.specs.declared.expr.Expr.{Expr}
 use Rattle.cc_program.specs.declared.expr.Place.{Place}
@@ -8,6 +8,10 @@ use Rattle.cc_program.specs.declared.program.Program.{Program}
 use Rattle.cc_program.specs.declared.types.Sig.{out-Sig}
 use Rattle.cc_program.specs.declared.value.Address.{Address}
 use Rattle.cc_program.specs.declared.value.Address.TheVariants as address
+use Rattle.cc_program.specs.declared.value.Cell.{Cell}
+use Rattle.cc_program.specs.declared.value.Cell.TheVariants as cell
+use Rattle.cc_program.specs.declared.value.Root.{Root}
+use Rattle.cc_program.specs.declared.value.Root.TheVariants as root
 use Rattle.cc_program.specs.declared.value.Value.{Value}
 use Rattle.cc_eval.specs.declared.action.Action.{Action}
 use Rattle.cc_eval.specs.declared.action.Action.TheVariants.{Read, Write, Choose, Call, Flag, Save}
@@ -17,7 +21,7 @@ use Rattle.cc_eval.specs.Context.{Context}
 use Rattle.cc_eval.specs.Progress.{Waits, Get}
 use Rattle.cc_syntax.specs.Registers.{is_address_taken, place_use, is_addressed}
 use Rattle.cc_syntax.specs.Values.{ValueType, NoValue, Integer, result_value}
-use Rattle.cc_states.specs.Typed.{HasType, cell_type, IsThere, AreArguments}
+use Rattle.cc_states.specs.Typed.{IsInMemory, HasType, cell_type, IsThere, AreArguments}
 
 -- whether a step may give a bad value
 abbrev pub may_be_bad : Action → Bool
@@ -90,3 +94,20 @@ TakesAddressesOf f e = (r : ℕ) → is_address_taken r e ≡ true → is_addres
 
 abbrev pub PlaceTakesAddressesOf : Func → Place → Type 0
 PlaceTakesAddressesOf f a = (r : ℕ) → (place_use r a).address_taken ≡ true → is_addressed f r ≡ true
+
+-- what an activation reaches, by its number: a local that it names is its own, and pointers lead to what is in memory
+abbrev pub IsReached : Program → ℕ → Root → Type 0
+IsReached p number (root.Static i) = Unit {0}
+IsReached p number (root.Auto other func local) = (other ≡ number) ⊎ IsInMemory p (root.Auto other func local)
+
+abbrev pub IsCellReached : Program → ℕ → Cell → Type 0
+IsCellReached p number (cell.Device d) = Unit {0}
+IsCellReached p number (cell.At object path) = IsReached p number object
+
+abbrev pub AreReached : Program → ℕ → Action → Type 0
+AreReached p number (Read at manner) = IsCellReached p number at
+AreReached p number (Write at is_event v) = IsCellReached p number at
+AreReached p number (Choose b) = Unit {0}
+AreReached p number (Call callee args) = Unit {0}
+AreReached p number (Flag on) = Unit {0}
+AreReached p number Save = Unit {0}

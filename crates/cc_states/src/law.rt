@@ -37,7 +37,7 @@ ghost use Rattle.cc_syntax.specs.Operators.{is_handler, unary_type, binary_type,
 ghost use Rattle.cc_syntax.specs.Sound.{IsTypedProgram};
 ghost use Rattle.cc_syntax.specs.Values.{ValueType, ToObject, PlaceType, object_place, read_from};
 ghost use Rattle.cc_values.specs.Values.{takes, takes_both};
-ghost use Rattle.cc_states.specs.Answers.{IsActivation, AreAnswers, IsAction, TakesAddressesOf, PlaceTakesAddressesOf};
+ghost use Rattle.cc_states.specs.Answers.{IsActivation, AreAnswers, IsAction, AreReached, TakesAddressesOf, PlaceTakesAddressesOf};
 ghost use Rattle.cc_states.specs.Inside.{AreInside};
 ghost use Rattle.cc_states.specs.States.{AreScalars, AreWritten, may_break, may_continue, AreSound, expression_of, IsState, IsPossible};
 ghost use Rattle.cc_states.specs.Typed.{IsInMemory, HasType, IsSpot};
@@ -54,6 +54,10 @@ pub fn expression_laws()
     // A step that one asks for can be done: its cell is there, what is called is a function that takes the arguments, and values have the types that they are taken in.
     ensures steps { (c : Context) (openings : List ℕ) → IsActivation c openings → (e : Expr) → TakesAddressesOf c.func e → (t : ValueType) → type_of c.program c.func.locals e ≡ Some t →
         (later : Registers) (ms : List Mark) (action : Action) → AreAnswers c.program openings ((meaning c e).next later) ms → (meaning c e).next later ms ≡ Waits action → IsAction c.program openings action }
+
+    // An activation reaches its own locals by name, and else what is in memory alone.
+    ensures reaches { (c : Context) (openings : List ℕ) → IsActivation c openings → (e : Expr) → TakesAddressesOf c.func e → (t : ValueType) → type_of c.program c.func.locals e ≡ Some t →
+        (later : Registers) (ms : List Mark) (action : Action) → AreAnswers c.program openings ((meaning c e).next later) ms → (meaning c e).next later ms ≡ Waits action → AreReached c.program c.number action }
 
     // No pointer leads to a register.
     ensures pointers { (p : Program) (openings : List ℕ) (constant volatile : Bool) (t : CType) (object : Root) (path : List Part) (index count : ℕ) → HasType p openings (ToObject constant volatile t) (value.Place (address.At object path index count)) → IsInMemory p object }

@@ -8,10 +8,10 @@ pub returns-clause-values : goal.returns-clause-values
 returns-clause-values g = λ c openings here e own t h later ms rest v answers k. ((meaning_typed c openings here e own t (type_linked c e ∙ h) later).known ms rest _ answers k).1
 
 pub returns-clause-places : goal.returns-clause-places
-returns-clause-places g = λ c openings here a own t h later ms rest s answers k. ((designation_typed c openings here a own t (place_type_linked c a ∙ h) later).known ms rest _ answers k).1
+returns-clause-places g = λ c openings here a own t h later ms rest s answers k. ((designation_typed c openings here a own t (place_type_linked c a ∙ h) later).known ms rest _ answers k).1.0
 
 pub returns-clause-steps : goal.returns-clause-steps
-returns-clause-steps g = λ c openings here e own t h later ms action answers k. (meaning_typed c openings here e own t (type_linked c e ∙ h) later).waits ms action answers k
+returns-clause-steps g = λ c openings here e own t h later ms action answers k. ((meaning_typed c openings here e own t (type_linked c e ∙ h) later).waits ms action answers k).0
 
 pub returns-clause-unary : goal.returns-clause-unary
 returns-clause-unary g = λ p openings o t a r e x h. taken_one p openings o t a r e x h
@@ -24,3 +24,6 @@ returns-clause-changes g = λ p openings s t o e c m y h. taken_change p opening
 
 pub returns-clause-pointers : goal.returns-clause-pointers
 returns-clause-pointers g = λ p openings constant volatile t object path index count h. h.2
+
+pub returns-clause-reaches : goal.returns-clause-reaches
+returns-clause-reaches g = λ c openings here e own t h later ms action answers k. ((meaning_typed c openings here e own t (type_linked c e ∙ h) later).waits ms action answers k).1
