@@ -1,0 +1,6 @@
+//! Law: how steps move activations among the points of a program in normal form.
+#![tactic(auto)]
+
+mod law;
+
+pub use law::moves;
