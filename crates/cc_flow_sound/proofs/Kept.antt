@@ -6,6 +6,7 @@ use Rattle.cc_control.specs.Control.{level}
 use Rattle.cc_control.specs.declared.phase.Phase.TheVariants.{First}
 use Rattle.cc_flow.specs.Points.{count_of}
 use Rattle.cc_states.specs.States.{IsState}
+use Rattle.cc_syntax.proofs.NameRules.{sound-typed}
 use Rattle.cc_states.proofs.StartLemmas.{start_state}
 use Rattle.cc_states.proofs.TurnLemmas.{turn_state}
 use Rattle.cc_steps.specs.Runs.{Arrivals, run}
@@ -40,7 +41,7 @@ module _ (p : Program) where
     run_by : (s : State) → IsState p s → AreAt p (standings s.stack) → (arrivals : Arrivals) → AreAt p (standings (run p s arrivals).stack)
     run_by s h k [] = k
     run_by s h k (a ∷ rest) =
-        run_by (turn p s a) (turn_state p normal.sound s h a) (moved_at (standings s.stack) (standings (turn p s a).stack) k (turn_moves p few (normal_body p normal) s h a)) rest
+        run_by (turn p s a) (turn_state p (sound-typed p normal.sound) s h a) (moved_at (standings s.stack) (standings (turn p s a).stack) k (turn_moves p few (normal_body p normal) s h a)) rest
 
     pub run_at : (inputs : List ℤ) (arrivals : Arrivals) → AreAt p (standings (run p (start p inputs) arrivals).stack)
-    run_at inputs arrivals = run_by (start p inputs) (start_state p normal.sound inputs) (first_at (slice_get p.funcs p.main) refl) arrivals
+    run_at inputs arrivals = run_by (start p inputs) (start_state p (sound-typed p normal.sound) inputs) (first_at (slice_get p.funcs p.main) refl) arrivals
