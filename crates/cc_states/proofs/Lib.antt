@@ -25,3 +25,4 @@ pub mod MemoryLemmas
 pub mod AddressLemmas
 pub mod ParameterLemmas
 pub mod ReachLemmas
+pub mod RegisterLemmas

@@ -39,7 +39,7 @@ use Rattle.cc_syntax.specs.Sound.{any_names, IsTypedProgram, IsFuncBy}
 use Rattle.cc_syntax.specs.Types.{Named}
 use Rattle.cc_syntax.specs.Values.{ValueType, Integer, PlaceType, object_place, read_from}
 use Rattle.cc_syntax.proofs.Parts.{all_at}
-use Rattle.cc_states.specs.Answers.{IsAction, IsCall}
+use Rattle.cc_states.specs.Answers.{AreReached, IsAction, IsCall}
 use Rattle.cc_states.specs.States.{AreWritten, AreStatics, expression_of, AreMarks, context_in, IsActive, AreActive, IsState, local_scalar, IsCellThere, IsCalleeThere, IsPossible}
 use Rattle.cc_states.specs.Typed.{HasType, MayHave, cell_type, IsThere, AreArguments}
 use Rattle.cc_states.proofs.AddressLemmas.{expression_takes}
@@ -52,15 +52,19 @@ use Rattle.cc_states.proofs.Works.{answers_of}
 
 module _ (p : Program) (openings : List ℕ) where
   asked_by : (a : Active) (h : IsActive p openings a) (action : Action) (x : Option Expr) → expression_of a ≡ x → AreMarks (context_in p a h.func) openings x a.marks →
-      progress_in p a.number a.func a.marks (Some h.func) x ≡ Waits action → IsAction p openings action
+      progress_in p a.number a.func a.marks (Some h.func) x ≡ Waits action → IsAction p openings action × AreReached p a.number action
   asked_by a h action None e m w = absurd (cc)
   asked_by a h action (Some e') e m w =
       let t = level_typed p h.func a.here a.around h.control e' e in
-      ((meaning_typed (context_in p a h.func) openings (record { function = h.function; number = h.number }) e' (expression_takes h.func a e' h.inside e) t.0 (type_linked (context_in p a h.func) e' ∙ t.1) no_one).waits a.marks action (answers_of p openings (next_of (context_in p a h.func) e') a.marks m) w).0
+      (meaning_typed (context_in p a h.func) openings (record { function = h.function; number = h.number }) e' (expression_takes h.func a e' h.inside e) t.0 (type_linked (context_in p a h.func) e' ∙ t.1) no_one).waits a.marks action (answers_of p openings (next_of (context_in p a h.func) e') a.marks m) w
 
   pub asked : (a : Active) → IsActive p openings a → (action : Action) → progress_of p a (expression_of a) ≡ Waits action → IsAction p openings action
   asked a h action w =
-      asked_by a h action (expression_of a) refl h.marks (ap (λ (f : Option Func). progress_in p a.number a.func a.marks f (expression_of a)) (sym h.function) ∙ w)
+      (asked_by a h action (expression_of a) refl h.marks (ap (λ (f : Option Func). progress_in p a.number a.func a.marks f (expression_of a)) (sym h.function) ∙ w)).0
+
+  pub reaches : (a : Active) → IsActive p openings a → (action : Action) → progress_of p a (expression_of a) ≡ Waits action → AreReached p a.number action
+  reaches a h action w =
+      (asked_by a h action (expression_of a) refl h.marks (ap (λ (f : Option Func). progress_in p a.number a.func a.marks f (expression_of a)) (sym h.function) ∙ w)).1
 
   -- ---- cells
 

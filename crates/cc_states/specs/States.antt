@@ -37,7 +37,7 @@ use Rattle.cc_syntax.specs.Types.{Named}
 use Rattle.cc_syntax.specs.Values.{ValueType, object_place, read_from}
 use Rattle.cc_states.specs.Answers.{AreItsMarks}
 use Rattle.cc_states.specs.Inside.{AreInside}
-use Rattle.cc_states.specs.Typed.{HasType, MayHave}
+use Rattle.cc_states.specs.Typed.{is_register_in, HasType, MayHave}
 
 -- ---- values
 
@@ -143,6 +143,11 @@ IsState p s = (openings : List ℕ) × IsStateOf p openings s
 abbrev pub local_scalar : List Active → ℕ → ℕ → ℕ → Option (Option Value)
 local_scalar [] number local position = None
 local_scalar (a ∷ below) number local position = if a.number == number then scalar_in a.locals local position else local_scalar below number local position
+
+-- the registers of an activation hold in a stack what they hold in it
+abbrev pub KeepsRegisters : Program → List Active → Active → Type 0
+KeepsRegisters p stack b =
+    (local : ℕ) → is_register_in (slice_get p.funcs b.func) local ≡ true → (position : ℕ) → local_scalar stack b.number local position ≡ scalar_in b.locals local position
 
 -- a device of the program, a scalar of a static object, or a scalar of a local, where its activation is open
 abbrev pub IsCellThere : Program → State → Cell → Type 0

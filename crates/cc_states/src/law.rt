@@ -39,7 +39,7 @@ ghost use Rattle.cc_syntax.specs.Values.{ValueType, ToObject, PlaceType, object_
 ghost use Rattle.cc_values.specs.Values.{takes, takes_both};
 ghost use Rattle.cc_states.specs.Answers.{IsActivation, AreAnswers, IsAction, AreReached, TakesAddressesOf, PlaceTakesAddressesOf};
 ghost use Rattle.cc_states.specs.Inside.{AreInside};
-ghost use Rattle.cc_states.specs.States.{AreScalars, AreWritten, may_break, may_continue, AreSound, expression_of, IsState, IsPossible};
+ghost use Rattle.cc_states.specs.States.{AreScalars, AreWritten, may_break, may_continue, AreSound, expression_of, IsState, IsPossible, KeepsRegisters};
 ghost use Rattle.cc_states.specs.Typed.{IsInMemory, HasType, IsSpot};
 
 /// What holds of expressions and places that have types, in an activation of their function, which takes the addresses of
@@ -82,6 +82,9 @@ pub fn state_laws()
     // An activation that the entry of a handler opened is of one, and the parameters of each are written.
     ensures entries { (p : Program) → IsTypedProgram p → (s : State) → IsState p s → All (λ a. a.handler ≡ true → (f : Func) × (slice_get p.funcs a.func ≡ Some f) × (is_handler f ≡ true)) s.stack }
     ensures parameters { (p : Program) → IsTypedProgram p → (s : State) → IsState p s → All (λ a. (f : Func) × (slice_get p.funcs a.func ≡ Some f) × AreWritten f.params a.locals) s.stack }
+
+    // A turn changes no register of an activation below the running one.
+    ensures registers { (p : Program) → IsTypedProgram p → (s : State) → IsState p s → (a : Active) (below : List Active) → s.stack ≡ a ∷ below → (b : Active) (i : ℕ) → slice_get below i ≡ Some b → (arrival : Option ℕ) → KeepsRegisters p (turn p s arrival).stack b }
 
     // What is read or written is there, or is of an activation that has ended; a function that is called is there, and takes as many arguments.
     ensures steps { (p : Program) → IsTypedProgram p → (s : State) → IsState p s → (a : Active) (below : List Active) → s.stack ≡ a ∷ below →

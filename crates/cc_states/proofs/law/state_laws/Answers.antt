@@ -1,3 +1,4 @@
+use Rattle.cc_states.proofs.RegisterLemmas.{registers_kept}
 use Rattle.cc_states.proofs.InsideLemmas.{next_inside, body_inside}
 use Rattle.cc_states.proofs.StartLemmas.{start_state, run_state}
 use Rattle.cc_states.proofs.TurnLemmas.{turn_state, switched_integer, exit_integer}
@@ -61,3 +62,6 @@ returns-clause-entries c = λ p sound s h. entries_there p h.0 s.stack h.1.stack
 
 pub returns-clause-parameters : goal.returns-clause-parameters
 returns-clause-parameters c = λ p sound s h. parameters_there p h.0 s.stack h.1.stack
+
+pub returns-clause-registers : goal.returns-clause-registers
+returns-clause-registers c = λ p sound s h a below top b i there arrival. registers_kept p s h a below top b i there arrival
