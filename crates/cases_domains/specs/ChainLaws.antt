@@ -64,12 +64,9 @@ yes_more (Yes ∷ xs) (Yes ∷ ys) zero h e = refl
 yes_more (Yes ∷ xs) (No ∷ ys) zero h e = absurd h.0
 yes_more (x ∷ xs) (y ∷ ys) (suc k) h e = yes_more xs ys k h.1 e
 
-asked_more : (j : ℕ) (xs ys : List Truth) → AllZip IsBelowTruth xs ys → IsAsked j xs → IsAsked j ys
+pub asked_more : (j : ℕ) (xs ys : List Truth) → AllZip IsBelowTruth xs ys → IsAsked j xs → IsAsked j ys
 asked_more j xs ys h (inl e) = inl e
 asked_more j xs ys h (inr e) = inr (yes_more xs ys (j + 1) h e)
-
-pub chain_stays : (i : ℕ) (f g : Table ℕ Truth) → i < 1000 → IsBelowChain f g → MeetsAll 1000 AsksYes g → AsksYes i f g
-chain_stays i f g l below all = λ asked. all i l (asked_more (turned i) f.parts g.parts below.1 asked)
 
 -- one part is made yes
 

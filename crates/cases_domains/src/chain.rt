@@ -1,7 +1,7 @@
 //! A chain of constraints, each on the next one, in an order that leaps through the chain.
 
 ghost use Rattle.std.specs.Prelude.{◌≡◌, ◌↔◌, ◌<◌, false, length, Some, IsTrue, IfOk, slice_get, slice_set, count_by};
-ghost use Rattle.cases_domains.specs.ChainLaws.{truth_itself, truth_through, truth_same, chains_alike, chain_stays, before_counts, chain_lists};
+ghost use Rattle.cases_domains.specs.ChainLaws.{truth_itself, truth_through, truth_same, chains_alike, before_counts, chain_lists};
 ghost use Rattle.cases_domains.specs.Chain.{IsBelowTruth, IsChain, turned, IsAsked, AsksYes, before, is_no, numbers};
 
 use cc_lattice::{Lattice, System, Table};
@@ -147,8 +147,6 @@ impl System for Chain {
     }
 
     ghost fitting_alike = { λ _ f g h k. chains_alike f g h k };
-
-    ghost stays_below = { λ _ i f g l _ _ below all. chain_stays i f g l below all };
 
     ghost again_counts = { λ _ i _ _ _. before_counts (turned i) };
 

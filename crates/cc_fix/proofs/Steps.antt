@@ -46,12 +46,10 @@ work_of_all count asks f list all = record { counts = λ j. (all j).0; lists = �
 
 -- the facts stay below each solution
 pub below_raised : {F : Type 0} (fits : F → Type 0) (below : F → F → Type 0) (count i : ℕ) (asks : ℕ → F → F → Type 0) (f g : F)
-    → IsBelowSolutions fits below count asks f
-    → ((h : F) → fits h → below f h → MeetsAll count asks h → asks i f h)
-    → ((h : F) → fits h → below f h → asks i f h → below g h)
+    → i < count → IsBelowSolutions fits below count asks f
+    → ((h : F) → fits h → below f h → asks i h h → below g h)
     → IsBelowSolutions fits below count asks g
-below_raised fits below count i asks f g under stays least h fit all =
-    least h fit (under h fit all) (stays h fit (under h fit all) all)
+below_raised fits below count i asks f g l under stays h fit all = stays h fit (under h fit all) (all i l)
 
 -- the numbers from n on, and the one before them
 more_from : (list : List ℕ) (n count j : ℕ) → 0 < n → n ≤ count → (Contains list j → (n ≤ j) × (j < count)) → Contains list j ⊎ (n - 1 ≡ j) → (n - 1 ≤ j) × (j < count)

@@ -43,7 +43,8 @@ pub trait System {
         ensures { IfOk result (λ yes. IsTrue yes ↔ Asks self.now index facts.now facts.now) };
 
     /// Raises facts to the least ones above them that have what a constraint asks of them, and says
-    /// whether they rose. After want of memory the facts lie between the old ones and those.
+    /// whether they rose. After want of memory the facts lie between the old ones and those. What is below facts that
+    /// meet the constraint stays below them; so what is below a solution stays below it.
     fn raise(&self, alloc: Global, index: u32, facts: &mut Self::Facts) -> Result<bool, NoMemory>
         requires fitting { IsFitting self.now facts.old }
         requires index { index < count_of self.now }
@@ -52,6 +53,8 @@ pub trait System {
         ensures least { (h : Self.Facts) → IsFitting self.now h → Self.Facts.IsBelow facts.old h → Asks self.now index facts.old h
             → Self.Facts.IsBelow facts.new h }
         ensures has { OnOk result (Asks self.now index facts.old facts.new) }
+        ensures stays { (g : Self.Facts) → IsFitting self.now g → Self.Facts.IsBelow facts.old g → Asks self.now index g g
+            → Self.Facts.IsBelow facts.new g }
         ensures rose { IfOk result (λ rose. rose ≡ true → room_of self.now facts.new < room_of self.now facts.old) }
         ensures same { IfOk result (λ rose. rose ≡ false → facts.new ≡ facts.old) };
 
@@ -70,10 +73,6 @@ pub trait System {
 
     /// Facts that fit one system are of one kind.
     ghost fitting_alike: { (s : Self) (f g : Self.Facts) → IsFitting s f → IsFitting s g → Self.Facts.AreAlike f g };
-
-    /// What is below a solution stays below it: the solution has what a constraint asks of facts below it.
-    ghost stays_below: { (s : Self) (i : ℕ) (f g : Self.Facts) → i < count_of s → IsFitting s f → IsFitting s g → Self.Facts.IsBelow f g
-        → MeetsAll (count_of s) (Asks s) g → Asks s i f g };
 
     /// Each number that is listed again is that of a constraint.
     ghost again_counts: { (s : Self) (i : ℕ) (f : Self.Facts) → i < count_of s → IsFitting s f → All (λ j. j < count_of s) (again_of s i f) };

@@ -3,7 +3,7 @@
 use Rattle.std.proofs.Common.{◌≡◌, [], ◌∷◌, ◌++◌, sym, subst}
 use Rattle.cc_lattice.specs.Systems.{IsRaised}
 use Rattle.cc_fix.specs.Work.{IsWork}
-use Rattle.cc_fix.proofs.Steps.{work_kept, work_raised}
+use Rattle.cc_fix.proofs.Steps.{below_raised, work_kept, work_raised}
 use Rattle.cc_fix.proofs.solve.settle.Goals as goal
 
 pub returns-in_ok-again-clause-work : goal.returns-in_ok-again-clause-work
@@ -33,3 +33,13 @@ returns-else-branch-clause-work g c =
     work_kept (s.count_of system) (s.Asks system) i new list
     (subst (λ f. IsWork (s.count_of system) (s.Asks system) f (list ++ i ∷ [])) (sym same) c.requires.work)
     (subst (λ f. s.Asks system i f new) (sym same) raise.has)
+
+pub returns-in_ok-again-clause-below : goal.returns-in_ok-again-clause-below
+returns-in_ok-again-clause-below g c =
+    let s = g.S.System in
+    below_raised (s.IsFitting c.args.system.now) g.S.Facts.Lattice.IsBelow (s.count_of c.args.system.now) c.args.index (s.Asks c.args.system.now) c.args.facts.now c.raise.new.facts c.requires.index c.requires.below c.in_ok-raise.ensures.stays
+
+pub returns-else-branch-clause-below : goal.returns-else-branch-clause-below
+returns-else-branch-clause-below g c =
+    let s = g.S.System in
+    below_raised (s.IsFitting c.args.system.now) g.S.Facts.Lattice.IsBelow (s.count_of c.args.system.now) c.args.index (s.Asks c.args.system.now) c.args.facts.now c.raise.new.facts c.requires.index c.requires.below c.in_ok-raise.ensures.stays
