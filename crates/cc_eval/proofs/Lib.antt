@@ -5,5 +5,8 @@ pub mod GoodLemmas
 pub mod LaterLemmas
 pub mod Level
 pub mod Links
+pub mod MarkLemmas
 pub mod MeaningUses
+pub mod Opened
 pub mod Uses
+pub mod Works

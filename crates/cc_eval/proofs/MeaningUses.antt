@@ -2,10 +2,10 @@
 use Rattle.std.proofs.Common.{Bool, true, false, List, [], ◌∷◌, Option, Some, None, map, sym, subst}
 use Rattle.cc_num.specs.declared.int_type.IntType.{IntType}
 use Rattle.cc_num.specs.declared.op.BinOp.{BinOp}
-use Rattle.cc_program.specs.declared.expr.Expr.{Expr, roll-Expr, map-Expr}
+use Rattle.cc_program.specs.declared.expr.Expr.{Expr, roll-Expr}
 use Rattle.cc_program.specs.declared.expr.Expr.TheOpen as one
 use Rattle.cc_program.specs.declared.expr.Intr.TheVariants as intr
-use Rattle.cc_program.specs.declared.expr.Place.{Place, roll-Place, map-Place}
+use Rattle.cc_program.specs.declared.expr.Place.{Place, roll-Place}
 use Rattle.cc_program.specs.declared.value.Value.{Value}
 use Rattle.cc_program.proofs.Each.{Each}
 use Rattle.cc_program.proofs.ExprInduction.{Parts, PlaceParts, by_expr, by_place}
@@ -14,7 +14,7 @@ use Rattle.cc_values.specs.Values.{truth, of_truth, address_in}
 use Rattle.cc_eval.specs.declared.action.Action.TheVariants as action
 use Rattle.cc_eval.specs.declared.spots.Spot.{Spot}
 use Rattle.cc_eval.specs.Context.{Context, reached, is_seen}
-use Rattle.cc_eval.specs.Eval.{Meaning, Designation, expr_meaning, place_meaning, meaning, designation, manner, from_one, both_values, from_two, place_and_value, branch, outcome, arms, choice, as_condition, each, all_good, called_with, restored, sequence, fetched, stored, changed_back, changed_with, stepped_back, stepped_with, assigned_by}
+use Rattle.cc_eval.specs.Eval.{Meaning, Designation, meaning, designation, opened, place_opened, manner, from_one, both_values, from_two, place_and_value, branch, outcome, arms, choice, as_condition, each, all_good, called_with, restored, sequence, fetched, stored, changed_back, changed_with, stepped_back, stepped_with, assigned_by}
 use Rattle.cc_eval.specs.Marks.{UsesFirst}
 use Rattle.cc_eval.specs.Progress.{Get, ask, bind, needs, known, given, chosen}
 use Rattle.cc_eval.proofs.Links.{level, place_level}
@@ -113,13 +113,7 @@ module _ (c : Context) where
       uses_bind (each (map (meaning c) args) later) (λ vs. needs (address_in v) (λ callee. needs (all_good vs) (λ good. ask (action.Call callee good) given)))
       (uses_each args h later) (λ vs. uses_call vs v)
 
-  abbrev opened : one.Expr-F Expr Place → Meaning
-  opened x = expr_meaning c (map-Expr Expr Place Meaning Designation (meaning c) (designation c) x)
-
-  abbrev place_opened : one.Place-F Expr Place → Designation
-  place_opened x = place_meaning c (map-Place Expr Place Meaning Designation (meaning c) (designation c) x)
-
-  uses_level : (x : one.Expr-F Expr Place) → Parts At PlaceAt x → Uses (opened x)
+  uses_level : (x : one.Expr-F Expr Place) → Parts At PlaceAt x → Uses (opened c x)
   uses_level (one.Const n t) h = λ later. uses_known _
   uses_level (one.Null t) h = λ later. uses_known _
   uses_level (one.FuncAddr f) h = λ later. uses_known _
@@ -150,7 +144,7 @@ module _ (c : Context) where
   uses_level (one.Intr intr.Restore (Some a)) h = uses_restored (meaning c a) h
   uses_level (one.Seq a b) h = uses_sequence (meaning c a) (meaning c b) h.0 h.1
 
-  place_uses_level : (x : one.Place-F Expr Place) → PlaceParts At PlaceAt x → PlaceUses (place_opened x)
+  place_uses_level : (x : one.Place-F Expr Place) → PlaceParts At PlaceAt x → PlaceUses (place_opened c x)
   place_uses_level (one.Local r) h = λ later. uses_known _
   place_uses_level (one.Static i) h = λ later. uses_known _
   place_uses_level (one.Device d) h = λ later. uses_known _

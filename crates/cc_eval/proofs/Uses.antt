@@ -5,23 +5,23 @@ use Rattle.cc_eval.specs.declared.mark.Mark.{Mark}
 use Rattle.cc_eval.specs.Marks.{IsUsed, UsesFirst}
 use Rattle.cc_eval.specs.Progress.{Progress, Known, Waits, Traps, Get, known, trap, ask, and_then, bind, needs}
 
-abbrev value_in : {A : Type 0} → A → Progress A → A
+abbrev pub value_in : {A : Type 0} → A → Progress A → A
 value_in d (Known v ms) = v
 value_in d (Waits action) = d
 value_in d (Traps ms) = d
 
-abbrev marks_in : {A : Type 0} → List Mark → Progress A → List Mark
+abbrev pub marks_in : {A : Type 0} → List Mark → Progress A → List Mark
 marks_in d (Known v ms) = ms
 marks_in d (Waits action) = d
 marks_in d (Traps ms) = ms
 
-same_value : {A : Type 0} (v w : A) (ms ns : List Mark) → Known v ms ≡ Known w ns → v ≡ w
+pub same_value : {A : Type 0} (v w : A) (ms ns : List Mark) → Known v ms ≡ Known w ns → v ≡ w
 same_value v w ms ns h = ap (value_in v) h
 
-same_marks : {A : Type 0} (v w : A) (ms ns : List Mark) → Known v ms ≡ Known w ns → ms ≡ ns
+pub same_marks : {A : Type 0} (v w : A) (ms ns : List Mark) → Known v ms ≡ Known w ns → ms ≡ ns
 same_marks v w ms ns h = ap (marks_in ms) h
 
-same_traps : {A : Type 0} (p : Progress A) (ms ns : List Mark) → p ≡ Traps ms → p ≡ Traps ns → ms ≡ ns
+pub same_traps : {A : Type 0} (p : Progress A) (ms ns : List Mark) → p ≡ Traps ms → p ≡ Traps ns → ms ≡ ns
 same_traps p ms ns h k = ap (marks_in ms) (sym h ∙ k)
 
 pub uses_known : {A : Type 0} (v : A) → UsesFirst (known v)
@@ -52,7 +52,7 @@ pub uses_ask : {A : Type 0} (action : Action) (f : Mark → A) → UsesFirst (as
 uses_ask action f = record { known = asked action f; traps = asked-traps action f }
 
 -- what is used first, and then
-both_used : {A B : Type 0} (g : Get A) (f : A → Get B) (b : A) (ms mid rest : List Mark) (outcome : List Mark → Progress B) →
+pub both_used : {A B : Type 0} (g : Get A) (f : A → Get B) (b : A) (ms mid rest : List Mark) (outcome : List Mark → Progress B) →
     IsUsed g (Known b) ms mid → IsUsed (f b) outcome mid rest → IsUsed (bind g f) outcome ms rest
 both_used g f b ms mid rest outcome u v = (
   u.0 ++ v.0,

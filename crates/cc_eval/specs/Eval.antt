@@ -272,6 +272,13 @@ module _ (c : Context) where
   unfoldable pub designation : PlaceOf → Designation
   designation a = fold-Place Meaning Designation expr_meaning place_meaning a
 
+  -- what they mean, opened at the top
+  abbrev pub opened : one.Expr-F Expr PlaceOf → Meaning
+  opened x = expr_meaning (map-Expr Expr PlaceOf Meaning Designation meaning designation x)
+
+  abbrev pub place_opened : one.Place-F Expr PlaceOf → Designation
+  place_opened x = place_meaning (map-Place Expr PlaceOf Meaning Designation meaning designation x)
+
   -- what a full expression does next: nothing comes behind it that assigns a register
   abbrev pub next_of : Expr → Get (Option Value)
   next_of e = (meaning e).next no_one

@@ -3,9 +3,11 @@
 
 mod accesses;
 mod action;
+mod answering;
 mod context;
 mod effects;
 mod eval;
+mod kinds;
 mod law;
 mod mark;
 mod operations;
@@ -14,8 +16,10 @@ mod progress;
 mod spots;
 
 pub use action::{Action, Manner};
+pub use answering::{Answers, works_by};
 pub use context::Context;
 pub use eval::next_of;
+pub use kinds::equations;
 pub use law::laws;
 pub use mark::Mark;
 pub use progress::Stage;
