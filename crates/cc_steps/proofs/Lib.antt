@@ -1,12 +1,15 @@
 pub mod BegunLemmas
 pub mod BoundaryLemmas
+pub mod CellsApart
 pub mod FirstLemmas
 pub mod InputLemmas
 pub mod LocalLemmas
+pub mod MarkLemmas
 pub mod NewestLemmas
 pub mod OpenedLemmas
 pub mod ReturnLemmas
 pub mod RunLaws
+pub mod ScalarPlaces
 pub mod StackLemmas
 pub mod StartLemmas
 pub mod StepLemmas

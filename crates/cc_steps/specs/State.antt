@@ -1,5 +1,5 @@
 -- The state of a run.
-use Rattle.std.specs.Prelude.{ℕ, ℤ, Bool, List, [], ◌∷◌, Option, Some, None, map, length, replicate}
+use Rattle.std.specs.Prelude.{◌≡◌, ℕ, ℤ, Bool, List, [], ◌∷◌, Option, Some, None, map, length, replicate}
 use Rattle.cc_program.specs.declared.object.Object.{Object}
 use Rattle.cc_program.specs.declared.program.Program.{Program}
 use Rattle.cc_program.specs.declared.types.CType.{CType}
@@ -25,6 +25,12 @@ pub record Active : Type 0 where
   pub here : Level
   pub around : List Level
   pub marks : List Mark
+
+-- the same call: two activations with one number, of the function with one id, both a handler's or neither
+pub record IsSameCall (q p : Active) : Type 0 where
+  pub number : q.number ≡ p.number
+  pub func : q.func ≡ p.func
+  pub handler : q.handler ≡ p.handler
 
 -- what all activations share: the interrupt flag, the values of static objects, scalar by scalar, the inputs left, and the
 -- events so far

@@ -1,4 +1,4 @@
-//! Where an activation stands, as others see it: whether at a boundary, and by its path and operands.
+//! Where an activation stands, as others see it: whether at a boundary, by its path and operands, and by its marks.
 
 ghost use Rattle.std.specs.Prelude.{◌≡◌, ◌&&◌, ◌++◌, ◌∷◌, [], IfOk};
 ghost use Rattle.cc_control.specs.Control.{path_of};
@@ -57,6 +57,13 @@ fn with_operand(
 }
 
 impl<'p> Activation<'p> {
+    /// What the steps of the present full expression have done so far, in order.
+    pub fn marks(&self) -> &[Mark]
+        ensures { result.now ≡ (active_of self.now).marks }
+    {
+        self.marks.as_slice()
+    }
+
     /// Whether nothing was done yet of a statement, of a loop's turn, or of the return at the function's end.
     fn begins(&self) -> bool
         ensures { result ≡ is_empty (active_of self.now).marks && begins_of (active_of self.now).here.rest (active_of self.now).here.phase }

@@ -22,5 +22,8 @@ pub use activation::Activation;
 pub use boundary::at_boundary;
 pub use event::{End, Event, Took};
 pub use initial::start;
-pub use laws::{Simulation, SimulationBack, answers_by, follows_by, orders};
+pub use laws::{
+    Simulation, SimulationBack, activation_laws, answers_by, follows_by, orders, write_laws,
+};
+pub use progress::progress_at;
 pub use run::Run;
