@@ -1,5 +1,5 @@
 -- An activation that has done one more step of its full expression, or goes on elsewhere in its function, is one of its function still.
-use Rattle.std.proofs.Common.{◌<◌, ◌≡◌, ◌⊎◌, inl, inr, ℕ, Bool, true, false, List, [], ◌∷◌, ◌++◌, Option, Some, None, refl, ap, sym, ◌∙◌, subst}
+use Rattle.std.proofs.Common.{◌<◌, ◌≡◌, ℕ, Bool, true, false, List, [], ◌∷◌, ◌++◌, Option, Some, None, refl, ap, sym, ◌∙◌, subst}
 use Rattle.std.specs.Prelude.{if◌then◌else◌}
 use Rattle.cc_program.specs.declared.expr.Expr.{Expr}
 use Rattle.cc_program.specs.declared.func.Func.{Func}
@@ -14,10 +14,12 @@ use Rattle.cc_eval.specs.declared.action.Action.TheVariants.{Call}
 use Rattle.cc_eval.specs.declared.mark.Mark.{Mark}
 use Rattle.cc_eval.specs.Context.{Context}
 use Rattle.cc_eval.specs.Eval.{next_of}
-use Rattle.cc_eval.specs.Progress.{Waits, Get}
-use Rattle.cc_steps.specs.State.{Active}
+use Rattle.cc_eval.proofs.MarkLemmas.{nothing_in}
+use Rattle.cc_eval.proofs.Works.{one_answer}
+use Rattle.cc_eval.specs.Progress.{Waits}
+use Rattle.cc_steps.specs.State.{Active, IsSameCall}
 use Rattle.cc_steps.specs.Step.{moved, with_mark, at_test, progress_in, progress_of, is_known, passes, begun_at, goes_to, settled_in, settled, marked}
-use Rattle.cc_states.specs.Answers.{IsMarkOf, AreItsMarks}
+use Rattle.cc_states.specs.Answers.{IsMarkOf}
 use Rattle.cc_states.specs.Inside.{AreInside}
 use Rattle.cc_states.specs.States.{AreSound, expression_of, AreMarks, context_in, IsActive, AreCalled, AreInOrder}
 use Rattle.cc_states.proofs.ControlLemmas.{behind_sound}
@@ -25,42 +27,9 @@ use Rattle.cc_states.proofs.InsideLemmas.{HasFirst, behind_inside}
 
 -- ---- marks
 
-pub nothing_in : (front back : List Mark) (m : Mark) → [] ≡ front ++ m ∷ back → ⊥
-nothing_in [] back m h = absurd (cc)
-nothing_in (x ∷ front) back m h = absurd (cc)
-
 pub no_marks : (c : Context) (openings : List ℕ) (x : Option Expr) → AreMarks c openings x []
 no_marks c openings None = refl
 no_marks c openings (Some e) = λ front back m split. absurd (nothing_in front back m split)
-
-head_same : (x y : Mark) (xs ys : List Mark) → x ∷ xs ≡ y ∷ ys → x ≡ y
-head_same x y xs ys h = cc
-
-tail_same : (x y : Mark) (xs ys : List Mark) → x ∷ xs ≡ y ∷ ys → xs ≡ ys
-tail_same x y xs ys h = cc
-
--- the last of marks, or one in front of it
-abbrev IsLast : List Mark → Mark → List Mark → Mark → Type 0
-IsLast ms m front n = ((front ≡ ms) × (n ≡ m)) ⊎ ((mid : List Mark) × (ms ≡ front ++ n ∷ mid))
-
-one_further : (x y m n : Mark) (ms front : List Mark) → y ≡ x → IsLast ms m front n → IsLast (y ∷ ms) m (x ∷ front) n
-one_further x y m n ms front e (inl h) = inl (ap (λ (z : Mark). z ∷ front) (sym e) ∙ ap (λ (zs : List Mark). y ∷ zs) h.0, h.1)
-one_further x y m n ms front e (inr h) = inr (h.0, ap (λ (z : Mark). z ∷ ms) e ∙ ap (λ (zs : List Mark). x ∷ zs) h.1)
-
-pub last_or_not : (ms : List Mark) (m : Mark) (front back : List Mark) (n : Mark) → ms ++ m ∷ [] ≡ front ++ n ∷ back → IsLast ms m front n
-last_or_not [] m [] back n h = inl (refl, sym (head_same m n [] back h))
-last_or_not [] m (x ∷ front) back n h = absurd (nothing_in front back n (tail_same m x [] (front ++ n ∷ back) h))
-last_or_not (y ∷ ms) m [] back n h = inr (ms, ap (λ (z : Mark). z ∷ ms) (head_same y n (ms ++ m ∷ []) back h))
-last_or_not (y ∷ ms) m (x ∷ front) back n h =
-    one_further x y m n ms front (head_same y x (ms ++ m ∷ []) (front ++ n ∷ back) h) (last_or_not ms m front back n (tail_same y x (ms ++ m ∷ []) (front ++ n ∷ back) h))
-
-module _ {A : Type 0} (p : Program) (openings : List ℕ) (g : Get A) (ms : List Mark) (m : Mark) (action : Action) (answers : AreItsMarks p openings g ms) (waits : g ms ≡ Waits action) (mark : IsMarkOf p openings action m) where
-  answered_by : (front : List Mark) (n : Mark) → IsLast ms m front n → (other : Action) × (g front ≡ Waits other) × IsMarkOf p openings other n
-  answered_by front n (inl h) = (action, ap g h.0 ∙ waits, subst (IsMarkOf p openings action) (sym h.1) mark)
-  answered_by front n (inr h) = answers front h.0 n h.1
-
-  pub one_answer : AreItsMarks p openings g (ms ++ m ∷ [])
-  one_answer front back n split = answered_by front n (last_or_not ms m front back n split)
 
 module _ (p : Program) (openings : List ℕ) where
   -- ---- elsewhere in the function
@@ -114,7 +83,7 @@ module _ (p : Program) (openings : List ℕ) where
   marks_by : (a : Active) (h : IsActive p openings a) (m : Mark) (action : Action) (x : Option Expr) → AreMarks (context_in p a h.func) openings x a.marks → progress_in p a.number a.func a.marks (Some h.func) x ≡ Waits action →
       IsMarkOf p openings action m → AreMarks (context_in p a h.func) openings x (a.marks ++ m ∷ [])
   marks_by a h m action None k w i = absurd (cc)
-  marks_by a h m action (Some e) k w i = one_answer p openings (next_of (context_in p a h.func) e) a.marks m action k w i
+  marks_by a h m action (Some e) k w i = one_answer (IsMarkOf p openings) (next_of (context_in p a h.func) e) a.marks m action k w i
 
   with_mark_active : (a : Active) (h : IsActive p openings a) (m : Mark) (action : Action) → progress_of p a (expression_of a) ≡ Waits action → IsMarkOf p openings action m → IsActive p openings (with_mark a m)
   with_mark_active a h m action w i = record {
@@ -134,43 +103,8 @@ module _ (p : Program) (openings : List ℕ) where
 
 -- ---- what was called stays so
 
-pub record IsSameCall (a b : Active) : Type 0 where
-  pub number : b.number ≡ a.number
-  pub func : b.func ≡ a.func
-  pub handler : b.handler ≡ a.handler
-
 module _ (p : Program) where
-  either_call : (c : Bool) (a these those : Active) → IsSameCall a these → IsSameCall a those → IsSameCall a (if c then these else those)
-  either_call true a these those h k = h
-  either_call false a these those h k = k
-
-  pub itself : (a : Active) → IsSameCall a a
-  itself a = record { number = refl; func = refl; handler = refl }
-
-  pub gone : (a : Active) (at : Control) → IsSameCall a (goes_to p a at)
-  gone a at = record { number = refl; func = refl; handler = refl }
-
-  settled_call : (x : is.Stmt-F Stmt Case) (a b : Active) → IsSameCall a b → IsSameCall a (settled_in p x b)
-  settled_call (is.Do e) a b h = either_call (is_known (progress_of p b (Some e))) a (goes_to p b (behind b.here b.around)) b (record { number = h.number; func = h.func; handler = h.handler }) h
-  settled_call (is.If e these those) a b h = h
-  settled_call (is.While e body) a b h = h
-  settled_call (is.DoWhile body e) a b h = h
-  settled_call (is.For first test again body) a b h = either_call (passes p b.number b.func b.marks b.here) a (moved b (at_test b.here, b.around)) b (record { number = h.number; func = h.func; handler = h.handler }) h
-  settled_call (is.Switch e cases) a b h = h
-  settled_call is.Break a b h = h
-  settled_call is.Continue a b h = h
-  settled_call (is.Return e) a b h = h
-  settled_call is.Empty a b h = h
-  settled_call (is.Block body) a b h = h
-
-  settled_list : (list : List Stmt) (a b : Active) → IsSameCall a b → IsSameCall a (settled p list b)
-  settled_list [] a b h = h
-  settled_list (s ∷ rest) a b h = settled_call (out-Stmt s) a b h
-
-  pub marked_call : (a : Active) (m : Mark) → IsSameCall a (marked p a m)
-  marked_call a m = settled_list a.here.rest a (with_mark a m) (record { number = refl; func = refl; handler = refl })
-
-  pub called_again : (a b : Active) (below : List Active) → IsSameCall a b → AreCalled p (a ∷ below) → AreCalled p (b ∷ below)
+  pub called_again : (a b : Active) (below : List Active) → IsSameCall b a → AreCalled p (a ∷ below) → AreCalled p (b ∷ below)
   called_again a b [] h k = (h.func ∙ k.0, h.handler ∙ k.1)
   called_again a b (c ∷ below) h k = (λ e. let args = k.0 (sym h.handler ∙ e) in (args.0, args.1 ∙ ap (λ (f : ℕ). Waits (Call (address.Func f) args.0)) (sym h.func)), k.1)
 

@@ -6,8 +6,10 @@ pub mod InsideLemmas
 pub mod KeepLemmas
 pub mod ListLemmas
 pub mod LocalLemmas
+pub mod OnePath
 pub mod Openings
 pub mod Options
+pub mod PartTypes
 pub mod PathLemmas
 pub mod PlaceLemmas
 pub mod SoundLemmas
@@ -19,7 +21,6 @@ pub mod TakenLemmas
 pub mod TestLemmas
 pub mod TurnLemmas
 pub mod TypedLemmas
-pub mod Works
 pub mod ZeroLemmas
 pub mod MemoryLemmas
 pub mod AddressLemmas

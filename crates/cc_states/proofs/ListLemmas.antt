@@ -1,5 +1,5 @@
 -- Elements of lists that are joined, repeated, taken and written.
-use Rattle.std.proofs.Common.{arith, ◌≡◌, ◌<◌, ◌+◌, ◌*◌, ℕ, zero, suc, false, List, [], ◌∷◌, ◌++◌, length, length-append, take, replicate, Some, slice_get, slice_set, refl, ap, sym, ◌∙◌, subst}
+use Rattle.std.proofs.Common.{arith, ◌≡◌, ◌<◌, ◌+◌, ◌*◌, ℕ, zero, suc, false, List, [], ◌∷◌, ◌++◌, length, length-append, take, replicate, Some, slice_get, refl, ap, sym, ◌∙◌, subst}
 use Rattle.std.proofs.lemmas.Bool.{eq-eqb}
 use Rattle.std.proofs.lemmas.Option.{same_Some}
 use Rattle.std.specs.Prelude.{◌==◌}
@@ -70,18 +70,6 @@ member_same f (z ∷ ms) (suc m) (suc k) x y n o g h i j e =
     let q = length-append (f z) (flat_map f (take k ms)) in
     let r = member_same f ms m k x y n o g h i j (omega (arith, e, l, q)) in
     (ap suc r.0, r.1)
-
-pub set_here : {A : Type 0} → (xs : List A) (k : ℕ) (v x : A) → slice_get xs k ≡ Some x → slice_get (slice_set xs k v) k ≡ Some v
-set_here [] k v x h = absurd (cc)
-set_here (y ∷ xs) zero v x h = refl
-set_here (y ∷ xs) (suc k) v x h = set_here xs k v x h
-
-pub set_elsewhere : {A : Type 0} → (xs : List A) (k j : ℕ) (v : A) → (k ≡ j → ⊥) → slice_get (slice_set xs k v) j ≡ slice_get xs j
-set_elsewhere [] k j v h = refl
-set_elsewhere (y ∷ xs) zero zero v h = absurd (h refl)
-set_elsewhere (y ∷ xs) zero (suc j) v h = refl
-set_elsewhere (y ∷ xs) (suc k) zero v h = refl
-set_elsewhere (y ∷ xs) (suc k) (suc j) v h = set_elsewhere xs k j v (λ e. h (ap suc e))
 
 pub same_struct : (i j : ℕ) (x : shape.Shape-F Shape CType Sig) → x ≡ shape.Struct i → x ≡ shape.Struct j → i ≡ j
 same_struct i j x h k = cc

@@ -1,60 +1,28 @@
 -- A register is a scalar, so nothing is a part of one, and what is no scalar is in memory.
-use Rattle.std.proofs.Common.{◌≡◌, ◌∙◌, ◌∷◌, ◌&&◌, ℕ, Bool, true, false, not, List, [], Option, Some, None, refl, ap, sym, if◌then◌else◌}
+use Rattle.std.proofs.Common.{◌≡◌, ◌∙◌, ◌∷◌, ◌&&◌, ℕ, Bool, true, false, not, List, [], Option, Some, None, refl, ap, sym}
 use Rattle.std.specs.Prelude.{is_some, option_map, slice_get}
 use Rattle.cc_eval.specs.Context.{local_type}
 use Rattle.cc_program.specs.declared.func.Func.{Func}
 use Rattle.cc_program.specs.declared.program.Program.{Program}
 use Rattle.cc_program.specs.declared.types.CType.{CType}
-use Rattle.cc_program.specs.declared.types.Shape.{Shape, out-Shape}
-use Rattle.cc_program.specs.declared.types.Shape.TheOpen as shape
-use Rattle.cc_program.specs.declared.types.Sig.{Sig}
-use Rattle.cc_program.specs.declared.types.Structure.{Structure}
 use Rattle.cc_program.specs.declared.value.Part.{Part}
-use Rattle.cc_program.specs.declared.value.Part.TheVariants as part
 use Rattle.cc_program.specs.declared.value.Root.{Root}
 use Rattle.cc_program.specs.declared.value.Root.TheVariants as root
 use Rattle.cc_syntax.specs.Expressions.{of_one}
-use Rattle.cc_syntax.specs.Initial.{step_into, place_at}
+use Rattle.cc_syntax.specs.Initial.{place_at}
 use Rattle.cc_syntax.specs.Registers.{may_be_register, is_register, is_addressed}
 use Rattle.cc_syntax.specs.Types.{Named}
-use Rattle.cc_syntax.specs.Values.{PlaceType, scalar_shape, scalar_value, object_place, read_from, element_shape, element_of, member_shape}
+use Rattle.cc_syntax.specs.Values.{PlaceType, scalar_value, object_place, read_from}
 use Rattle.cc_syntax.proofs.Prefixes.{both_true}
+use Rattle.cc_steps.proofs.ScalarPlaces.{scalar_flat}
 use Rattle.cc_states.specs.Typed.{is_register_in, IsInMemory, place_in}
-
-module _ (structures : List Structure) where
-  abbrev Scalar : shape.Shape-F Shape CType Sig → Type 0
-  Scalar x = is_some (scalar_shape x) ≡ true
-
-  no_elements : (c v : Bool) (x : shape.Shape-F Shape CType Sig) → Scalar x → element_shape c v x ≡ None
-  no_elements c v (shape.Int i) h = refl
-  no_elements c v (shape.Pointer to) h = refl
-  no_elements c v shape.Void h = absurd (cc)
-  no_elements c v (shape.Array of n) h = absurd (cc)
-  no_elements c v (shape.Struct s) h = absurd (cc)
-  no_elements c v (shape.Func s) h = absurd (cc)
-
-  no_members : (c v : Bool) (m : ℕ) (x : shape.Shape-F Shape CType Sig) → Scalar x → member_shape structures c v m x ≡ None
-  no_members c v m (shape.Int i) h = refl
-  no_members c v m (shape.Pointer to) h = refl
-  no_members c v m shape.Void h = absurd (cc)
-  no_members c v m (shape.Array of n) h = absurd (cc)
-  no_members c v m (shape.Struct s) h = absurd (cc)
-  no_members c v m (shape.Func s) h = absurd (cc)
-
-  neither : {A : Type 0} (b : Bool) (x : Option A) → x ≡ None → (if b then x else None) ≡ None
-  neither true x h = h
-  neither false x h = refl
-
-  pub no_parts : (t : CType) → is_some (scalar_value t) ≡ true → (step : Part) → step_into structures step (object_place t) ≡ None
-  no_parts t h (part.Member m) = no_members _ _ m (out-Shape t.shape) h
-  no_parts t h (part.Index i) = neither _ (element_of (object_place t)) (no_elements _ _ (out-Shape t.shape) h)
 
 module _ (p : Program) where
   -- what is found in a scalar local is that itself
   scalar_path : (path : List Part) (t : CType) (a : PlaceType) → is_some (scalar_value t) ≡ true → place_at p.structures path (object_place t) ≡ Some a → (path ≡ []) × (is_some (read_from a) ≡ true)
   scalar_path [] t a h e = let same : object_place t ≡ a = cc in (refl, ap (λ (x : PlaceType). is_some (read_from x)) (sym same) ∙ h)
   scalar_path (step ∷ path) t a h e =
-      let none : None ≡ Some a = sym (ap (λ (x : Option PlaceType). of_one x (place_at p.structures path)) (no_parts p.structures t h step)) ∙ e in absurd (cc)
+      let none : None ≡ Some a = sym (ap (λ (x : Option PlaceType). of_one x (place_at p.structures path)) ((scalar_flat p.structures t h).parts step)) ∙ e in absurd (cc)
 
   -- a place that is no scalar, or a part of something, is in memory
   abbrev Elsewhere : List Part → PlaceType → Type 0

@@ -1,31 +1,12 @@
 -- A write keeps parameters written.
-use Rattle.std.proofs.Common.{◌≡◌, ◌∙◌, ◌==◌, ◌∷◌, ℕ, zero, suc, Bool, true, false, List, [], Option, Some, None, slice_get, slice_set, refl, ap, sym, subst}
+use Rattle.std.proofs.Common.{◌≡◌, ◌∙◌, ◌==◌, ◌∷◌, ℕ, zero, suc, Bool, true, false, List, [], Option, Some, slice_get, slice_set, refl, ap, sym, subst}
 use Rattle.std.proofs.lemmas.Bool.{eqb-true}
 use Rattle.std.specs.Prelude.{option_map}
-use Rattle.cc_cells.specs.Cells.{set_scalar, with_scalar}
+use Rattle.cc_cells.specs.Cells.{with_scalar}
 use Rattle.cc_program.specs.declared.value.Value.{Value}
 use Rattle.cc_states.specs.States.{AreWritten}
+use Rattle.cc_steps.proofs.CellsApart.{elsewhere, written_here}
 use Rattle.cc_states.proofs.ListLemmas.{not_equal}
-
-module _ {A : Type 0} where
-  further : (s : List A) (c : List (List A)) (o p : ℕ) (v : A) → with_scalar (s ∷ c) (suc o) p v ≡ s ∷ with_scalar c o p v
-  further s c o p v = by_get (slice_get c o)
-    where
-      by_get : (x : Option (List A)) → set_scalar (s ∷ c) (suc o) p v x ≡ s ∷ set_scalar c o p v x
-      by_get None = refl
-      by_get (Some x) = refl
-
-  pub elsewhere : (c : List (List A)) (o k p : ℕ) (v : A) → (o ≡ k → ⊥) → slice_get (with_scalar c o p v) k ≡ slice_get c k
-  elsewhere [] o k p v h = refl
-  elsewhere (s ∷ c) zero zero p v h = absurd (h refl)
-  elsewhere (s ∷ c) zero (suc k) p v h = refl
-  elsewhere (s ∷ c) (suc o) zero p v h = ap (λ (x : List (List A)). slice_get x zero) (further s c o p v)
-  elsewhere (s ∷ c) (suc o) (suc k) p v h = ap (λ (x : List (List A)). slice_get x (suc k)) (further s c o p v) ∙ elsewhere c o k p v (λ e. h (ap suc e))
-
-  pub written_here : (c : List (List A)) (o p : ℕ) (v : A) → slice_get (with_scalar c o p v) o ≡ option_map (λ s. slice_set s p v) (slice_get c o)
-  written_here [] o p v = refl
-  written_here (s ∷ c) zero p v = refl
-  written_here (s ∷ c) (suc o) p v = ap (λ (x : List (List A)). slice_get x (suc o)) (further s c o p v) ∙ written_here c o p v
 
 one_written : (x v : Value) (k : ℕ) → (w : Value) × (slice_set (Some x ∷ []) k (Some v) ≡ Some w ∷ [])
 one_written x v zero = (v, refl)

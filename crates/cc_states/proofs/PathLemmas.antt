@@ -31,7 +31,8 @@ use Rattle.cc_states.specs.Typed.{HasType}
 use Rattle.cc_syntax.proofs.AlikeLemmas.{same_of}
 use Rattle.cc_states.proofs.Options.{with_one}
 use Rattle.cc_states.proofs.TypedLemmas.{promoted_value}
-use Rattle.cc_states.proofs.ListLemmas.{get_repeat, get_member, row_same, member_same, set_here, set_elsewhere, same_struct, not_equal}
+use Rattle.cc_states.proofs.ListLemmas.{get_repeat, get_member, row_same, member_same, same_struct, not_equal}
+use Rattle.cc_steps.proofs.CellsApart.{set_here, set_elsewhere}
 use Rattle.cc_states.proofs.ZeroLemmas.{zeros-shape, type-same, take_taken, members_same}
 
 module _ (structures : List Structure) (order : IsInOrder structures) where

@@ -34,8 +34,8 @@ use Rattle.cc_steps.specs.Turn.{is_going, entering, turn, turn_by}
 use Rattle.cc_states.specs.Answers.{IsAction, AreReached}
 use Rattle.cc_states.specs.States.{worked_at, expression_of, IsActive, AreActive, AreInOrder, IsState, local_scalar, KeepsRegisters}
 use Rattle.cc_states.specs.Typed.{is_register_in}
-use Rattle.cc_states.proofs.ActiveLemmas.{marked_call}
-use Rattle.cc_states.proofs.ParameterLemmas.{elsewhere}
+use Rattle.cc_steps.proofs.MarkLemmas.{marked_call}
+use Rattle.cc_steps.proofs.CellsApart.{elsewhere}
 use Rattle.cc_states.proofs.StateLemmas.{asked, reaches, same_opening}
 
 module _ (p : Program) where

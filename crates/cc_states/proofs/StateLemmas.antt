@@ -39,14 +39,14 @@ use Rattle.cc_syntax.specs.Sound.{any_names, IsTypedProgram, IsFuncBy}
 use Rattle.cc_syntax.specs.Types.{Named}
 use Rattle.cc_syntax.specs.Values.{ValueType, Integer, PlaceType, object_place, read_from}
 use Rattle.cc_syntax.proofs.Parts.{all_at}
-use Rattle.cc_states.specs.Answers.{AreReached, IsAction, IsCall}
+use Rattle.cc_states.specs.Answers.{AreReached, IsAction, IsCall, IsMarkOf}
 use Rattle.cc_states.specs.States.{AreWritten, AreStatics, expression_of, AreMarks, context_in, IsActive, AreActive, IsState, local_scalar, IsCellThere, IsCalleeThere, IsPossible}
 use Rattle.cc_states.specs.Typed.{HasType, MayHave, cell_type, IsThere, AreArguments}
 use Rattle.cc_states.proofs.AddressLemmas.{expression_takes}
 use Rattle.cc_states.proofs.EvalTypes.{meaning_typed}
 use Rattle.cc_states.proofs.Options.{mapped}
 use Rattle.cc_states.proofs.SoundLemmas.{level_typed}
-use Rattle.cc_states.proofs.Works.{answers_of}
+use Rattle.cc_eval.proofs.Works.{answers_of}
 
 -- ---- what is asked for can be done
 
@@ -56,7 +56,7 @@ module _ (p : Program) (openings : List ℕ) where
   asked_by a h action None e m w = absurd (cc)
   asked_by a h action (Some e') e m w =
       let t = level_typed p h.func a.here a.around h.control e' e in
-      (meaning_typed (context_in p a h.func) openings (record { function = h.function; number = h.number }) e' (expression_takes h.func a e' h.inside e) t.0 (type_linked (context_in p a h.func) e' ∙ t.1) no_one).waits a.marks action (answers_of p openings (next_of (context_in p a h.func) e') a.marks m) w
+      (meaning_typed (context_in p a h.func) openings (record { function = h.function; number = h.number }) e' (expression_takes h.func a e' h.inside e) t.0 (type_linked (context_in p a h.func) e' ∙ t.1) no_one).waits a.marks action (answers_of (IsMarkOf p openings) (next_of (context_in p a h.func) e') a.marks m) w
 
   pub asked : (a : Active) → IsActive p openings a → (action : Action) → progress_of p a (expression_of a) ≡ Waits action → IsAction p openings action
   asked a h action w =

@@ -35,7 +35,7 @@ use Rattle.cc_steps.specs.declared.event.End.TheVariants.{Trap, Starved}
 use Rattle.cc_steps.specs.declared.event.Event.{Event}
 use Rattle.cc_steps.specs.declared.event.Event.TheVariants as event
 use Rattle.cc_steps.specs.Access.{content, local_content, with_locals, is_open, with_local}
-use Rattle.cc_steps.specs.State.{Active, State}
+use Rattle.cc_steps.specs.State.{Active, IsSameCall, State}
 use Rattle.cc_steps.specs.Step.{stopped, with_stack, with_flag, with_statics, with_inputs, with_event, static_content, content_at, progress_of, on_top, did, marked, cell_position, has_read, input_read, read, has_written, write}
 use Rattle.cc_steps.specs.Turn.{is_going}
 use Rattle.cc_syntax.specs.Expressions.{of_one}
@@ -45,10 +45,12 @@ use Rattle.cc_syntax.specs.Values.{ValueType, Integer, PlaceType, object_place, 
 use Rattle.cc_states.specs.Answers.{IsAction, IsMarkOf}
 use Rattle.cc_states.specs.States.{AreWritten, AreScalars, AreStatics, AreLocals, expression_of, IsActive, AreActive, AreCalled, IsStateOf, AreInOrder}
 use Rattle.cc_states.specs.Typed.{IsOpened, HasType, MayHave, cell_type}
-use Rattle.cc_states.proofs.ActiveLemmas.{IsSameCall, marked_active, marked_call, called_again, in_order_again}
+use Rattle.cc_states.proofs.ActiveLemmas.{marked_active, called_again, in_order_again}
+use Rattle.cc_steps.proofs.MarkLemmas.{marked_call}
 use Rattle.cc_states.proofs.ParameterLemmas.{parameters_written}
 use Rattle.cc_states.proofs.PathLemmas.{written_typed}
-use Rattle.cc_states.proofs.ListLemmas.{set_here, set_elsewhere, not_equal}
+use Rattle.cc_steps.proofs.CellsApart.{set_here, set_elsewhere}
+use Rattle.cc_states.proofs.ListLemmas.{not_equal}
 use Rattle.cc_states.proofs.StateLemmas.{nothing_there, static_there, local_in, same_opening}
 
 holds_same : (v w : Value) → Holds v ≡ Holds w → v ≡ w
@@ -81,7 +83,7 @@ module _ (p : Program) (openings : List ℕ) where
   stopped_state s end e h = record { count = h.count; statics = h.statics; stack = h.stack; called = h.called; order = h.order; running = λ g. ended end e g }
 
   -- the running activation is another one, of the same function
-  pub with_top : (s : State) → Is s → (a b : Active) (below : List Active) → s.stack ≡ a ∷ below → IsActive p openings b → IsSameCall a b → Is (with_stack s (b ∷ below))
+  pub with_top : (s : State) → Is s → (a b : Active) (below : List Active) → s.stack ≡ a ∷ below → IsActive p openings b → IsSameCall b a → Is (with_stack s (b ∷ below))
   with_top s h a b below top i same = record {
     count = h.count;
     statics = h.statics;

@@ -46,7 +46,8 @@ use Rattle.cc_states.specs.Answers.{IsAction, IsMarkOf, result_in}
 use Rattle.cc_states.specs.Inside.{AreInside}
 use Rattle.cc_states.specs.States.{may_break, may_continue, AreSound, worked_at, expression_of, AreMarks, context_in, IsActive, AreActive, AreCalled, IsStateOf, IsState, AreInOrder}
 use Rattle.cc_states.specs.Typed.{HasType, AreArguments}
-use Rattle.cc_states.proofs.ActiveLemmas.{marked_active, goes_active, marked_call, called_again, gone, in_order_again}
+use Rattle.cc_states.proofs.ActiveLemmas.{marked_active, goes_active, called_again, in_order_again}
+use Rattle.cc_steps.proofs.MarkLemmas.{marked_call, gone}
 use Rattle.cc_states.proofs.ControlLemmas.{next_sound, statement_sound}
 use Rattle.cc_states.proofs.AddressLemmas.{expression_takes}
 use Rattle.cc_states.proofs.EvalTypes.{meaning_typed}
@@ -56,7 +57,7 @@ use Rattle.cc_states.proofs.SoundLemmas.{typed, parts, labelled}
 use Rattle.cc_states.proofs.StateLemmas.{asked}
 use Rattle.cc_states.proofs.StepLemmas.{event_state, flag_state, stopped_state, with_top, did_state, read_state, write_state}
 use Rattle.cc_states.proofs.InsideLemmas.{next_inside}
-use Rattle.cc_states.proofs.Works.{answers_of}
+use Rattle.cc_eval.proofs.Works.{answers_of}
 use Rattle.cc_states.proofs.TypedLemmas.{promoted_value, widened}
 use Rattle.cc_states.proofs.LocalLemmas.{opened_active}
 use Rattle.cc_states.proofs.TestLemmas.{not_void, both_not, not_empty, plain, void_returns, handler_by}
@@ -239,7 +240,7 @@ module _ (p : Program) (sound : IsTypedProgram p) where
     value_typed : (e : Expr) (t : ValueType) (v : Value) (ms : List Mark) → expression_of a ≡ Some e → type_of p fn.locals e ≡ Some t → progress_of p a (Some e) ≡ Known (Some v) ms → HasType p openings t v
     value_typed e t v ms x k w =
         ((meaning_typed (context_in p a fn) openings (record { function = act.function; number = act.number }) e (expression_takes fn a e act.inside x) t (type_linked (context_in p a fn) e ∙ k) no_one).known a.marks ms (Some v)
-        (answers_of p openings (next_of (context_in p a fn) e) a.marks (subst (λ (y : Option Expr). AreMarks (context_in p a fn) openings y a.marks) x act.marks)) (ap (λ (y : Option Func). progress_in p a.number a.func a.marks y (Some e)) (sym act.function) ∙ w)).1
+        (answers_of (IsMarkOf p openings) (next_of (context_in p a fn) e) a.marks (subst (λ (y : Option Expr). AreMarks (context_in p a fn) openings y a.marks) x act.marks)) (ap (λ (y : Option Func). progress_in p a.number a.func a.marks y (Some e)) (sym act.function) ∙ w)).1
 
     returned_results : (x : Option Expr) (v : Value) (ms : List Mark) → returns p fn x ≡ true → expression_of a ≡ x → progress_of p a x ≡ Known (Some v) ms → Results openings s h a below top v
     returned_results None v ms r x w e = not_void (is_void (out-Sig fn.sig).result) r e

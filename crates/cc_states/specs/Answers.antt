@@ -1,5 +1,5 @@
 -- The steps that full expressions ask for, and what they may give: each in its type (C99 6.5).
-use Rattle.std.specs.Prelude.{◌≡◌, ◌⊎◌, ℕ, Bool, true, false, List, ◌∷◌, ◌++◌, Option, Some, None, slice_get}
+use Rattle.std.specs.Prelude.{◌≡◌, ◌⊎◌, ℕ, Bool, true, false, List, Option, Some, None, slice_get}
 use Rattle.cc_num.specs.declared.int_type.IntType.TheVariants as int
 use Rattle.cc_program.specs.declared.expr.Expr.{Expr}
 use Rattle.cc_program.specs.declared.expr.Place.{Place}
@@ -18,9 +18,11 @@ use Rattle.cc_eval.specs.declared.action.Action.TheVariants.{Read, Write, Choose
 use Rattle.cc_eval.specs.declared.mark.Mark.{Mark}
 use Rattle.cc_eval.specs.declared.mark.Mark.TheVariants.{Gave, Did, Chose}
 use Rattle.cc_eval.specs.Context.{Context}
-use Rattle.cc_eval.specs.Progress.{Waits, Get}
+use Rattle.cc_eval.specs.Eval.{meaning, designation}
+use Rattle.cc_eval.specs.Marks.{AnswerSteps, AnswerEach, Works}
+use Rattle.cc_eval.specs.Progress.{Get}
 use Rattle.cc_syntax.specs.Registers.{is_address_taken, place_use, is_addressed}
-use Rattle.cc_syntax.specs.Values.{ValueType, NoValue, Integer, result_value}
+use Rattle.cc_syntax.specs.Values.{ValueType, NoValue, Integer, PlaceType, result_value}
 use Rattle.cc_states.specs.Typed.{IsInMemory, HasType, cell_type, IsThere, AreArguments}
 
 -- whether a step may give a bad value
@@ -77,11 +79,11 @@ module _ (p : Program) (openings : List ℕ) where
 
   -- where a step was asked for at the marks in front of one, that is a mark of the step
   abbrev pub AreAnswers : {A : Type 0} → Get A → List Mark → Type 0
-  AreAnswers g ms = (front back : List Mark) (m : Mark) (action : Action) → ms ≡ front ++ m ∷ back → g front ≡ Waits action → IsMarkOf action m
+  AreAnswers g ms = AnswerSteps IsMarkOf g ms
 
   -- and one was asked for there in front of each
   abbrev pub AreItsMarks : {A : Type 0} → Get A → List Mark → Type 0
-  AreItsMarks g ms = (front back : List Mark) (m : Mark) → ms ≡ front ++ m ∷ back → (action : Action) × (g front ≡ Waits action) × IsMarkOf action m
+  AreItsMarks g ms = AnswerEach IsMarkOf g ms
 
 -- a full expression is worked in an activation that was opened, of its function
 pub record IsActivation (c : Context) (openings : List ℕ) : Type 0 where
@@ -111,3 +113,20 @@ AreReached p number (Choose b) = Unit {0}
 AreReached p number (Call callee args) = Unit {0}
 AreReached p number (Flag on) = Unit {0}
 AreReached p number Save = Unit {0}
+
+-- in the activation with this number
+module _ (p : Program) (openings : List ℕ) (number : ℕ) where
+  -- a step that can be done, and touches nothing that the activation does not reach
+  abbrev pub IsStep : Action → Type 0
+  IsStep action = IsAction p openings action × AreReached p number action
+
+  -- what is worked by marks that answer what was asked
+  abbrev pub WorksIn : {A : Type 0} → (A → Type 0) → Get A → Type 0
+  WorksIn P g = Works (IsMarkOf p openings) IsStep P g
+
+-- an expression, or a place, that has a type in a function's activation
+abbrev pub IsTyped : Context → Expr → Type 0
+IsTyped c e = (t : ValueType) × ((meaning c e).ctype ≡ Some t)
+
+abbrev pub IsTypedPlace : Context → Place → Type 0
+IsTypedPlace c a = (t : PlaceType) × ((designation c a).ctype ≡ Some t)

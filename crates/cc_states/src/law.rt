@@ -4,6 +4,7 @@ ghost use Rattle.cc_num.specs.declared.op.BinOp.{BinOp};
 ghost use Rattle.cc_num.specs.declared.op.UnOp.{UnOp};
 ghost use Rattle.cc_num.specs.Integers.{converted};
 ghost use Rattle.cc_program.specs.declared.expr.Expr.{Expr};
+ghost use Rattle.cc_program.specs.declared.expr.Expr.TheOpen as one;
 ghost use Rattle.cc_program.specs.declared.expr.Place.{Place};
 ghost use Rattle.cc_program.specs.declared.func.Func.{Func};
 ghost use Rattle.cc_program.specs.declared.program.Program.{Program};
@@ -17,13 +18,14 @@ ghost use Rattle.cc_program.specs.declared.value.Root.{Root};
 ghost use Rattle.cc_program.specs.declared.value.Value.{Value};
 ghost use Rattle.cc_program.specs.declared.value.Value.TheVariants as value;
 ghost use Rattle.cc_program.specs.declared.value.Value.TheVariants.{Int};
+ghost use Rattle.cc_program.proofs.ExprInduction.{Parts, PlaceParts};
 ghost use Rattle.cc_cells.specs.Scalars.{zeros, position};
 ghost use Rattle.cc_control.specs.Control.{close};
 ghost use Rattle.cc_eval.specs.declared.action.Action.{Action};
 ghost use Rattle.cc_eval.specs.declared.mark.Mark.{Mark};
 ghost use Rattle.cc_eval.specs.declared.spots.Spot.{Spot};
 ghost use Rattle.cc_eval.specs.Context.{Context};
-ghost use Rattle.cc_eval.specs.Eval.{meaning, designation};
+ghost use Rattle.cc_eval.specs.Eval.{meaning, designation, opened, place_opened};
 ghost use Rattle.cc_eval.specs.Progress.{Known, Waits};
 ghost use Rattle.cc_steps.specs.Runs.{Arrivals, run};
 ghost use Rattle.cc_steps.specs.State.{Active, State};
@@ -37,10 +39,10 @@ ghost use Rattle.cc_syntax.specs.Operators.{is_handler, unary_type, binary_type,
 ghost use Rattle.cc_syntax.specs.Sound.{IsTypedProgram};
 ghost use Rattle.cc_syntax.specs.Values.{ValueType, ToObject, PlaceType, object_place, read_from};
 ghost use Rattle.cc_values.specs.Values.{takes, takes_both};
-ghost use Rattle.cc_states.specs.Answers.{IsActivation, AreAnswers, IsAction, AreReached, TakesAddressesOf, PlaceTakesAddressesOf};
+ghost use Rattle.cc_states.specs.Answers.{IsActivation, AreAnswers, IsAction, AreReached, IsTyped, IsTypedPlace, TakesAddressesOf, PlaceTakesAddressesOf, WorksIn};
 ghost use Rattle.cc_states.specs.Inside.{AreInside};
 ghost use Rattle.cc_states.specs.States.{AreScalars, AreWritten, may_break, may_continue, AreSound, expression_of, IsState, IsPossible, KeepsRegisters};
-ghost use Rattle.cc_states.specs.Typed.{IsInMemory, HasType, IsSpot};
+ghost use Rattle.cc_states.specs.Typed.{IsInMemory, HasType, IsSpot, MayHave, MayLead};
 
 /// What holds of expressions and places that have types, in an activation of their function, which takes the addresses of
 /// locals that they take, where each mark answers what was asked for. The call does nothing.
@@ -61,6 +63,16 @@ pub fn expression_laws()
 
     // No pointer leads to a register.
     ensures pointers { (p : Program) (openings : List ℕ) (constant volatile : Bool) (t : CType) (object : Root) (path : List Part) (index count : ℕ) → HasType p openings (ToObject constant volatile t) (value.Place (address.At object path index count)) → IsInMemory p object }
+
+    // Both work by marks that answer what was asked.
+    ensures works { (c : Context) (openings : List ℕ) → IsActivation c openings → (e : Expr) → TakesAddressesOf c.func e → (t : ValueType) → type_of c.program c.func.locals e ≡ Some t →
+        (later : Registers) → WorksIn c.program openings c.number (MayHave c.program openings t) ((meaning c e).next later) }
+    ensures place_works { (c : Context) (openings : List ℕ) → IsActivation c openings → (a : Place) → PlaceTakesAddressesOf c.func a → (t : PlaceType) → place_type c.program c.func.locals a ≡ Some t →
+        (later : Registers) → WorksIn c.program openings c.number (λ s. MayLead c.program openings t s) ((designation c a).leads later) }
+
+    // The parts of what has a type have types.
+    ensures parts { (c : Context) (x : one.Expr-F Expr Place) (t : ValueType) → (opened c x).ctype ≡ Some t → Parts (IsTyped c) (IsTypedPlace c) x }
+    ensures place_parts { (c : Context) (x : one.Place-F Expr Place) (t : PlaceType) → (place_opened c x).ctype ≡ Some t → PlaceParts (IsTyped c) (IsTypedPlace c) x }
 
     // Operators are worked on values that they take.
     ensures unary { (p : Program) (openings : List ℕ) (o : UnOp) (t : IntType) (a r : ValueType) → unary_type p.target o t a ≡ Some r → (x : Value) → HasType p openings a x → (n : ℤ) × (x ≡ Int n) × (takes t p.target n ≡ true) }
@@ -115,6 +127,11 @@ pub fn state_laws()
     ensures writes { (p : Program) → IsTypedProgram p → (openings : List ℕ) (t : CType) (values : List Value) → AreScalars p (HasType p openings) t values →
         (path : List Part) (w : ValueType) → of_one (place_at p.structures path (object_place t)) read_from ≡ Some w → (v : Value) → HasType p openings w v →
         AreScalars p (HasType p openings) t (slice_set values (position p.structures path (Some (object_place t))) v) }
+
+    // One path leads to each scalar of an object: two that lead to one position are the same.
+    ensures one_path { (p : Program) → IsTypedProgram p → (t : CType) (path other : List Part) (w u : ValueType) →
+        of_one (place_at p.structures path (object_place t)) read_from ≡ Some w → of_one (place_at p.structures other (object_place t)) read_from ≡ Some u →
+        position p.structures path (Some (object_place t)) ≡ position p.structures other (Some (object_place t)) → path ≡ other }
 
     // Before the first turn, whatever the inputs are, there is a state of the program.
     ensures starts { (p : Program) → IsTypedProgram p → (inputs : List ℤ) → IsState p (start p inputs) }

@@ -1,3 +1,6 @@
+use Rattle.std.proofs.Common.{[]}
+use Rattle.cc_program.specs.Qualifiers.{is_const, is_volatile}
+use Rattle.cc_states.proofs.OnePath.{one_path}
 use Rattle.cc_states.proofs.RegisterLemmas.{registers_kept}
 use Rattle.cc_states.proofs.InsideLemmas.{next_inside, body_inside}
 use Rattle.cc_states.proofs.StartLemmas.{start_state, run_state}
@@ -65,3 +68,6 @@ returns-clause-parameters c = λ p sound s h. parameters_there p h.0 s.stack h.1
 
 pub returns-clause-registers : goal.returns-clause-registers
 returns-clause-registers c = λ p sound s h a below top b i there arrival. registers_kept p s h a below top b i there arrival
+
+pub returns-clause-one_path : goal.returns-clause-one_path
+returns-clause-one_path c = λ p sound t path other w u h k e. one_path p [] (typed-sized p sound).in_order path other (is_const t) (is_volatile t) t w u h k e
