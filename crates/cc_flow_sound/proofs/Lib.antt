@@ -1,7 +1,6 @@
 pub mod Apart
 pub mod Goes
 pub mod Kept
-mod Marks
 pub mod Moved
 pub mod Normal
 pub mod Numbered

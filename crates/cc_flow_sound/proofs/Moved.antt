@@ -7,7 +7,7 @@ use Rattle.cc_num.specs.declared.int_type.IntType.{IntType}
 use Rattle.cc_num.specs.declared.int_type.IntType.TheVariants as int
 use Rattle.cc_num.specs.Integers.{converted}
 use Rattle.cc_num.specs.Results.{one_if}
-use Rattle.cc_program.specs.declared.expr.Expr.{Expr, out-Expr, roll-Expr, roll-out-Expr, map-Expr}
+use Rattle.cc_program.specs.declared.expr.Expr.{Expr, out-Expr}
 use Rattle.cc_program.specs.declared.expr.Expr.TheOpen as one
 use Rattle.cc_program.specs.declared.expr.Place.{Place as PlaceOf}
 use Rattle.cc_program.specs.declared.func.Func.{Func}
@@ -32,8 +32,8 @@ use Rattle.cc_eval.specs.declared.action.Manner.{Manner}
 use Rattle.cc_eval.specs.declared.mark.Mark.{Mark}
 use Rattle.cc_eval.specs.declared.mark.Mark.TheVariants.{Gave, Did, Chose}
 use Rattle.cc_eval.specs.Context.{Context}
-use Rattle.cc_eval.specs.Eval.{Meaning, Designation, expr_meaning, meaning, designation}
-use Rattle.cc_eval.proofs.Links.{level as meaning_level}
+use Rattle.cc_eval.specs.Eval.{Meaning}
+use Rattle.cc_eval.proofs.Opened.{meaning_at}
 use Rattle.cc_eval.specs.Progress.{Progress, Known, Waits, Traps, no_value}
 use Rattle.cc_flow.specs.declared.next.Site.{Site}
 use Rattle.cc_flow.specs.Points.{count_of}
@@ -48,7 +48,7 @@ use Rattle.cc_steps.specs.State.{Active, State, locals_with}
 use Rattle.cc_steps.specs.Step.{stopped, with_stack, with_flag, with_statics, with_inputs, with_event, content_at, worked, progress_in, progress_of, is_known, with_mark, goes_to, settled_in, settled, marked, on_top, did, cell_position, has_read, input_read, read, has_written, write, activation, opened, opened_if, call, perform, next_place, is_return, return_mark, gives_nothing, returned, stepped, active_step, proceed}
 use Rattle.cc_steps.specs.Turn.{is_going, only_handler, may_enter, entered, turn_by, turn}
 use Rattle.cc_states.specs.States.{expression_of, worked_at, IsActive, AreActive, IsState}
-use Rattle.cc_states.proofs.ActiveLemmas.{marked_call}
+use Rattle.cc_steps.proofs.MarkLemmas.{marked_call, marked_with}
 use Rattle.cc_states.proofs.ControlLemmas.{may_break_there, may_continue_there}
 use Rattle.cc_syntax.specs.Forms.{form_of, form_at}
 use Rattle.cc_syntax.specs.Normal.{is_one}
@@ -61,7 +61,6 @@ use Rattle.cc_flow_sound.proofs.Opened.{all_normal, NormalAt, normal_level, norm
 use Rattle.cc_flow_sound.proofs.Places.{AreNormal, sited, normal_inside, body_at, behind_at}
 use Rattle.cc_flow_sound.proofs.Starts.{is_here}
 use Rattle.cc_flow_sound.proofs.Goes.{next_at, goes_at}
-use Rattle.cc_flow_sound.proofs.Marks.{marked_with}
 use Rattle.cc_flow_sound.proofs.Numbered.{at_statement, at_point, entered_at}
 use Rattle.cc_flow_sound.specs.Moves.{Standing, standing, standings, entry, IsAt, IsNext, StaysOrGoes, IsMove, Goes, Opens, Backs, Ends, Stands}
 
@@ -81,9 +80,6 @@ one_is_true (negsuc n) h = refl
 
 known_same : (q : Progress (Option Value)) (w u : Value) (ms ns : List Mark) → q ≡ Known (Some w) ms → q ≡ Known (Some u) ns → w ≡ u
 known_same q w u ms ns h k = cc
-
-meaning_at : (c : Context) (e : Expr) (x : one.Expr-F Expr PlaceOf) → out-Expr e ≡ x → meaning c e ≡ expr_meaning c (map-Expr Expr PlaceOf Meaning Designation (meaning c) (designation c) x)
-meaning_at c e x h = ap (meaning c) (sym (roll-out-Expr e) ∙ ap roll-Expr h) ∙ meaning_level c x
 
 module _ (p : Program) (few : count_of p < 2 ^ 32) (normal : (g : ℕ) (f : Func) → slice_get p.funcs g ≡ Some f → all_normal p.target f f.body ≡ true) where
   taken_test : (a : Active) (f : Func) (e : Expr) (w : Value) (ms : List Mark) → slice_get p.funcs a.func ≡ Some f → is_one (form_of e) ≡ true → progress_of p a (Some e) ≡ Known (Some w) ms → is_true w ≡ true
