@@ -31,15 +31,15 @@ use Rattle.cc_steps.specs.declared.event.Event.{Event}
 use Rattle.cc_steps.specs.declared.event.Event.TheVariants as event
 use Rattle.cc_steps.specs.Access.{content, local_content, with_locals, is_open, with_local}
 use Rattle.cc_steps.specs.Rows.{rows_of}
-use Rattle.cc_steps.specs.State.{Active, Memory, State, locals_with}
+use Rattle.cc_steps.specs.State.{Active, IsSameCall, Memory, State, locals_with}
 use Rattle.cc_steps.specs.Step.{stopped, with_stack, with_flag, with_event, static_content, content_at, written, number_in, gives_nothing, marked, did, cell_position, has_read, input_read, read, has_written, write, activation, opened_if, call, return_mark, returned, fallen, perform, proceed}
 use Rattle.cc_steps.specs.Turn.{is_going, only_handler}
 use Rattle.cc_meaning_simulations.specs.Bodies.{AddsScalars, all_extended, extended}
 use Rattle.cc_meaning_simulations.specs.LocalSimulations.{AgreeOnVisible, AreAlike, LocalRunning, LocalSuspended, is_action_visible, is_cell_visible, is_root_visible, is_visible}
 use Rattle.cc_meaning_simulations.specs.LocalSteps.{LocalState, Locals, after_write, begun_state, local_state, local_state_of}
-use Rattle.cc_meaning_simulations.specs.StepSimulations.{IsSameCall, Related, Stacks, SuspendedStacks, going}
+use Rattle.cc_meaning_simulations.specs.StepSimulations.{Related, Stacks, SuspendedStacks, going}
 use Rattle.cc_meaning_simulations.specs.Transitions.{Aborts, FallsOff, Jumps, Performs, Returns, Transition, control_state, marked_control, transition}
-use Rattle.cc_meaning_simulations.proofs.CellsApart.{elsewhere, written_here}
+use Rattle.cc_steps.proofs.CellsApart.{elsewhere, written_here}
 use Rattle.cc_meaning_simulations.proofs.LocalStepLemmas.{begun-local_state, differ}
 use Rattle.cc_meaning_simulations.proofs.MoreLocals.{funcs_same, gives_same, locals_alike, locals_begin, position_same}
 use Rattle.cc_meaning_simulations.proofs.TransitionLemmas.{Becomes, becomes, jumped, marked-control, marked-keeps}

@@ -11,7 +11,7 @@ use Rattle.cc_program.specs.declared.value.Value.{Value}
 use Rattle.cc_steps.specs.declared.event.Event.TheVariants as event
 use Rattle.cc_steps.specs.Rows.{Row, row_of, rows_of}
 use Rattle.cc_steps.specs.Runs.{Follows, Answers}
-use Rattle.cc_steps.specs.State.{Active, Memory, State}
+use Rattle.cc_steps.specs.State.{Active, IsSameCall, Memory, State}
 use Rattle.cc_steps.specs.Step.{activation, proceed}
 use Rattle.cc_steps.specs.Turn.{start, first_of_stack, turn}
 use Rattle.cc_meaning_simulations.proofs.Turns as turns
@@ -19,9 +19,9 @@ use Rattle.cc_meaning_simulations.proofs.Actions as actions
 use Rattle.cc_meaning_simulations.specs.Bodies.{AddsScalars, all_extended, extended}
 use Rattle.cc_meaning_simulations.specs.LocalSimulations.{AgreeOnVisible, AreAlike, Awaits, Converges, LocalRunning, LocalSuspended, Matched, PSteps, QSteps, is_action_visible}
 use Rattle.cc_meaning_simulations.specs.LocalSteps.{Branch, Jump, LocalState, LocalStep, Locals, ReadHidden, ReadUnwritten, WriteHidden, after_write, begun_state, local_state_of}
-use Rattle.cc_meaning_simulations.specs.StepSimulations.{Answered, AtBoundary, CatchesUp, EnterBoth, Followed, Further, IsSameCall, IsSilent, Lockstep, PAlone, PFirst, PWithQ, QAlone, QFirst, QWithP, Related, begins_there, entry_memory, going}
+use Rattle.cc_meaning_simulations.specs.StepSimulations.{Answered, AtBoundary, CatchesUp, EnterBoth, Followed, Further, IsSilent, Lockstep, PAlone, PFirst, PWithQ, QAlone, QFirst, QWithP, Related, begins_there, entry_memory, going}
 use Rattle.cc_meaning_simulations.specs.Transitions.{Performs, Transition, control_state, is_at_boundary, transition}
-use Rattle.cc_meaning_simulations.proofs.CellsApart.{elsewhere}
+use Rattle.cc_steps.proofs.CellsApart.{elsewhere}
 use Rattle.cc_meaning_simulations.proofs.LocalStepLemmas.{local_step_after_write, local_step_made, local_step_same, not_same}
 use Rattle.cc_meaning_simulations.proofs.MoreLocals.{enter_same, funcs_same, levels_same}
 use Rattle.cc_meaning_simulations.proofs.TransitionLemmas.{marked_same}

@@ -1,6 +1,5 @@
 pub mod Actions
 pub mod Catching
-pub mod CellsApart
 pub mod ContinuationLemmas
 pub mod HiddenLocals
 pub mod LocalStepLemmas
@@ -10,6 +9,5 @@ pub mod OtherBodies
 pub mod Positions
 pub mod RowsAlike
 pub mod SameStatements
-pub mod ScalarPlaces
 pub mod TransitionLemmas
 pub mod Turns

@@ -15,13 +15,13 @@ use Rattle.cc_steps.specs.declared.content.Content.TheVariants.{Unwritten, Holds
 use Rattle.cc_steps.specs.declared.event.End.TheVariants.{Trap}
 use Rattle.cc_steps.specs.declared.event.Event.TheVariants as event
 use Rattle.cc_steps.specs.Access.{content, local_content, with_locals, is_open, with_local}
-use Rattle.cc_steps.specs.State.{Active, Memory, locals_with}
+use Rattle.cc_steps.specs.State.{Active, IsSameCall, Memory, locals_with}
 use Rattle.cc_steps.specs.Step.{activation, stopped, with_event, marked, did, has_read, has_written, perform, proceed}
 use Rattle.cc_meaning_simulations.proofs.Turns.{IsSameCall-trans}
 use Rattle.cc_meaning_simulations.specs.LocalSteps.{Branch, Jump, LocalState, LocalStep, Locals, ReadHidden, ReadUnwritten, WriteHidden, after_write, begun_state, local_state, local_state_of, own_local}
-use Rattle.cc_meaning_simulations.specs.StepSimulations.{IsSameCall, IsSilent, going}
+use Rattle.cc_meaning_simulations.specs.StepSimulations.{IsSilent, going}
 use Rattle.cc_meaning_simulations.specs.Transitions.{ControlState, Performs, control_state, marked_control, transition}
-use Rattle.cc_meaning_simulations.proofs.CellsApart.{apart, elsewhere}
+use Rattle.cc_steps.proofs.CellsApart.{apart, elsewhere}
 use Rattle.cc_meaning_simulations.proofs.TransitionLemmas.{Becomes, IsSameActivation, becomes, begun-control, has_jumped, jump_same, jumped, marked-control, marked-keeps, marked_same}
 
 pub begun-local_state : (p : Program) (number id : ℕ) (handler : Bool) (args : List Value) (f : Func) → local_state_of (activation p number id handler args f) ≡ begun_state p number id args f

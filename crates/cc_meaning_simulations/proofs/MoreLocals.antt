@@ -47,7 +47,7 @@ use Rattle.cc_syntax.specs.Views.{of_program}
 use Rattle.cc_values.specs.Values.{integer}
 use Rattle.cc_meaning_simulations.specs.Bodies.{AddsScalars, all_extended, extended}
 use Rattle.cc_meaning_simulations.specs.NamedLocals.{all_in, names_below, names_step, place_names_below, place_names_step}
-use Rattle.cc_meaning_simulations.proofs.ScalarPlaces.{IsFlat, scalar_flat}
+use Rattle.cc_steps.proofs.ScalarPlaces.{IsFlat, scalar_flat}
 
 module _ (n : ℕ) where
   pub names-roll : (x : one.Expr-F Expr Place) → names_below n (roll-Expr x) ≡ names_step n (map-Expr Expr Place Bool Bool (names_below n) (place_names_below n) x)

@@ -9,7 +9,7 @@ use Rattle.cc_program.specs.declared.value.Value.{Value}
 use Rattle.cc_steps.specs.declared.event.End.{End}
 use Rattle.cc_steps.specs.declared.event.End.TheVariants.{Going}
 use Rattle.cc_steps.specs.Runs.{IsBoundary, running_begins}
-use Rattle.cc_steps.specs.State.{Active, Memory, State}
+use Rattle.cc_steps.specs.State.{Active, IsSameCall, Memory, State}
 use Rattle.cc_steps.specs.Step.{activation, proceed}
 use Rattle.cc_steps.specs.Turn.{is_going, only_handler, level_of, running_level, entering, entered, enters, turn, turn_by}
 use Rattle.cc_meaning_simulations.specs.Bodies.{with_funcs, with_body, extended, all_extended}
@@ -17,7 +17,7 @@ use Rattle.cc_meaning_simulations.specs.Continuations.{resume}
 use Rattle.cc_meaning_simulations.specs.LocalSimulations.{AreAlike}
 use Rattle.cc_meaning_simulations.specs.LocalSteps.{LocalState, local_state, local_state_of, begun_state, after_write}
 use Rattle.cc_meaning_simulations.specs.Positions.{AreActivesEqual, AreEqualButPositions}
-use Rattle.cc_meaning_simulations.specs.StepSimulations.{IsSameCall, going}
+use Rattle.cc_meaning_simulations.specs.StepSimulations.{going}
 use Rattle.cc_meaning_simulations.specs.Transitions.{control_state, control_at, is_at_boundary, Transition, FallsOff, Performs, Aborts, Jumps, Returns, jump_to, marked_control, transition}
 use Rattle.cc_meaning_simulations.proofs.Actions as actions
 use Rattle.cc_meaning_simulations.proofs.Locksteps.{none, hides, none_added, with_bodies-extended, action_visible}

@@ -12,10 +12,10 @@ use Rattle.cc_eval.specs.declared.action.Action.{Action}
 use Rattle.cc_eval.specs.declared.mark.Mark.{Mark}
 use Rattle.cc_eval.specs.Progress.{Progress, Known, Waits, Traps}
 use Rattle.cc_steps.specs.declared.event.End.TheVariants.{Trap}
-use Rattle.cc_steps.specs.State.{Active, Memory, State, locals_with}
+use Rattle.cc_steps.specs.State.{Active, IsSameCall, Memory, State, locals_with}
 use Rattle.cc_steps.specs.Step.{activation, stopped, with_stack, worked, is_known, at_test, moved, with_mark, next_place, is_return, passes, begun_at, goes_to, progress_of, settled_in, settled, marked, returned, fallen, perform, stepped, active_step, proceed}
 use Rattle.cc_meaning_simulations.specs.Continuations.{Continuation, continuation_of, next_continuation, past, remainder_of, remainders, resume}
-use Rattle.cc_meaning_simulations.specs.StepSimulations.{IsSameCall, IsSilent, going}
+use Rattle.cc_meaning_simulations.specs.StepSimulations.{IsSilent, going}
 use Rattle.cc_meaning_simulations.specs.Transitions.{Aborts, ControlState, FallsOff, Jumps, Performs, Returns, Transition, at_continuation, begun_there, control_at, control_state, jump_to, mark_added, marked_control, passes_at, progress_there, settled_control, settled_control_in, test_remainder, transition, transition_at, transition_in}
 use Rattle.cc_meaning_simulations.proofs.ContinuationLemmas.{behind-continuation, close-continuation, next-continuation}
 

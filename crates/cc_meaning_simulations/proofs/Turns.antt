@@ -8,12 +8,12 @@ use Rattle.cc_steps.specs.declared.event.End.TheVariants.{Going, Exit, Trap, Sta
 use Rattle.cc_steps.specs.declared.event.Event.TheVariants.{Enter}
 use Rattle.cc_steps.specs.Rows.{Row, row_of, rows_of}
 use Rattle.cc_steps.specs.Runs.{Arrivals, run, Same, Follows, Answers, EntersAtBoundaries, IsBoundary}
-use Rattle.cc_steps.specs.State.{Active, Memory, State}
+use Rattle.cc_steps.specs.State.{Active, IsSameCall, Memory, State}
 use Rattle.cc_steps.specs.Step.{proceed}
 use Rattle.cc_steps.specs.Turn.{is_going, only_handler, level_of, running_level, start, turn, turn_by, entering, entered, enters}
 use Rattle.cc_steps.proofs.RunLaws.{Follows-by_simulation, Answers-by_simulation}
 use Rattle.std.proofs.lemmas.List.{map-append}
-use Rattle.cc_meaning_simulations.specs.StepSimulations.{Answered, AtBoundary, CatchesUp, EnterBoth, Followed, Further, IsSameCall, IsSilent, PAlone, PFirst, PWithQ, QAlone, QFirst, QWithP, Related, Stacks, SuspendedStacks, begins_there, going}
+use Rattle.cc_meaning_simulations.specs.StepSimulations.{Answered, AtBoundary, CatchesUp, EnterBoth, Followed, Further, IsSilent, PAlone, PFirst, PWithQ, QAlone, QFirst, QWithP, Related, Stacks, SuspendedStacks, begins_there, going}
 
 pub IsSameCall-trans : (r q p : Active) → IsSameCall r q → IsSameCall q p → IsSameCall r p
 IsSameCall-trans r q p h k = record { number = h.number ∙ k.number; func = h.func ∙ k.func; handler = h.handler ∙ k.handler }

@@ -1,8 +1,7 @@
 -- States that are equal but for the positions of statements in their lists.
 use Rattle.std.specs.Prelude.{◌≡◌, true, List, [], ◌∷◌}
-use Rattle.cc_steps.specs.State.{Active, State}
+use Rattle.cc_steps.specs.State.{Active, IsSameCall, State}
 use Rattle.cc_steps.specs.Turn.{is_going}
-use Rattle.cc_meaning_simulations.specs.StepSimulations.{IsSameCall}
 use Rattle.cc_meaning_simulations.specs.Transitions.{control_state}
 
 -- activation by activation

@@ -8,15 +8,9 @@ use Rattle.cc_steps.specs.declared.event.End.TheVariants.{Going}
 use Rattle.cc_steps.specs.declared.event.Event.TheVariants.{Enter}
 use Rattle.cc_steps.specs.Rows.{rows_of}
 use Rattle.cc_steps.specs.Runs.{is_empty, begins}
-use Rattle.cc_steps.specs.State.{Active, Memory, State}
+use Rattle.cc_steps.specs.State.{Active, IsSameCall, Memory, State}
 use Rattle.cc_steps.specs.Step.{activation, proceed}
 use Rattle.cc_steps.specs.Turn.{is_going}
-
--- the same call: two activations with one number, of the function with one id, both a handler's or neither
-pub record IsSameCall (q p : Active) : Type 0 where
-  pub number : q.number ≡ p.number
-  pub func : q.func ≡ p.func
-  pub handler : q.handler ≡ p.handler
 
 -- the state of a run that goes on
 abbrev pub going : Memory → List Active → ℕ → State

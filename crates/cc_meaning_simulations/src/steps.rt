@@ -6,9 +6,9 @@ ghost use Rattle.cc_program.specs.declared.program.Program.{Program};
 ghost use Rattle.cc_steps.specs.declared.event.Event.TheVariants.{Enter};
 ghost use Rattle.cc_steps.specs.Rows.{row_of, rows_of};
 ghost use Rattle.cc_steps.specs.Runs.{Follows, Answers};
-ghost use Rattle.cc_steps.specs.State.{Active, Memory, State};
+ghost use Rattle.cc_steps.specs.State.{Active, IsSameCall, Memory, State};
 ghost use Rattle.cc_steps.specs.Turn.{only_handler, level_of, start, turn};
-ghost use Rattle.cc_meaning_simulations.specs.StepSimulations.{IsSameCall, going, begins_there, Related, Followed, Answered, EnterBoth, CatchesUp};
+ghost use Rattle.cc_meaning_simulations.specs.StepSimulations.{going, begins_there, Related, Followed, Answered, EnterBoth, CatchesUp};
 
 /// Pairs of programs, and for each pair a relation of the running activations, one of the suspended ones below them, and an
 /// invariant of the runs of the second program. Each function of the second program has a counterpart in the first, the
