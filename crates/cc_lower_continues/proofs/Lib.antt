@@ -1,0 +1,2 @@
+pub mod CodeEquations
+pub mod Layers
