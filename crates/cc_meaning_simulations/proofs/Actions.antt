@@ -35,7 +35,7 @@ use Rattle.cc_steps.specs.State.{Active, IsSameCall, Memory, State, locals_with}
 use Rattle.cc_steps.specs.Step.{stopped, with_stack, with_flag, with_event, static_content, content_at, written, number_in, gives_nothing, marked, did, cell_position, has_read, input_read, read, has_written, write, activation, opened_if, call, return_mark, returned, fallen, perform, proceed}
 use Rattle.cc_steps.specs.Turn.{is_going, only_handler}
 use Rattle.cc_meaning_simulations.specs.Bodies.{AddsScalars, all_extended, extended}
-use Rattle.cc_meaning_simulations.specs.LocalSimulations.{AgreeOnVisible, AreAlike, LocalRunning, LocalSuspended, is_action_visible, is_cell_visible, is_root_visible, is_visible}
+use Rattle.cc_meaning_simulations.specs.LocalSimulations.{AgreeOnVisible, AreAlike, AreFitting, LocalRunning, LocalSuspended, answer_mark, content_mark, input_mark, is_action_visible, is_cell_visible, is_root_visible, is_visible}
 use Rattle.cc_meaning_simulations.specs.LocalSteps.{LocalState, Locals, after_write, begun_state, local_state, local_state_of}
 use Rattle.cc_meaning_simulations.specs.StepSimulations.{Related, Stacks, SuspendedStacks, going}
 use Rattle.cc_meaning_simulations.specs.Transitions.{Aborts, FallsOff, Jumps, Performs, Returns, Transition, control_state, marked_control, transition}
@@ -44,8 +44,18 @@ use Rattle.cc_meaning_simulations.proofs.LocalStepLemmas.{begun-local_state, dif
 use Rattle.cc_meaning_simulations.proofs.MoreLocals.{funcs_same, gives_same, locals_alike, locals_begin, position_same}
 use Rattle.cc_meaning_simulations.proofs.TransitionLemmas.{Becomes, becomes, jumped, marked-control, marked-keeps}
 
-module _ (more : Func → List Named) (new : Func → List Stmt) (P : Program) (scalars : AddsScalars more) (hidden : ℕ → ℕ → Bool) (Meets Waits : LocalState → LocalState → Type 0)
-    (marked_meets : (q p : LocalState) → Waits q p → (m : Mark) → Meets (local_state (marked_control (all_extended more new P) q.control m) q.locals) (local_state (marked_control P p.control m) p.locals)) where
+-- any mark fits, and any arguments are passed
+abbrev pub any_mark : LocalState → Mark → Type 0
+any_mark p m = Unit {0}
+
+abbrev pub any_arguments : ℕ → ℕ → List Value → Type 0
+any_arguments number id args = Unit {0}
+
+pub any_fitting : (p : Program) (m : Memory) (a : Active) (below : List Active) (o : ℕ) → AreFitting any_mark any_arguments p m a below o
+any_fitting p m a below o = record { actions = λ x e k h. tt; returns = λ b rest e h v r. tt; calls = λ id args e. tt }
+
+module _ (more : Func → List Named) (new : Func → List Stmt) (P : Program) (scalars : AddsScalars more) (hidden : ℕ → ℕ → Bool) (Meets Waits : LocalState → LocalState → Type 0) (Fits : LocalState → Mark → Type 0) (Opens : ℕ → ℕ → List Value → Type 0)
+    (marked_meets : (q p : LocalState) → Waits q p → (m : Mark) → Fits p m → Meets (local_state (marked_control (all_extended more new P) q.control m) q.locals) (local_state (marked_control P p.control m) p.locals)) where
   abbrev pub Q : Program
   Q = all_extended more new P
 
@@ -97,7 +107,7 @@ module _ (more : Func → List Named) (new : Func → List Stmt) (P : Program) (
   over : {A : Type 0} (e : End) → is_going e ≡ false → is_going e ≡ true → A
   over e h k = absurd (cc)
 
-  stops : (s t : State) (e : End) → is_going e ≡ false → s.memory ≡ t.memory → Agree (stopped s e) (stopped t e)
+  pub stops : (s t : State) (e : End) → is_going e ≡ false → s.memory ≡ t.memory → Agree (stopped s e) (stopped t e)
   stops s t e h i = record { memory = i; end = refl; alive = λ g. over e h g }
 
   on_seen : (m n : Memory) (qs ps : List Active) → m ≡ n → rows_of Q m.trace ≡ rows_of P n.trace → On qs ps → Stacks Suspended Running m n qs ps
@@ -116,8 +126,8 @@ module _ (more : Func → List Named) (new : Func → List Stmt) (P : Program) (
   local_state_marked p a m = λ i. local_state (marked-control p a m i) ((marked-keeps p a m).locals i)
 
   -- one more mark
-  after_mark : (q p : Active) (m : Mark) → IsSameCall q p → Suspended true q p → IsSameCall (marked Q q m) (marked P p m) × Suspended false (marked Q q m) (marked P p m)
-  after_mark q p m k s =
+  after_mark : (q p : Active) (m : Mark) → Fits (local_state_of p) m → IsSameCall q p → Suspended true q p → IsSameCall (marked Q q m) (marked P p m) × Suspended false (marked Q q m) (marked P p m)
+  after_mark q p m fit k s =
       let x = marked-keeps Q q m in
       let y = marked-keeps P p m in (
         record {
@@ -127,14 +137,14 @@ module _ (more : Func → List Named) (new : Func → List Stmt) (P : Program) (
         },
         (
           (λ local h. ap (λ (l : Locals). slice_get l local) x.locals ∙ s.0 local (ap (λ (f : ℕ). hidden f local) (sym y.call.func) ∙ h) ∙ sym (ap (λ (l : Locals). slice_get l local) y.locals)),
-          subst (λ (a : LocalState). Meets a (local_state_of (marked P p m))) (sym (local_state_marked Q q m)) (subst (λ (a : LocalState). Meets (local_state (marked_control Q (control_state q) m) q.locals) a) (sym (local_state_marked P p m)) (marked_meets (local_state_of q) (local_state_of p) s.1 m)),
+          subst (λ (a : LocalState). Meets a (local_state_of (marked P p m))) (sym (local_state_marked Q q m)) (subst (λ (a : LocalState). Meets (local_state (marked_control Q (control_state q) m) q.locals) a) (sym (local_state_marked P p m)) (marked_meets (local_state_of q) (local_state_of p) s.1 m fit)),
         ),
       )
 
-  marks : (m : Memory) (q p : Active) (qs ps : List Active) (o : ℕ) (k : Mark) → IsSameCall q p → Suspended true q p → Below (not p.handler) qs ps →
+  marks : (m : Memory) (q p : Active) (qs ps : List Active) (o : ℕ) (k : Mark) → Fits (local_state_of p) k → IsSameCall q p → Suspended true q p → Below (not p.handler) qs ps →
       Agree (going m (marked Q q k ∷ qs) o) (going m (marked P p k ∷ ps) o)
-  marks m q p qs ps o k c s h =
-      let x = after_mark q p k c s in
+  marks m q p qs ps o k fit c s h =
+      let x = after_mark q p k fit c s in
       let y = marked-keeps P p k in
       goes_on m (marked Q q k) (marked P p k) qs ps o x.0 x.1 (subst (λ (b : Bool). Below (not b) qs ps) (sym y.call.handler) h)
 
@@ -186,7 +196,8 @@ module _ (more : Func → List Named) (new : Func → List Stmt) (P : Program) (
 
   module _ (shown : (id : ℕ) (f : Func) → slice_get P.funcs id ≡ Some f → (local : ℕ) → hidden id local ≡ false → (nat_lt local (length f.locals) ≡ true) ⊎ (more f ≡ []))
       (meets_after_write : (q p : LocalState) → Meets q p → q.control.func ≡ p.control.func → (local i : ℕ) (v : Value) → hidden p.control.func local ≡ false → Meets (after_write q local i v) (after_write p local i v))
-      (waits_after_write : (q p : LocalState) → Waits q p → q.control.func ≡ p.control.func → (local i : ℕ) (v : Value) → hidden p.control.func local ≡ false → Waits (after_write q local i v) (after_write p local i v)) where
+      (waits_after_write : (q p : LocalState) → Waits q p → q.control.func ≡ p.control.func → (local i : ℕ) (v : Value) → hidden p.control.func local ≡ false → Waits (after_write q local i v) (after_write p local i v))
+      (fits_after_write : (p : LocalState) (m : Mark) (local i : ℕ) (v : Value) → hidden p.control.func local ≡ false → Fits p m → Fits (after_write p local i v) m) where
     writes_suspended : (c : Bool) (q p : Active) (local i : ℕ) (v : Value) → q.func ≡ p.func → hidden p.func local ≡ false → Suspended c q p → Suspended c (writes q local i v) (writes p local i v)
     writes_suspended true q p local i v f h s = (same_written p.func q.locals p.locals local i v h s.0, waits_after_write _ _ s.1 f local i v h)
     writes_suspended false q p local i v f h s = (same_written p.func q.locals p.locals local i v h s.0, meets_after_write _ _ s.1 f local i v h)
@@ -226,26 +237,29 @@ module _ (more : Func → List Named) (new : Func → List Stmt) (P : Program) (
       abbrev whole : Below true (q ∷ qs) (p ∷ ps)
       whole = (k, s, h)
 
-      done : (n : Memory) (x : Mark) → Agree (going n (marked Q q x ∷ qs) o) (going n (marked P p x ∷ ps) o)
-      done n x = marks n q p qs ps o x k s h
+      abbrev Fit : Mark → Type 0
+      Fit x = Fits (local_state_of p) x
 
-      seen : (b : Bool) (e : Event) (n : Memory) (x : Mark) → Agree (did Q (with_event b (going n (q ∷ qs) o) e) x) (did P (with_event b (going n (p ∷ ps) o) e) x)
-      seen true e n x = done _ x
-      seen false e n x = done n x
+      done : (n : Memory) (x : Mark) → Fit x → Agree (going n (marked Q q x ∷ qs) o) (going n (marked P p x ∷ ps) o)
+      done n x fit = marks n q p qs ps o x fit k s h
 
-      bad_read : (b : Bool) → Agree (if b then did Q Qs (Gave None) else stopped Qs Trap) (if b then did P Ps (Gave None) else stopped Ps Trap)
-      bad_read true = done m (Gave None)
-      bad_read false = stops Qs Ps Trap refl refl
+      seen : (b : Bool) (e : Event) (n : Memory) (x : Mark) → Fit x → Agree (did Q (with_event b (going n (q ∷ qs) o) e) x) (did P (with_event b (going n (p ∷ ps) o) e) x)
+      seen true e n x fit = done _ x fit
+      seen false e n x fit = done n x fit
 
-      has_read_same : (c : Cell) (manner : Manner) (x : Content) → Agree (has_read Q Qs c manner x) (has_read P Ps c manner x)
-      has_read_same c manner Gone = stops Qs Ps Trap refl refl
-      has_read_same c manner Unwritten = bad_read manner.may_be_bad
-      has_read_same c manner (Holds v) = seen manner.is_event (event.Read c v) m (Gave (Some v))
+      bad_read : (b : Bool) → ((x : Mark) → (if b then Some (Gave None) else None) ≡ Some x → Fit x) → Agree (if b then did Q Qs (Gave None) else stopped Qs Trap) (if b then did P Ps (Gave None) else stopped Ps Trap)
+      bad_read true fit = done m (Gave None) (fit (Gave None) refl)
+      bad_read false fit = stops Qs Ps Trap refl refl
 
-      input_same : (d : ℕ) (device : Option Device) (inputs : List ℤ) → Agree (input_read Q Qs d device inputs) (input_read P Ps d device inputs)
-      input_same d None inputs = stops Qs Ps Trap refl refl
-      input_same d (Some device) [] = stops Qs Ps Starved refl refl
-      input_same d (Some device) (n ∷ inputs) = done _ _
+      has_read_same : (c : Cell) (manner : Manner) (x : Content) → ((k : Mark) → content_mark manner x ≡ Some k → Fit k) → Agree (has_read Q Qs c manner x) (has_read P Ps c manner x)
+      has_read_same c manner Gone fit = stops Qs Ps Trap refl refl
+      has_read_same c manner Unwritten fit = bad_read manner.may_be_bad fit
+      has_read_same c manner (Holds v) fit = seen manner.is_event (event.Read c v) m (Gave (Some v)) (fit (Gave (Some v)) refl)
+
+      input_same : (d : ℕ) (device : Option Device) (inputs : List ℤ) → ((k : Mark) → input_mark P device inputs ≡ Some k → Fit k) → Agree (input_read Q Qs d device inputs) (input_read P Ps d device inputs)
+      input_same d None inputs fit = stops Qs Ps Trap refl refl
+      input_same d (Some device) [] fit = stops Qs Ps Starved refl refl
+      input_same d (Some device) (n ∷ inputs) fit = done _ _ (fit _ refl)
 
       position_alike : (r : Root) (path : List Part) → cell_position Q r path ≡ cell_position P r path
       position_alike r path = position_same more new P scalars r path
@@ -255,115 +269,134 @@ module _ (more : Func → List Named) (new : Func → List Stmt) (P : Program) (
       held_same (root.Auto number f local) path z =
           ap (λ (n : ℕ). local_content (q ∷ qs) number local n) (position_alike (root.Auto number f local) path) ∙ content_same true (q ∷ qs) (p ∷ ps) whole number local (cell_position P (root.Auto number f local) path) z
 
-      read_same : (c : Cell) (manner : Manner) → is_cell_visible hidden (p ∷ ps) c ≡ true → Agree (read Q Qs c manner) (read P Ps c manner)
-      read_same (cell.Device d) manner z = input_same d (slice_get P.devices d) m.inputs
-      read_same (cell.At r path) manner z =
+      read_same : (c : Cell) (manner : Manner) → ((k : Mark) → answer_mark P Ps (Read c manner) ≡ Some k → Fit k) → is_cell_visible hidden (p ∷ ps) c ≡ true → Agree (read Q Qs c manner) (read P Ps c manner)
+      read_same (cell.Device d) manner fit z = input_same d (slice_get P.devices d) m.inputs fit
+      read_same (cell.At r path) manner fit z =
           subst (λ (x : Content). Agree (has_read Q Qs (cell.At r path) manner x) (has_read P Ps (cell.At r path) manner (content_at Ps r (cell_position P r path)))) (sym (held_same r path z))
-          (has_read_same (cell.At r path) manner (content_at Ps r (cell_position P r path)))
+          (has_read_same (cell.At r path) manner (content_at Ps r (cell_position P r path)) fit)
 
       -- a write to a local of one of the activations
-      local_written : (b e : Bool) (c : Cell) (number local i : ℕ) (v : Value) → (if b then not (hidden p.func local) else is_visible hidden ps number local) ≡ true →
+      local_written : Fit Did → (b e : Bool) (c : Cell) (number local i : ℕ) (v : Value) → (if b then not (hidden p.func local) else is_visible hidden ps number local) ≡ true →
           Agree (did Q (with_event e (with_stack Qs (if b then writes q local i v ∷ qs else q ∷ with_local qs number local i v)) (event.Write c v)) Did)
           (did P (with_event e (with_stack Ps (if b then writes p local i v ∷ ps else p ∷ with_local ps number local i v)) (event.Write c v)) Did)
-      local_written true true c number local i v z =
-          marks _ (writes q local i v) (writes p local i v) qs ps o Did (writes_call q p local i v k) (writes_suspended true q p local i v k.func (not_hidden (hidden p.func local) z) s) h
-      local_written true false c number local i v z =
-          marks m (writes q local i v) (writes p local i v) qs ps o Did (writes_call q p local i v k) (writes_suspended true q p local i v k.func (not_hidden (hidden p.func local) z) s) h
-      local_written false true c number local i v z = marks _ q p _ _ o Did k s (written_stacks (not p.handler) qs ps h number local i v z)
-      local_written false false c number local i v z = marks m q p _ _ o Did k s (written_stacks (not p.handler) qs ps h number local i v z)
+      local_written fit true true c number local i v z =
+          marks _ (writes q local i v) (writes p local i v) qs ps o Did (fits_after_write (local_state_of p) Did local i v (not_hidden (hidden p.func local) z) fit) (writes_call q p local i v k) (writes_suspended true q p local i v k.func (not_hidden (hidden p.func local) z) s) h
+      local_written fit true false c number local i v z =
+          marks m (writes q local i v) (writes p local i v) qs ps o Did (fits_after_write (local_state_of p) Did local i v (not_hidden (hidden p.func local) z) fit) (writes_call q p local i v k) (writes_suspended true q p local i v k.func (not_hidden (hidden p.func local) z) s) h
+      local_written fit false true c number local i v z = marks _ q p _ _ o Did fit k s (written_stacks (not p.handler) qs ps h number local i v z)
+      local_written fit false false c number local i v z = marks m q p _ _ o Did fit k s (written_stacks (not p.handler) qs ps h number local i v z)
 
-      opened_written : (b e : Bool) (c : Cell) (number local i : ℕ) (v : Value) → is_visible hidden (p ∷ ps) number local ≡ true →
+      opened_written : Fit Did → (b e : Bool) (c : Cell) (number local i : ℕ) (v : Value) → is_visible hidden (p ∷ ps) number local ≡ true →
           Agree (has_written Q c e v Qs (if b then Some (with_stack Qs (with_local (q ∷ qs) number local i v)) else None))
           (has_written P c e v Ps (if b then Some (with_stack Ps (with_local (p ∷ ps) number local i v)) else None))
-      opened_written false e c number local i v z = stops Qs Ps Trap refl refl
-      opened_written true e c number local i v z =
+      opened_written fit false e c number local i v z = stops Qs Ps Trap refl refl
+      opened_written fit true e c number local i v z =
           subst
           (λ (n : ℕ). Agree (did Q (with_event e (with_stack Qs (if n == number then writes q local i v ∷ qs else q ∷ with_local qs number local i v)) (event.Write c v)) Did)
           (did P (with_event e (with_stack Ps (if p.number == number then writes p local i v ∷ ps else p ∷ with_local ps number local i v)) (event.Write c v)) Did))
-          (sym k.number) (local_written (p.number == number) e c number local i v z)
+          (sym k.number) (local_written fit (p.number == number) e c number local i v z)
 
-      written_same : (r : Root) (c : Cell) (e : Bool) (i : ℕ) (v : Value) → is_root_visible hidden (p ∷ ps) r ≡ true → Agree (has_written Q c e v Qs (written Qs r i v)) (has_written P c e v Ps (written Ps r i v))
-      written_same (root.Static j) c e i v z = seen e (event.Write c v) _ Did
-      written_same (root.Auto number f local) c e i v z =
+      written_same : Fit Did → (r : Root) (c : Cell) (e : Bool) (i : ℕ) (v : Value) → is_root_visible hidden (p ∷ ps) r ≡ true → Agree (has_written Q c e v Qs (written Qs r i v)) (has_written P c e v Ps (written Ps r i v))
+      written_same fit (root.Static j) c e i v z = seen e (event.Write c v) _ Did fit
+      written_same fit (root.Auto number f local) c e i v z =
           subst (λ (b : Bool). Agree (has_written Q c e v Qs (if b then Some (with_stack Qs (with_local (q ∷ qs) number local i v)) else None)) (has_written P c e v Ps (written Ps (root.Auto number f local) i v)))
-          (sym (open_same true (q ∷ qs) (p ∷ ps) whole number)) (opened_written (is_open (p ∷ ps) number) e c number local i v z)
+          (sym (open_same true (q ∷ qs) (p ∷ ps) whole number)) (opened_written fit (is_open (p ∷ ps) number) e c number local i v z)
 
-      write_same : (c : Cell) (e : Bool) (v : Value) → is_cell_visible hidden (p ∷ ps) c ≡ true → Agree (write Q Qs c e v) (write P Ps c e v)
-      write_same (cell.Device d) e v z = done _ Did
-      write_same (cell.At r path) e v z =
+      write_same : Fit Did → (c : Cell) (e : Bool) (v : Value) → is_cell_visible hidden (p ∷ ps) c ≡ true → Agree (write Q Qs c e v) (write P Ps c e v)
+      write_same fit (cell.Device d) e v z = done _ Did fit
+      write_same fit (cell.At r path) e v z =
           subst (λ (i : ℕ). Agree (has_written Q (cell.At r path) e v Qs (written Qs r i v)) (write P Ps (cell.At r path) e v)) (sym (position_alike r path))
-          (written_same r (cell.At r path) e (cell_position P r path) v z)
+          (written_same fit r (cell.At r path) e (cell_position P r path) v z)
 
-      module _ (fresh : (number id : ℕ) (handler : Bool) (args : List Value) (f : Func) → slice_get P.funcs id ≡ Some f →
+      module _ (fresh : (number id : ℕ) (handler : Bool) (args : List Value) (f : Func) → slice_get P.funcs id ≡ Some f → Opens number id args →
           Meets (local_state_of (activation Q number id handler args (extended more new f))) (local_state_of (activation P number id handler args f))) where
-        opened_same : (id : ℕ) (args : List Value) (f : Option Func) → slice_get P.funcs id ≡ f → Agree (opened_if Q Qs id args (option_map (extended more new) f)) (opened_if P Ps id args f)
-        opened_same id args None e = stops Qs Ps Trap refl refl
-        opened_same id args (Some f) e =
+        opened_same : (id : ℕ) (args : List Value) (f : Option Func) → Opens o id args → slice_get P.funcs id ≡ f → Agree (opened_if Q Qs id args (option_map (extended more new) f)) (opened_if P Ps id args f)
+        opened_same id args None opens e = stops Qs Ps Trap refl refl
+        opened_same id args (Some f) opens e =
             goes_on m (activation Q o id false args (extended more new f)) (activation P o id false args f) (q ∷ qs) (p ∷ ps) (o + 1) (record { number = refl; func = refl; handler = refl })
-            (begun_suspended o id false args f e (fresh o id false args f e)) whole
+            (begun_suspended o id false args f e (fresh o id false args f e opens)) whole
 
-        call_same : (a : Address) (args : List Value) → Agree (call Q Qs a args) (call P Ps a args)
-        call_same address.Null args = stops Qs Ps Trap refl refl
-        call_same (address.Func f) args =
-            subst (λ (g : Option Func). Agree (opened_if Q Qs f args g) (opened_if P Ps f args (slice_get P.funcs f))) (sym (funcs_same more new P f)) (opened_same f args (slice_get P.funcs f) refl)
-        call_same (address.At object path index count) args = stops Qs Ps Trap refl refl
+        call_same : (a : Address) (args : List Value) → ((id : ℕ) → a ≡ address.Func id → Opens o id args) → Agree (call Q Qs a args) (call P Ps a args)
+        call_same address.Null args opens = stops Qs Ps Trap refl refl
+        call_same (address.Func f) args opens =
+            subst (λ (g : Option Func). Agree (opened_if Q Qs f args g) (opened_if P Ps f args (slice_get P.funcs f))) (sym (funcs_same more new P f)) (opened_same f args (slice_get P.funcs f) (opens f refl) refl)
+        call_same (address.At object path index count) args opens = stops Qs Ps Trap refl refl
 
-        perform_same : (x : Action) → is_action_visible hidden (p ∷ ps) x ≡ true → Agree (perform Q Qs x) (perform P Ps x)
-        perform_same (Read c manner) z = read_same c manner z
-        perform_same (Write c e v) z = write_same c e v z
-        perform_same (Choose b) z = done m (Chose b)
-        perform_same (Call a args) z = call_same a args
-        perform_same (Flag on) z = done _ Did
-        perform_same Save z = done _ _
+        perform_same : (x : Action) → ((k : Mark) → answer_mark P Ps x ≡ Some k → Fit k) → ((id : ℕ) (args : List Value) → x ≡ Call (address.Func id) args → Opens o id args) → is_action_visible hidden (p ∷ ps) x ≡ true → Agree (perform Q Qs x) (perform P Ps x)
+        perform_same (Read c manner) fit opens z = read_same c manner fit z
+        perform_same (Write c e v) fit opens z = write_same (fit Did refl) c e v z
+        perform_same (Choose b) fit opens z = done m (Chose b) (fit (Chose b) refl)
+        perform_same (Call a args) fit opens z = call_same a args (λ id e. opens id args (ap (λ (x : Address). Call x args) e))
+        perform_same (Flag on) fit opens z = done _ Did (fit Did refl)
+        perform_same Save fit opens z = done _ _ (fit _ refl)
 
     -- ---- returns
 
     return_same : (q p : Active) (v : Value) → IsSameCall q p → return_mark Q q.func v ≡ return_mark P p.func v
     return_same q p v k = ap (λ (b : Bool). if b then Did else Gave (Some v)) (gives_same more new P q.func) ∙ ap (λ (f : ℕ). return_mark P f v) k.func
 
-    pub returned_same : (m : Memory) (q p : Active) (qs ps : List Active) (o : ℕ) (v : Value) → IsSameCall q p → Below (not p.handler) qs ps → Agree (returned Q (going m (q ∷ qs) o) q qs v) (returned P (going m (p ∷ ps) o) p ps v)
-    returned_same m q p [] [] o v k h = stops (going m [] o) (going m [] o) (Exit (number_in v)) refl refl
-    returned_same m q p (b ∷ qs) (c ∷ ps) o v k h =
+    -- the one below is left a mark that fits
+    abbrev Gives : Active → List Active → Value → Type 0
+    Gives p ps v = (c : Active) (rest : List Active) → ps ≡ c ∷ rest → p.handler ≡ false → Fits (local_state_of c) (return_mark P p.func v)
+
+    pub returned_same : (m : Memory) (q p : Active) (qs ps : List Active) (o : ℕ) (v : Value) → Gives p ps v → IsSameCall q p → Below (not p.handler) qs ps → Agree (returned Q (going m (q ∷ qs) o) q qs v) (returned P (going m (p ∷ ps) o) p ps v)
+    returned_same m q p [] [] o v fit k h = stops (going m [] o) (going m [] o) (Exit (number_in v)) refl refl
+    returned_same m q p (b ∷ qs) (c ∷ ps) o v fit k h =
         subst (λ (x : Bool). Agree (if x then with_flag (going m (b ∷ qs) o) true else going m (marked Q b (return_mark Q q.func v) ∷ qs) o) (returned P (going m (p ∷ c ∷ ps) o) p (c ∷ ps) v)) (sym k.handler)
         (subst (λ (x : Mark). Agree (if p.handler then with_flag (going m (b ∷ qs) o) true else going m (marked Q b x ∷ qs) o) (returned P (going m (p ∷ c ∷ ps) o) p (c ∷ ps) v)) (sym (return_same q p v k))
-        (by_handler p.handler h))
+        (by_handler p.handler refl h))
       where
-        by_handler : (x : Bool) → Below (not x) (b ∷ qs) (c ∷ ps) →
+        by_handler : (x : Bool) → p.handler ≡ x → Below (not x) (b ∷ qs) (c ∷ ps) →
             Agree (if x then with_flag (going m (b ∷ qs) o) true else going m (marked Q b (return_mark P p.func v) ∷ qs) o) (if x then with_flag (going m (c ∷ ps) o) true else going m (marked P c (return_mark P p.func v) ∷ ps) o)
-        by_handler true s = goes_on _ b c qs ps o s.0 s.1 s.2
-        by_handler false s = marks m b c qs ps o (return_mark P p.func v) s.0 s.1 s.2
-    returned_same m q p [] (c ∷ ps) o v k h = absurd h
-    returned_same m q p (b ∷ qs) [] o v k h = absurd h
+        by_handler true e s = goes_on _ b c qs ps o s.0 s.1 s.2
+        by_handler false e s = marks m b c qs ps o (return_mark P p.func v) (fit c ps refl e) s.0 s.1 s.2
+    returned_same m q p [] (c ∷ ps) o v fit k h = absurd h
+    returned_same m q p (b ∷ qs) [] o v fit k h = absurd h
 
-    pub fallen_same : (m : Memory) (q p : Active) (qs ps : List Active) (o : ℕ) → IsSameCall q p → Below (not p.handler) qs ps → Agree (fallen Q (going m (q ∷ qs) o) q qs) (fallen P (going m (p ∷ ps) o) p ps)
-    fallen_same m q p qs ps o k h =
+    pub fallen_same : (m : Memory) (q p : Active) (qs ps : List Active) (o : ℕ) → ((gives_nothing (slice_get P.funcs p.func) || (p.func == P.main)) ≡ true → Gives p ps no_value) → IsSameCall q p → Below (not p.handler) qs ps → Agree (fallen Q (going m (q ∷ qs) o) q qs) (fallen P (going m (p ∷ ps) o) p ps)
+    fallen_same m q p qs ps o fit k h =
         subst (λ (x : Bool). Agree (if x || (q.func == P.main) then returned Q (going m (q ∷ qs) o) q qs no_value else stopped (going m (q ∷ qs) o) Trap) (fallen P (going m (p ∷ ps) o) p ps)) (sym (gives_same more new P q.func))
         (subst (λ (f : ℕ). Agree (if gives_nothing (slice_get P.funcs f) || (f == P.main) then returned Q (going m (q ∷ qs) o) q qs no_value else stopped (going m (q ∷ qs) o) Trap) (fallen P (going m (p ∷ ps) o) p ps)) (sym k.func)
-        (by_result (gives_nothing (slice_get P.funcs p.func) || (p.func == P.main))))
+        (by_result (gives_nothing (slice_get P.funcs p.func) || (p.func == P.main)) refl))
       where
-        by_result : (x : Bool) → Agree (if x then returned Q (going m (q ∷ qs) o) q qs no_value else stopped (going m (q ∷ qs) o) Trap) (if x then returned P (going m (p ∷ ps) o) p ps no_value else stopped (going m (p ∷ ps) o) Trap)
-        by_result true = returned_same m q p qs ps o no_value k h
-        by_result false = stops (going m (q ∷ qs) o) (going m (p ∷ ps) o) Trap refl refl
+        by_result : (x : Bool) → (gives_nothing (slice_get P.funcs p.func) || (p.func == P.main)) ≡ x → Agree (if x then returned Q (going m (q ∷ qs) o) q qs no_value else stopped (going m (q ∷ qs) o) Trap) (if x then returned P (going m (p ∷ ps) o) p ps no_value else stopped (going m (p ∷ ps) o) Trap)
+        by_result true e = returned_same m q p qs ps o no_value (fit e) k h
+        by_result false e = stops (going m (q ∷ qs) o) (going m (p ∷ ps) o) Trap refl refl
 
     -- ---- the same transition
 
-    module _ (begins : (number id : ℕ) (args : List Value) (f : Func) → slice_get P.funcs id ≡ Some f → Meets (begun_state Q number id args (extended more new f)) (begun_state P number id args f)) where
-      pub fresh : (number id : ℕ) (handler : Bool) (args : List Value) (f : Func) → slice_get P.funcs id ≡ Some f →
+    module _ (begins : (number id : ℕ) (args : List Value) (f : Func) → slice_get P.funcs id ≡ Some f → Opens number id args → Meets (begun_state Q number id args (extended more new f)) (begun_state P number id args f)) where
+      pub fresh : (number id : ℕ) (handler : Bool) (args : List Value) (f : Func) → slice_get P.funcs id ≡ Some f → Opens number id args →
           Meets (local_state_of (activation Q number id handler args (extended more new f))) (local_state_of (activation P number id handler args f))
-      fresh number id handler args f e =
+      fresh number id handler args f e opens =
           subst (λ (s : LocalState). Meets s (local_state_of (activation P number id handler args f))) (sym (begun-local_state Q number id handler args (extended more new f)))
-          (subst (λ (s : LocalState). Meets (begun_state Q number id args (extended more new f)) s) (sym (begun-local_state P number id handler args f)) (begins number id args f e))
+          (subst (λ (s : LocalState). Meets (begun_state Q number id args (extended more new f)) s) (sym (begun-local_state P number id handler args f)) (begins number id args f e opens))
 
-      both_by : (d e : Transition) (m : Memory) (q p : Active) (qs ps : List Active) (o : ℕ) (s t : State) → IsSameCall q p → Same p.func q.locals p.locals → Below (not p.handler) qs ps → ((x : Action) → e ≡ Performs x → is_action_visible hidden (p ∷ ps) x ≡ true) →
+      -- what comes of p's state is as it should be, where this is its transition
+      pub record Fitting (p : Active) (ps : List Active) (m : Memory) (o : ℕ) (e : Transition) : Type 0 where
+        pub actions : (x : Action) → e ≡ Performs x → (k : Mark) → answer_mark P (going m (p ∷ ps) o) x ≡ Some k → Fits (local_state_of p) k
+        pub returns : (v : Value) → e ≡ Returns v → Gives p ps v
+        pub ends : e ≡ FallsOff → (gives_nothing (slice_get P.funcs p.func) || (p.func == P.main)) ≡ true → Gives p ps no_value
+        pub calls : (id : ℕ) (args : List Value) → e ≡ Performs (Call (address.Func id) args) → Opens o id args
+
+      pub fitting : (p : Active) (ps : List Active) (m : Memory) (o : ℕ) → AreFitting Fits Opens P m p ps o → Fitting p ps m o (transition P (control_state p))
+      fitting p ps m o h = record {
+        actions = h.actions;
+        returns = λ v e c rest below called. h.returns c rest below called v (inl e);
+        ends = λ e r c rest below called. h.returns c rest below called no_value (inr (e, refl, r));
+        calls = h.calls;
+      }
+
+      both_by : (d e : Transition) (m : Memory) (q p : Active) (qs ps : List Active) (o : ℕ) (s t : State) → IsSameCall q p → Same p.func q.locals p.locals → Below (not p.handler) qs ps → ((x : Action) → e ≡ Performs x → is_action_visible hidden (p ∷ ps) x ≡ true) → Fitting p ps m o e →
           Becomes Q (going m (q ∷ qs) o) q qs (jumped Q q) s d → Becomes P (going m (p ∷ ps) o) p ps (jumped P p) t e → Alike (local_state_of q) (local_state_of p) d e → Agree s t
-      both_by FallsOff FallsOff m q p qs ps o s t k l h z x y a =
-          subst (λ (u : State). Agree u t) (sym x) (subst (λ (u : State). Agree (fallen Q (going m (q ∷ qs) o) q qs) u) (sym y) (fallen_same m q p qs ps o k h))
-      both_by (Performs v) (Performs w) m q p qs ps o s t k l h z x y a =
+      both_by FallsOff FallsOff m q p qs ps o s t k l h z f x y a =
+          subst (λ (u : State). Agree u t) (sym x) (subst (λ (u : State). Agree (fallen Q (going m (q ∷ qs) o) q qs) u) (sym y) (fallen_same m q p qs ps o (f.ends refl) k h))
+      both_by (Performs v) (Performs w) m q p qs ps o s t k l h z f x y a =
           subst (λ (u : State). Agree u t) (sym (x ∙ ap (perform Q (going m (q ∷ qs) o)) a.0))
-          (subst (λ (u : State). Agree (perform Q (going m (q ∷ qs) o) w) u) (sym y) (perform_same m q p qs ps o k (l, a.1) h fresh w (z w refl)))
-      both_by Aborts Aborts m q p qs ps o s t k l h z x y a =
+          (subst (λ (u : State). Agree (perform Q (going m (q ∷ qs) o) w) u) (sym y) (perform_same m q p qs ps o k (l, a.1) h fresh w (f.actions w refl) (λ id args e. f.calls id args (ap (λ (x : Action). Performs x) e)) (z w refl)))
+      both_by Aborts Aborts m q p qs ps o s t k l h z f x y a =
           subst (λ (u : State). Agree u t) (sym x) (subst (λ (u : State). Agree (stopped (going m (q ∷ qs) o) Trap) u) (sym y) (stops (going m (q ∷ qs) o) (going m (p ∷ ps) o) Trap refl refl))
-      both_by (Jumps c) (Jumps d) m q p qs ps o s t k l h z x y a =
+      both_by (Jumps c) (Jumps d) m q p qs ps o s t k l h z f x y a =
           subst (λ (u : State). Agree u t) (sym x.0)
           (subst (λ (u : State). Agree (going m (jumped Q q ∷ qs) o) u) (sym y.0)
           (goes_on m (jumped Q q) (jumped P p) qs ps o
@@ -372,13 +405,13 @@ module _ (more : Func → List Named) (new : Func → List Stmt) (P : Program) (
             subst (λ (b : LocalState). Meets b (local_state_of (jumped P p))) (sym (λ i. local_state (x.1 i) (x.2.locals i))) (subst (λ (b : LocalState). Meets (local_state c q.locals) b) (sym (λ i. local_state (y.1 i) (y.2.locals i))) a),
           )
           (subst (λ (b : Bool). Below (not b) qs ps) (sym y.2.call.handler) h)))
-      both_by (Returns v) (Returns w) m q p qs ps o s t k l h z x y a =
+      both_by (Returns v) (Returns w) m q p qs ps o s t k l h z f x y a =
           subst (λ (u : State). Agree u t) (sym (x ∙ ap (returned Q (going m (q ∷ qs) o) q qs) a))
-          (subst (λ (u : State). Agree (returned Q (going m (q ∷ qs) o) q qs w) u) (sym y) (returned_same m q p qs ps o w k h))
-      both_by _ _ m q p qs ps o s t k l h z x y a = absurd a
+          (subst (λ (u : State). Agree (returned Q (going m (q ∷ qs) o) q qs w) u) (sym y) (returned_same m q p qs ps o w (f.returns w refl) k h))
+      both_by _ _ m q p qs ps o s t k l h z f x y a = absurd a
 
       -- two activations that meet go on alike, above stacks that are related
-      pub alike_agrees : (ps : List Active) (o : ℕ) (m : Memory) (q p : Active) → Same p.func q.locals p.locals → ((x : Action) → transition P (control_state p) ≡ Performs x → is_action_visible hidden (p ∷ ps) x ≡ true) →
+      pub alike_agrees : (ps : List Active) (o : ℕ) (m : Memory) (q p : Active) → Same p.func q.locals p.locals → ((x : Action) → transition P (control_state p) ≡ Performs x → is_action_visible hidden (p ∷ ps) x ≡ true) → AreFitting Fits Opens P m p ps o →
           Alike (local_state_of q) (local_state_of p) (transition Q (control_state q)) (transition P (control_state p)) → (qs : List Active) → IsSameCall q p → Below (not p.handler) qs ps →
           Agree (proceed Q (going m (q ∷ qs) o) (q ∷ qs)) (proceed P (going m (p ∷ ps) o) (p ∷ ps))
-      alike_agrees ps o m q p l z a qs k h = both_by (transition Q (control_state q)) (transition P (control_state p)) m q p qs ps o _ _ k l h z (becomes Q m q qs o) (becomes P m p ps o) a
+      alike_agrees ps o m q p l z f a qs k h = both_by (transition Q (control_state q)) (transition P (control_state p)) m q p qs ps o _ _ k l h z (fitting p ps m o f) (becomes Q m q qs o) (becomes P m p ps o) a

@@ -1,4 +1,5 @@
 pub mod Actions
+pub mod Approaching
 pub mod Catching
 pub mod ContinuationLemmas
 pub mod HiddenLocals

@@ -18,9 +18,9 @@ use Rattle.cc_steps.specs.Access.{content, local_content, with_locals, is_open, 
 use Rattle.cc_steps.specs.State.{Active, IsSameCall, Memory, locals_with}
 use Rattle.cc_steps.specs.Step.{activation, stopped, with_event, marked, did, has_read, has_written, perform, proceed}
 use Rattle.cc_meaning_simulations.proofs.Turns.{IsSameCall-trans}
-use Rattle.cc_meaning_simulations.specs.LocalSteps.{Branch, Jump, LocalState, LocalStep, Locals, ReadHidden, ReadUnwritten, WriteHidden, after_write, begun_state, local_state, local_state_of, own_local}
+use Rattle.cc_meaning_simulations.specs.LocalSteps.{Branch, Jump, LocalState, LocalStep, Locals, ReadHidden, ReadUnwritten, ReadingUnwritten, Trapping, TrapsNext, WriteHidden, after_write, begun_state, local_state, local_state_of, own_local}
 use Rattle.cc_meaning_simulations.specs.StepSimulations.{IsSilent, going}
-use Rattle.cc_meaning_simulations.specs.Transitions.{ControlState, Performs, control_state, marked_control, transition}
+use Rattle.cc_meaning_simulations.specs.Transitions.{Aborts, ControlState, Performs, control_state, marked_control, transition}
 use Rattle.cc_steps.proofs.CellsApart.{apart, elsewhere}
 use Rattle.cc_meaning_simulations.proofs.TransitionLemmas.{Becomes, IsSameActivation, becomes, begun-control, has_jumped, jump_same, jumped, marked-control, marked-keeps, marked_same}
 
@@ -51,6 +51,10 @@ module _ (hidden : ℕ → ℕ → Bool) where
   local_step_after_write p _ _ local i v h (WriteHidden a l r w d k) =
       subst (λ (c : Locals). LocalStep hidden p (local_state a (with_scalar l local i (Some v))) (local_state (marked_control p a Did) c)) (apart l local r i 0 (Some v) (Some w) (not_same a.func r local k h)) (WriteHidden a (with_scalar l local i (Some v)) r w d k)
   local_step_after_write p _ _ local i v h (Branch a l b d) = Branch a (with_scalar l local i (Some v)) b d
+
+  pub traps_after_write : (p : Program) (s : LocalState) (local i : ℕ) (v : Value) → hidden s.control.func local ≡ false → TrapsNext hidden p s → TrapsNext hidden p (after_write s local i v)
+  traps_after_write p _ local i v h (Trapping a l d) = Trapping a (with_scalar l local i (Some v)) d
+  traps_after_write p _ local i v h (ReadingUnwritten a l r manner d k e g) = ReadingUnwritten a (with_scalar l local i (Some v)) r manner d k e (content_apart l a.func r local i v k h ∙ g)
 
   -- ---- such a step is one of the program's, and silent
 
@@ -137,3 +141,17 @@ module _ (hidden : ℕ → ℕ → Bool) where
         };
         there = marked_local_state p x x (Chose b) (itself x) refl ∙ ap (λ (s : LocalState). local_state (marked_control p s.control (Chose b)) s.locals) e;
       }
+
+  -- ---- where one traps next, the run ends
+
+  aborts_there : (p : Program) (m : Memory) (x : Active) (below : List Active) (opened : ℕ) → transition p (control_state x) ≡ Aborts → proceed p (going m (x ∷ below) opened) (x ∷ below) ≡ stopped (going m (x ∷ below) opened) Trap
+  aborts_there p m x below opened h = subst (Becomes p (going m (x ∷ below) opened) x below (jumped p x) (proceed p (going m (x ∷ below) opened) (x ∷ below))) h (becomes p m x below opened)
+
+  pub traps_next : (p : Program) (m : Memory) (s : LocalState) → TrapsNext hidden p s → (x : Active) → local_state_of x ≡ s → (below : List Active) (opened : ℕ) →
+      proceed p (going m (x ∷ below) opened) (x ∷ below) ≡ stopped (going m (x ∷ below) opened) Trap
+  traps_next p m _ (Trapping a l d) x e below opened = aborts_there p m x below opened (ap (λ (s : LocalState). transition p s.control) e ∙ d)
+  traps_next p m _ (ReadingUnwritten a l r manner d k n g) x e below opened =
+      let held : content (scalar_in x.locals r 0) ≡ Unwritten = ap (λ (s : LocalState). content (scalar_in s.locals r 0)) e ∙ g in
+      let act : transition p (control_state x) ≡ Performs (Read (own_local (control_state x) r) manner) = ap (λ (s : LocalState). transition p s.control) e ∙ d ∙ ap (λ (s : LocalState). Performs (Read (own_local s.control r) manner)) (sym e) in
+      becomes_act p m x below opened _ act ∙ read_step p m x below opened r manner Unwritten held
+      ∙ ap (λ (b : Bool). if b then did p (going m (x ∷ below) opened) (Gave None) else stopped (going m (x ∷ below) opened) Trap) n

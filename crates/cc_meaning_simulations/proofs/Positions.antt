@@ -42,14 +42,14 @@ module _ (P : Program) where
   abbrev Equal : LocalState → LocalState → Type 0
   Equal q p = q ≡ p
 
-  marked_equal : (q p : LocalState) → Equal q p → (m : Mark) → Equal (local_state (marked_control Copy q.control m) q.locals) (local_state (marked_control P p.control m) p.locals)
-  marked_equal q p h m = ap (λ (x : LocalState). local_state (marked_control Copy x.control m) x.locals) h ∙ ap (λ (Q : Program). local_state (marked_control Q p.control m) p.locals) (sym copied)
+  marked_equal : (q p : LocalState) → Equal q p → (m : Mark) → actions.any_mark p m → Equal (local_state (marked_control Copy q.control m) q.locals) (local_state (marked_control P p.control m) p.locals)
+  marked_equal q p h m fit = ap (λ (x : LocalState). local_state (marked_control Copy x.control m) x.locals) h ∙ ap (λ (Q : Program). local_state (marked_control Q p.control m) p.locals) (sym copied)
 
   written_equal : (q p : LocalState) → Equal q p → q.control.func ≡ p.control.func → (local i : ℕ) (v : Value) → hides p.control.func local ≡ false → Equal (after_write q local i v) (after_write p local i v)
   written_equal q p h f local i v k = ap (λ (x : LocalState). after_write x local i v) h
 
-  begins : (number id : ℕ) (args : List Value) (f : Func) → slice_get P.funcs id ≡ Some f → Equal (begun_state Copy number id args (extended none body_of f)) (begun_state P number id args f)
-  begins number id args f e = λ i. local_state (jump_to (sym copied i) (control_at number id) (resume f.body [])) (locals_alike none body_of P P Copy refl args f.locals [] refl i)
+  begins : (number id : ℕ) (args : List Value) (f : Func) → slice_get P.funcs id ≡ Some f → actions.any_arguments number id args → Equal (begun_state Copy number id args (extended none body_of f)) (begun_state P number id args f)
+  begins number id args f e opens = λ i. local_state (jump_to (sym copied i) (control_at number id) (resume f.body [])) (locals_alike none body_of P P Copy refl args f.locals [] refl i)
 
   alike_itself : (q : LocalState) (x : Transition) → AreAlike hides Equal Equal q q x x
   alike_itself q FallsOff = tt
@@ -64,13 +64,13 @@ module _ (P : Program) where
       (subst (λ (Q : Program). AreAlike hides Equal Equal p p (transition Q p.control) (transition P p.control)) copied (alike_itself p (transition P p.control)))
 
   abbrev Below : Bool → List Active → List Active → Type 0
-  Below c qs ps = actions.Below none body_of P none_added hides Equal Equal marked_equal c qs ps
+  Below c qs ps = actions.Below none body_of P none_added hides Equal Equal actions.any_mark actions.any_arguments marked_equal c qs ps
 
   abbrev Suspended : Bool → Active → Active → Type 0
-  Suspended c q p = actions.Suspended none body_of P none_added hides Equal Equal marked_equal c q p
+  Suspended c q p = actions.Suspended none body_of P none_added hides Equal Equal actions.any_mark actions.any_arguments marked_equal c q p
 
   abbrev Agree : State → State → Type 0
-  Agree s t = actions.Agree none body_of P none_added hides Equal Equal marked_equal s t
+  Agree s t = actions.Agree none body_of P none_added hides Equal Equal actions.any_mark actions.any_arguments marked_equal s t
 
   suspended : (c : Bool) (q p : Active) → q.locals ≡ p.locals → control_state q ≡ control_state p → Suspended c q p
   suspended true q p l h = ((λ local k. ap (λ x. slice_get x local) l), λ i. local_state (h i) (l i))
@@ -92,7 +92,7 @@ module _ (P : Program) where
   equal c [] (p ∷ ps) h = absurd h
   equal c (q ∷ qs) [] h = absurd h
 
-  on_equal : (qs ps : List Active) → actions.On none body_of P none_added hides Equal Equal marked_equal qs ps → AreActivesEqual qs ps
+  on_equal : (qs ps : List Active) → actions.On none body_of P none_added hides Equal Equal actions.any_mark actions.any_arguments marked_equal qs ps → AreActivesEqual qs ps
   on_equal (q ∷ qs) (p ∷ ps) h = let s = is_suspended false q p h.1 in (h.0, s.0, s.1, equal (not p.handler) qs ps h.2)
   on_equal [] [] h = absurd h
   on_equal [] (p ∷ ps) h = absurd h
@@ -109,8 +109,8 @@ module _ (P : Program) where
   copy_steps : StepsAlike Copy
   copy_steps m q p qs ps o h =
       agreed _ _
-      (actions.alike_agrees none body_of P none_added hides Equal Equal marked_equal (λ id f e local h. inr refl) written_equal written_equal begins ps o m q p (suspended false q p h.1 h.2).0
-      (λ x e. action_visible (p ∷ ps) x) (alike (local_state_of q) (local_state_of p) (suspended false q p h.1 h.2).1) qs h.0 (below (not p.handler) qs ps h.3))
+      (actions.alike_agrees none body_of P none_added hides Equal Equal actions.any_mark actions.any_arguments marked_equal (λ id f e local h. inr refl) written_equal written_equal (λ p m local i v h fit. tt) begins ps o m q p (suspended false q p h.1 h.2).0
+      (λ x e. action_visible (p ∷ ps) x) (actions.any_fitting P m p ps o) (alike (local_state_of q) (local_state_of p) (suspended false q p h.1 h.2).1) qs h.0 (below (not p.handler) qs ps h.3))
 
   steps : StepsAlike P
   steps = subst StepsAlike (sym copied) copy_steps

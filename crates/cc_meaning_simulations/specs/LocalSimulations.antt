@@ -1,18 +1,66 @@
 -- Simulations by the control and the locals of activations: two activations converge where each comes, by steps that nothing else can see, to
 -- states that match; there both make the same transition, and converge again. Locals that are not hidden stay the same.
-use Rattle.std.specs.Prelude.{◌≡◌, ◌∷◌, ◌==◌, if◌then◌else◌, ℕ, Bool, true, false, not, List, [], slice_get}
+use Rattle.std.specs.Prelude.{◌≡◌, ◌∷◌, ◌==◌, ◌||◌, ◌⊎◌, if◌then◌else◌, ℕ, ℤ, Bool, true, false, not, List, [], Option, Some, None, slice_get}
+use Rattle.cc_num.specs.Integers.{converted}
+use Rattle.cc_num.specs.Results.{one_if}
+use Rattle.cc_program.specs.declared.object.Device.{Device}
 use Rattle.cc_program.specs.declared.program.Program.{Program}
+use Rattle.cc_program.specs.declared.value.Address.TheVariants as address
 use Rattle.cc_program.specs.declared.value.Cell.{Cell}
 use Rattle.cc_program.specs.declared.value.Cell.TheVariants as cell
 use Rattle.cc_program.specs.declared.value.Root.{Root}
 use Rattle.cc_program.specs.declared.value.Root.TheVariants as root
+use Rattle.cc_program.specs.declared.value.Value.{Value}
+use Rattle.cc_program.specs.declared.value.Value.TheVariants.{Int}
 use Rattle.cc_eval.specs.declared.action.Action.{Action}
 use Rattle.cc_eval.specs.declared.action.Action.TheVariants.{Read, Write, Choose, Call, Flag, Save}
+use Rattle.cc_eval.specs.declared.action.Manner.{Manner}
 use Rattle.cc_eval.specs.declared.mark.Mark.{Mark}
+use Rattle.cc_eval.specs.declared.mark.Mark.TheVariants.{Gave, Did, Chose}
+use Rattle.cc_eval.specs.Progress.{no_value}
+use Rattle.cc_steps.specs.declared.content.Content.{Content}
+use Rattle.cc_steps.specs.declared.content.Content.TheVariants.{Gone, Unwritten, Holds}
 use Rattle.cc_steps.specs.Rows.{rows_of}
-use Rattle.cc_steps.specs.State.{Active, Memory}
-use Rattle.cc_meaning_simulations.specs.LocalSteps.{LocalState, LocalStep, Locals, local_state, local_state_of}
-use Rattle.cc_meaning_simulations.specs.Transitions.{Aborts, FallsOff, Jumps, Performs, Returns, Transition, is_at_boundary, marked_control}
+use Rattle.cc_steps.specs.State.{Active, Memory, State}
+use Rattle.cc_steps.specs.Step.{cell_position, content_at, gives_nothing, return_mark}
+use Rattle.cc_meaning_simulations.specs.LocalSteps.{LocalState, LocalStep, Locals, TrapsNext, local_state, local_state_of}
+use Rattle.cc_meaning_simulations.specs.StepSimulations.{going}
+use Rattle.cc_meaning_simulations.specs.Transitions.{Aborts, FallsOff, Jumps, Performs, Returns, Transition, control_state, is_at_boundary, marked_control, transition}
+
+-- ---- marks
+
+abbrev pub content_mark : Manner → Content → Option Mark
+content_mark manner Gone = None
+content_mark manner Unwritten = if manner.may_be_bad then Some (Gave None) else None
+content_mark manner (Holds v) = Some (Gave (Some v))
+
+abbrev pub input_mark : Program → Option Device → List ℤ → Option Mark
+input_mark p None inputs = None
+input_mark p (Some device) [] = None
+input_mark p (Some device) (n ∷ inputs) = Some (Gave (Some (Int (converted n device.int p.target))))
+
+-- the mark that an action leaves at once in a state, if it leaves one
+abbrev pub answer_mark : Program → State → Action → Option Mark
+answer_mark p s (Read (cell.Device d) manner) = input_mark p (slice_get p.devices d) s.memory.inputs
+answer_mark p s (Read (cell.At object path) manner) = content_mark manner (content_at s object (cell_position p object path))
+answer_mark p s (Write at is_event v) = Some Did
+answer_mark p s (Choose b) = Some (Chose b)
+answer_mark p s (Call callee args) = None
+answer_mark p s (Flag on) = Some Did
+answer_mark p s Save = Some (Gave (Some (Int (one_if s.memory.flag))))
+
+-- what an activation gives at its end
+abbrev pub IsResult : Program → Active → Value → Type 0
+IsResult p a v =
+    (transition p (control_state a) ≡ Returns v) ⊎
+    ((transition p (control_state a) ≡ FallsOff) × (v ≡ no_value) × ((gives_nothing (slice_get p.funcs a.func) || (a.func == p.main)) ≡ true))
+
+-- what comes of a state is as it should be: the marks that its running activation leaves, those that the one below it is left by a return, and
+-- the arguments that a function is called with, by the number of the activation that this opens
+pub record AreFitting (Fits : LocalState → Mark → Type 0) (Opens : ℕ → ℕ → List Value → Type 0) (p : Program) (m : Memory) (a : Active) (below : List Active) (opened : ℕ) : Type 0 where
+  pub actions : (x : Action) → transition p (control_state a) ≡ Performs x → (k : Mark) → answer_mark p (going m (a ∷ below) opened) x ≡ Some k → Fits (local_state_of a) k
+  pub returns : (b : Active) (rest : List Active) → below ≡ b ∷ rest → a.handler ≡ false → (v : Value) → IsResult p a v → Fits (local_state_of b) (return_mark p a.func v)
+  pub calls : (id : ℕ) (args : List Value) → transition p (control_state a) ≡ Performs (Call (address.Func id) args) → Opens opened id args
 
 module _ (hidden : ℕ → ℕ → Bool) where
   -- the locals of a function that are not hidden are the same
@@ -73,3 +121,21 @@ module _ (hidden : ℕ → ℕ → Bool) where
     -- two activations that wait for an action converge once that has left its mark
     abbrev pub Awaits : LocalState → LocalState → Type 0
     Awaits q p = (m : Mark) → Converges (local_state (marked_control Q q.control m) q.locals) (local_state (marked_control P p.control m) p.locals)
+
+    -- ---- where both may trap, and P may have to wait for Q at a boundary
+
+    -- where P is at a boundary Q is at one, unless it has left that already
+    abbrev pub IsNear : Bool → LocalState → LocalState → Type 0
+    IsNear late q p = late ≡ false → is_at_boundary p.control ≡ true → is_at_boundary q.control ≡ true
+
+    -- steps that nothing else can see, of either, lead to states that match, or to where both trap. Where P is at a boundary Q is at one, or
+    -- comes to one; it is late where it has left it while P stands there.
+    pub data Approaches : Bool → LocalState → LocalState → Type 0 where
+      Arrives : (late : Bool) (q p : LocalState) → Match q p → IsNear late q p → Approaches late q p
+      QGoes : (late : Bool) (q p q' : LocalState) → LocalStep hidden Q q q' → Approaches (late || is_at_boundary q.control) q' p → Approaches late q p
+      PGoes : (late : Bool) (q p p' : LocalState) → LocalStep hidden P p p' → IsNear late q p → Approaches false q p' → Approaches late q p
+      BothTrap : (late : Bool) (q p : LocalState) → TrapsNext hidden Q q → TrapsNext hidden P p → IsNear late q p → Approaches late q p
+
+    -- two activations that wait for an action approach once that has left a mark that fits
+    abbrev pub Expects : (LocalState → Mark → Type 0) → LocalState → LocalState → Type 0
+    Expects Fits q p = (m : Mark) → Fits p m → Approaches false (local_state (marked_control Q q.control m) q.locals) (local_state (marked_control P p.control m) p.locals)

@@ -1,4 +1,4 @@
--- Steps of an activation that nothing else can see: it jumps, branches, or reads or writes a hidden local of its own.
+-- Steps of an activation that nothing else can see: it jumps, branches, or reads or writes a hidden local of its own; and where it traps.
 use Rattle.std.specs.Prelude.{◌≡◌, ℕ, Bool, true, false, List, [], Option, Some, None}
 use Rattle.cc_cells.specs.Cells.{scalar_in, with_scalar}
 use Rattle.cc_eval.specs.declared.action.Action.TheVariants.{Read, Write, Choose}
@@ -14,7 +14,7 @@ use Rattle.cc_steps.specs.declared.content.Content.TheVariants.{Unwritten, Holds
 use Rattle.cc_steps.specs.Access.{content}
 use Rattle.cc_steps.specs.State.{Active, locals_with}
 use Rattle.cc_meaning_simulations.specs.Continuations.{resume}
-use Rattle.cc_meaning_simulations.specs.Transitions.{ControlState, Jumps, Performs, control_at, control_state, jump_to, marked_control, transition}
+use Rattle.cc_meaning_simulations.specs.Transitions.{Aborts, ControlState, Jumps, Performs, control_at, control_state, jump_to, marked_control, transition}
 
 -- the scalars of the locals of an activation, those unwritten without a value
 abbrev pub Locals : Type 0
@@ -54,3 +54,9 @@ module _ (hidden : ℕ → ℕ → Bool) where
         LocalStep p (local_state a l) (local_state (marked_control p a (Gave None)) l)
     WriteHidden : (a : ControlState) (l : Locals) (r : ℕ) (v : Value) → transition p a ≡ Performs (Write (own_local a r) false v) → hidden a.func r ≡ true → LocalStep p (local_state a l) (local_state (marked_control p a Did) (with_scalar l r 0 (Some v)))
     Branch : (a : ControlState) (l : Locals) (b : Option Bool) → transition p a ≡ Performs (Choose b) → LocalStep p (local_state a l) (local_state (marked_control p a (Chose b)) l)
+
+  -- the next step traps: the value is bad, or a hidden local of its own is read that was not written
+  pub data TrapsNext (p : Program) : LocalState → Type 0 where
+    Trapping : (a : ControlState) (l : Locals) → transition p a ≡ Aborts → TrapsNext p (local_state a l)
+    ReadingUnwritten : (a : ControlState) (l : Locals) (r : ℕ) (manner : Manner) → transition p a ≡ Performs (Read (own_local a r) manner) → hidden a.func r ≡ true → manner.may_be_bad ≡ false → content (scalar_in l r 0) ≡ Unwritten →
+        TrapsNext p (local_state a l)
