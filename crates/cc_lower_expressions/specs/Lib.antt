@@ -1,0 +1,4 @@
+pub mod Expressions
+pub mod Temporaries
+pub mod Statements
+pub mod Programs
