@@ -1,0 +1,13 @@
+pub mod Agreement
+pub mod Trees
+pub mod Relation
+pub mod Claims
+pub mod Region
+pub mod Registered
+pub mod Old
+pub mod WholeTrees
+pub mod WholeRegion
+pub mod WholePlaces
+pub mod WholeLists
+pub mod WholeMatches
+pub mod WholeFits
