@@ -1,0 +1,4 @@
+pub mod Folded
+pub mod Normal
+pub mod Pieces
+pub mod Statements
