@@ -1,0 +1,4 @@
+pub mod Numbered
+pub mod Order
+pub mod Renamed
+pub mod Temporaries
