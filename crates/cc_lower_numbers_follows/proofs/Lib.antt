@@ -1,0 +1,16 @@
+pub mod Actives
+pub mod Controls
+pub mod Effects
+pub mod Events
+pub mod Gets
+pub mod Meanings
+pub mod Places
+pub mod Registers
+pub mod Rows
+pub mod Seen
+pub mod Starts
+pub mod Steps
+pub mod Traces
+pub mod Turns
+pub mod Values
+pub mod Whole
