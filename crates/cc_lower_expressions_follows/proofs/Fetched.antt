@@ -1,5 +1,5 @@
 -- Reads: of a register that stays, of one that is copied, and of what stands in a statement of its own.
-use Rattle.std.proofs.Common.{◌≡◌, ◌<◌, ◌≤◌, ℕ, ◌+◌, List, [], ◌∷◌, ◌++◌, Option, Some, None, Bool, true, false, refl, subst, sym, ◌∙◌, arith}
+use Rattle.std.proofs.Common.{◌≡◌, ◌<◌, ◌≤◌, ℕ, ◌+◌, List, [], ◌∷◌, ◌++◌, Option, Some, Bool, true, false, refl, subst, sym, ◌∙◌, arith}
 use Rattle.cc_program.specs.declared.value.Value.{Value}
 use Rattle.cc_program.specs.declared.value.Cell.{Cell}
 use Rattle.cc_eval.specs.declared.action.Manner.{Manner}

@@ -76,4 +76,5 @@ pub mod WholeVisible
 pub mod WholeAsks
 pub mod WholeTemporaries
 pub mod WholeTyped
+pub mod WholeCode
 pub mod WholeRight

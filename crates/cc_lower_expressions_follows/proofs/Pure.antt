@@ -2,9 +2,6 @@
 use Rattle.std.proofs.Common.{◌≡◌, ◌<◌, ℕ, Bool, true, false, ◌&&◌, Option, Some, None, refl, ap, sym, ◌∙◌, subst}
 use Rattle.cc_program.specs.declared.value.Value.{Value}
 use Rattle.cc_syntax.specs.Effects.{Registers, no_one, also}
-use Rattle.cc_syntax.specs.Registers.{is_register}
-use Rattle.cc_syntax.specs.Values.{ValueType}
-use Rattle.cc_states.specs.Typed.{HasType, cell_type}
 use Rattle.cc_eval.specs.declared.action.Action.{Action}
 use Rattle.cc_eval.specs.declared.action.Action.TheVariants.{Choose}
 use Rattle.cc_eval.specs.declared.mark.Mark.{Mark}
@@ -12,7 +9,7 @@ use Rattle.cc_eval.specs.declared.mark.Mark.TheVariants.{Chose}
 use Rattle.cc_eval.specs.Eval.{Meaning, Designation, from_one, from_two, both_values, choice, branch, outcome, arms}
 use Rattle.cc_eval.specs.Progress.{Get, known, bind}
 use Rattle.cc_values.specs.Values.{truth}
-use Rattle.cc_lower_expressions_follows.specs.Trees.{Regs, Setting, register_cell, Own, Other, RunsBy, RunsLeft, Runs, Is, Steps, Chooses}
+use Rattle.cc_lower_expressions_follows.specs.Trees.{Regs, Setting, Own, Other, RunsBy, RunsLeft, Runs, Is, Steps, Chooses}
 use Rattle.cc_lower_expressions_follows.proofs.TreeLaws.{runs_bind}
 
 -- a choice between quiet trees, of a pure expression

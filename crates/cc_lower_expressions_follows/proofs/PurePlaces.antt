@@ -22,7 +22,7 @@ use Rattle.cc_eval.specs.Eval.{Meaning, Designation, meaning, designation, choic
 use Rattle.cc_eval.specs.Progress.{known, bind}
 use Rattle.cc_values.specs.Values.{integer, address_in}
 use Rattle.cc_lower_expressions_follows.specs.Trees.{Setting, context_p, context_q, register_cell, Runs, Is, Steps, Reads}
-use Rattle.cc_lower_expressions_follows.specs.Relation.{Alike, Agree}
+use Rattle.cc_lower_expressions_follows.specs.Relation.{Alike}
 use Rattle.cc_lower_expressions_follows.specs.Old.{is_old, is_old_place}
 use Rattle.cc_lower_expressions_follows.proofs.Fetched.{fetch, of_register, own_read}
 use Rattle.cc_lower_expressions_follows.proofs.Opened.{at_level, at_place_level, at-Load, at-Local}

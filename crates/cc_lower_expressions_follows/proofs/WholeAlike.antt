@@ -1,7 +1,6 @@
 -- Where local states match, both make the same transition, and approach each other again behind it.
-use Rattle.std.proofs.Common.{◌≡◌, ◌⊎◌, inl, inr, ℕ, ℤ, Bool, true, false, List, [], ◌∷◌, ◌++◌, Option, Some, None, refl, ap, sym, ◌∙◌, subst}
+use Rattle.std.proofs.Common.{◌≡◌, inr, ℕ, ℤ, Bool, true, false, List, [], ◌∷◌, ◌++◌, Option, Some, None, refl, ap, sym, ◌∙◌, subst}
 use Rattle.std.specs.Prelude.{slice_get, pos}
-use Rattle.std.specs.Ordering.{int_eq}
 use Rattle.cc_control.specs.declared.phase.Phase.TheVariants.{First, Test}
 use Rattle.cc_control.specs.Control.{behind_body}
 use Rattle.cc_eval.specs.declared.action.Action.{Action}
@@ -20,14 +19,14 @@ use Rattle.cc_steps.specs.Step.{worked, progress_in, number_in}
 use Rattle.cc_values.specs.Values.{is_true}
 use Rattle.cc_states.specs.Answers.{IsMarkOf}
 use Rattle.cc_eval.proofs.Works.{one_answer}
-use Rattle.cc_meaning_simulations.specs.Continuations.{Continuation, Remainder, remainder, resume, enclosing, in_arm, in_loop, in_cases, found_case, break_out, continue_on, next_continuation}
+use Rattle.cc_meaning_simulations.specs.Continuations.{Remainder, remainder, resume, enclosing, in_arm, in_cases, found_case}
 use Rattle.cc_meaning_simulations.specs.LocalSimulations.{AreAlike as AlikeIn, Approaches, Expects}
 use Rattle.cc_meaning_simulations.specs.LocalSteps.{LocalState, Locals, local_state}
-use Rattle.cc_meaning_simulations.specs.Transitions.{ControlState, Transition, FallsOff, Performs, Jumps, Returns, is_at_boundary, jump_to, marked_control, progress_there, transition_in, transition}
+use Rattle.cc_meaning_simulations.specs.Transitions.{ControlState, Transition, Performs, Jumps, is_at_boundary, jump_to, marked_control, progress_there, transition_in, transition}
 use Rattle.cc_lower_expressions_follows.specs.Trees.{Regs, Setting, after, IsShared}
 use Rattle.cc_lower_expressions_follows.specs.Registered.{regs_in}
 use Rattle.cc_lower_expressions_follows.specs.Region.{next_q}
-use Rattle.cc_lower_expressions_follows.specs.WholeLists.{is_one_at, RunAlike, GivesAlike, AreBranches, Ifs, Switches, AreLowered, AreLoweredCases, AreAround, InBranch, InLoop, IsLast, LastIf, LastSwitch, LastReturn, IsLoweredRight}
+use Rattle.cc_lower_expressions_follows.specs.WholeLists.{is_one_at, RunAlike, GivesAlike, AreBranches, Ifs, AreLowered, AreLoweredCases, AreAround, InBranch, InLoop, IsLast, LastIf, LastSwitch, LastReturn}
 use Rattle.cc_lower_expressions_follows.specs.WholeMatches.{needed, AreAlike, AreTogether, MatchIn, InEffect, InOperand, AtValue, AtLoop, AtBreak, AtContinue, AtReturn, AtEnd}
 use Rattle.cc_lower_expressions_follows.specs.WholePlaces.{opened_at, IsTypedAt, MarkFits, AreAt}
 use Rattle.cc_lower_expressions_follows.specs.WholeRegion.{control_in, nowhere, next_p, IsWorkedIn, InDo, StandsInStatement}
@@ -36,7 +35,7 @@ use Rattle.cc_lower_expressions_follows.proofs.WholeBridge.{IsLowered, its_befor
 use Rattle.cc_lower_expressions_follows.proofs.WholeEffects.{effect_goes_on}
 use Rattle.cc_lower_expressions_follows.proofs.WholeJumps.{breaks, continues, list_begins}
 use Rattle.cc_lower_expressions_follows.proofs.WholeLists.{AreBegun}
-use Rattle.cc_lower_expressions_follows.proofs.WholeOperands.{operand_goes_on, AreLast, last_kinds}
+use Rattle.cc_lower_expressions_follows.proofs.WholeOperands.{operand_goes_on, last_kinds}
 use Rattle.cc_lower_expressions_follows.proofs.WholeRegions.{GoesOn, ByStep, ByBranch, goes_on}
 use Rattle.cc_lower_expressions_follows.proofs.WholeStatements.{StepsTo, steps_to, transition_is}
 use Rattle.cc_lower_expressions_follows.proofs.WholeTrees.{behind_both}

@@ -1,5 +1,5 @@
 -- Expressions that are assignments, calls or intrinsics ask for a step before they have a value; the constant 1 has its value at once.
-use Rattle.std.proofs.Common.{◌≡◌, List, [], ◌∷◌, ◌++◌, map, Option, Some, None, Bool, true, false, refl, sym, ap, ◌∙◌, subst}
+use Rattle.std.proofs.Common.{◌≡◌, List, [], ◌∷◌, ◌++◌, map, Option, Some, None, true, false, refl, sym, ap, ◌∙◌, subst}
 use Rattle.std.specs.Prelude.{pos}
 use Rattle.std.proofs.lemmas.Bool.Decides.{Decides-int_eq}
 use Rattle.cc_eval.specs.declared.action.Action.{Action}
@@ -9,11 +9,11 @@ use Rattle.cc_eval.specs.declared.spots.Spot.{Spot}
 use Rattle.cc_eval.specs.Context.{Context, reached, is_seen}
 use Rattle.cc_eval.specs.Eval.{Meaning, meaning, designation, place_and_value, stored, each, assigned_by, called_with, all_good}
 use Rattle.cc_eval.specs.Marks.{UsesFirst}
-use Rattle.cc_eval.specs.Progress.{Progress, Known, Waits, Traps, Get, known, trap, ask, and_then, bind, needs, given}
+use Rattle.cc_eval.specs.Progress.{Progress, Known, Waits, Traps, Get, known, ask, and_then, bind, needs, given}
 use Rattle.cc_eval.proofs.Links.{level}
 use Rattle.cc_eval.proofs.MeaningUses.{meaning_uses, designation_uses}
 use Rattle.cc_eval.proofs.Uses.{uses_known, uses_bind}
-use Rattle.cc_program.specs.declared.expr.Expr.{Expr, out-Expr, roll-Expr, roll-out-Expr}
+use Rattle.cc_program.specs.declared.expr.Expr.{Expr, out-Expr, roll-out-Expr}
 use Rattle.cc_program.specs.declared.expr.Expr.TheOpen as one
 use Rattle.cc_program.specs.declared.expr.Intr.TheVariants as intr
 use Rattle.cc_program.specs.declared.expr.Place.{Place}

@@ -8,8 +8,8 @@ use Rattle.cc_eval.specs.declared.action.Action.{Action}
 use Rattle.cc_eval.specs.declared.action.Action.TheVariants.{Read, Write, Choose}
 use Rattle.cc_eval.specs.declared.action.Manner.{Manner}
 use Rattle.cc_eval.specs.declared.mark.Mark.{Mark}
-use Rattle.cc_eval.specs.declared.mark.Mark.TheVariants.{Gave, Did, Chose}
-use Rattle.cc_eval.specs.Progress.{Progress, Known, Waits, Traps, Get, known, and_then, bind}
+use Rattle.cc_eval.specs.declared.mark.Mark.TheVariants.{Gave}
+use Rattle.cc_eval.specs.Progress.{Progress, Known, Waits, Get, known, and_then, bind}
 use Rattle.cc_eval.specs.Marks.{UsesFirst}
 use Rattle.cc_program.specs.declared.expr.Expr.{Expr}
 use Rattle.cc_program.specs.declared.func.Func.{Func}
@@ -24,16 +24,16 @@ use Rattle.cc_eval.proofs.Works.{one_answer}
 use Rattle.cc_meaning_simulations.specs.Continuations.{Remainder, resume}
 use Rattle.cc_meaning_simulations.specs.LocalSimulations.{Approaches, Arrives, QGoes, PGoes, BothTrap}
 use Rattle.cc_meaning_simulations.specs.LocalSteps.{LocalState, Locals, Jump, TrapsNext, Trapping, local_state}
-use Rattle.cc_meaning_simulations.specs.Transitions.{ControlState, is_at_boundary, jump_to, marked_control, transition}
+use Rattle.cc_meaning_simulations.specs.Transitions.{ControlState, is_at_boundary, jump_to, marked_control}
 use Rattle.cc_lower_expressions_follows.specs.Trees.{Regs, with_reg, Setting, after, CanGive, register_cell, IsQuiet, Reads, Writes, Chooses, Fails, Ends, Stuck, Refused, IsShared}
 use Rattle.cc_lower_expressions_follows.specs.Registered.{regs_in}
 use Rattle.cc_lower_expressions_follows.specs.Region.{is_step, next_q}
-use Rattle.cc_lower_expressions_follows.specs.WholeRegion.{control_in, nowhere, next_p, IsWorkedIn, StandsInStatement, Working, Left, StandsInCode, Amid, Past}
+use Rattle.cc_lower_expressions_follows.specs.WholeRegion.{nowhere, next_p, IsWorkedIn, StandsInStatement, Working, Left, StandsInCode, Amid, Past}
 use Rattle.cc_lower_expressions_follows.specs.WholePlaces.{AllThere, opened_at, IsTypedAt, AreAt}
 use Rattle.cc_lower_expressions_follows.specs.WholeTrees.{Does, Finish, OfP, OfQ, OfBoth, NoMore, AreTyped}
 use Rattle.cc_lower_expressions_follows.proofs.WholeRegions.{GoesOn, ByStep, ByBranch, goes_on, aborts_in_code, code_is_past}
 use Rattle.cc_lower_expressions_follows.proofs.WholeStatements.{StepsTo, steps_to, aborts_there}
-use Rattle.cc_lower_expressions_follows.proofs.WholeSteps.{IsOf, Leads, quiet_leads, fails_traps}
+use Rattle.cc_lower_expressions_follows.proofs.WholeSteps.{IsOf, quiet_leads, fails_traps}
 use Rattle.cc_lower_expressions_follows.proofs.WholeTrees.{HasOwn, same_waits, known_no_wait, known_no_trap, first_of_p, first_of_q}
 
 pub quiet_again : (w v : Setting) → w.number ≡ v.number → w.id ≡ v.id → (f : Func) (action : Action) (r t : Regs) (m : Mark) → IsQuiet w f action r m t → IsQuiet v f action r m t

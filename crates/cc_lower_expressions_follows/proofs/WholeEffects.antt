@@ -1,5 +1,5 @@
 -- An expression statement: its code is run as it is, and then both go on behind it.
-use Rattle.std.proofs.Common.{◌≡◌, ◌≤◌, ◌⊎◌, inl, inr, ℕ, Bool, true, false, List, [], ◌∷◌, ◌++◌, Option, Some, None, refl, ap, sym, ◌∙◌, subst}
+use Rattle.std.proofs.Common.{◌≡◌, ◌≤◌, ◌⊎◌, inl, inr, ℕ, Bool, true, false, List, [], ◌∷◌, ◌++◌, Some, refl, ap, sym, ◌∙◌, subst}
 use Rattle.std.specs.Prelude.{slice_get}
 use Rattle.cc_control.specs.declared.phase.Phase.TheVariants.{First}
 use Rattle.cc_eval.specs.declared.action.Action.{Action}
@@ -11,7 +11,6 @@ use Rattle.cc_program.specs.declared.stmt.Case.{Case}
 use Rattle.cc_program.specs.declared.stmt.Stmt.{Stmt, out-Stmt}
 use Rattle.cc_program.specs.declared.stmt.Stmt.TheOpen as is
 use Rattle.cc_program.specs.declared.value.Value.{Value}
-use Rattle.cc_states.specs.Answers.{AreItsMarks}
 use Rattle.cc_syntax.specs.Effects.{no_one}
 use Rattle.cc_meaning_simulations.specs.Continuations.{Remainder, remainder, resume}
 use Rattle.cc_meaning_simulations.specs.LocalSimulations.{Approaches, PGoes}
@@ -22,7 +21,6 @@ use Rattle.cc_lower_expressions.specs.Statements.{lower}
 use Rattle.cc_lower_expressions_follows.specs.Trees.{Regs, Setting, context_p, IsShared}
 use Rattle.cc_lower_expressions_follows.specs.Claims.{good}
 use Rattle.cc_lower_expressions_follows.specs.Registered.{regs_in}
-use Rattle.cc_lower_expressions_follows.specs.Region.{levels_tree}
 use Rattle.cc_lower_expressions_follows.specs.Relation.{code_tree, Declared}
 use Rattle.cc_lower_expressions_follows.specs.WholeLists.{AreSame, RunAlike, effect_of, IsLoweredRight}
 use Rattle.cc_lower_expressions_follows.specs.WholeMatches.{AreAlike, AreTogether, MatchIn, InEffect}
@@ -31,7 +29,7 @@ use Rattle.cc_lower_expressions_follows.specs.WholeRegion.{is_do as does_it, con
 use Rattle.cc_lower_expressions_follows.specs.WholeTrees.{AreTyped}
 use Rattle.cc_lower_expressions_follows.proofs.TreeLaws.{bind-known}
 use Rattle.cc_lower_expressions_follows.proofs.WholeBridge.{IsLowered, IsSoon, bridge}
-use Rattle.cc_lower_expressions_follows.proofs.WholeLists.{AreBegun, Starts, Nearing, begins_there, lower_level}
+use Rattle.cc_lower_expressions_follows.proofs.WholeLists.{AreBegun, begins_there, lower_level}
 use Rattle.cc_lower_expressions_follows.proofs.WholeRegions.{enters_code, enters_at_boundary}
 use Rattle.cc_lower_expressions_follows.proofs.WholeStatements.{known_there, transition_is}
 

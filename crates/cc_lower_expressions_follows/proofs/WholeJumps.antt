@@ -1,5 +1,5 @@
 -- `break` and `continue`: out of the same levels both go to places beside each other.
-use Rattle.std.proofs.Common.{◌≡◌, ℕ, Bool, true, false, List, [], ◌∷◌, Option, Some, None, refl, ap, sym, ◌∙◌, subst, if◌then◌else◌}
+use Rattle.std.proofs.Common.{◌≡◌, ℕ, Bool, true, false, List, [], ◌∷◌, Some, refl, ap, sym, subst, if◌then◌else◌}
 use Rattle.std.specs.Prelude.{slice_get}
 use Rattle.cc_control.specs.declared.phase.Phase.{Phase}
 use Rattle.cc_control.specs.declared.phase.Phase.TheVariants.{First, Test}
@@ -13,7 +13,7 @@ use Rattle.cc_meaning_simulations.specs.LocalSteps.{LocalState, Locals, local_st
 use Rattle.cc_meaning_simulations.specs.Transitions.{ControlState, jump_to}
 use Rattle.cc_lower_expressions_follows.specs.Trees.{Setting}
 use Rattle.cc_lower_expressions_follows.specs.Registered.{regs_in}
-use Rattle.cc_lower_expressions_follows.specs.WholeLists.{AreBranches, Ifs, Switches, AreLowered, AreAround, Outside, InBranch, InGuard, InLoop}
+use Rattle.cc_lower_expressions_follows.specs.WholeLists.{AreBranches, Ifs, Switches, AreAround, Outside, InBranch, InGuard, InLoop}
 use Rattle.cc_lower_expressions_follows.specs.WholeMatches.{AreAlike, AreTogether, MatchIn, AtEnd}
 use Rattle.cc_lower_expressions_follows.specs.WholePlaces.{opened_at}
 use Rattle.cc_lower_expressions_follows.specs.WholeRegion.{control_in, nowhere}

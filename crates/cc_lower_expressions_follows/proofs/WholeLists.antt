@@ -1,17 +1,14 @@
 -- Where p goes on with lists of statements and q with what these become, local states approach each other.
-use Rattle.std.proofs.Common.{arith, ◌≡◌, ◌≤◌, ◌⊎◌, inl, inr, ◌&&◌, ◌||◌, ◌+◌, ℕ, suc, Bool, true, false, List, [], ◌∷◌, ◌++◌, length, map, Option, Some, None, refl, ap, sym, ◌∙◌, subst, append_assoc, append-nil, if◌then◌else◌}
+use Rattle.std.proofs.Common.{arith, ◌≡◌, ◌≤◌, ◌+◌, ℕ, suc, Bool, true, false, List, [], ◌∷◌, ◌++◌, length, Option, Some, None, refl, ap, sym, ◌∙◌, subst, if◌then◌else◌}
 use Rattle.std.specs.Prelude.{slice_get}
 use Rattle.cc_control.specs.declared.phase.Phase.{Phase}
 use Rattle.cc_control.specs.declared.phase.Phase.TheVariants.{First, Test}
 use Rattle.cc_control.specs.Control.{is_loop, opening, first_phase}
-use Rattle.cc_eval.specs.declared.mark.Mark.{Mark}
-use Rattle.cc_eval.specs.Progress.{Progress, Known, Waits, Traps, Get, known, needs, bind}
 use Rattle.cc_program.specs.declared.expr.Expr.{Expr, out-Expr}
 use Rattle.cc_program.specs.declared.program.Program.{Program}
-use Rattle.cc_program.specs.declared.stmt.Case.{Case, fold-Case}
-use Rattle.cc_program.specs.declared.stmt.Stmt.{Stmt, out-Stmt, map-Stmt, fold-Stmt, fold_out-Stmt}
+use Rattle.cc_program.specs.declared.stmt.Case.{Case}
+use Rattle.cc_program.specs.declared.stmt.Stmt.{Stmt, out-Stmt, map-Stmt, fold_out-Stmt}
 use Rattle.cc_program.specs.declared.stmt.Stmt.TheOpen as is
-use Rattle.cc_program.specs.declared.value.Value.{Value}
 use Rattle.cc_program.proofs.Each.{Each}
 use Rattle.cc_steps.specs.Runs.{begins_at}
 use Rattle.cc_steps.specs.Step.{is_past, passed}
@@ -20,9 +17,9 @@ use Rattle.cc_meaning_simulations.specs.LocalSimulations.{Approaches, Arrives}
 use Rattle.cc_meaning_simulations.specs.LocalSteps.{LocalState, Locals, local_state}
 use Rattle.cc_meaning_simulations.specs.Transitions.{ControlState, at_continuation, is_at_boundary, jump_to}
 use Rattle.cc_meaning_simulations.proofs.ContinuationLemmas.{begin_stands}
-use Rattle.cc_lower_expressions.specs.Expressions.{Temps, Piece, Make}
+use Rattle.cc_lower_expressions.specs.Expressions.{Temps, Make}
 use Rattle.cc_lower_expressions.specs.Statements.{lower, lower_case, lower_in, lower_case_in, lower_list}
-use Rattle.cc_lower_expressions_follows.specs.Trees.{Regs, Setting}
+use Rattle.cc_lower_expressions_follows.specs.Trees.{Setting}
 use Rattle.cc_lower_expressions_follows.specs.Registered.{regs_in}
 use Rattle.cc_lower_expressions_follows.specs.Relation.{Declared}
 use Rattle.cc_lower_expressions_follows.specs.WholeLists.{is_one_at, AreBranches, Ifs, Switches, AreLowered, NoneLowered, OneLowered, AreAround, Outside, InBranch, InGuard, InLoop}

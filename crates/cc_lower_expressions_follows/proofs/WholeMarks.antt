@@ -1,12 +1,11 @@
 -- In a state of the source the marks that a step leaves are ones of that step, and a function is called with arguments of its types.
-use Rattle.std.proofs.Common.{◌≡◌, ◌⊎◌, ◌||◌, ◌==◌, ℕ, ℤ, Bool, true, false, List, [], ◌∷◌, ◌++◌, length, Option, Some, None, option_map, refl, ap, sym, ◌∙◌, subst, if◌then◌else◌}
+use Rattle.std.proofs.Common.{◌≡◌, ℕ, ℤ, Bool, true, false, List, [], ◌∷◌, Option, Some, None, option_map, refl, ap, sym, ◌∙◌, subst, if◌then◌else◌}
 use Rattle.std.specs.Prelude.{slice_get}
 use Rattle.std.proofs.lemmas.Option.{same_Some}
 use Rattle.cc_num.specs.declared.int_type.IntType.TheVariants as int
 use Rattle.cc_num.specs.Integers.{converted}
 use Rattle.cc_num.proofs.Conversions.{converted-IsValueOf}
 use Rattle.cc_num.proofs.ResultLaws.{is_value_from}
-use Rattle.cc_control.specs.declared.phase.Phase.{Phase}
 use Rattle.cc_control.specs.Control.{Level}
 use Rattle.cc_eval.specs.declared.action.Action.{Action}
 use Rattle.cc_eval.specs.declared.action.Action.TheVariants.{Read, Write, Choose, Call, Flag, Save}
@@ -32,9 +31,9 @@ use Rattle.cc_steps.specs.declared.content.Content.TheVariants.{Gone, Unwritten,
 use Rattle.cc_steps.specs.State.{Active, Memory, State}
 use Rattle.cc_steps.specs.Step.{cell_position, content_at, is_return, progress_of, progress_in, return_mark, worked}
 use Rattle.cc_syntax.specs.Sound.{IsTypedProgram}
-use Rattle.cc_syntax.specs.Values.{ValueType, NoValue, Integer}
-use Rattle.cc_states.specs.Answers.{IsAction, IsMarkOf, AreItsMarks}
-use Rattle.cc_states.specs.States.{worked_at, expression_of, AreMarks, context_in, AreLocals, IsActive, IsStateOf, IsState}
+use Rattle.cc_syntax.specs.Values.{ValueType, Integer}
+use Rattle.cc_states.specs.Answers.{IsAction, IsMarkOf}
+use Rattle.cc_states.specs.States.{worked_at, expression_of, AreMarks, context_in, IsActive, IsStateOf, IsState}
 use Rattle.cc_states.specs.Typed.{HasType, AreArguments, cell_type}
 use Rattle.cc_states.proofs.StateLemmas.{asked}
 use Rattle.cc_states.proofs.StepLemmas.{held}
@@ -42,9 +41,8 @@ use Rattle.cc_states.proofs.TypedLemmas.{promoted_value}
 use Rattle.cc_meaning_simulations.specs.LocalSimulations.{AreFitting, IsResult, answer_mark, content_mark, input_mark}
 use Rattle.cc_meaning_simulations.specs.LocalSteps.{local_state_of}
 use Rattle.cc_meaning_simulations.specs.StepSimulations.{going}
-use Rattle.cc_meaning_simulations.specs.Transitions.{ControlState, Transition, FallsOff, Performs, Aborts, Jumps, Returns, control_state, transition_at, transition_in, transition}
-use Rattle.cc_lower_expressions_follows.specs.WholeFits.{worked_in, setting_of, FitsThere, OpensWith}
-use Rattle.cc_lower_expressions_follows.specs.WholeRegion.{next_p}
+use Rattle.cc_meaning_simulations.specs.Transitions.{ControlState, Transition, Performs, Jumps, Returns, control_state, transition_at, transition_in, transition}
+use Rattle.cc_lower_expressions_follows.specs.WholeFits.{worked_in, FitsThere, OpensWith}
 use Rattle.cc_lower_expressions_follows.proofs.WholePrograms.{SameRegisters}
 use Rattle.cc_lower_expressions_follows.proofs.WholeStates.{registers_typed, arguments_passed}
 

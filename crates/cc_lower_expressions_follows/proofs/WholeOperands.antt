@@ -1,6 +1,5 @@
 -- A statement that goes on by a value: its code is run as its full expression, q works what is left, and then both have the value.
-use Rattle.std.proofs.Common.{◌≡◌, ◌≤◌, ◌⊎◌, inl, inr, ℕ, Bool, true, false, List, [], ◌∷◌, ◌++◌, Option, Some, None, refl, ap, sym, ◌∙◌, subst}
-use Rattle.std.specs.Prelude.{slice_get}
+use Rattle.std.proofs.Common.{◌≡◌, ◌≤◌, inl, ℕ, Bool, true, false, List, [], ◌∷◌, ◌++◌, Option, Some, None, refl, ap, sym, ◌∙◌, subst}
 use Rattle.cc_control.specs.declared.phase.Phase.TheVariants.{First}
 use Rattle.cc_eval.specs.declared.action.Action.{Action}
 use Rattle.cc_eval.specs.declared.mark.Mark.{Mark}
@@ -17,16 +16,16 @@ use Rattle.cc_syntax.specs.Effects.{no_one}
 use Rattle.cc_meaning_simulations.specs.Continuations.{Remainder, remainder, resume}
 use Rattle.cc_meaning_simulations.specs.LocalSimulations.{Approaches, Arrives, BothTrap}
 use Rattle.cc_meaning_simulations.specs.LocalSteps.{LocalState, Locals, Trapping, local_state}
-use Rattle.cc_meaning_simulations.specs.Transitions.{ControlState, is_at_boundary, jump_to, transition_in, transition}
+use Rattle.cc_meaning_simulations.specs.Transitions.{ControlState, is_at_boundary, jump_to, transition_in}
 use Rattle.cc_lower_expressions_follows.specs.Trees.{Regs, Setting, context_p, context_q, IsShared}
 use Rattle.cc_lower_expressions_follows.specs.Registered.{regs_in}
-use Rattle.cc_lower_expressions_follows.specs.Region.{levels_tree, next_q, rest_of}
+use Rattle.cc_lower_expressions_follows.specs.Region.{next_q}
 use Rattle.cc_lower_expressions_follows.specs.Relation.{code_tree, Declared}
 use Rattle.cc_lower_expressions_follows.specs.WholeLists.{AreSame, GivesAlike, piece_of, IsLoweredRight, IsLast, LastIf, LastSwitch, LastReturn}
 use Rattle.cc_lower_expressions_follows.specs.WholeMatches.{needed, AreAlike, AreTogether, MatchIn, InOperand, AtValue}
 use Rattle.cc_lower_expressions_follows.specs.WholePlaces.{AllThere, opened_at, IsTypedAt, AreAt}
-use Rattle.cc_lower_expressions_follows.specs.WholeRegion.{is_do, control_in, nowhere, next_p, left_of, IsWorkedIn, InDo, InIf, InSwitch, InReturn, StandsInStatement, Working, Left, StandsInCode}
-use Rattle.cc_lower_expressions_follows.specs.WholeTrees.{Does, AreTyped}
+use Rattle.cc_lower_expressions_follows.specs.WholeRegion.{is_do, control_in, nowhere, IsWorkedIn, InDo, InIf, InSwitch, InReturn, StandsInStatement, Working, Left, StandsInCode}
+use Rattle.cc_lower_expressions_follows.specs.WholeTrees.{Does}
 use Rattle.cc_lower_expressions_follows.proofs.TreeLaws.{bind-known}
 use Rattle.cc_lower_expressions_follows.proofs.WholeBridge.{IsLowered, IsSoon, bridge}
 use Rattle.cc_lower_expressions_follows.proofs.WholeLists.{AreBegun, begins_there}

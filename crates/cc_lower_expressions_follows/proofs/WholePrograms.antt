@@ -1,22 +1,20 @@
 -- The program with lowered expressions follows its source and answers it.
-use Rattle.std.proofs.Common.{arith, ◌≡◌, ◌≤◌, ◌<◌, ◌⊎◌, inl, inr, ◌||◌, ◌==◌, ℕ, ℤ, Bool, true, false, List, [], ◌∷◌, ◌++◌, length, Option, Some, None, option_map, refl, ap, sym, ◌∙◌, subst}
-use Rattle.std.specs.Prelude.{slice_get, nat_le, nat_lt, pos}
-use Rattle.std.proofs.lemmas.Bool.{leb-false, leb-true, lt-ltb}
-use Rattle.std.proofs.lemmas.List.{append-nil}
+use Rattle.std.proofs.Common.{arith, ◌≡◌, ◌<◌, inl, ◌||◌, ℕ, ℤ, Bool, true, false, List, [], ◌∷◌, length, Option, Some, option_map, refl, ap, sym, ◌∙◌, subst}
+use Rattle.std.specs.Prelude.{slice_get, nat_le, nat_lt}
+use Rattle.std.proofs.lemmas.Bool.{leb-false, lt-ltb}
 use Rattle.std.proofs.lemmas.Option.{same_Some}
 use Rattle.cc_control.specs.declared.phase.Phase.TheVariants.{First}
 use Rattle.cc_eval.specs.declared.action.Action.{Action}
 use Rattle.cc_eval.specs.declared.mark.Mark.{Mark}
-use Rattle.cc_eval.specs.Progress.{Progress, Known, Waits, Get}
+use Rattle.cc_eval.specs.Progress.{Waits, Get}
 use Rattle.cc_eval.proofs.MeaningUses.{meaning_uses}
-use Rattle.cc_program.specs.declared.expr.Expr.{Expr, out-Expr}
+use Rattle.cc_program.specs.declared.expr.Expr.{Expr}
 use Rattle.cc_program.specs.declared.func.Func.{Func}
 use Rattle.cc_program.specs.declared.program.Program.{Program}
 use Rattle.cc_program.specs.declared.stmt.Case.{Case}
 use Rattle.cc_program.specs.declared.stmt.Stmt.{Stmt, out-Stmt}
 use Rattle.cc_program.specs.declared.stmt.Stmt.TheOpen as is
 use Rattle.cc_program.specs.declared.value.Value.{Value}
-use Rattle.cc_program.specs.declared.value.Value.TheVariants.{Int}
 use Rattle.cc_program.proofs.Each.{Each}
 use Rattle.cc_steps.specs.Rows.{rows_of}
 use Rattle.cc_steps.specs.Runs.{Follows, Answers}
@@ -24,9 +22,8 @@ use Rattle.cc_steps.specs.State.{Active, Memory, State, locals_with}
 use Rattle.cc_steps.specs.Step.{worked}
 use Rattle.cc_steps.specs.Turn.{start, turn}
 use Rattle.cc_syntax.specs.Effects.{no_one}
-use Rattle.cc_syntax.specs.Forms.{form_of}
 use Rattle.cc_syntax.specs.Registers.{is_register}
-use Rattle.cc_meaning_simulations.specs.Bodies.{AddsScalars, all_extended, extended}
+use Rattle.cc_meaning_simulations.specs.Bodies.{all_extended, extended}
 use Rattle.cc_meaning_simulations.specs.Continuations.{Remainder, remainder}
 use Rattle.cc_meaning_simulations.specs.LocalSimulations.{AreAlike as AlikeIn, AreFitting, Approaches, Expects, is_action_visible}
 use Rattle.cc_meaning_simulations.specs.LocalSteps.{LocalState, Locals, after_write, begun_state, local_state, local_state_of}
@@ -37,11 +34,10 @@ use Rattle.cc_meaning_simulations.proofs.MoreLocals.{funcs_same}
 use Rattle.cc_lower_expressions.specs.Programs.{made_of, lowered_body, temporaries, lower_expressions_program}
 use Rattle.cc_lower_expressions_follows.specs.Trees.{Setting, context_p, context_q, is_own}
 use Rattle.cc_lower_expressions_follows.specs.Registered.{regs_in}
-use Rattle.cc_lower_expressions_follows.specs.Region.{is_step, next_q}
 use Rattle.cc_lower_expressions_follows.specs.Relation.{Declared}
-use Rattle.cc_lower_expressions_follows.specs.WholeFits.{worked_in, setting_of, hides_in, hides, FitsThere, OpensWith}
-use Rattle.cc_lower_expressions_follows.specs.WholeLists.{is_one_at, IsNormal, IsLoweredRight, AreLowered, Outside}
-use Rattle.cc_lower_expressions_follows.specs.WholeMatches.{AreAlike, AreTogether, MatchIn}
+use Rattle.cc_lower_expressions_follows.specs.WholeFits.{setting_of, hides_in, hides, FitsThere, OpensWith}
+use Rattle.cc_lower_expressions_follows.specs.WholeLists.{IsNormal, IsLoweredRight, Outside}
+use Rattle.cc_lower_expressions_follows.specs.WholeMatches.{AreTogether, MatchIn}
 use Rattle.cc_lower_expressions_follows.specs.WholePlaces.{opened_at, MarkFits}
 use Rattle.cc_lower_expressions_follows.specs.WholeRegion.{control_in, next_p, IsWorkedIn, InDo, InIf, InSwitch, InReturn, StandsInStatement, Working, Left}
 use Rattle.cc_lower_expressions_follows.specs.WholeTrees.{AreTyped}

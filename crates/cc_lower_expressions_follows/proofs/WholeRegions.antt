@@ -1,5 +1,5 @@
 -- The control of q that stands in code of expression statements and `if`s goes on as the tree of that code.
-use Rattle.std.proofs.Common.{◌≡◌, ℕ, Bool, true, false, ◌&&◌, List, [], ◌∷◌, ◌++◌, Option, Some, None, refl, ap, sym, ◌∙◌, subst, append_assoc, append-nil, if◌then◌else◌}
+use Rattle.std.proofs.Common.{◌≡◌, Bool, true, false, ◌&&◌, List, [], ◌∷◌, ◌++◌, Option, Some, None, refl, ap, sym, ◌∙◌, subst, append_assoc, append-nil, if◌then◌else◌}
 use Rattle.std.specs.Prelude.{slice_get}
 use Rattle.std.proofs.Math.Path.{fun_ext}
 use Rattle.cc_control.specs.declared.phase.Phase.{Phase}
@@ -12,20 +12,20 @@ use Rattle.cc_eval.specs.Marks.{IsUsed, UsesFirst}
 use Rattle.cc_program.specs.declared.expr.Expr.{Expr}
 use Rattle.cc_program.specs.declared.func.Func.{Func}
 use Rattle.cc_program.specs.declared.stmt.Case.{Case, fold-Case}
-use Rattle.cc_program.specs.declared.stmt.Stmt.{Stmt, out-Stmt, fold-Stmt, fold_out-Stmt, map-Stmt}
+use Rattle.cc_program.specs.declared.stmt.Stmt.{Stmt, out-Stmt, fold_out-Stmt, map-Stmt}
 use Rattle.cc_program.specs.declared.stmt.Stmt.TheOpen as is
 use Rattle.cc_program.specs.declared.value.Value.{Value}
 use Rattle.cc_steps.specs.Runs.{begins_at}
 use Rattle.cc_steps.specs.Step.{is_known, worked, progress_in}
 use Rattle.cc_syntax.specs.Forms.{form_of}
 use Rattle.cc_values.specs.Values.{truth, is_true}
-use Rattle.cc_meaning_simulations.specs.Continuations.{Continuation, Remainder, remainder, resume, past, in_arm, enclosing}
-use Rattle.cc_meaning_simulations.specs.Transitions.{ControlState, is_at_boundary, at_continuation, mark_added, begun_there, jump_to, progress_there, settled_control_in, settled_control, marked_control, Transition, FallsOff, Performs, Aborts, Jumps, transition_in, transition_at, transition}
+use Rattle.cc_meaning_simulations.specs.Continuations.{Continuation, Remainder, remainder, resume, in_arm, enclosing}
+use Rattle.cc_meaning_simulations.specs.Transitions.{ControlState, is_at_boundary, at_continuation, begun_there, jump_to, progress_there, settled_control_in, marked_control, Performs, Aborts, Jumps, transition_in, transition}
 use Rattle.cc_meaning_simulations.proofs.ContinuationLemmas.{begin_stands}
 use Rattle.cc_lower_expressions_follows.specs.Trees.{Setting, after}
 use Rattle.cc_lower_expressions_follows.specs.Relation.{finished, forked, code_tree, tree_step, stmt_tree}
 use Rattle.cc_lower_expressions_follows.specs.Region.{code_step, is_code, are_code, AreCode, is_step, next_q, levels_tree, rest_of, current, Kind, Doing, Testing}
-use Rattle.cc_lower_expressions_follows.specs.WholeRegion.{StandsAmid, control_in, nowhere, AmidCode, PastCode, StandsInCode, Amid, Past}
+use Rattle.cc_lower_expressions_follows.specs.WholeRegion.{StandsAmid, control_in, nowhere, AmidCode, StandsInCode, Amid, Past}
 use Rattle.cc_lower_expressions_follows.proofs.TreeLaws.{bind-assoc}
 
 abbrev unit_known : Progress (Unit {0})

@@ -1,5 +1,5 @@
 -- Expressions that are lowered right do what they do from any registers that are the same, whichever activations were opened.
-use Rattle.std.proofs.Common.{◌≡◌, ◌≤◌, ◌<◌, ℕ, suc, true, false, List, [], ◌∷◌, ◌+◌, length, Option, Some, None, refl, sym, ap, ◌∙◌, subst}
+use Rattle.std.proofs.Common.{◌≡◌, ◌≤◌, ◌<◌, ℕ, suc, true, false, List, [], ◌∷◌, ◌+◌, length, Option, Some, refl, subst}
 use Rattle.std.specs.Prelude.{slice_get}
 use Rattle.cc_eval.specs.declared.action.Action.TheVariants.{Write}
 use Rattle.cc_eval.specs.declared.mark.Mark.{Mark}
@@ -8,7 +8,7 @@ use Rattle.cc_eval.specs.Progress.{Get, Waits}
 use Rattle.cc_program.specs.declared.expr.Expr.{Expr}
 use Rattle.cc_program.specs.declared.stmt.Stmt.{Stmt}
 use Rattle.cc_program.specs.declared.value.Value.{Value}
-use Rattle.cc_states.specs.Answers.{IsActivation, AreItsMarks, TakesAddressesOf, IsMarkOf}
+use Rattle.cc_states.specs.Answers.{AreItsMarks, TakesAddressesOf, IsMarkOf}
 use Rattle.cc_states.specs.Typed.{HasType, cell_type}
 use Rattle.cc_states.proofs.EvalTypes.{meaning_typed}
 use Rattle.cc_eval.proofs.Works.{answers_of}
@@ -19,7 +19,7 @@ use Rattle.cc_lower_expressions.specs.Expressions.{Piece, Temps}
 use Rattle.cc_lower_expressions.specs.Statements.{lowered}
 use Rattle.cc_lower_expressions.specs.Temporaries.{declared_type, is_same_type}
 use Rattle.cc_lower_expressions_follows.specs.Trees.{Regs, Setting, context_p, register_cell, Sim, Done, Left, Right, Both, Fail, Runs, Is, Steps}
-use Rattle.cc_lower_expressions_follows.specs.Relation.{Alike, Agree, Declared, Post, Ran, Gives, code_tree, stmt_tree}
+use Rattle.cc_lower_expressions_follows.specs.Relation.{Alike, Agree, Declared, Gives, code_tree, stmt_tree}
 use Rattle.cc_lower_expressions_follows.specs.Claims.{After, Worked, IsRight, good}
 use Rattle.cc_lower_expressions_follows.specs.Old.{is_old}
 use Rattle.cc_lower_expressions_follows.specs.Region.{are_code}
@@ -31,6 +31,7 @@ use Rattle.cc_lower_expressions_follows.proofs.Frames.{holds_now}
 use Rattle.cc_lower_expressions_follows.proofs.Lowered.{lowered_right}
 use Rattle.cc_lower_expressions_follows.proofs.Typing.{TypedExpr}
 use Rattle.cc_lower_expressions_follows.proofs.WholeBridge.{quiet_again}
+use Rattle.cc_lower_expressions_follows.proofs.WholeCode.{lowered_code}
 
 -- what a simulation does, where less is asked at the ends
 module _ (w : Setting) {A B : Type 0} (P Q : A → B → Regs → Regs → Type 0) (weaker : (a : A) (b : B) (r s : Regs) → P a b r s → Q a b r s) where
@@ -82,7 +83,7 @@ module _ (w : Setting) (alike : Alike w) (below : (i : ℕ) → is_register w.fr
       let y = ((meaning_typed (context_p w) openings (record { function = function; number = opened }) e own typed.0 typed.1 no_one).waits ms (Write (register_cell w i) false v) (answers_of (IsMarkOf w.p openings) (next_p w e) ms marks) waits).0 in
       (y.0, y.1, y.3)
 
-  pub lowered_by : ((k : ℕ) → are_code (piece_of w e k).stmts ≡ true) → ((k : ℕ) → are_code (effect_of w e k).stmts ≡ true) → IsLoweredRight w e
+  lowered_by : ((k : ℕ) → are_code (piece_of w e k).stmts ≡ true) → ((k : ℕ) → are_code (effect_of w e k).stmts ≡ true) → IsLoweredRight w e
   lowered_by operand_code effect_code = record {
     operand = λ openings opened k above declared r s same.
         let x = piece_of w e k in
@@ -100,3 +101,6 @@ module _ (w : Setting) (alike : Alike w) (below : (i : ℕ) → is_register w.fr
     effect_code = effect_code;
     writes = writes_typed;
   }
+
+  pub lowered_here : IsLoweredRight w e
+  lowered_here = let code = lowered_code w.p w.from declared_type is_same_type e in lowered_by (code.operand no_one) (code.effect no_one)

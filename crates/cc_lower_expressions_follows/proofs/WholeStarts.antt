@@ -1,11 +1,9 @@
 -- Each statement begins beside what it becomes, and so do lists.
-use Rattle.std.proofs.Common.{arith, ◌≡◌, ◌≤◌, ◌+◌, ℕ, Bool, true, false, List, [], ◌∷◌, ◌++◌, length, map, Option, Some, None, refl, ap, sym, ◌∙◌, subst, append_assoc}
-use Rattle.std.specs.Prelude.{slice_get}
+use Rattle.std.proofs.Common.{arith, ◌≡◌, ◌≤◌, ◌+◌, ℕ, Bool, true, List, [], ◌∷◌, ◌++◌, length, Some, None, refl, ap, sym, ◌∙◌, subst, append_assoc}
 use Rattle.cc_control.specs.declared.phase.Phase.TheVariants.{First, Test}
 use Rattle.cc_program.specs.declared.expr.Expr.{Expr, out-Expr}
-use Rattle.cc_program.specs.declared.program.Program.{Program}
-use Rattle.cc_program.specs.declared.stmt.Case.{Case, roll-Case, out-Case}
-use Rattle.cc_program.specs.declared.stmt.Stmt.{Stmt, While, Switch, Break, Continue, Return, If, out-Stmt}
+use Rattle.cc_program.specs.declared.stmt.Case.{Case}
+use Rattle.cc_program.specs.declared.stmt.Stmt.{Stmt, While, Break, Continue, Return, If, out-Stmt}
 use Rattle.cc_program.specs.declared.stmt.Stmt.TheVariants.{outs-If, outs-While, outs-Break, outs-Continue, outs-Return}
 use Rattle.cc_program.specs.declared.stmt.Stmt.TheOpen as is
 use Rattle.cc_program.proofs.Each.{Each}
@@ -14,9 +12,9 @@ use Rattle.cc_meaning_simulations.specs.Continuations.{Remainder, remainder, res
 use Rattle.cc_meaning_simulations.specs.LocalSimulations.{Approaches, Arrives}
 use Rattle.cc_meaning_simulations.specs.LocalSteps.{LocalState, Locals, local_state}
 use Rattle.cc_meaning_simulations.specs.Transitions.{ControlState, is_at_boundary, jump_to}
-use Rattle.cc_lower_expressions.specs.Expressions.{Piece, piece, Make, Temps}
+use Rattle.cc_lower_expressions.specs.Expressions.{Piece, piece, Make}
 use Rattle.cc_lower_expressions.specs.Statements.{lower, lower_list}
-use Rattle.cc_lower_expressions_follows.specs.Trees.{Regs, Setting}
+use Rattle.cc_lower_expressions_follows.specs.Trees.{Setting}
 use Rattle.cc_lower_expressions_follows.specs.Relation.{Declared}
 use Rattle.cc_lower_expressions_follows.specs.WholeLists.{is_one_at, piece_of, IsLoweredRight, AreLowered, NoneLowered, OneLowered, AreAround, IsLast, LastIf, LastReturn, IsNormal, NormalDo, NormalIf, NormalLoop, NormalSwitch, NormalBreak, NormalContinue, NormalReturn, NormalEnd}
 use Rattle.cc_lower_expressions_follows.specs.WholeMatches.{AreAlike, AreTogether, MatchIn, AtLoop, AtBreak, AtContinue, AtReturn}

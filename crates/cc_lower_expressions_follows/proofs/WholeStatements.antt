@@ -1,5 +1,5 @@
 -- The control of p that works the full expression of a statement goes on as the tree of that expression.
-use Rattle.std.proofs.Common.{◌≡◌, ◌⊎◌, inl, inr, ℕ, Bool, true, false, ◌&&◌, List, [], ◌∷◌, ◌++◌, Option, Some, None, refl, ap, sym, ◌∙◌, subst, append_assoc, append-nil, if◌then◌else◌}
+use Rattle.std.proofs.Common.{◌≡◌, inr, Bool, true, false, ◌&&◌, List, [], ◌∷◌, ◌++◌, Option, Some, None, refl, ap, sym, ◌∙◌, subst, append_assoc, append-nil, if◌then◌else◌}
 use Rattle.std.specs.Prelude.{slice_get}
 use Rattle.std.proofs.Math.Path.{fun_ext}
 use Rattle.cc_control.specs.declared.phase.Phase.{Phase}
@@ -16,7 +16,7 @@ use Rattle.cc_program.specs.declared.value.Value.{Value}
 use Rattle.cc_steps.specs.Runs.{is_empty, begins}
 use Rattle.cc_steps.specs.Step.{is_known, worked, progress_in}
 use Rattle.cc_meaning_simulations.specs.Continuations.{Remainder, remainder, resume}
-use Rattle.cc_meaning_simulations.specs.Transitions.{ControlState, is_at_boundary, jump_to, mark_added, progress_there, settled_control_in, marked_control, Performs, Aborts, transition_in, transition}
+use Rattle.cc_meaning_simulations.specs.Transitions.{ControlState, is_at_boundary, jump_to, progress_there, settled_control_in, marked_control, Performs, Aborts, transition_in, transition}
 use Rattle.cc_lower_expressions_follows.specs.Trees.{Setting, after}
 use Rattle.cc_lower_expressions_follows.specs.Claims.{good}
 use Rattle.cc_lower_expressions_follows.specs.WholeRegion.{is_do, control_in, nowhere, next_p, left_of, IsWorkedIn, InDo, InIf, InSwitch, InReturn, StillWorks, StandsInStatement, Working, Left}

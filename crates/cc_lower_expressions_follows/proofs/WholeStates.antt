@@ -1,21 +1,15 @@
 -- What states of the source say: registers have their types, and so have the marks that steps leave and the arguments that are passed.
-use Rattle.std.proofs.Common.{arith, ◌≡◌, ◌≤◌, ◌<◌, ◌⊎◌, ◌||◌, ◌&&◌, ◌==◌, ◌+◌, ℕ, zero, suc, ℤ, Bool, true, false, not, List, [], ◌∷◌, ◌++◌, length, replicate, Option, Some, None, option_map, option_and_then, refl, ap, sym, ◌∙◌, subst, if◌then◌else◌}
-use Rattle.std.specs.Prelude.{slice_get, is_some, nat_lt, pos}
+use Rattle.std.proofs.Common.{◌≡◌, ◌&&◌, ℕ, zero, suc, ℤ, Bool, true, false, not, List, [], ◌∷◌, ◌++◌, length, replicate, Option, Some, None, option_map, option_and_then, refl, ap, sym, ◌∙◌, subst, if◌then◌else◌}
+use Rattle.std.specs.Prelude.{slice_get, is_some}
 use Rattle.std.proofs.lemmas.Bool.{lt-ltb}
 use Rattle.std.proofs.lemmas.List.{length-replicate}
 use Rattle.std.proofs.lemmas.Option.{same_Some}
 use Rattle.cc_cells.specs.Cells.{scalar_in}
 use Rattle.cc_cells.specs.Scalars.{zeros}
-use Rattle.cc_eval.specs.declared.action.Action.{Action}
-use Rattle.cc_eval.specs.declared.action.Action.TheVariants.{Call}
 use Rattle.cc_program.specs.declared.func.Func.{Func}
 use Rattle.cc_program.specs.declared.program.Program.{Program}
-use Rattle.cc_program.specs.declared.types.CType.{CType}
 use Rattle.cc_program.specs.declared.types.Shape.{out-Shape}
 use Rattle.cc_program.specs.declared.types.Sig.{out-Sig}
-use Rattle.cc_program.specs.declared.value.Address.TheVariants as address
-use Rattle.cc_program.specs.declared.value.Cell.TheVariants as cell
-use Rattle.cc_program.specs.declared.value.Root.TheVariants as root
 use Rattle.cc_program.specs.declared.value.Value.{Value}
 use Rattle.cc_eval.specs.Context.{local_type}
 use Rattle.cc_steps.specs.State.{Active, Memory, State, locals_with}
@@ -26,8 +20,8 @@ use Rattle.cc_syntax.specs.Registers.{is_register, may_be_register, is_addressed
 use Rattle.cc_syntax.specs.Sound.{IsTypedProgram}
 use Rattle.cc_syntax.specs.Types.{Named}
 use Rattle.cc_syntax.specs.Values.{ValueType, scalar_value, object_place, read_from}
-use Rattle.cc_states.specs.States.{AreLocals, IsActive, IsStateOf, IsState}
-use Rattle.cc_states.specs.Typed.{HasType, MayHave, AreArguments, cell_type}
+use Rattle.cc_states.specs.States.{AreLocals, IsState}
+use Rattle.cc_states.specs.Typed.{MayHave, AreArguments, cell_type}
 use Rattle.cc_states.proofs.KeepLemmas.{get_last, arguments_more}
 use Rattle.cc_states.proofs.LocalLemmas.{one_scalar, as_many, none_given, given}
 use Rattle.cc_states.proofs.TurnLemmas.{order_of, function_sound, turn_state}
@@ -41,7 +35,6 @@ use Rattle.cc_lower_expressions_follows.specs.Trees.{Setting, register_cell}
 use Rattle.cc_lower_expressions_follows.specs.Registered.{flat, regs_in}
 use Rattle.cc_lower_expressions_follows.specs.WholeFits.{setting_of, OpensWith}
 use Rattle.cc_lower_expressions_follows.specs.WholeLists.{AreSame}
-use Rattle.cc_lower_expressions_follows.specs.WholeMatches.{AreAlike}
 use Rattle.cc_lower_expressions_follows.specs.WholePlaces.{AllThere, opened_at}
 use Rattle.cc_lower_expressions_follows.specs.WholeTrees.{AreTyped}
 use Rattle.cc_lower_expressions_follows.proofs.WholePrograms.{SameRegisters}

@@ -11,15 +11,14 @@ use Rattle.cc_program.specs.declared.value.Cell.TheVariants as cell
 use Rattle.cc_program.specs.declared.value.Root.TheVariants as root
 use Rattle.cc_program.specs.declared.value.Value.{Value}
 use Rattle.cc_eval.specs.declared.action.Action.{Action}
-use Rattle.cc_eval.specs.declared.action.Action.TheVariants.{Read, Write, Choose}
+use Rattle.cc_eval.specs.declared.action.Action.TheVariants.{Read, Write}
 use Rattle.cc_eval.specs.declared.action.Manner.{Manner}
 use Rattle.cc_eval.specs.declared.mark.Mark.{Mark}
-use Rattle.cc_eval.specs.declared.mark.Mark.TheVariants.{Gave, Did, Chose}
-use Rattle.cc_steps.specs.declared.content.Content.{Content}
-use Rattle.cc_steps.specs.declared.content.Content.TheVariants.{Unwritten, Holds}
+use Rattle.cc_eval.specs.declared.mark.Mark.TheVariants.{Gave, Did}
+use Rattle.cc_steps.specs.declared.content.Content.TheVariants.{Unwritten}
 use Rattle.cc_steps.specs.Access.{content}
 use Rattle.cc_syntax.specs.Registers.{is_register}
-use Rattle.cc_meaning_simulations.specs.LocalSteps.{LocalState, LocalStep, Locals, Jump, ReadHidden, ReadUnwritten, WriteHidden, Branch, TrapsNext, Trapping, ReadingUnwritten, local_state, own_local}
+use Rattle.cc_meaning_simulations.specs.LocalSteps.{LocalStep, Locals, ReadHidden, ReadUnwritten, WriteHidden, Branch, TrapsNext, ReadingUnwritten, local_state, own_local}
 use Rattle.cc_meaning_simulations.specs.Transitions.{ControlState, Performs, marked_control, transition}
 use Rattle.cc_lower_expressions_follows.specs.Trees.{Regs, with_reg, Setting, CanGive, register_cell, IsQuiet, Reads, Writes, Chooses, Fails}
 use Rattle.cc_lower_expressions_follows.specs.Registered.{flat, regs_in}

@@ -1,12 +1,12 @@
 -- `switch`: its cases are lowered one by one, and from the same label on both go on beside each other.
-use Rattle.std.proofs.Common.{arith, ◌≡◌, ◌≤◌, ◌+◌, ℕ, ℤ, Bool, true, false, List, [], ◌∷◌, ◌++◌, length, map, Option, Some, None, refl, ap, sym, ◌∙◌, subst, append_assoc, if◌then◌else◌}
+use Rattle.std.proofs.Common.{arith, ◌≡◌, ◌≤◌, ◌+◌, ℕ, ℤ, Bool, true, false, List, [], ◌∷◌, ◌++◌, length, Option, Some, None, refl, ap, sym, ◌∙◌, subst, append_assoc, if◌then◌else◌}
 use Rattle.std.specs.Prelude.{slice_get}
 use Rattle.std.specs.List.{list_any}
 use Rattle.std.specs.Option.{option_or}
 use Rattle.cc_control.specs.declared.phase.Phase.TheVariants.{First}
 use Rattle.cc_control.specs.Control.{behind_body, bodies, from_label, is_label, is_default}
 use Rattle.cc_program.specs.declared.expr.Expr.{Expr}
-use Rattle.cc_program.specs.declared.stmt.Case.{Case, roll-Case, out-Case, out-roll-Case, map-Case, fold_out-Case}
+use Rattle.cc_program.specs.declared.stmt.Case.{Case, roll-Case, out-roll-Case, fold_out-Case}
 use Rattle.cc_program.specs.declared.stmt.Stmt.{Stmt, Switch, out-Stmt}
 use Rattle.cc_program.specs.declared.stmt.Stmt.TheVariants.{outs-Switch}
 use Rattle.cc_program.specs.declared.stmt.Stmt.TheOpen as is
@@ -14,16 +14,16 @@ use Rattle.cc_program.proofs.Each.{Each}
 use Rattle.cc_meaning_simulations.specs.Continuations.{Remainder, remainder, resume, enclosing, in_cases, found_case}
 use Rattle.cc_meaning_simulations.specs.LocalSimulations.{Approaches}
 use Rattle.cc_meaning_simulations.specs.LocalSteps.{LocalState, Locals, local_state}
-use Rattle.cc_meaning_simulations.specs.Transitions.{ControlState, jump_to}
-use Rattle.cc_lower_expressions.specs.Expressions.{Piece, piece, Make, Temps}
-use Rattle.cc_lower_expressions.specs.Statements.{lower, lower_case, lower_in, lower_case_in, lower_list, lower_cases, all_made, case_of}
+use Rattle.cc_meaning_simulations.specs.Transitions.{jump_to}
+use Rattle.cc_lower_expressions.specs.Expressions.{Piece, piece, Make}
+use Rattle.cc_lower_expressions.specs.Statements.{lower, lower_case, lower_in, lower_case_in, lower_list, lower_cases, case_of}
 use Rattle.cc_lower_expressions_follows.specs.Trees.{Setting}
 use Rattle.cc_lower_expressions_follows.specs.Registered.{regs_in}
 use Rattle.cc_lower_expressions_follows.specs.Relation.{Declared}
 use Rattle.cc_lower_expressions_follows.specs.WholeLists.{piece_of, IsLoweredRight, AreBranches, Switches, AreLowered, NoneLowered, OneLowered, AreLoweredCases, NoCases, OneCase, AreAround, InBranch, IsLast, LastSwitch}
 use Rattle.cc_lower_expressions_follows.specs.WholeMatches.{AreAlike, AreTogether, MatchIn}
 use Rattle.cc_lower_expressions_follows.specs.WholePlaces.{opened_at}
-use Rattle.cc_lower_expressions_follows.specs.WholeRegion.{control_in, nowhere}
+use Rattle.cc_lower_expressions_follows.specs.WholeRegion.{nowhere}
 use Rattle.cc_lower_expressions_follows.specs.WholeTrees.{AreTyped}
 use Rattle.cc_lower_expressions_follows.proofs.WholeBridge.{IsLowered}
 use Rattle.cc_lower_expressions_follows.proofs.WholeJumps.{list_begins}

@@ -1,20 +1,16 @@
 -- What the next steps of two trees say of how the one does what the other does: where one of them is quiet, it may be done first.
-use Rattle.std.proofs.Common.{◌≡◌, ◌∙◌, ◌∷◌, ◌==◌, ◌||◌, ℕ, Bool, true, false, List, [], Option, Some, None, refl, ap, sym, subst, if◌then◌else◌}
-use Rattle.std.specs.Prelude.{nat_le}
+use Rattle.std.proofs.Common.{◌≡◌, ◌∙◌, ℕ, Bool, true, false, List, [], Option, Some, None, refl, ap, sym, subst}
 use Rattle.cc_program.specs.declared.func.Func.{Func}
-use Rattle.cc_program.specs.declared.value.Cell.{Cell}
-use Rattle.cc_program.specs.declared.value.Cell.TheVariants as cell
-use Rattle.cc_program.specs.declared.value.Root.TheVariants as root
 use Rattle.cc_program.specs.declared.value.Value.{Value}
 use Rattle.cc_eval.specs.declared.action.Action.{Action}
-use Rattle.cc_eval.specs.declared.action.Action.TheVariants.{Read, Write, Choose, Call, Flag, Save}
+use Rattle.cc_eval.specs.declared.action.Action.TheVariants.{Read, Write, Choose}
 use Rattle.cc_eval.specs.declared.action.Manner.{Manner}
 use Rattle.cc_eval.specs.declared.mark.Mark.{Mark}
-use Rattle.cc_eval.specs.declared.mark.Mark.TheVariants.{Gave, Did, Chose}
+use Rattle.cc_eval.specs.declared.mark.Mark.TheVariants.{Gave, Chose}
 use Rattle.cc_eval.specs.Progress.{Progress, Known, Waits, Traps, Get, known}
 use Rattle.cc_states.specs.Answers.{IsMarkOf}
 use Rattle.cc_syntax.specs.Registers.{is_register}
-use Rattle.cc_lower_expressions_follows.specs.Trees.{Regs, with_reg, Setting, after, CanGive, register_cell, IsQuiet, Reads, Writes, Chooses, Fails, Ends, Stuck, Refused, is_own, IsShared}
+use Rattle.cc_lower_expressions_follows.specs.Trees.{Regs, with_reg, Setting, after, CanGive, register_cell, IsQuiet, Reads, Writes, Chooses, Fails, Stuck, Refused, is_own, IsShared}
 use Rattle.cc_lower_expressions_follows.specs.WholeTrees.{Does, Finish, OfP, OfQ, OfBoth, NoMore}
 
 abbrev waiting : {A : Type 0} → Action → Progress A

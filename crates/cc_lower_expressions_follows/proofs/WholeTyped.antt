@@ -1,5 +1,5 @@
 -- The lowered program follows a typed source and answers it: what states say of their registers, marks and arguments is shown of typed programs.
-use Rattle.std.proofs.Common.{◌≡◌, ℕ, true, List, [], ◌∷◌, length, Option, Some, None, refl}
+use Rattle.std.proofs.Common.{◌≡◌, ℕ, true, List, ◌∷◌, length, Option, Some, None, refl}
 use Rattle.std.specs.Prelude.{slice_get}
 use Rattle.cc_eval.specs.declared.action.Action.{Action}
 use Rattle.cc_program.specs.declared.func.Func.{Func}

@@ -1,25 +1,22 @@
 -- The last statement of what a statement becomes: q works its pure expression, and then both have the value.
-use Rattle.std.proofs.Common.{◌≡◌, ◌⊎◌, inl, inr, ◌||◌, ℕ, Bool, true, false, List, [], ◌∷◌, ◌++◌, Option, Some, None, refl, ap, sym, ◌∙◌, subst, append_assoc, append-nil}
-use Rattle.std.specs.Prelude.{slice_get}
+use Rattle.std.proofs.Common.{◌≡◌, ◌||◌, ℕ, Bool, true, false, List, [], ◌∷◌, ◌++◌, Option, Some, refl, ap, sym, ◌∙◌, subst, append_assoc, append-nil}
 use Rattle.std.proofs.Math.Path.{fun_ext}
 use Rattle.cc_control.specs.declared.phase.Phase.TheVariants.{First}
-use Rattle.cc_eval.specs.declared.action.Action.{Action}
 use Rattle.cc_eval.specs.declared.mark.Mark.{Mark}
-use Rattle.cc_eval.specs.Progress.{Progress, Known, Waits, Traps, Get, known}
+use Rattle.cc_eval.specs.Progress.{Known, Waits, Get}
 use Rattle.cc_program.specs.declared.expr.Expr.{Expr}
 use Rattle.cc_program.specs.declared.func.Func.{Func}
 use Rattle.cc_program.specs.declared.stmt.Case.{Case}
 use Rattle.cc_program.specs.declared.stmt.Stmt.{Stmt, out-Stmt}
 use Rattle.cc_program.specs.declared.stmt.Stmt.TheOpen as is
 use Rattle.cc_program.specs.declared.value.Value.{Value}
-use Rattle.cc_steps.specs.Runs.{is_empty, begins, begins_at}
+use Rattle.cc_steps.specs.Runs.{begins_at}
 use Rattle.cc_steps.specs.Step.{worked, progress_in}
 use Rattle.cc_meaning_simulations.specs.Continuations.{Remainder, remainder}
 use Rattle.cc_meaning_simulations.specs.LocalSimulations.{Approaches, QGoes}
-use Rattle.cc_meaning_simulations.specs.LocalSteps.{LocalState, Locals, TrapsNext, Trapping, local_state}
-use Rattle.cc_meaning_simulations.specs.Transitions.{ControlState, Performs, Aborts, is_at_boundary, progress_there, settled_control_in, marked_control, mark_added, transition_in, transition}
-use Rattle.cc_syntax.specs.Registers.{is_register}
-use Rattle.cc_lower_expressions_follows.specs.Trees.{Regs, Setting, after, IsQuiet, Other, RunsBy, Is, Steps, Runs}
+use Rattle.cc_meaning_simulations.specs.LocalSteps.{LocalState, Locals, local_state}
+use Rattle.cc_meaning_simulations.specs.Transitions.{ControlState, is_at_boundary, progress_there, settled_control_in, marked_control, transition_in, transition}
+use Rattle.cc_lower_expressions_follows.specs.Trees.{Regs, Setting, after, IsQuiet, Is, Steps, Runs}
 use Rattle.cc_lower_expressions_follows.specs.Region.{next_q, rest_of}
 use Rattle.cc_lower_expressions_follows.specs.Registered.{regs_in}
 use Rattle.cc_lower_expressions_follows.specs.WholePlaces.{AllThere}

@@ -28,16 +28,16 @@ use Rattle.cc_syntax.specs.Expressions.{of_one}
 use Rattle.cc_syntax.specs.Initial.{place_at}
 use Rattle.cc_syntax.specs.Registers.{is_register}
 use Rattle.cc_syntax.specs.Types.{Named}
-use Rattle.cc_syntax.specs.Values.{ValueType, PlaceType, object_place, read_from}
+use Rattle.cc_syntax.specs.Values.{ValueType, object_place, read_from}
 use Rattle.cc_states.specs.Answers.{IsAction, AreReached, IsCellReached, IsReached}
-use Rattle.cc_states.specs.States.{AreActive, IsActive, IsState}
+use Rattle.cc_states.specs.States.{AreActive, IsState}
 use Rattle.cc_states.specs.Typed.{is_register_in, IsInMemory, IsOpened, IsThere, cell_type}
 use Rattle.cc_states.proofs.StateLemmas.{asked, reaches}
 use Rattle.cc_meaning_simulations.specs.Continuations.{Remainder, remainder}
 use Rattle.cc_meaning_simulations.specs.LocalSimulations.{is_visible, is_root_visible, is_cell_visible, is_action_visible}
-use Rattle.cc_meaning_simulations.specs.LocalSteps.{LocalState, Locals, local_state, local_state_of}
+use Rattle.cc_meaning_simulations.specs.LocalSteps.{LocalState, Locals, local_state_of}
 use Rattle.cc_meaning_simulations.specs.StepSimulations.{going}
-use Rattle.cc_meaning_simulations.specs.Transitions.{ControlState, Transition, FallsOff, Performs, Aborts, Jumps, Returns, control_state, progress_there, transition_in, transition}
+use Rattle.cc_meaning_simulations.specs.Transitions.{ControlState, Transition, Performs, Jumps, Returns, control_state, progress_there, transition_in, transition}
 use Rattle.cc_lower_expressions_follows.specs.Trees.{Regs, Setting, is_own, IsShared, IsSharedRoot, IsSharedCell}
 use Rattle.cc_lower_expressions_follows.specs.WholeFits.{setting_of, hides_in, hides}
 use Rattle.cc_lower_expressions_follows.specs.WholeLists.{is_one_at, RunAlike, GivesAlike}

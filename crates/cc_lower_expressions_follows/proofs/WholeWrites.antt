@@ -1,5 +1,5 @@
 -- Writes of locals that are no registers, by whichever activation, keep local states that match as they are.
-use Rattle.std.proofs.Common.{◌≡◌, ℕ, Bool, true, false, List, [], ◌∷◌, Option, Some, None, refl, ap, sym, ◌∙◌, subst}
+use Rattle.std.proofs.Common.{◌≡◌, ℕ, false, List, ◌∷◌, Some, refl, ap, sym, ◌∙◌, subst}
 use Rattle.cc_cells.specs.Cells.{with_scalar}
 use Rattle.cc_control.specs.declared.phase.Phase.{Phase}
 use Rattle.cc_control.specs.declared.phase.Phase.TheVariants.{First}

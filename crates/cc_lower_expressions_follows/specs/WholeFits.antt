@@ -1,5 +1,5 @@
 -- What states of the source say of its activations: which marks may come, and how functions are opened.
-use Rattle.std.specs.Prelude.{◌≡◌, ℕ, ◌||◌, ◌==◌, Bool, true, false, List, [], ◌∷◌, ◌++◌, length, Option, Some, None, slice_get}
+use Rattle.std.specs.Prelude.{◌≡◌, ℕ, Bool, false, List, [], ◌∷◌, ◌++◌, length, Option, Some, None, slice_get}
 use Rattle.cc_eval.specs.declared.action.Action.{Action}
 use Rattle.cc_eval.specs.declared.mark.Mark.{Mark}
 use Rattle.cc_eval.specs.Progress.{Waits}
@@ -12,7 +12,6 @@ use Rattle.cc_control.specs.declared.phase.Phase.{Phase}
 use Rattle.cc_steps.specs.State.{locals_with}
 use Rattle.cc_steps.specs.Step.{worked}
 use Rattle.cc_meaning_simulations.specs.Bodies.{all_extended, extended}
-use Rattle.cc_meaning_simulations.specs.Continuations.{Remainder}
 use Rattle.cc_meaning_simulations.specs.LocalSteps.{LocalState}
 use Rattle.cc_lower_expressions.specs.Programs.{lowered_body, temporaries}
 use Rattle.cc_lower_expressions_follows.specs.Trees.{Setting, is_own}

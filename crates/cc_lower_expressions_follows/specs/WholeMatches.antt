@@ -1,5 +1,5 @@
 -- Local states of p and q that match: where both do the same step next, jump, return, or come to the end of their function.
-use Rattle.std.specs.Prelude.{◌≡◌, ℕ, true, List, [], ◌∷◌, Option, Some, None, slice_get}
+use Rattle.std.specs.Prelude.{◌≡◌, true, List, [], ◌∷◌, Option, Some, None}
 use Rattle.cc_control.specs.declared.phase.Phase.TheVariants.{First, Test}
 use Rattle.cc_eval.specs.declared.action.Action.{Action}
 use Rattle.cc_eval.specs.declared.mark.Mark.{Mark}

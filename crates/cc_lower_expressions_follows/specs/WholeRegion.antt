@@ -1,5 +1,5 @@
 -- Where the control of an activation of q stands in code of expression statements and `if`s, and that of p in the full expression of a statement.
-use Rattle.std.specs.Prelude.{◌≡◌, ◌⊎◌, ℕ, Bool, true, false, List, [], ◌∷◌, ◌++◌, Option, Some, None}
+use Rattle.std.specs.Prelude.{◌≡◌, ◌⊎◌, Bool, true, false, List, [], ◌∷◌, ◌++◌, Option, Some}
 use Rattle.cc_control.specs.declared.phase.Phase.{Phase}
 use Rattle.cc_control.specs.Control.{is_loop}
 use Rattle.cc_eval.specs.declared.mark.Mark.{Mark}

@@ -1,6 +1,6 @@
 -- Two trees of which the first does what the second does, in the middle of a whole program: what p reads of its own registers is of their types
 -- because its states are, and what both do is no access of a register of the activation.
-use Rattle.std.specs.Prelude.{◌≡◌, ℕ, true, List, [], Option, Some}
+use Rattle.std.specs.Prelude.{◌≡◌, ℕ, true, [], Some}
 use Rattle.cc_program.specs.declared.value.Value.{Value}
 use Rattle.cc_eval.specs.declared.action.Action.{Action}
 use Rattle.cc_eval.specs.declared.mark.Mark.{Mark}
