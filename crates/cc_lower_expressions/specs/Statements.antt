@@ -8,7 +8,7 @@ use Rattle.cc_program.specs.declared.program.Program.{Program}
 use Rattle.cc_program.specs.declared.stmt.Case.{Case, roll-Case, fold-Case}
 use Rattle.cc_program.specs.declared.stmt.Stmt.{Stmt, While, DoWhile, For, Switch, Break, Continue, Return, Empty, Block, fold-Stmt}
 use Rattle.cc_program.specs.declared.stmt.Stmt.TheOpen as is
-use Rattle.cc_syntax.specs.Effects.{no_one}
+use Rattle.cc_syntax.specs.Effects.{Registers, also, no_one}
 use Rattle.cc_lower_expressions.specs.Expressions.{Piece, piece, Make, done, ◌>>=◌, emit, fork, with_both, Lowering, lowering}
 use Rattle.cc_lower_expressions.specs.Temporaries.{declared_type, is_same_type}
 
@@ -31,16 +31,16 @@ inside f m k = around f (m k)
 abbrev pub case_of : List (Option ℤ) → Piece (Unit {0}) → Piece Case
 case_of labels x = piece x.temps [] (roll-Case (record { labels = labels; body = x.stmts }))
 
--- what is done where a condition holds
+-- what is done where a condition holds; later operands of the full expression assign these registers
 abbrev pub Guard : Type 0
-Guard = Make (Unit {0}) → Make (Unit {0})
+Guard = Registers → Make (Unit {0}) → Make (Unit {0})
 
 abbrev pub if_operand : Lowering → Guard
-if_operand c these = c.operand no_one >>= (λ v. fork v these (done tt))
+if_operand c later these = c.operand later >>= (λ v. fork v these (done tt))
 
--- an `&&` that is pure is an operand, and one that is not pure is two conditions
-abbrev pub if_both : Lowering → Guard → Guard → Guard
-if_both c a b these = if c.effects.pure no_one then if_operand c these else a (b these)
+-- an `&&` that is pure is an operand, and one that is not pure is two conditions, of which the second one assigns these registers
+abbrev pub if_both : Lowering → Registers → Guard → Guard → Guard
+if_both c assigned a b later these = if c.effects.pure later then if_operand c later these else a (also assigned later) (b later these)
 
 pub record Condition : Type 0 where
   pub itself : Expr
@@ -56,7 +56,7 @@ module _ (p : Program) (f : Func) where
   itself_of x = roll-Expr (map-Expr Condition Place Expr Place (λ c. c.itself) (λ a. a) x)
 
   abbrev pub guard_by : Lowering → one.Expr-F Condition Place → Guard
-  guard_by c (one.Both a b) = if_both c a.guard b.guard
+  guard_by c (one.Both a b) = if_both c (lowered b.itself).effects.assigned a.guard b.guard
   guard_by c (one.Const n t) = if_operand c
   guard_by c (one.Null t) = if_operand c
   guard_by c (one.FuncAddr g) = if_operand c
@@ -90,7 +90,7 @@ module _ (p : Program) (f : Func) where
   -- ---- statements; each full expression is lowered with no later operands
 
   abbrev pub choice : Expr → List (Make (Unit {0})) → List (Make (Unit {0})) → Make (Unit {0})
-  choice e these [] = (condition e).guard (in_turn these)
+  choice e these [] = (condition e).guard no_one (in_turn these)
   choice e these (m ∷ ms) = (lowered e).operand no_one >>= (λ v. fork v (in_turn these) (in_turn (m ∷ ms)))
 
   abbrev pub returned : Option Expr → Make (Unit {0})

@@ -20,7 +20,7 @@ use Rattle.cc_program.proofs.Each.{Each, Held}
 use Rattle.cc_program.proofs.ExprInduction.{Parts, by_expr}
 use Rattle.cc_program.proofs.FoldFusion.{fused}
 use Rattle.cc_program.proofs.StmtInduction.{StmtParts, CaseParts, by_stmts}
-use Rattle.cc_syntax.specs.Effects.{no_one}
+use Rattle.cc_syntax.specs.Effects.{no_one, Registers, also}
 use Rattle.cc_syntax.specs.Expressions.{of_two}
 use Rattle.cc_syntax.specs.Forms.{form_of}
 use Rattle.cc_syntax.specs.Normal.{is_one}
@@ -93,24 +93,29 @@ module _ (p : Program) (f : Func) (w : Reading) (u : BodyReading) where
     condition_there None h = absurd (cc)
     condition_there (Some t) h = (t, refl, h)
 
-    if_operand_made : (b c : Bool) (e : Expr) (t : ValueType) → typed p f e ≡ Some t → is_scalar t ≡ true → w.Old e → (these : Make (Unit {0})) → MakesAt b c (Unit {0}) Any these → MakesAt b c (Unit {0}) Any (if_operand (low p f e) these)
-    if_operand_made b c e t h s o these m =
-        gives_bind ((low p f e).operand no_one) (λ v. fork v these (done tt)) (operand_at b c e t h s o)
+    if_operand_made : (b c : Bool) (e : Expr) (t : ValueType) → typed p f e ≡ Some t → is_scalar t ≡ true → w.Old e → (later : Registers) (these : Make (Unit {0})) → MakesAt b c (Unit {0}) Any these →
+        MakesAt b c (Unit {0}) Any (if_operand (low p f e) later these)
+    if_operand_made b c e t h s o later these m =
+        gives_bind ((low p f e).operand later) (λ v. fork v these (done tt)) (gives_where (λ x y. more.here b c x y) ((is_lowered e t h o).operand s later))
         (λ v. gives_fork v these (done tt) (gives_under (λ q. tt) m) (gives_done tt (λ q. tt)) (λ q xs ys hx hy. more.fork b c t v xs ys s q.1 hx hy))
 
     module _ (b c : Bool) where
       abbrev Guards : Expr → Type 0
-      Guards e = is_condition (typed p f e) ≡ true → w.Old e → (these : Make (Unit {0})) → MakesAt b c (Unit {0}) Any these → MakesAt b c (Unit {0}) Any ((condition p f e).guard these)
+      Guards e = is_condition (typed p f e) ≡ true → w.Old e → (later : Registers) (these : Make (Unit {0})) → MakesAt b c (Unit {0}) Any these → MakesAt b c (Unit {0}) Any ((condition p f e).guard later these)
 
       abbrev guarded : one.Expr-F Expr Place → one.Expr-F Condition Place
       guarded x = map-Expr Expr Place Condition Place (condition p f) (fold-Place Condition Place (condition_step p f) (place_itself p f)) x
 
       -- where it is an operand
-      by_operand : (e : Expr) → is_condition (typed p f e) ≡ true → w.Old e → (these : Make (Unit {0})) → MakesAt b c (Unit {0}) Any these → MakesAt b c (Unit {0}) Any (if_operand (low p f e) these)
-      by_operand e h o these m = let t = condition_there (typed p f e) h in if_operand_made b c e t.0 t.1 t.2 o these m
+      by_operand : (e : Expr) → is_condition (typed p f e) ≡ true → w.Old e → (later : Registers) (these : Make (Unit {0})) → MakesAt b c (Unit {0}) Any these → MakesAt b c (Unit {0}) Any (if_operand (low p f e) later these)
+      by_operand e h o later these m = let t = condition_there (typed p f e) h in if_operand_made b c e t.0 t.1 t.2 o later these m
 
       abbrev GuardsAt : Expr → one.Expr-F Expr Place → Type 0
-      GuardsAt e x = (these : Make (Unit {0})) → MakesAt b c (Unit {0}) Any these → MakesAt b c (Unit {0}) Any (guard_by p f (low p f e) (guarded x) these)
+      GuardsAt e x = (later : Registers) (these : Make (Unit {0})) → MakesAt b c (Unit {0}) Any these → MakesAt b c (Unit {0}) Any (guard_by p f (low p f e) (guarded x) later these)
+
+      -- the registers that the second operand of an `&&` assigns, as the definition finds them
+      abbrev behind : Expr → Registers → Registers
+      behind d later = also (low p f (condition p f d).itself).effects.assigned later
 
       both_parts : (o q : Option ValueType) → is_condition (of_two o q logical_type) ≡ true → (is_condition o ≡ true) × (is_condition q ≡ true)
       both_parts None q h = absurd (cc)
@@ -123,10 +128,10 @@ module _ (p : Program) (f : Func) (w : Reading) (u : BodyReading) where
           parts_by false y h = absurd (cc)
 
       guards_at : (e : Expr) (x : one.Expr-F Expr Place) → Parts Guards (λ a. Unit {0}) x → Parts w.Old w.OldPlace x → is_condition (typed p f e) ≡ true → is_condition (type_at (view p f) f.locals x) ≡ true → w.Old e → GuardsAt e x
-      guards_at e (one.Both a d) q r h k o = λ these m.
+      guards_at e (one.Both a d) q r h k o = λ later these m.
           let t = both_parts (typed p f a) (typed p f d) k in
-          gives_if ((low p f e).effects.pure no_one) (if_operand (low p f e) these) ((condition p f a).guard ((condition p f d).guard these)) (λ z. by_operand e h o these m)
-          (λ z. q.0 t.0 r.0 ((condition p f d).guard these) (q.1 t.1 r.1 these m))
+          gives_if ((low p f e).effects.pure later) (if_operand (low p f e) later these) ((condition p f a).guard (behind d later) ((condition p f d).guard later these)) (λ z. by_operand e h o later these m)
+          (λ z. q.0 t.0 r.0 (behind d later) ((condition p f d).guard later these) (q.1 t.1 r.1 later these m))
       guards_at e (one.Const n i) q r h k o = by_operand e h o
       guards_at e (one.Null i) q r h k o = by_operand e h o
       guards_at e (one.FuncAddr g) q r h k o = by_operand e h o
@@ -160,8 +165,8 @@ module _ (p : Program) (f : Func) (w : Reading) (u : BodyReading) where
       guards_level x q h o =
           let is : (condition_step p f (guarded x)).itself ≡ roll-Expr x = ap (λ (z : Condition). z.itself) (sym (condition-roll x)) ∙ condition-itself (roll-Expr x) in
           let k : is_condition (type_at (view p f) f.locals x) ≡ true = ap is_condition (sym (type-roll (view p f) f.locals x)) ∙ h in
-          subst (λ (z : Condition). (these : Make (Unit {0})) → MakesAt b c (Unit {0}) Any these → MakesAt b c (Unit {0}) Any (z.guard these)) (sym (condition-roll x))
-          (subst (λ (e : Expr). (these : Make (Unit {0})) → MakesAt b c (Unit {0}) Any these → MakesAt b c (Unit {0}) Any (guard_by p f (low p f e) (guarded x) these)) (sym is) (guards_at (roll-Expr x) x q (laws.parts x o) h k o))
+          subst (λ (z : Condition). (later : Registers) (these : Make (Unit {0})) → MakesAt b c (Unit {0}) Any these → MakesAt b c (Unit {0}) Any (z.guard later these)) (sym (condition-roll x))
+          (subst (λ (e : Expr). (later : Registers) (these : Make (Unit {0})) → MakesAt b c (Unit {0}) Any these → MakesAt b c (Unit {0}) Any (guard_by p f (low p f e) (guarded x) later these)) (sym is) (guards_at (roll-Expr x) x q (laws.parts x o) h k o))
 
       guards : (e : Expr) → Guards e
       guards = by_expr Guards (λ a. Unit {0}) guards_level (λ x h. tt)
@@ -208,7 +213,7 @@ module _ (p : Program) (f : Func) (w : Reading) (u : BodyReading) where
     -- an `else` that is there, or not
     choice_made : (e : Expr) (these those : List Stmt) (b c : Bool) → is_condition (typed p f e) ≡ true → w.Old e → MakesAt b c (Unit {0}) Any (in_turn (map (lower p f) these)) → MakesAt b c (Unit {0}) Any (in_turn (map (lower p f) those)) →
         MakesAt b c (Unit {0}) Any (choice p f e (map (lower p f) these) (map (lower p f) those))
-    choice_made e these [] b c h o m n = guards b c e h o (in_turn (map (lower p f) these)) m
+    choice_made e these [] b c h o m n = guards b c e h o no_one (in_turn (map (lower p f) these)) m
     choice_made e these (s ∷ those) b c h o m n =
         let t = condition_there (typed p f e) h in
         gives_bind ((low p f e).operand no_one) (λ v. fork v (in_turn (map (lower p f) these)) (in_turn (map (lower p f) (s ∷ those)))) (operand_at b c e t.0 t.1 t.2 o)
