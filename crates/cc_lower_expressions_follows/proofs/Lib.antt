@@ -64,6 +64,7 @@ pub mod WholeValues
 pub mod WholeLists
 pub mod WholeEffects
 pub mod WholeOperands
+pub mod WholeGuards
 pub mod WholeStarts
 pub mod WholeJumps
 pub mod WholeAlike
@@ -78,3 +79,4 @@ pub mod WholeTemporaries
 pub mod WholeTyped
 pub mod WholeCode
 pub mod WholeRight
+pub mod WholeConditions

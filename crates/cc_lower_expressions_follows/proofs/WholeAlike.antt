@@ -27,12 +27,13 @@ use Rattle.cc_lower_expressions_follows.specs.Trees.{Regs, Setting, after, IsSha
 use Rattle.cc_lower_expressions_follows.specs.Registered.{regs_in}
 use Rattle.cc_lower_expressions_follows.specs.Region.{next_q}
 use Rattle.cc_lower_expressions_follows.specs.WholeLists.{is_one_at, RunAlike, GivesAlike, AreBranches, Ifs, AreLowered, AreLoweredCases, AreAround, InBranch, InLoop, IsLast, LastIf, LastSwitch, LastReturn}
-use Rattle.cc_lower_expressions_follows.specs.WholeMatches.{needed, AreAlike, AreTogether, MatchIn, InEffect, InOperand, AtValue, AtLoop, AtBreak, AtContinue, AtReturn, AtEnd}
+use Rattle.cc_lower_expressions_follows.specs.WholeMatches.{needed, AreAlike, AreTogether, MatchIn, InEffect, InOperand, AtValue, InCondition, AtArm, AtLoop, AtBreak, AtContinue, AtReturn, AtEnd}
 use Rattle.cc_lower_expressions_follows.specs.WholePlaces.{opened_at, IsTypedAt, MarkFits, AreAt}
-use Rattle.cc_lower_expressions_follows.specs.WholeRegion.{control_in, nowhere, next_p, IsWorkedIn, InDo, StandsInStatement}
+use Rattle.cc_lower_expressions_follows.specs.WholeRegion.{control_in, nowhere, next_p, IsWorkedIn, InDo, InIf, StandsInStatement}
 use Rattle.cc_lower_expressions_follows.specs.WholeTrees.{AreTyped}
 use Rattle.cc_lower_expressions_follows.proofs.WholeBridge.{IsLowered, its_before, its_last, not_empty}
 use Rattle.cc_lower_expressions_follows.proofs.WholeEffects.{effect_goes_on}
+use Rattle.cc_lower_expressions_follows.proofs.WholeGuards.{condition_goes_on, jumps_p, jumps_q}
 use Rattle.cc_lower_expressions_follows.proofs.WholeJumps.{breaks, continues, list_begins}
 use Rattle.cc_lower_expressions_follows.proofs.WholeLists.{AreBegun}
 use Rattle.cc_lower_expressions_follows.proofs.WholeOperands.{operand_goes_on, last_kinds}
@@ -185,6 +186,15 @@ module _ (w : Setting) (hidden : ℕ → ℕ → Bool) (lowered : IsLowered w hi
         (λ all m pc' qc' typed' at' soon. operand_goes_on w hidden lowered Good Match matches s u e x l l' ps qs last right together all false (ms ++ m ∷ []) pc' pl qc' ql (after g m) r (after h m) t typed' at'
         (λ i b. let y = soon b in inr (y.0, y.1, not_empty ms m)))
     alike_in _ _ (AtValue s u e x l l' ps qs ms ns v i j pl ql last together known_p known_q alike) typed = same_value s u l l' ps qs ms ns v pl ql together typed alike e x last i j known_p known_q
+    alike_in _ _ (InCondition s e arm l l' ps qs f x u rest outer ms pc pl qc ql g r h t action d right together guard at shared eg eh) typed =
+        same_step s e l ps (InIf arm [] d) (u ∷ rest) outer (GivesAlike w x) f ms pc pl qc ql g r h t action at shared eg eh
+        (λ all m pc' qc' typed' at' soon. condition_goes_on w hidden lowered Good Match matches s e arm l l' ps qs d right together (begins l l' ps qs together) f x u rest outer guard all false (ms ++ m ∷ []) pc' pl qc' ql (after g m) r (after h m) t typed' at'
+        (λ k b. let y = soon b in inr (y.0, y.1, not_empty ms m)))
+    alike_in _ _ (AtArm s u e x arm these l rest ps outer ms ns v v' i j pl ql d f arms around known_p known_q is_v is_v' alike) typed =
+        alike_by (local_state (control_in w (remainder (u ∷ rest) First) outer ns) ql) (local_state (control_in w (remainder (s ∷ l) First) ps ms) pl) _ _ _ _
+        (jumps_q w hidden lowered u x these rest outer f ns v' j known_q ∙ ap (λ (b : Bool). Jumps (jump_to w.q (nowhere w) (in_arm b these [] (remainder (u ∷ rest) First ∷ outer)))) is_v')
+        (jumps_p w hidden lowered s e arm l ps d ms v i known_p ∙ ap (λ (b : Bool). Jumps (jump_to w.p (nowhere w) (in_arm b arm [] (remainder (s ∷ l) First ∷ ps)))) is_v)
+        (goes pl ql typed alike arm these (remainder (s ∷ l) First ∷ ps) (remainder (u ∷ rest) First ∷ outer) (record { lists = arms; around = around }))
     alike_in _ _ (AtLoop s u e body body' l l' ps qs pl ql d f one bodies together alike) typed =
         let v = ones e one in
         let around = InLoop s u e body body' l l' ps qs d f one bodies together.lists together.around in

@@ -12,7 +12,7 @@ use Rattle.cc_states.specs.Answers.{AreItsMarks, TakesAddressesOf, IsMarkOf}
 use Rattle.cc_states.specs.Typed.{HasType, cell_type}
 use Rattle.cc_states.proofs.EvalTypes.{meaning_typed}
 use Rattle.cc_eval.proofs.Works.{answers_of}
-use Rattle.cc_syntax.specs.Effects.{no_one}
+use Rattle.cc_syntax.specs.Effects.{Registers, no_one}
 use Rattle.cc_syntax.specs.Registers.{is_register}
 use Rattle.cc_syntax.specs.Values.{ValueType}
 use Rattle.cc_lower_expressions.specs.Expressions.{Piece, Temps}
@@ -64,9 +64,9 @@ module _ (w : Setting) (openings : List ℕ) where
   agree_at : (r s : Regs) → AreSame w r s → Agree here r s
   agree_at r s h = record { same = h }
 
-  module _ (m : Meaning) (x : Piece Expr) (k : ℕ) (s : Regs) where
-    gives_alike : (v : Option Value) (u : Unit {0}) (r' s' : Regs) → After here m.effects.assigned no_one k (length x.temps) (Gives here x.value) s v u r' s' → GivesAlike w x.value v u r' s'
-    gives_alike v u r' s' y = (y.agree.same, runs_at v s' (holds_now here no_one k (k + length x.temps) (Gives here x.value v) s' y.value))
+  module _ (m : Meaning) (x : Piece Expr) (later : Registers) (k : ℕ) (s : Regs) where
+    gives_alike : (v : Option Value) (u : Unit {0}) (r' s' : Regs) → After here m.effects.assigned later k (length x.temps) (Gives here x.value) s v u r' s' → GivesAlike w x.value v u r' s'
+    gives_alike v u r' s' y = (y.agree.same, runs_at v s' (holds_now here later k (k + length x.temps) (Gives here x.value v) s' y.value))
 
     run_alike : (v : Value) (u : Unit {0}) (r' s' : Regs) → Worked here m.effects.assigned k s v u r' s' → RunAlike w v u r' s'
     run_alike v u r' s' y = y.agree.same
@@ -83,19 +83,24 @@ module _ (w : Setting) (alike : Alike w) (below : (i : ℕ) → is_register w.fr
       let y = ((meaning_typed (context_p w) openings (record { function = function; number = opened }) e own typed.0 typed.1 no_one).waits ms (Write (register_cell w i) false v) (answers_of (IsMarkOf w.p openings) (next_p w e) ms marks) waits).0 in
       (y.0, y.1, y.3)
 
+  -- its code as an operand, whichever registers later operands assign
+  pub operand_does : (later : Registers) (openings : List ℕ) → slice_get openings w.number ≡ Some w.id → (k : ℕ) → w.base ≤ k → Declared w k ((lowered w.p w.from e).operand later k).temps → (r s : Regs) → AreSame w r s →
+      Does (opened_at w openings) (GivesAlike w ((lowered w.p w.from e).operand later k).value) ((meaning (context_p w) e).next later) r (code_tree w ((lowered w.p w.from e).operand later k).stmts) s
+  operand_does later openings opened k above declared r s same =
+      let x = (lowered w.p w.from e).operand later k in
+      subst (λ h. Does (opened_at w openings) (GivesAlike w x.value) ((meaning (context_p w) e).next later) r h s) (code_at w openings x.stmts)
+      (does_of (opened_at w openings) (After (opened_at w openings) (meaning (context_p w) e).effects.assigned later k (length x.temps) (Gives (opened_at w openings) x.value) s) (GivesAlike w x.value)
+      (gives_alike w openings (meaning (context_p w) e) x later k s)
+      (((right_at openings opened).operand later k above (declared_at w openings k x.temps declared)).sim r s (agree_at w openings r s same)))
+
   lowered_by : ((k : ℕ) → are_code (piece_of w e k).stmts ≡ true) → ((k : ℕ) → are_code (effect_of w e k).stmts ≡ true) → IsLoweredRight w e
   lowered_by operand_code effect_code = record {
-    operand = λ openings opened k above declared r s same.
-        let x = piece_of w e k in
-        subst (λ h. Does (opened_at w openings) (GivesAlike w x.value) ((meaning (context_p w) e).next no_one) r h s) (code_at w openings x.stmts)
-        (does_of (opened_at w openings) (After (opened_at w openings) (meaning (context_p w) e).effects.assigned no_one k (length x.temps) (Gives (opened_at w openings) x.value) s) (GivesAlike w x.value)
-        (gives_alike w openings (meaning (context_p w) e) x k s)
-        (((right_at openings opened).operand no_one k above (declared_at w openings k x.temps declared)).sim r s (agree_at w openings r s same)));
+    operand = operand_does no_one;
     effect = λ openings opened k above declared r s same.
         let x = effect_of w e k in
         subst (λ h. Does (opened_at w openings) (RunAlike w) (good ((meaning (context_p w) e).next no_one)) r h s) (code_at w openings x.stmts)
         (does_of (opened_at w openings) (Worked (opened_at w openings) (meaning (context_p w) e).effects.assigned k s) (RunAlike w)
-        (run_alike w openings (meaning (context_p w) e) (piece_of w e k) k s)
+        (run_alike w openings (meaning (context_p w) e) (piece_of w e k) no_one k s)
         ((right_at openings opened).effect no_one k above (declared_at w openings k x.temps declared) r s (agree_at w openings r s same)));
     operand_code = operand_code;
     effect_code = effect_code;

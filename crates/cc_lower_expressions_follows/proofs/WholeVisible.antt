@@ -41,9 +41,9 @@ use Rattle.cc_meaning_simulations.specs.Transitions.{ControlState, Transition, P
 use Rattle.cc_lower_expressions_follows.specs.Trees.{Regs, Setting, is_own, IsShared, IsSharedRoot, IsSharedCell}
 use Rattle.cc_lower_expressions_follows.specs.WholeFits.{setting_of, hides_in, hides}
 use Rattle.cc_lower_expressions_follows.specs.WholeLists.{is_one_at, RunAlike, GivesAlike}
-use Rattle.cc_lower_expressions_follows.specs.WholeMatches.{needed, MatchIn, InEffect, InOperand, AtValue, AtLoop, AtBreak, AtContinue, AtReturn, AtEnd}
+use Rattle.cc_lower_expressions_follows.specs.WholeMatches.{needed, MatchIn, InEffect, InOperand, AtValue, InCondition, AtArm, AtLoop, AtBreak, AtContinue, AtReturn, AtEnd}
 use Rattle.cc_lower_expressions_follows.specs.WholePlaces.{AreAt}
-use Rattle.cc_lower_expressions_follows.specs.WholeRegion.{control_in, next_p, IsWorkedIn, InDo}
+use Rattle.cc_lower_expressions_follows.specs.WholeRegion.{control_in, next_p, IsWorkedIn, InDo, InIf}
 use Rattle.cc_lower_expressions_follows.proofs.WholeBridge.{IsLowered}
 use Rattle.cc_lower_expressions_follows.proofs.WholeMarks.{asks_for, asks_it}
 use Rattle.cc_lower_expressions_follows.proofs.WholeOperands.{last_kinds}
@@ -100,6 +100,10 @@ module _ (w : Setting) (hidden : ℕ → ℕ → Bool) (lowered : IsLowered w hi
   match_shared _ _ (AtValue s u e y l l' ps qs ms ns v i j pl ql last together known_p known_q alike) f =
       let k = last_kinds w Good (out-Stmt s) (out-Stmt u) e y last in
       known_waits v i (next_p w e ms) x known_p (waits_of w.p (out-Stmt s) (control_in w (remainder (s ∷ l) First) ps ms) (next_p w e ms) x (sym (transition_is w lowered.function_p s l First ps e (lowered.laws_p e) k.works_p ms) ∙ f))
+  match_shared _ _ (InCondition s e arm l l' ps qs k y u rest outer ms pc pl qc ql g r h t action d right together guard at shared eg eh) f =
+      step_shared s e l ps (InIf arm [] d) (u ∷ rest) outer (GivesAlike w y) k ms pc pl qc ql g r h t action at shared eg f
+  match_shared _ _ (AtArm s u e y arm these l rest ps outer ms ns v v' i j pl ql d b arms around known_p known_q is_v is_v' alike) f =
+      known_waits v i (next_p w e ms) x known_p (waits_of w.p (out-Stmt s) (control_in w (remainder (s ∷ l) First) ps ms) (next_p w e ms) x (sym (transition_is w lowered.function_p s l First ps e (lowered.laws_p e) (InIf arm [] d) ms) ∙ f))
   match_shared _ _ (AtLoop s u e body body' l l' ps qs pl ql d b one bodies together alike) f =
       let c = control_in w (remainder (s ∷ l) Test) ps [] in
       known_waits (Int (pos 1)) [] (progress_there w.p c (worked (out-Stmt s) Test)) x

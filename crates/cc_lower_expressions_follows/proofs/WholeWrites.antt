@@ -15,7 +15,7 @@ use Rattle.cc_meaning_simulations.specs.LocalSteps.{LocalState, Locals, after_wr
 use Rattle.cc_lower_expressions_follows.specs.Trees.{Regs, Setting}
 use Rattle.cc_lower_expressions_follows.specs.Registered.{regs_in}
 use Rattle.cc_lower_expressions_follows.specs.WholeLists.{AreSame, RunAlike, GivesAlike}
-use Rattle.cc_lower_expressions_follows.specs.WholeMatches.{needed, AreAlike, MatchIn, InEffect, InOperand, AtValue, AtLoop, AtBreak, AtContinue, AtReturn, AtEnd}
+use Rattle.cc_lower_expressions_follows.specs.WholeMatches.{needed, AreAlike, MatchIn, InEffect, InOperand, AtValue, InCondition, AtArm, AtLoop, AtBreak, AtContinue, AtReturn, AtEnd}
 use Rattle.cc_lower_expressions_follows.specs.WholePlaces.{AreAt}
 use Rattle.cc_lower_expressions_follows.specs.WholeRegion.{StandsInStatement, Working, Left}
 use Rattle.cc_lower_expressions_follows.proofs.WholeSteps.{regs_elsewhere, there_elsewhere}
@@ -50,6 +50,10 @@ module _ (w : Setting) (Good : Stmt → Type 0) (local i : ℕ) (v : Value) (non
   match_after _ _ (InOperand s u e x l l' ps qs ms pc pl qc ql g r h t action last right together at shared eg eh) =
       InOperand s u e x l l' ps qs ms pc (put pl) qc (put ql) g r h t action last right together (at_after (GivesAlike w x) needed s l First ps e (u ∷ l') qs ms pc pl qc ql g r h t at) shared eg eh
   match_after _ _ (AtValue s u e x l l' ps qs ms ns a j k pl ql last together known_p known_q alike) = AtValue s u e x l l' ps qs ms ns a j k (put pl) (put ql) last together known_p known_q (alike_after pl ql alike)
+  match_after _ _ (InCondition s e arm l l' ps qs f x u rest outer ms pc pl qc ql g r h t action d right together guard at shared eg eh) =
+      InCondition s e arm l l' ps qs f x u rest outer ms pc (put pl) qc (put ql) g r h t action d right together guard (at_after (GivesAlike w x) f s l First ps e (u ∷ rest) outer ms pc pl qc ql g r h t at) shared eg eh
+  match_after _ _ (AtArm s u e x arm these l rest ps outer ms ns a b j k pl ql d f arms around known_p known_q is_a is_b alike) =
+      AtArm s u e x arm these l rest ps outer ms ns a b j k (put pl) (put ql) d f arms around known_p known_q is_a is_b (alike_after pl ql alike)
   match_after _ _ (AtLoop s u e body body' l l' ps qs pl ql d f one bodies together alike) = AtLoop s u e body body' l l' ps qs (put pl) (put ql) d f one bodies together (alike_after pl ql alike)
   match_after _ _ (AtBreak s u l l' ps qs pl ql d f around alike) = AtBreak s u l l' ps qs (put pl) (put ql) d f around (alike_after pl ql alike)
   match_after _ _ (AtContinue s u l l' ps qs pl ql d f around alike) = AtContinue s u l l' ps qs (put pl) (put ql) d f around (alike_after pl ql alike)
@@ -72,6 +76,8 @@ module _ (w : Setting) (Good : Stmt → Type 0) where
   matched_in _ _ (InEffect s e l l' ps qs ms pc pl qc ql g r h t action d right together at shared eg eh) = stands_in s l First ps e ms pc pl _ at.stands
   matched_in _ _ (InOperand s u e x l l' ps qs ms pc pl qc ql g r h t action last right together at shared eg eh) = stands_in s l First ps e ms pc pl _ at.stands
   matched_in _ _ (AtValue s u e x l l' ps qs ms ns a j k pl ql last together known_p known_q alike) = record { number = refl; func = refl }
+  matched_in _ _ (InCondition s e arm l l' ps qs f x u rest outer ms pc pl qc ql g r h t action d right together guard at shared eg eh) = stands_in s l First ps e ms pc pl _ at.stands
+  matched_in _ _ (AtArm s u e x arm these l rest ps outer ms ns a b j k pl ql d f arms around known_p known_q is_a is_b alike) = record { number = refl; func = refl }
   matched_in _ _ (AtLoop s u e body body' l l' ps qs pl ql d f one bodies together alike) = record { number = refl; func = refl }
   matched_in _ _ (AtBreak s u l l' ps qs pl ql d f around alike) = record { number = refl; func = refl }
   matched_in _ _ (AtContinue s u l l' ps qs pl ql d f around alike) = record { number = refl; func = refl }

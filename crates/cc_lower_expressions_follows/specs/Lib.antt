@@ -9,5 +9,6 @@ pub mod WholeTrees
 pub mod WholeRegion
 pub mod WholePlaces
 pub mod WholeLists
+pub mod WholeGuards
 pub mod WholeMatches
 pub mod WholeFits

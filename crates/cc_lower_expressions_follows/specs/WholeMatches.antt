@@ -8,12 +8,14 @@ use Rattle.cc_program.specs.declared.expr.Expr.{Expr, out-Expr}
 use Rattle.cc_program.specs.declared.stmt.Stmt.{Stmt, out-Stmt}
 use Rattle.cc_program.specs.declared.stmt.Stmt.TheOpen as is
 use Rattle.cc_program.specs.declared.value.Value.{Value}
+use Rattle.cc_values.specs.Values.{is_true}
 use Rattle.cc_meaning_simulations.specs.Continuations.{Remainder, remainder}
 use Rattle.cc_meaning_simulations.specs.LocalSteps.{LocalState, Locals, local_state}
 use Rattle.cc_meaning_simulations.specs.Transitions.{ControlState}
 use Rattle.cc_lower_expressions_follows.specs.Trees.{Regs, Setting, IsShared}
 use Rattle.cc_lower_expressions_follows.specs.Region.{next_q}
 use Rattle.cc_lower_expressions_follows.specs.Registered.{regs_in}
+use Rattle.cc_lower_expressions_follows.specs.WholeGuards.{IsGuard}
 use Rattle.cc_lower_expressions_follows.specs.WholeLists.{is_one_at, AreSame, RunAlike, GivesAlike, IsLoweredRight, AreLowered, AreAround, IsLast}
 use Rattle.cc_lower_expressions_follows.specs.WholePlaces.{AllThere, AreAt}
 use Rattle.cc_lower_expressions_follows.specs.WholeRegion.{control_in, next_p}
@@ -44,6 +46,13 @@ module _ (w : Setting) (Good : Stmt → Type 0) where
     -- both values are known
     AtValue : (s u : Stmt) (e x : Expr) (l l' : List Stmt) (ps qs : List Remainder) (ms ns : List Mark) (v : Value) (i j : List Mark) (pl ql : Locals) → IsLast w Good (out-Stmt s) e x (out-Stmt u) → AreTogether l l' ps qs →
         next_p w e ms ≡ Known (Some v) i → next_q w x ns ≡ Known (Some v) j → AreAlike w pl ql → MatchIn (local_state (control_in w (remainder (u ∷ l') First) qs ns) ql) (local_state (control_in w (remainder (s ∷ l) First) ps ms) pl)
+    -- the next step of a part of an `if`'s condition, and where both go into the arm
+    InCondition : (s : Stmt) (e : Expr) (arm l l' : List Stmt) (ps qs : List Remainder) (f : Option Value → Get Value) (x : Expr) (u : Stmt) (rest : List Stmt) (outer : List Remainder) (ms : List Mark) (pc : ControlState) (pl : Locals) (qc : ControlState) (ql : Locals)
+        (g : Get (Option Value)) (r : Regs) (h : Get (Unit {0})) (t : Regs) (action : Action) → out-Stmt s ≡ is.If e arm [] → IsLoweredRight w e → AreTogether l l' ps qs → IsGuard w Good s arm l l' ps qs f x u rest outer →
+        AreAt w (GivesAlike w x) f s l First ps e (u ∷ rest) outer ms pc pl qc ql g r h t → IsShared w action → g [] ≡ Waits action → h [] ≡ Waits action → MatchIn (local_state qc ql) (local_state pc pl)
+    AtArm : (s u : Stmt) (e x : Expr) (arm these l rest : List Stmt) (ps outer : List Remainder) (ms ns : List Mark) (v v' : Value) (i j : List Mark) (pl ql : Locals) → out-Stmt s ≡ is.If e arm [] → out-Stmt u ≡ is.If x these [] → AreLowered w Good arm these →
+        AreAround w Good (remainder (s ∷ l) First ∷ ps) (remainder (u ∷ rest) First ∷ outer) → next_p w e ms ≡ Known (Some v) i → next_q w x ns ≡ Known (Some v') j → is_true v ≡ true → is_true v' ≡ true → AreAlike w pl ql →
+        MatchIn (local_state (control_in w (remainder (u ∷ rest) First) outer ns) ql) (local_state (control_in w (remainder (s ∷ l) First) ps ms) pl)
     -- at `while (1)`, and at jumps
     AtLoop : (s u : Stmt) (e : Expr) (body body' l l' : List Stmt) (ps qs : List Remainder) (pl ql : Locals) → out-Stmt s ≡ is.While e body → out-Stmt u ≡ is.While e body' → is_one_at (out-Expr e) ≡ true → AreLowered w Good body body' → AreTogether l l' ps qs →
         AreAlike w pl ql → MatchIn (local_state (control_in w (remainder (u ∷ l') Test) qs []) ql) (local_state (control_in w (remainder (s ∷ l) Test) ps []) pl)
