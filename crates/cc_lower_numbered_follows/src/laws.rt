@@ -1,0 +1,15 @@
+ghost use Rattle.cc_lower_numbered_follows.specs.Registers.{AreTemporariesRegisters};
+ghost use Rattle.cc_lower_numbers.specs.Numbered.{numbered};
+ghost use Rattle.cc_program.specs.declared.program.Program.{Program};
+ghost use Rattle.cc_steps.specs.Runs.{Follows, Answers};
+ghost use Rattle.cc_syntax.specs.Sound.{IsTypedProgram};
+
+/// That a typed program does what it did when its temporaries have names and stand in the order of their first writing, and its
+/// devices stand in the order of the text. The call does nothing.
+pub fn numbered_program_laws()
+    // Each run of it has the trace and the end of a run of its source.
+    ensures follows { (p : Program) → IsTypedProgram p → AreTemporariesRegisters p → Follows (numbered p) p }
+
+    // Each run of its source with entries at boundaries is matched by a run of it.
+    ensures answers { (p : Program) → IsTypedProgram p → AreTemporariesRegisters p → Answers (numbered p) p }
+{}
