@@ -1,1 +1,3 @@
 pub mod Instance
+pub mod LoweredTemporaries
+pub mod Outside
