@@ -1,0 +1,7 @@
+pub mod AccessedBodies
+pub mod AccessedExpressions
+pub mod AccessedPieces
+pub mod AccessedStatements
+pub mod Accesses
+pub mod IdleOperands
+pub mod LoweredPrograms
