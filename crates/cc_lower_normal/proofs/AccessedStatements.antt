@@ -1,9 +1,7 @@
 -- A device that is accessed is accessed where `do`s have flags, and where statements are lowered.
-use Rattle.std.proofs.Common.{◌≡◌, ◌∙◌, ◌+◌, ◌||◌, ℕ, Bool, true, false, List, [], ◌∷◌, ◌++◌, map, length, Option, Some, None, refl, ap, sym, subst}
-use Rattle.std.specs.Prelude.{pos}
+use Rattle.std.proofs.Common.{◌≡◌, ◌∙◌, ◌+◌, ◌||◌, ℕ, Bool, true, false, List, [], ◌∷◌, ◌++◌, map, length, Option, Some, None, refl, ap, sym}
 use Rattle.std.specs.List.{list_any}
 use Rattle.std.proofs.lemmas.Bool.{or_left, or_right}
-use Rattle.cc_num.specs.declared.int_type.IntType.TheVariants as int
 use Rattle.cc_lower_continues.specs.Continues.{Flagging, CaseFlagging, all_become, any_continues, assign_flag, case_flagging, case_flagging_in, cases_become, do_flagging, flagged_body, flagged_do, flagged_func, flagged_program, flagging, flags_in, leave_unless, needs_flag, new_body, read_flag, test_but_first}
 use Rattle.cc_lower_continues.proofs.Layers.{flagging_layer, flagging-out, case_flagging-out}
 use Rattle.cc_lower_normal.specs.Accessed.{accesses, optional_accesses, stmt_accesses, list_accesses, is_accessed}
