@@ -87,7 +87,7 @@ module _ (p : Program) where
       some = omega arith
   flags_few (f ∷ fs) h (suc i) d l = flags_few fs (λ j e k. h (suc j) e (omega arith)) i d (omega arith)
 
-  few_flags : All HasFewLocals (lowered_but_for_names p).funcs → All HasFewLocals (flagged_program p).funcs
+  pub few_flags : All HasFewLocals (lowered_but_for_names p).funcs → All HasFewLocals (flagged_program p).funcs
   few_flags few = flags_few p.funcs few
 
   pub lowered_typed : IsTypedProgram p → All HasFewLocals (lowered_but_for_names p).funcs → IsTypedProgram (lowered_but_for_names p)
