@@ -1,0 +1,4 @@
+pub mod AssignedLemmas
+pub mod Opened
+pub mod AccessRules
+pub mod RegisterLemmas

@@ -1,0 +1,14 @@
+//! What full expressions in normal form are made of: temporaries, reads and changes of places, constants that are folded, and
+//! what is known of expressions before they run.
+#![tactic(auto)]
+
+mod accesses;
+mod body;
+mod effects;
+mod folded;
+mod registers;
+mod temporaries;
+
+pub use body::Body;
+pub use registers::registers_of;
+pub use temporaries::{assign, fresh, into, load, set};
