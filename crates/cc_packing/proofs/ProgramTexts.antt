@@ -1,60 +1,92 @@
 -- From what the parts answer of a program to the texts that are written of it, or to why none are.
-use Rattle.std.proofs.Common.{◌≡◌, ◌∙◌, ◌≤◌, ◌<◌, ◌^◌, ◌↔◌, ℕ, Bool, true, false, IsTrue, List, [], ◌∷◌, length, map, sum, Result, Ok, Err, IfOk, IfErr, refl, ap, sym, subst, arith}
+use Rattle.std.proofs.Common.{◌≡◌, ◌∙◌, ◌≤◌, ◌<◌, ◌^◌, ◌↔◌, ℕ, Bool, true, false, IsTrue, List, [], ◌∷◌, length, map, sum, Option, Some, None, IfSome, Result, Ok, Err, IfOk, IfErr, refl, ap, sym, subst, arith}
 use Rattle.std.specs.Prelude.{◌≢◌, slice_index_or}
 use Rattle.cc_cost.specs.declared.profile.Profile.{Profile}
 use Rattle.cc_layout.specs.Seats.{ram}
 use Rattle.cc_material.proofs.LimitLaws.{lt-true, above-over}
 use Rattle.cc_material.specs.Material.{is_refusal}
 use Rattle.cc_material.specs.Programs.{IsAbove, IsProgram, IsWithin}
-use Rattle.cc_packing.specs.Ends.{ProgramEnds, TextsEnd, NotPacked, AboveLimit, LongText, is_pack_refusal}
-use Rattle.cc_packing.specs.Headline.{AreMade, IsPackable, IsPacked, IsPackedText}
+use Rattle.cc_packing.specs.Ends.{ProgramEnds, TextsEnd, NotPacked, NotNormal, AboveLimit, LongText, is_pack_refusal}
+use Rattle.cc_packing.specs.Headline.{AreMade, IsPackable, IsPackedText, output_of}
+use Rattle.cc_packing.specs.Written.{AreTextsOf, WhyNone, NoNormalForm, Above, Long}
 use Rattle.cc_packing.specs.declared.outputs.Texts.{Texts}
 use Rattle.cc_print.specs.Printed.{text}
 use Rattle.cc_program.specs.declared.program.Program.{Program}
 use Rattle.cc_read.specs.Texts.{Reads}
+use Rattle.cc_status.specs.Statuses.{is_over}
 use Rattle.cc_status.specs.declared.status.Status.{Status}
 use Rattle.cc_status.specs.declared.status.Status.TheVariants as status
 use Rattle.cc_status.specs.declared.status.What.{What}
 use Rattle.cc_status.specs.declared.status.What.TheVariants as what
-use Rattle.cc_steps.proofs.RunLaws.{Follows-refl, Answers-refl}
+use Rattle.cc_steps.specs.Runs.{Follows, Answers}
 use Rattle.cc_syntax.proofs.StructureLemmas.{sound_sizes}
 use Rattle.cc_syntax.specs.Layout.{HasSizes}
 use Rattle.cc_syntax.specs.Normal.{IsNormal}
+use Rattle.cc_syntax.specs.Sound.{IsSound}
 use Rattle.cc_table.specs.Table.{table_text}
 
--- a program does what it does itself
-is-packed-self : (p : Program) → IsPacked p p
-is-packed-self p = record { follows = Follows-refl p; answers = Answers-refl p; ram = omega arith }
-
-module _ (p : Program) where
-  -- ---- the texts that are written
-
-  pub packable : IsNormal p → IsWithin p → (bytes : List ℕ) → bytes ≡ text p → length bytes ≤ 16777216 → IsPackable p
-  packable n w bytes e l = record { normal = n; within = w; short = subst (λ t. length t ≤ 16777216) e l }
-
-  pub packed-text : IsNormal p → Reads (text p ∷ []) p.target p.roles p → (bytes rows : List ℕ) (taken : ℕ) → bytes ≡ text p → taken ≡ ram p → rows ≡ table_text taken taken → IsPackedText p.target p.roles p bytes rows
-  packed-text n h bytes rows taken e r t =
-      record { normal = n; printed = e; reads_back = subst (λ b. Reads (b ∷ []) p.target p.roles p) (sym e) h; is_packed = is-packed-self p; tabled = t ∙ ap (λ k. table_text k k) r }
-
--- ---- why none are written
+-- ---- the texts that are written of a program in normal form
 
 pub sizes : (p : Program) → IsNormal p → HasSizes p
 sizes p h = sound_sizes p h.sound
 
-module _ (first : List ℕ) (p : Program) (n : ℕ) where
-  pub above_limit : (w : What) → IsNormal p → IsAbove p w n → ProgramEnds first p (status.Limit w n)
-  above_limit w k h = AboveLimit k w n h
+pub sizes_of_sound : (p : Program) → IsSound p → HasSizes p
+sizes_of_sound p h = sound_sizes p h
 
-  pub long_text : (bytes : List ℕ) → n ≡ length bytes → bytes ≡ text p → IsNormal p → IsWithin p → 16777216 < n → ProgramEnds first p (status.Limit what.Out n)
-  long_text bytes e t k within h =
-      let same : n ≡ length (text p) = e ∙ ap length t in
-      subst (λ m. ProgramEnds first p (status.Limit what.Out m)) (sym same) (LongText k within (subst (λ m. 16777216 < m) same h))
+module _ (q : Program) where
+  pub texts-of : IsNormal q → Reads (text q ∷ []) q.target q.roles q → (bytes rows : List ℕ) (before taken : ℕ) → bytes ≡ text q → length bytes ≤ 16777216 → taken ≡ ram q → rows ≡ table_text before taken → AreTextsOf before q bytes rows
+  texts-of n h bytes rows before taken e l r t =
+      record { normal = n; printed = e; short = subst (λ b. length b ≤ 16777216) e l; reads_back = h; tabled = t ∙ ap (table_text before) r }
 
-pub over-out : (n : ℕ) → 16777216 < n → is_pack_refusal (status.Limit what.Out n) ≡ true
-over-out n h = lt-true 16777216 n h
+  pub long_text : (bytes : List ℕ) (n : ℕ) → n ≡ length bytes → bytes ≡ text q → 16777216 < n → (status.Limit what.Out n ≡ status.Limit what.Out (length (text q))) × (16777216 < length (text q))
+  long_text bytes n e t h =
+      let same : n ≡ length (text q) = e ∙ ap length t in (ap (status.Limit what.Out) same, subst (λ m. 16777216 < m) same h)
+
+-- ---- and of the program that was lowered to it
+
+module _ (p : Program) where
+  pub packed-by : (r : Result Texts Status) (before : ℕ) (q : Program) → q ≡ output_of p → before ≡ ram p → IfOk r (λ t. AreTextsOf before q t.out.items t.table.items) →
+      Follows (output_of p) p → Answers (output_of p) p → ram (output_of p) ≡ ram p → (output_of p).target ≡ p.target → (output_of p).roles ≡ p.roles → IfOk r (λ t. IsPackedText p.target p.roles p t.out.items t.table.items)
+  packed-by (Err s) before q e b h f a r t o = tt
+  packed-by (Ok x) before q e b h f a r t o = of_it (subst (λ q. AreTextsOf before q x.out.items x.table.items) e h)
+    where
+      of_it : AreTextsOf before (output_of p) x.out.items x.table.items → IsPackedText p.target p.roles p x.out.items x.table.items
+      of_it k = record {
+        normal = k.normal;
+        printed = k.printed;
+        reads_back = subst (λ b. Reads (b ∷ []) p.target p.roles (output_of p)) (sym k.printed)
+            (subst (λ z. Reads (text (output_of p) ∷ []) z p.roles (output_of p)) t (subst (λ z. Reads (text (output_of p) ∷ []) (output_of p).target z (output_of p)) o k.reads_back));
+        is_packed = record { follows = f; answers = a; ram = omega (arith, r) };
+        tabled = k.tabled ∙ ap (λ n. table_text n (ram (output_of p))) b;
+      }
+
+  pub packable-by : (r : Result Texts Status) (before : ℕ) (q : Program) → q ≡ output_of p → IsWithin p → IfOk r (λ t. AreTextsOf before q t.out.items t.table.items) → IfOk r (λ t. IsPackable p)
+  packable-by (Err s) before q e w h = tt
+  packable-by (Ok x) before q e w h = of_it (subst (λ q. AreTextsOf before q x.out.items x.table.items) e h)
+    where
+      of_it : AreTextsOf before (output_of p) x.out.items x.table.items → IsPackable p
+      of_it k = record { normal = k.normal; within = w; short = k.short }
+
+  -- why none are written
+  ends-as : (first : List ℕ) (limit : Option (What × ℕ)) (s : Status) → (limit ≡ None → IsWithin p) → ((w : What) (n : ℕ) → limit ≡ Some (w, n) → IsAbove p w n) → WhyNone first limit (output_of p) s → ProgramEnds first p s
+  ends-as first limit _ within above (NoNormalForm h) = NotNormal h
+  ends-as first limit _ within above (Above h w n e) = AboveLimit h w n (above w n e)
+  ends-as first limit _ within above (Long h e k) = LongText h (within e) k
+
+  pub ends-by : (first : List ℕ) (limit : Option (What × ℕ)) (r : Result Texts Status) (q : Program) → q ≡ output_of p → (limit ≡ None → IsWithin p) → IfSome limit (λ l. IsAbove p l.0 l.1) → IfErr r (λ s. s ≢ status.NoMemory → WhyNone first limit q s) →
+      IfErr r (λ s. s ≢ status.NoMemory → ProgramEnds first p s)
+  ends-by first limit (Ok x) q e within above h = tt
+  ends-by first limit (Err s) q e within above h = λ n. ends-as first limit s within (λ w k i. subst (λ l. IfSome l (λ l. IsAbove p l.0 l.1)) i above) (subst (λ q. WhyNone first limit q s) e (h n))
 
 pub over-limit : (p : Program) (w : What) (n : ℕ) → IsAbove p w n → is_pack_refusal (status.Limit w n) ≡ true
 over-limit p w n h = above-over p w n h
+
+pub over-limits : (p : Program) (limit : Option (What × ℕ)) → IfSome limit (λ l. IsAbove p l.0 l.1) → IfSome limit (λ l. is_over l.0 l.1 ≡ true)
+over-limits p None h = tt
+over-limits p (Some l) h = over-limit p l.0 l.1 h
+
+pub over-out : (n : ℕ) → 16777216 < n → is_pack_refusal (status.Limit what.Out n) ≡ true
+over-out n h = lt-true 16777216 n h
 
 -- what refuses before a program is read refuses packing
 pub pack-refusal : (s : Status) → is_refusal s ≡ true → is_pack_refusal s ≡ true
@@ -71,7 +103,7 @@ pack-refusal (status.WriteFault name) h = h
 pack-refusal status.NoMemory h = h
 pack-refusal (status.Later name) h = refl
 
-pub ruleset of_programs = (sizes, above_limit, long_text, packable, packed-text, over-out, over-limit)
+pub ruleset of_programs = (sizes, sizes_of_sound, over-out, over-limits)
 
 -- ---- sources
 

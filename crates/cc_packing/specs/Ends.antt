@@ -22,12 +22,12 @@ pub data FilesEnd (files : Files) (rose : Type 0) (a : Asked) : Status → Type 
   AtProfile : (s : Status) → ProfileEnds files rose a.profile s → FilesEnd files rose a s
   AtSources : (profile : Profile) (u : Unread) → IsProfile files a.profile profile → IsFirstSourceUnread files rose a.sources u → FilesEnd files rose a (for_unread u)
 
--- The program of sources, of which `first` is the name of the first, is not packed: it is not in normal form, or above a
--- limit, or its printed text is.
+-- The program of sources, of which `first` is the name of the first, is not packed: what it is lowered to is not in normal form,
+-- or the program is above a limit, or the printed text is.
 pub data ProgramEnds (first : List ℕ) (p : Program) : Status → Type 0 where
-  NotNormal : (IsNormal p → ⊥) → ProgramEnds first p (status.Later first)
-  AboveLimit : IsNormal p → (w : What) (n : ℕ) → IsAbove p w n → ProgramEnds first p (status.Limit w n)
-  LongText : IsNormal p → IsWithin p → 16777216 < length (text (output_of p)) → ProgramEnds first p (status.Limit what.Out (length (text (output_of p))))
+  NotNormal : (IsNormal (output_of p) → ⊥) → ProgramEnds first p (status.Later first)
+  AboveLimit : IsNormal (output_of p) → (w : What) (n : ℕ) → IsAbove p w n → ProgramEnds first p (status.Limit w n)
+  LongText : IsNormal (output_of p) → IsWithin p → 16777216 < length (text (output_of p)) → ProgramEnds first p (status.Limit what.Out (length (text (output_of p))))
 
 -- sources of these names are refused, or their program is not packed
 pub data TextsEnd (names : List (List ℕ)) (profile : Profile) (texts : List (List ℕ)) : Status → Type 0 where

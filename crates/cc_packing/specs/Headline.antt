@@ -4,6 +4,7 @@ use Rattle.cc_cost.specs.declared.profile.Profile.{Profile}
 use Rattle.cc_edge.specs.Files.{Files}
 use Rattle.cc_files.specs.Unread.{AreSources}
 use Rattle.cc_layout.specs.Seats.{ram}
+use Rattle.cc_lower.specs.Lowered.{lowered}
 use Rattle.cc_material.specs.Material.{IsProfile}
 use Rattle.cc_material.specs.Programs.{IsProgram, IsWithin}
 use Rattle.cc_num.specs.declared.target.Target.{Target}
@@ -23,13 +24,13 @@ pub record IsPacked (q p : Program) : Type 0 where
   pub answers : Answers q p
   pub ram : ram q ≤ ram p
 
--- the program whose text the output is: a program that is in normal form is written as it is
+-- the program whose text the output is
 abbrev pub output_of : Program → Program
-output_of p = p
+output_of p = lowered p
 
--- the program is one that is packed today: it is in normal form, and it and the text of the output are within the limits
+-- the program is one that is packed: what it is lowered to is in normal form, and it and the text of the output are within the limits
 pub record IsPackable (p : Program) : Type 0 where
-  pub normal : IsNormal p
+  pub normal : IsNormal (output_of p)
   pub within : IsWithin p
   pub short : length (text (output_of p)) ≤ 16777216
 
@@ -55,7 +56,6 @@ pub record AreRead (files : Files) (a : Asked) (profile : Profile) (texts : List
   pub sources_are : AreSources files a.sources texts
 
 -- all that packing needs is there: the profile and the sources are read, they are a program, and that is one that is packed
--- today
 pub record CanBePacked (files : Files) (a : Asked) : Type 0 where
   pub profile : Profile
   pub texts : List (List ℕ)
