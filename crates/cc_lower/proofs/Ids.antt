@@ -1,5 +1,5 @@
 -- Locals that have ids.
-use Rattle.std.proofs.Common.{◌≡◌, ◌^◌, ℕ, zero, suc, Bool, true, List, [], ◌∷◌, All, length, nat_lt, ltb-true, arith}
+use Rattle.std.proofs.Common.{◌≡◌, ◌^◌, zero, suc, Bool, true, List, [], ◌∷◌, All, length, nat_lt, ltb-true, arith}
 use Rattle.std.specs.List.{list_all}
 use Rattle.cc_lower_continues.specs.Continues.{HasFewLocals}
 use Rattle.cc_lower_sound.proofs.Bools.{first_true, second_true}

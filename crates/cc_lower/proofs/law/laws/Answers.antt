@@ -1,5 +1,6 @@
-use Rattle.std.proofs.Common.{◌≡◌, refl}
-use Rattle.cc_lower.specs.Lowered.{HasIds, lowered}
+use Rattle.std.proofs.Common.{refl}
+use Rattle.cc_layout.specs.Seats.{ram}
+use Rattle.cc_lower.specs.Lowered.{lowered}
 use Rattle.cc_lower.proofs.law.laws.Goals as goal
 use Rattle.cc_lower_continues.specs.Continues.{flagged_program}
 use Rattle.cc_lower_normal.specs.Lowered.{lowered_but_for_names}
@@ -47,5 +48,5 @@ unfolding lowered
 returns-clause-objects c = λ p. refl
 
 pub returns-clause-ram : goal.returns-clause-ram
-unfolding lowered
+unfolding lowered ram
 returns-clause-ram c = λ p. refl
