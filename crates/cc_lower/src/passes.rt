@@ -26,7 +26,7 @@ fn have_ids(p: &Program) -> bool
 }
 
 /// The program that a program is lowered to. Want of memory is the only error; a function of 2^32 locals or more is such a want.
-#[tactic(auto, using(crate::proofs::Ids::id_rules), unfolding(crate::specs::Lowered::lowered))]
+#[tactic(auto, unfolding(crate::specs::Lowered::lowered))]
 pub fn lower(alloc: Global, p: Program) -> Result<Program, NoMemory>
     requires sized { AreSized p.structures p.target }
     ensures exact { IfOk result (λ q. q ≡ lowered p) }
