@@ -26,6 +26,7 @@ fn is_optional_folded(target: &Target, e: &Option<Boxed<Expr>>) -> bool
 }
 
 #[cycle(folded)]
+#[tactic(auto, unfolding(cc_lower_sound::specs::Folded::is_folded_stmt))]
 fn is_statement(target: &Target, s: &Stmt) -> bool
     ensures { result ≡ is_folded_stmt target.now s.now }
 {
