@@ -3,6 +3,8 @@ use Rattle.std.proofs.Common.{◌≡◌, ◌∙◌, ◌≤◌, ◌<◌, ◌^◌,
 use Rattle.std.specs.Prelude.{◌≢◌, slice_index_or}
 use Rattle.cc_cost.specs.declared.profile.Profile.{Profile}
 use Rattle.cc_layout.specs.Seats.{ram}
+use Rattle.cc_lower.specs.Lowered.{HasIds}
+use Rattle.cc_lower_sound.specs.Folded.{has_folded_expressions}
 use Rattle.cc_material.proofs.LimitLaws.{lt-true, above-over}
 use Rattle.cc_material.specs.Material.{is_refusal}
 use Rattle.cc_material.specs.Programs.{IsAbove, IsProgram, IsWithin}
@@ -21,7 +23,7 @@ use Rattle.cc_status.specs.declared.status.What.TheVariants as what
 use Rattle.cc_steps.specs.Runs.{Follows, Answers}
 use Rattle.cc_syntax.proofs.StructureLemmas.{sound_sizes}
 use Rattle.cc_syntax.specs.Layout.{HasSizes}
-use Rattle.cc_syntax.specs.Normal.{IsNormal}
+use Rattle.cc_syntax.specs.Normal.{IsNormal, devices_in_order}
 use Rattle.cc_syntax.specs.Sound.{IsSound}
 use Rattle.cc_table.specs.Table.{table_text}
 
@@ -59,6 +61,11 @@ module _ (p : Program) where
         is_packed = record { follows = f; answers = a; ram = omega (arith, r) };
         tabled = k.tabled ∙ ap (λ n. table_text n (ram (output_of p))) b;
       }
+
+  -- it is in normal form where the source is folded and its devices stand in order
+  pub normal-by : (is_folded : Bool) (q : Program) → q ≡ output_of p → is_folded ≡ has_folded_expressions p → HasIds p →
+      (has_folded_expressions p ≡ true → HasIds p → devices_in_order (output_of p) ≡ true → IsNormal (output_of p)) → is_folded ≡ true → devices_in_order q ≡ true → IsNormal q
+  normal-by is_folded q e f ids law h k = subst IsNormal (sym e) (law (sym f ∙ h) ids (ap devices_in_order (sym e) ∙ k))
 
   pub packable-by : (r : Result Texts Status) (before : ℕ) (q : Program) → q ≡ output_of p → IsWithin p → IfOk r (λ t. AreTextsOf before q t.out.items t.table.items) → IfOk r (λ t. IsPackable p)
   packable-by (Err s) before q e w h = tt
