@@ -1,5 +1,5 @@
 -- Why packing has one answer: each cause is looked for where no cause in front of it is there.
-use Rattle.std.proofs.Common.{◌≡◌, ◌∙◌, ℕ, List, [], refl, ap, sym, subst, arith}
+use Rattle.std.proofs.Common.{◌≡◌, ℕ, List, [], refl, ap, sym, subst, arith}
 use Rattle.std.specs.Prelude.{slice_index_or}
 use Rattle.cc_cost.specs.declared.profile.Profile.{Profile}
 use Rattle.cc_edge.specs.Files.{Files}
@@ -11,7 +11,6 @@ use Rattle.cc_packing.specs.Headline.{AreRead, AreAsked, CanBePacked, IsPackable
 use Rattle.cc_program.specs.declared.program.Program.{Program}
 use Rattle.cc_status.specs.Statuses.{for_unread}
 use Rattle.cc_status.specs.declared.status.Status.{Status}
-use Rattle.cc_status.specs.declared.status.Status.TheVariants as status
 
 -- ---- the files
 

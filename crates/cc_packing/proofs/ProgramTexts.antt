@@ -1,5 +1,5 @@
 -- From what the parts answer of a program to the texts that are written of it, or to why none are.
-use Rattle.std.proofs.Common.{◌≡◌, ◌∙◌, ◌≤◌, ◌<◌, ◌^◌, ◌↔◌, ℕ, Bool, true, false, IsTrue, List, [], ◌∷◌, length, map, sum, Option, Some, None, IfSome, Result, Ok, Err, IfOk, IfErr, refl, ap, sym, subst, arith}
+use Rattle.std.proofs.Common.{◌≡◌, ◌∙◌, ◌≤◌, ◌<◌, ◌↔◌, ℕ, Bool, true, IsTrue, List, [], ◌∷◌, length, Option, Some, None, IfSome, Result, Ok, Err, IfOk, IfErr, refl, ap, sym, subst, arith}
 use Rattle.std.specs.Prelude.{◌≢◌, slice_index_or}
 use Rattle.cc_cost.specs.declared.profile.Profile.{Profile}
 use Rattle.cc_layout.specs.Seats.{ram}
@@ -43,6 +43,15 @@ module _ (q : Program) where
   pub long_text : (bytes : List ℕ) (n : ℕ) → n ≡ length bytes → bytes ≡ text q → 16777216 < n → (status.Limit what.Out n ≡ status.Limit what.Out (length (text q))) × (16777216 < length (text q))
   long_text bytes n e t h =
       let same : n ≡ length (text q) = e ∙ ap length t in (ap (status.Limit what.Out) same, subst (λ m. 16777216 < m) same h)
+
+  pub normal_of : (b : Bool) → IsTrue b ↔ IsNormal q → b ≡ true → IsNormal q
+  normal_of b h e = h.0 e
+
+  -- why none are written
+  pub why-none : (first : List ℕ) (limit : Option (What × ℕ)) (r : Result Texts Status) → IsNormal q → limit ≡ None →
+      IfErr r (λ s. s ≢ status.NoMemory → (s ≡ status.Limit what.Out (length (text q))) × (16777216 < length (text q))) → IfErr r (λ s. s ≢ status.NoMemory → WhyNone first limit q s)
+  why-none first limit (Ok x) n e h = tt
+  why-none first limit (Err s) n e h = λ k. let x = h k in subst (WhyNone first limit q) (sym x.0) (Long n e x.1)
 
 -- ---- and of the program that was lowered to it
 
