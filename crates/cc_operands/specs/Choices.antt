@@ -1,13 +1,13 @@
 -- `c ? a : b` and `a, b` (C99 6.5.15, 6.5.17).
-use Rattle.std.specs.Prelude.{Bool, ◌&&◌, ◌||◌, Ok, Err, if◌then◌else◌}
+use Rattle.std.specs.Prelude.{Bool, true, false, ◌&&◌, ◌||◌, Ok, Err, if◌then◌else◌}
 use Rattle.cc_num.specs.declared.int_type.IntType.{IntType}
 use Rattle.cc_num.specs.declared.target.Target.{Target}
 use Rattle.cc_num.specs.Promotions.{usual_of}
-use Rattle.cc_operands.specs.Operands.{Operand, operand, constancy, folded, converted_to, is_pointer, is_nothing, is_to_void, is_null_constant, null_of, with_value, no_structure}
+use Rattle.cc_operands.specs.Operands.{Operand, operand, as_nothing, constancy, folded, converted_to, is_pointer, is_nothing, is_to_void, is_null_constant, null_of, with_value, no_structure}
 use Rattle.cc_operands.specs.Verdicts.{Judged, must}
 use Rattle.cc_operands.specs.declared.rule.Rule.TheVariants as rule
 use Rattle.cc_program.specs.declared.expr.Expr.{Expr, Choose, Seq}
-use Rattle.cc_syntax.specs.Folding.{chosen_constant}
+use Rattle.cc_syntax.specs.Folding.{Constant, NoConstant, Value, Traps, is_true, chosen_constant}
 use Rattle.cc_syntax.specs.Operators.{common_type}
 use Rattle.cc_syntax.specs.Values.{ValueType, NoValue, Integer, is_scalar, point_alike}
 
@@ -17,6 +17,21 @@ chosen_integer t c x y = folded t (chosen_constant (constancy c) (constancy x) (
 -- no pointer to void
 abbrev pub chosen_pointer : Bool → Operand → Expr → Expr → ValueType → Judged Operand
 chosen_pointer to_void c a b t = if to_void then Err rule.PointerToVoid else Ok (operand (Choose c.value a b) t)
+
+-- the arm that a constant chooses
+abbrev pub arm_chosen : Constant → Operand → Operand → Operand
+arm_chosen (Value n) x y = if is_true n then x else y
+arm_chosen NoConstant x y = x
+arm_chosen Traps x y = x
+
+-- a choice of what has no value, by what it is as a constant expression: of constants the arm that is chosen is left
+abbrev pub nothing_by : Constant → Operand → Expr → Operand
+nothing_by (Value n) arm e = as_nothing arm
+nothing_by NoConstant arm e = operand e NoValue
+nothing_by Traps arm e = record { value = e; type = NoValue; traps = true; structure = false }
+
+abbrev pub nothing_chosen : Operand → Operand → Operand → Operand
+nothing_chosen c x y = nothing_by (chosen_constant (constancy c) (constancy x) (constancy y)) (arm_chosen (constancy c) x y) (Choose c.value x.value y.value)
 
 module _ (target : Target) where
   abbrev pub pointers_chosen : Operand → Operand → Operand → Judged Operand
@@ -32,7 +47,7 @@ module _ (target : Target) where
   -- both arms have values, or neither
   abbrev pub arms_chosen : Operand → Operand → Operand → Judged Operand
   arms_chosen c x y =
-      if is_nothing x.type && is_nothing y.type then Ok (operand (Choose c.value x.value y.value) NoValue)
+      if is_nothing x.type && is_nothing y.type then Ok (nothing_chosen c x y)
       else (if is_nothing x.type || is_nothing y.type then Err rule.NoCommonType else chosen_by c x y x.type y.type)
 
   abbrev pub choose_of : Operand → Operand → Operand → Judged Operand

@@ -137,6 +137,10 @@ against_null o x = Compare o x.value (null_of x.type)
 abbrev pub structure_at : Place → Operand
 structure_at a = record { value = Load a; type = NoValue; traps = false; structure = true }
 
+-- a value that is not used, which is what it was as a constant expression
+abbrev pub as_nothing : Operand → Operand
+as_nothing x = record { value = x.value; type = NoValue; traps = x.traps; structure = false }
+
 abbrev pub is_void_value : Operand → Bool
 is_void_value x = is_nothing x.type && not x.structure
 

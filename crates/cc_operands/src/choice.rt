@@ -1,14 +1,15 @@
 //! `c ? a : b` and `a, b` (C99 6.5.15, 6.5.17).
 
 ghost use Rattle.std.specs.Prelude.{◌≡◌, IfOk};
-ghost use Rattle.cc_operands.specs.Choices.{chosen_integer as chosen_integer_of, chosen_pointer as chosen_pointer_of, pointers_chosen as pointers_chosen_of, chosen_by, arms_chosen, choose_of, comma_of};
+ghost use Rattle.cc_operands.specs.Choices.{chosen_integer as chosen_integer_of, chosen_pointer as chosen_pointer_of, arm_chosen as arm_chosen_of, nothing_chosen as nothing_chosen_of, pointers_chosen as pointers_chosen_of, chosen_by, arms_chosen, choose_of, comma_of};
 ghost use Rattle.cc_operands.specs.Operands.{converted_to as converted_to_of, is_to_void as is_to_void_of, null_of as null_of_type};
 ghost use Rattle.cc_operands.specs.Verdicts.{Judges};
-ghost use Rattle.cc_operands.specs.View.{operand_view, type_view};
+ghost use Rattle.cc_operands.specs.View.{operand_view, type_view, constant_view};
 ghost use Rattle.cc_program.specs.declared.expr.Expr.{Choose as ChooseOf};
 ghost use Rattle.cc_syntax.specs.Operators.{common_type as common_type_of};
 
-use crate::operand::{Operand, converted_to, folded, null_of, typed};
+use crate::constants::{Constant, is_true};
+use crate::operand::{Operand, as_nothing, converted_to, folded, null_of, typed};
 use crate::rule::Rule;
 use crate::types::{OperandType, owned};
 use crate::verdict::Breach;
@@ -155,6 +156,40 @@ fn values(
     }
 }
 
+/// The arm that a constant chooses.
+fn arm(tested: Constant, x: Operand, y: Operand) -> Operand
+    ensures { operand_view result ≡ arm_chosen_of (constant_view tested) (operand_view x) (operand_view y) }
+{
+    match tested {
+        Constant::Value(n) => { if is_true(n) { x } else { y } }
+        Constant::NoConstant => x,
+        Constant::Traps => x,
+    }
+}
+
+/// A choice of what has no value: of constants the arm that is chosen is left, where nothing traps.
+fn nothing(alloc: Global, c: Operand, x: Operand, y: Operand) -> Result<Operand, NoMemory>
+    ensures { IfOk result (λ r. operand_view r ≡ nothing_chosen_of (operand_view c) (operand_view x) (operand_view y)) }
+{
+    let tested = c.constancy();
+    match tested.chosen(x.constancy(), y.constancy()) {
+        Constant::Value(_) => Ok(as_nothing(arm(tested, x, y))),
+        Constant::NoConstant => {
+            let value = choose(alloc, c, x, y)?;
+            Ok(typed(value, OperandType::NoValue))
+        }
+        Constant::Traps => {
+            let value = choose(alloc, c, x, y)?;
+            Ok(Operand {
+                value,
+                ctype: OperandType::NoValue,
+                traps: true,
+                structure: false,
+            })
+        }
+    }
+}
+
 /// A choice of what are no structures.
 fn arms(
     alloc: Global,
@@ -166,8 +201,7 @@ fn arms(
     ensures { Judges operand_view result (arms_chosen target.now (operand_view c) (operand_view x) (operand_view y)) }
 {
     if x.ctype.is_nothing() && y.ctype.is_nothing() {
-        let value = choose(alloc, c, x, y)?;
-        Ok(typed(value, OperandType::NoValue))
+        Ok(nothing(alloc, c, x, y)?)
     } else if x.ctype.is_nothing() || y.ctype.is_nothing() {
         Err(Breach::Breaks(Rule::NoCommonType))
     } else {

@@ -49,7 +49,8 @@ fn binary_value(op: BinOp, t: IntType, m: i128, n: i128, target: &Target) -> Con
     }
 }
 
-fn is_true(n: i128) -> bool
+/// Whether a condition of this value holds.
+pub fn is_true(n: i128) -> bool
     ensures { result ≡ is_true_of n }
 {
     !(n == 0)

@@ -18,7 +18,7 @@ pub use assignment::{assigned, changed, stepped, stored};
 pub use choice::{chosen, comma};
 pub use constants::Constant;
 pub use operand::{
-    Operand, cast_to, character_value, integer, null_of, number_type, size_type, typed,
+    Operand, as_nothing, cast_to, character_value, integer, null_of, number_type, size_type, typed,
 };
 pub use operator::{Operator, UnaryOperator, assigns_by, operator_of, unary_operator_of};
 pub use qualified::{qualified_as, qualified_by, type_of_value, without_const};

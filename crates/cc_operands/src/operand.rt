@@ -1,7 +1,7 @@
 //! Values of expressions with their types, constants (C99 6.4.4, 6.6), and conversions of integers (6.3.1).
 
 ghost use Rattle.std.specs.Prelude.{◌≡◌, IfOk, drop};
-ghost use Rattle.cc_operands.specs.Operands.{operand as typed_of, integer as integer_of, constancy as constancy_of, folded as folded_of, first_with as first_with_of, number_type as number_type_of, character_value as character_value_of, size_type as size_type_of, cast_to as cast_to_of, converted_to as converted_to_of, is_zero_constant, is_null_constant as is_null_constant_of, null_of as null_of_of, against_null as against_null_of, is_void_value as is_void_value_of};
+ghost use Rattle.cc_operands.specs.Operands.{operand as typed_of, integer as integer_of, constancy as constancy_of, folded as folded_of, first_with as first_with_of, number_type as number_type_of, character_value as character_value_of, size_type as size_type_of, cast_to as cast_to_of, converted_to as converted_to_of, is_zero_constant, is_null_constant as is_null_constant_of, null_of as null_of_of, against_null as against_null_of, as_nothing as as_nothing_of, is_void_value as is_void_value_of};
 ghost use Rattle.cc_operands.specs.View.{operand_view, type_view, constant_view};
 
 use crate::constants::Constant;
@@ -109,6 +109,18 @@ impl Operand {
         ensures { result ≡ is_null_constant_of (operand_view self.now) }
     {
         self.is_zero() || (self.ctype.is_to_void() && matches!(self.value.get(), Expr::Null(_)))
+    }
+}
+
+/// A value that is not used: what it was as a constant expression, it stays.
+pub fn as_nothing(x: Operand) -> Operand
+    ensures { operand_view result ≡ as_nothing_of (operand_view x) }
+{
+    Operand {
+        value: x.value,
+        ctype: OperandType::NoValue,
+        traps: x.traps,
+        structure: false,
     }
 }
 
