@@ -4,7 +4,7 @@ use Rattle.std.specs.Ordering.{int_eq}
 use Rattle.cc_num.specs.declared.int_type.IntType.{IntType}
 use Rattle.cc_num.specs.declared.target.Target.{Target}
 use Rattle.cc_num.specs.Integers.{is_value_of}
-use Rattle.cc_operands.specs.Operands.{Operand, operand, integer, constancy, cast_to, size_type, is_null_constant, with_value, no_structure}
+use Rattle.cc_operands.specs.Operands.{Operand, operand, as_nothing, integer, constancy, cast_to, size_type, is_null_constant, with_value, no_structure}
 use Rattle.cc_operands.specs.Qualified.{unqualified}
 use Rattle.cc_operands.specs.Verdicts.{Judged, must}
 use Rattle.cc_operands.specs.declared.rule.Rule.TheVariants as rule
@@ -14,7 +14,7 @@ use Rattle.cc_program.specs.declared.types.Shape.{Shape, out-Shape}
 use Rattle.cc_program.specs.declared.types.Shape.TheOpen as shape
 use Rattle.cc_program.specs.declared.types.Sig.{Sig}
 use Rattle.cc_syntax.specs.Folding.{Constant, NoConstant, Value, Traps}
-use Rattle.cc_syntax.specs.Values.{ValueType, NoValue, Integer, pointer_to, is_void, is_assignable}
+use Rattle.cc_syntax.specs.Values.{ValueType, Integer, pointer_to, is_void, is_assignable}
 use Rattle.cc_designators.specs.Designators.{TypedExpr, IsValue, IsAddress, null}
 use Rattle.cc_designators.specs.Postfix.{indirection}
 
@@ -43,7 +43,7 @@ integer_cast target t x (Integer s) = Ok (IsValue (cast_to target t x))
 integer_cast target t x _ = Err rule.Cast
 
 abbrev pub cast_by : Target → ℕ → CType → Operand → shape.Shape-F Shape CType Sig → Judged TypedExpr
-cast_by target at t x shape.Void = no_structure x (Ok (IsValue (operand x.value NoValue)))
+cast_by target at t x shape.Void = no_structure x (Ok (IsValue (as_nothing x)))
 cast_by target at t x (shape.Int i) = with_value x (integer_cast target i x x.type)
 cast_by target at t x (shape.Pointer to) = with_value x (if is_void to then void_pointer_cast t x else pointer_cast at t to x x.type)
 cast_by target at t x (shape.Array of n) = Err rule.Cast

@@ -12,7 +12,8 @@ use crate::pointers::indirection;
 use crate::values::null;
 use cc_num::{Boxed, IntType, NoMemory, Target};
 use cc_operands::{
-    Breach, Constant, Operand, OperandType, Rule, cast_to, integer, owned, size_type, typed,
+    Breach, Constant, Operand, OperandType, Rule, as_nothing, cast_to, integer, owned, size_type,
+    typed,
 };
 use cc_syntax::{CType, Expr, Shape};
 use cc_typed::{is_void, pointer_to};
@@ -109,7 +110,7 @@ pub fn cast(
             if x.structure {
                 Err(Breach::Breaks(Rule::StructureValue))
             } else {
-                Ok(valued(alloc, typed(x.value, OperandType::NoValue))?)
+                Ok(valued(alloc, as_nothing(x))?)
             }
         }
         Shape::Int(i) => {
