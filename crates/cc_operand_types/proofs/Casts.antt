@@ -8,7 +8,7 @@ use Rattle.cc_program.specs.declared.types.CType.{CType}
 use Rattle.cc_program.specs.declared.types.Shape.{Shape, out-Shape}
 use Rattle.cc_program.specs.declared.types.Shape.TheOpen as shape
 use Rattle.cc_program.specs.declared.types.Sig.{Sig}
-use Rattle.cc_operands.specs.Operands.{Operand, operand, integer, constancy, size_type, is_null_constant}
+use Rattle.cc_operands.specs.Operands.{Operand, operand, as_nothing, integer, constancy, size_type, is_null_constant}
 use Rattle.cc_operands.specs.Qualified.{unqualified}
 use Rattle.cc_operands.specs.Verdicts.{must}
 use Rattle.cc_operands.specs.declared.rule.Rule.TheVariants as rule
@@ -97,9 +97,9 @@ module _ (p : View) (locals : List Named) where
 
   cast_by_typed : (at : ℕ) (t : CType) (x : Operand) (y : shape.Shape-F Shape CType Sig) (r : TypedExpr) → out-Shape t.shape ≡ y → ((to : CType) → y ≡ shape.Pointer to → IsNullType p t) → Typed x → cast_by p.target at t x y ≡ Ok r → Designates r
   cast_by_typed at t x shape.Void r e n hx h =
-      let s = structure_ok x (Ok (IsValue (operand x.value NoValue))) r h in
+      let s = structure_ok x (Ok (IsValue (as_nothing x))) r h in
       let u = any_type p locals x hx s.0 in
-      subst Designates (ok_is s.1) (Void (operand x.value NoValue) u.0 refl refl u.1)
+      subst Designates (ok_is s.1) (Void (as_nothing x) u.0 refl refl u.1)
   cast_by_typed at t x (shape.Int i) r e n hx h = integer_typed i x x.type r hx refl (value_ok x _ r h).1
   cast_by_typed at t x (shape.Pointer to) r e n hx h =
       let k = n to refl in

@@ -7,10 +7,10 @@ use Rattle.cc_num.specs.Promotions.{usual_of}
 use Rattle.cc_program.specs.declared.expr.Expr.{Expr, Choose, Seq}
 use Rattle.cc_program.specs.declared.types.CType.{CType}
 use Rattle.cc_program.specs.declared.types.Sig.{Sig}
-use Rattle.cc_operands.specs.Choices.{chosen_integer, chosen_pointer, pointers_chosen, chosen_by, arms_chosen, choose_of, comma_of}
-use Rattle.cc_operands.specs.Operands.{Operand, operand, constancy, converted_to, is_pointer, is_nothing, is_to_void, is_null_constant, null_of, no_structure}
+use Rattle.cc_operands.specs.Choices.{chosen_integer, chosen_pointer, arm_chosen, nothing_by, nothing_chosen, pointers_chosen, chosen_by, arms_chosen, choose_of, comma_of}
+use Rattle.cc_operands.specs.Operands.{Operand, operand, as_nothing, constancy, converted_to, is_pointer, is_nothing, is_to_void, is_null_constant, null_of, no_structure}
 use Rattle.cc_operands.specs.declared.rule.Rule.TheVariants as rule
-use Rattle.cc_syntax.specs.Folding.{chosen_constant}
+use Rattle.cc_syntax.specs.Folding.{Constant, NoConstant, Value, Traps, is_true, chosen_constant}
 use Rattle.cc_syntax.specs.Operators.{is_promoted, common_type}
 use Rattle.cc_syntax.specs.SameTypes.{alike, same_sig, same_int}
 use Rattle.cc_syntax.specs.Types.{Named}
@@ -233,19 +233,38 @@ module _ (p : View) (locals : List Named) where
 
   -- ---- the arms
 
-  void_arms : (c x y : Operand) → Typed c → is_scalar c.type ≡ true → Typed x → Typed y → x.structure ≡ false → y.structure ≡ false → Typed (operand (Choose c.value x.value y.value) NoValue)
+  nothing_typed : (k : Constant) (arm : Operand) (e : Expr) (t u : ValueType) → type_of p locals arm.value ≡ Some t → type_of p locals e ≡ Some u → Typed (nothing_by k arm e)
+  nothing_typed NoConstant arm e t u h g = Void (operand e NoValue) u refl refl g
+  nothing_typed (Value n) arm e t u h g = Void (as_nothing arm) t refl refl h
+  nothing_typed Traps arm e t u h g = Void (nothing_by Traps arm e) u refl refl g
+
+  abbrev HasSome : Operand → Type 0
+  HasSome x = (t : ValueType) × (type_of p locals x.value ≡ Some t)
+
+  arm_by : (b : Bool) (x y : Operand) → HasSome x → HasSome y → HasSome (if b then x else y)
+  arm_by true x y h g = h
+  arm_by false x y h g = g
+
+  arm_typed : (k : Constant) (x y : Operand) → HasSome x → HasSome y → HasSome (arm_chosen k x y)
+  arm_typed NoConstant x y h g = h
+  arm_typed (Value n) x y h g = arm_by (is_true n) x y h g
+  arm_typed Traps x y h g = h
+
+  void_arms : (c x y : Operand) → Typed c → is_scalar c.type ≡ true → Typed x → Typed y → x.structure ≡ false → y.structure ≡ false → Typed (nothing_chosen c x y)
   void_arms c x y hc k hx hy e f =
       let s = condition c hc k in
       let u = any_type p locals x hx e in
       let v = any_type p locals y hy f in
-      Void (operand (Choose c.value x.value y.value) NoValue) (common_type p.target u.0 v.0) refl refl (choose_type c.value x.value y.value s.0 u.0 v.0 s.1 s.2 u.1 v.1)
+      let arm = arm_typed (constancy c) x y u v in
+      nothing_typed (chosen_constant (constancy c) (constancy x) (constancy y)) (arm_chosen (constancy c) x y) (Choose c.value x.value y.value) arm.0 (common_type p.target u.0 v.0) arm.1
+      (choose_type c.value x.value y.value s.0 u.0 v.0 s.1 s.2 u.1 v.1)
 
   arms_second : (c x y r : Operand) (b : Bool) → Typed c → is_scalar c.type ≡ true → Typed x → Typed y → (if b then Err rule.NoCommonType else chosen_by p.target c x y x.type y.type) ≡ Ok r → Typed r
   arms_second c x y r true hc k hx hy h = absurd (cc)
   arms_second c x y r false hc k hx hy h = chosen_by_typed c x y r x.type y.type hc k hx hy refl refl h
 
   arms_first : (c x y r : Operand) (b : Bool) → Typed c → is_scalar c.type ≡ true → Typed x → Typed y → x.structure ≡ false → y.structure ≡ false →
-      (if b then Ok (operand (Choose c.value x.value y.value) NoValue) else (if is_nothing x.type || is_nothing y.type then Err rule.NoCommonType else chosen_by p.target c x y x.type y.type)) ≡ Ok r → Typed r
+      (if b then Ok (nothing_chosen c x y) else (if is_nothing x.type || is_nothing y.type then Err rule.NoCommonType else chosen_by p.target c x y x.type y.type)) ≡ Ok r → Typed r
   arms_first c x y r true hc k hx hy e f h = subst Typed (ok_is h) (void_arms c x y hc k hx hy e f)
   arms_first c x y r false hc k hx hy e f h = arms_second c x y r (is_nothing x.type || is_nothing y.type) hc k hx hy h
 

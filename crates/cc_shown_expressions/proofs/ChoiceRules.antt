@@ -8,7 +8,7 @@ use Rattle.cc_num.specs.Integers.{is_value_of}
 use Rattle.cc_num.proofs.Conversions.{converted-same}
 use Rattle.cc_num.proofs.ResultLaws.{value_from_test}
 use Rattle.cc_operands.specs.Assignments.{assigned_pointer, assigned_integer, assigned}
-use Rattle.cc_operands.specs.Choices.{chosen_integer, chosen_pointer, pointers_chosen, chosen_by, arms_chosen, choose_of}
+use Rattle.cc_operands.specs.Choices.{chosen_integer, chosen_pointer, nothing_chosen, pointers_chosen, chosen_by, arms_chosen, choose_of}
 use Rattle.cc_operands.specs.Operands.{Operand, operand, integer, constancy, constant_at, folded, cast_to, converted_from, converted_to, is_pointer, is_nothing, is_to_void, is_null_constant, null_of, no_structure}
 use Rattle.cc_operands.specs.Verdicts.{must}
 use Rattle.cc_operands.specs.declared.rule.Rule.TheVariants as rule
@@ -85,7 +85,7 @@ module _ (target : Target) where
 
   arms-are : (c x y : Operand) → is_scalar x.type ≡ true → is_scalar y.type ≡ true → arms_chosen target c x y ≡ chosen_by target c x y x.type y.type
   arms-are c x y h k =
-      ap (λ (b : Bool). if b && is_nothing y.type then Ok (operand (Choose c.value x.value y.value) NoValue) else (if b || is_nothing y.type then Err rule.NoCommonType else chosen_by target c x y x.type y.type)) (scalar-something x.type h)
+      ap (λ (b : Bool). if b && is_nothing y.type then Ok (nothing_chosen c x y) else (if b || is_nothing y.type then Err rule.NoCommonType else chosen_by target c x y x.type y.type)) (scalar-something x.type h)
       ∙ ap (λ (b : Bool). if b then Err rule.NoCommonType else chosen_by target c x y x.type y.type) (scalar-something y.type k)
 
   choose-valued : (c x y : Operand) → is_scalar c.type ≡ true → x.structure ≡ false → y.structure ≡ false → is_scalar x.type ≡ true → is_scalar y.type ≡ true → choose_of target c x y ≡ chosen_by target c x y x.type y.type
