@@ -68,6 +68,13 @@ def folded(target, e, word):
     return e if found == TRAP else const(found, word)
 
 
+def arm_left(target, e):
+    """Of a `?:` without a value, that has constants alone: the arm that is chosen, where nothing traps."""
+    if not of_constants(e) or worked_out(target, e) == TRAP:
+        return e
+    return e[2] if e[1][1] else e[3]
+
+
 class Operators:
     """Operators at a target. What stands at `at` breaks a rule there."""
 
@@ -249,7 +256,7 @@ class Operators:
         if "struct" in (kind(x.type), kind(y.type)):
             raise Broken(9, at)
         if kind(x.type) == kind(y.type) == "void":
-            return value(("choose", test.what, x.what, y.what), x.type)
+            return value(arm_left(self.target, ("choose", test.what, x.what, y.what)), x.type)
         if is_integer(x.type) and is_integer(y.type):
             word = self.target.usual(x.type.shape[1], y.type.shape[1])
             a, b = (self.converted(z.what, z.type.shape[1], word) for z in (x, y))
