@@ -1,0 +1,5 @@
+pub mod Statements
+pub mod Initialisers
+pub mod Declarations
+pub mod Constructs
+pub mod Induction
