@@ -2,12 +2,12 @@
 use Rattle.std.proofs.Common.{◌≡◌, ◌∙◌, ◌+◌, ◌||◌, ℕ, Bool, true, false, List, [], ◌∷◌, map, length, Option, Some, None, refl, ap, sym, subst}
 use Rattle.std.specs.List.{list_any, list_all, flat_map}
 use Rattle.std.proofs.lemmas.Bool.{true≢false, and_parts}
+use Rattle.cc_accessed_operands.specs.Accessed.{accesses, optional_accesses, stmt_accesses, list_accesses, is_accessed}
+use Rattle.cc_accessed_operands.proofs.Accesses.{or_either, no, accesses_at, accesses-roll, case_accesses, cases_access, stmt_accesses_at, stmt-accesses-roll, case-accesses-roll}
 use Rattle.cc_lower_expressions.specs.Expressions.{Make, done, ◌>>=◌, emit, fork, Lowering}
 use Rattle.cc_lower_expressions.specs.Programs as expressions
 use Rattle.cc_lower_expressions.specs.Programs.{lower_expressions_program}
 use Rattle.cc_lower_expressions.specs.Statements.{in_turn, all_made, if_operand, Condition, guard_by, condition_step, place_itself, condition, choice, returned, lower_in, lower_case_in, lower, lower_case, lower_list}
-use Rattle.cc_lower_normal.specs.Accessed.{accesses, optional_accesses, stmt_accesses, list_accesses, is_accessed}
-use Rattle.cc_lower_normal.proofs.Accesses.{or_either, no, accesses_at, accesses-roll, case_accesses, cases_access, stmt_accesses_at, stmt-accesses-roll, case-accesses-roll}
 use Rattle.cc_lower_normal.proofs.AccessedPieces.{has_front, has_back, head, Gives, first, second, fork_first, fork_second, in_both}
 use Rattle.cc_lower_normal.proofs.AccessedExpressions.{kept}
 use Rattle.cc_lower_numbers.proofs.Texts.{devices-Switch}

@@ -2,8 +2,8 @@
 use Rattle.std.proofs.Common.{◌≡◌, ◌∙◌, ◌+◌, ◌||◌, ℕ, Bool, true, false, List, [], ◌∷◌, ◌++◌, length, Option, None, ap, sym, subst, if◌then◌else◌}
 use Rattle.std.specs.List.{flat_map}
 use Rattle.std.proofs.lemmas.Bool.{or_left, or_right}
+use Rattle.cc_accessed_operands.proofs.Accesses.{or_either, no}
 use Rattle.cc_lower_expressions.specs.Expressions.{Make, done, ◌>>=◌, emit, fresh, fork, temp, set, into, with_both, branch, Lowers, from_two, PlaceLowering, read_at, value_of}
-use Rattle.cc_lower_normal.proofs.Accesses.{or_either, no}
 use Rattle.cc_lower_numbers.proofs.Texts.{devices-If}
 use Rattle.cc_lower_numbers_sound.proofs.Orders.{has, has-append}
 use Rattle.cc_program.specs.declared.expr.Expr.{Expr, Load, Assign, roll-Expr, out-roll-Expr}

@@ -2,10 +2,10 @@
 use Rattle.std.proofs.Common.{◌≡◌, ◌∙◌, ◌+◌, ◌||◌, ℕ, Bool, true, false, List, [], ◌∷◌, ◌++◌, map, length, Option, Some, None, refl, ap, sym}
 use Rattle.std.specs.List.{list_any}
 use Rattle.std.proofs.lemmas.Bool.{or_left, or_right}
+use Rattle.cc_accessed_operands.specs.Accessed.{accesses, optional_accesses, stmt_accesses, list_accesses, is_accessed}
+use Rattle.cc_accessed_operands.proofs.Accesses.{or_kept, or_either, no, case_accesses, cases_access, stmt_accesses_at, stmt-accesses-roll, case-accesses-roll, here, only, in_front, behind, accesses-roll}
 use Rattle.cc_lower_continues.specs.Continues.{Flagging, CaseFlagging, all_become, any_continues, assign_flag, case_flagging, case_flagging_in, cases_become, do_flagging, flagged_body, flagged_do, flagged_func, flagged_program, flagging, flags_in, leave_unless, needs_flag, new_body, read_flag, test_but_first}
 use Rattle.cc_lower_continues.proofs.Layers.{flagging_layer, flagging-out, case_flagging-out}
-use Rattle.cc_lower_normal.specs.Accessed.{accesses, optional_accesses, stmt_accesses, list_accesses, is_accessed}
-use Rattle.cc_lower_normal.proofs.Accesses.{or_kept, or_either, no, case_accesses, cases_access, stmt_accesses_at, stmt-accesses-roll, case-accesses-roll, here, only, in_front, behind, accesses-roll}
 use Rattle.cc_lower_statements.specs.Statements.{break_statement, constant_one, is_nonzero_constant, is_nonzero_constant_in, needed_test, needed_test_if, optional_statement, guarded, endless_loop, lower, lower_case, lower_list, lower_cases, lower_func, lower_program}
 use Rattle.cc_lower_statements.proofs.Layers.{lower_layer, lower-out, lower_case-out}
 use Rattle.cc_program.specs.declared.expr.Expr.{Expr, out-Expr, roll-Expr, roll-out-Expr}

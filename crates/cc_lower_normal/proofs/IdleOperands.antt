@@ -1,8 +1,8 @@
 -- What is pure accesses no device.
 use Rattle.std.proofs.Common.{◌≡◌, ◌∙◌, ◌&&◌, ◌||◌, ℕ, Bool, true, false, refl, ap, sym}
 use Rattle.std.proofs.lemmas.Bool.{and_parts, or_from}
-use Rattle.cc_lower_normal.specs.Accessed.{PlaceAccess, of_place, accesses, place_access}
-use Rattle.cc_lower_normal.proofs.Accesses.{no, accesses_at, place_access_at, accesses-roll, place-access-roll}
+use Rattle.cc_accessed_operands.specs.Accessed.{PlaceAccess, of_place, accesses, place_access}
+use Rattle.cc_accessed_operands.proofs.Accesses.{no, accesses_at, place_access_at, accesses-roll, place-access-roll}
 use Rattle.cc_program.specs.declared.expr.Expr.{Expr, roll-Expr, map-Expr, fold-roll-Expr}
 use Rattle.cc_program.specs.declared.expr.Expr.TheOpen as one
 use Rattle.cc_program.specs.declared.expr.Place.{Place, roll-Place, map-Place, fold-roll-Place}

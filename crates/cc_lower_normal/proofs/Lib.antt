@@ -2,6 +2,5 @@ pub mod AccessedBodies
 pub mod AccessedExpressions
 pub mod AccessedPieces
 pub mod AccessedStatements
-pub mod Accesses
 pub mod IdleOperands
 pub mod LoweredPrograms

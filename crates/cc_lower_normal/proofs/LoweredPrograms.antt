@@ -3,13 +3,13 @@ use Rattle.std.proofs.Common.{◌≡◌, ◌∙◌, ◌<◌, ◌+◌, ◌^◌, �
 use Rattle.std.specs.List.{list_all}
 use Rattle.std.proofs.lemmas.Bool.{and_from}
 use Rattle.std.proofs.lemmas.List.Folds.{list_all-append}
+use Rattle.cc_accessed_operands.specs.Accessed.{AreDevicesAccessed}
 use Rattle.cc_lower_continues.specs.Continues.{HasFewLocals, flag_locals, new_locals, flagged_func, flagged_program, flags_of}
 use Rattle.cc_lower_continues_follows.proofs.FlaggedTyped.{flagged_typed}
 use Rattle.cc_lower_expressions.specs.Expressions.{Temps}
 use Rattle.cc_lower_expressions.specs.Programs as expressions
 use Rattle.cc_lower_expressions.specs.Programs.{made_of}
 use Rattle.cc_lower_expressions.specs.Temporaries.{declared_type}
-use Rattle.cc_lower_normal.specs.Accessed.{AreDevicesAccessed}
 use Rattle.cc_lower_normal.specs.Lowered.{lowered_but_for_names}
 use Rattle.cc_lower_normal.proofs.AccessedBodies.{lowered_has}
 use Rattle.cc_lower_normal.proofs.AccessedStatements.{statements_access}

@@ -1,2 +1,1 @@
-pub mod Accessed
 pub mod Lowered

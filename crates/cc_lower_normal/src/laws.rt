@@ -1,6 +1,6 @@
 ghost use Rattle.std.specs.Prelude.{◌≡◌, true, All};
+ghost use Rattle.cc_accessed_operands.specs.Accessed.{AreDevicesAccessed};
 ghost use Rattle.cc_lower_continues.specs.Continues.{HasFewLocals};
-ghost use Rattle.cc_lower_normal.specs.Accessed.{AreDevicesAccessed};
 ghost use Rattle.cc_lower_normal.specs.Lowered.{lowered_but_for_names};
 ghost use Rattle.cc_lower_numbers.specs.Numbered.{numbered};
 ghost use Rattle.cc_lower_numbers_sound.specs.Devices.{AreDevicesInText};

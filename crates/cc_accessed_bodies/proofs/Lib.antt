@@ -1,0 +1,11 @@
+pub mod Founds
+pub mod Taken
+pub mod Widths
+pub mod Leaves
+pub mod States
+pub mod Steps
+pub mod Objects
+pub mod Declarations
+pub mod Statements
+pub mod Constructs
+pub mod Induction

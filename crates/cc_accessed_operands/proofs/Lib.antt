@@ -1,0 +1,10 @@
+pub mod Accesses
+pub mod Verdicts
+pub mod Parts
+pub mod Constants
+pub mod Conversions
+pub mod Operators
+pub mod Choices
+pub mod Assignments
+pub mod Designators
+pub mod Calls

@@ -1,0 +1,11 @@
+pub mod Keeping
+pub mod KeptDeclarations
+pub mod Bodies
+pub mod Accounted
+pub mod Definitions
+pub mod Items
+pub mod Renumbered
+pub mod Units
+pub mod Mentions
+pub mod Linked
+pub mod Programs
