@@ -1,12 +1,13 @@
 //! What lowering keeps, and what it gives.
 
 ghost use Rattle.std.specs.Prelude.{◌≡◌, true};
+ghost use Rattle.cc_accessed_operands.specs.Accessed.{AreDevicesAccessed};
 ghost use Rattle.cc_layout.specs.Seats.{ram};
 ghost use Rattle.cc_lower.specs.Lowered.{HasIds, lowered};
 ghost use Rattle.cc_lower_sound.specs.Folded.{has_folded_expressions};
 ghost use Rattle.cc_program.specs.declared.program.Program.{Program};
 ghost use Rattle.cc_steps.specs.Runs.{Follows, Answers};
-ghost use Rattle.cc_syntax.specs.Normal.{IsNormal, devices_in_order};
+ghost use Rattle.cc_syntax.specs.Normal.{IsNormal};
 ghost use Rattle.cc_syntax.specs.Sound.{IsSound};
 
 use cc_lower_bodies_follows::expression_laws;
@@ -23,9 +24,9 @@ pub fn laws()
     ensures answers { (p : Program) → IsSound p → HasIds p → Answers (lowered p) p }
     ensures sound { (p : Program) → IsSound p → HasIds p → IsSound (lowered p) }
 
-    // It is in normal form where the expressions of its source are folded, as reading a program leaves them, and its devices stand
-    // in the order of the text.
-    ensures normal { (p : Program) → IsSound p → has_folded_expressions p ≡ true → HasIds p → devices_in_order (lowered p) ≡ true → IsNormal (lowered p) }
+    // It is in normal form where the expressions of its source are folded and access each device without a name, as reading a
+    // program leaves them.
+    ensures normal { (p : Program) → IsSound p → has_folded_expressions p ≡ true → AreDevicesAccessed p → HasIds p → IsNormal (lowered p) }
     ensures target { (p : Program) → (lowered p).target ≡ p.target }
     ensures roles { (p : Program) → (lowered p).roles ≡ p.roles }
     ensures objects { (p : Program) → (lowered p).objects ≡ p.objects }

@@ -35,7 +35,6 @@ tells-more P Q R S (status.Arrivals row) f g h = tt
 tells-more P Q R S (status.Limit w n) f g h = tt
 tells-more P Q R S (status.WriteFault name) f g h = tt
 tells-more P Q R S status.NoMemory f g h = tt
-tells-more P Q R S (status.Later name) f g h = tt
 
 -- an answer that names no file
 pub tells-none : (R S : List ℕ → Type 0) (s : Status) → TellsFile (λ _. ⊥) (λ _. ⊥) s → TellsFile R S s

@@ -8,6 +8,4 @@ mod pure;
 mod registers;
 mod statements;
 
-pub use devices::devices_in_order;
-pub use folding::{Folding, folding_of};
 pub use normal::{has_normal_form, is_normal};

@@ -51,4 +51,3 @@ module _ (files : Files) (a : Asked) (rose : Type 0) (no : rose → ⊥) (h : Ca
   done_or_no_memory (status.Inputs row) e w = absurd (never (status.Inputs row) (e refl (λ k. absurd (cc))))
   done_or_no_memory (status.Arrivals row) e w = absurd (never (status.Arrivals row) (e refl (λ k. absurd (cc))))
   done_or_no_memory (status.Limit what number) e w = absurd (never (status.Limit what number) (e refl (λ k. absurd (cc))))
-  done_or_no_memory (status.Later name) e w = absurd (never (status.Later name) (e refl (λ k. absurd (cc))))

@@ -1,12 +1,11 @@
 -- Why packing has one answer: each cause is looked for where no cause in front of it is there.
 use Rattle.std.proofs.Common.{◌≡◌, ℕ, List, [], refl, ap, sym, subst, arith}
-use Rattle.std.specs.Prelude.{slice_index_or}
 use Rattle.cc_cost.specs.declared.profile.Profile.{Profile}
 use Rattle.cc_edge.specs.Files.{Files}
 use Rattle.cc_material.proofs.OneCause.{same_texts, sources_read, one_first, profile_read, one_profile_end, SaySame, one_profile, same_program, not_above, one_limit, program_not_refused, one_refusal, program_as, refusal_as}
 use Rattle.cc_material.specs.Programs.{IsProgram}
 use Rattle.cc_packing.specs.Asked.{Asked}
-use Rattle.cc_packing.specs.Ends.{FilesEnd, AtProfile, AtSources, ProgramEnds, NotNormal, AboveLimit, LongText, TextsEnd, AreRefused, NotPacked, PackEnds, AtFiles, AtTexts}
+use Rattle.cc_packing.specs.Ends.{FilesEnd, AtProfile, AtSources, ProgramEnds, AboveLimit, LongText, TextsEnd, AreRefused, NotPacked, PackEnds, AtFiles, AtTexts}
 use Rattle.cc_packing.specs.Headline.{AreRead, AreAsked, CanBePacked, IsPackable}
 use Rattle.cc_program.specs.declared.program.Program.{Program}
 use Rattle.cc_status.specs.Statuses.{for_unread}
@@ -27,39 +26,33 @@ module _ (files : Files) where
 
 -- ---- the program
 
-module _ (first : List ℕ) (p : Program) where
-  no_end : (s : Status) → IsPackable p → ProgramEnds first p s → ⊥
-  no_end _ h (NotNormal k) = k h.normal
-  no_end _ h (AboveLimit n w m k) = not_above p w m h.within k
-  no_end _ h (LongText n within k) = omega (arith, h.short, k)
+module _ (p : Program) where
+  no_end : (s : Status) → IsPackable p → ProgramEnds p s → ⊥
+  no_end _ h (AboveLimit w m k) = not_above p w m h.within k
+  no_end _ h (LongText within k) = omega (arith, h.short, k)
 
-  one_program_end : (s t : Status) → ProgramEnds first p s → ProgramEnds first p t → s ≡ t
-  one_program_end _ _ (NotNormal h) (NotNormal k) = refl
-  one_program_end _ _ (NotNormal h) (AboveLimit n w m k) = absurd (h n)
-  one_program_end _ _ (NotNormal h) (LongText n within k) = absurd (h n)
-  one_program_end _ _ (AboveLimit n w m k) (NotNormal h) = absurd (h n)
-  one_program_end _ _ (AboveLimit n v l h) (AboveLimit o w m k) = one_limit p v w l m h k
-  one_program_end _ _ (AboveLimit n w m h) (LongText o within k) = absurd (not_above p w m within h)
-  one_program_end _ _ (LongText n within k) (NotNormal h) = absurd (h n)
-  one_program_end _ _ (LongText n within k) (AboveLimit o w m h) = absurd (not_above p w m within h)
-  one_program_end _ _ (LongText n within h) (LongText o other k) = refl
+  one_program_end : (s t : Status) → ProgramEnds p s → ProgramEnds p t → s ≡ t
+  one_program_end _ _ (AboveLimit v l h) (AboveLimit w m k) = one_limit p v w l m h k
+  one_program_end _ _ (AboveLimit w m h) (LongText within k) = absurd (not_above p w m within h)
+  one_program_end _ _ (LongText within k) (AboveLimit w m h) = absurd (not_above p w m within h)
+  one_program_end _ _ (LongText within h) (LongText other k) = refl
 
 -- ---- the texts
 
 module _ (names : List (List ℕ)) (profile : Profile) (texts : List (List ℕ)) where
-  ends_of : (p q : Program) (s : Status) → p ≡ q → ProgramEnds (slice_index_or names 0 []) q s → ProgramEnds (slice_index_or names 0 []) p s
-  ends_of p q s e h = subst (λ r. ProgramEnds (slice_index_or names 0 []) r s) (sym e) h
+  ends_of : (p q : Program) (s : Status) → p ≡ q → ProgramEnds q s → ProgramEnds p s
+  ends_of p q s e h = subst (λ r. ProgramEnds r s) (sym e) h
 
   no_texts_end : (p : Program) (s : Status) → IsProgram profile texts p → IsPackable p → TextsEnd names profile texts s → ⊥
   no_texts_end p s h k (AreRefused _ r) = program_not_refused names profile texts p s h r
-  no_texts_end p s h k (NotPacked q _ i r) = no_end (slice_index_or names 0 []) p s k (ends_of p q s (same_program profile texts p q h i) r)
+  no_texts_end p s h k (NotPacked q _ i r) = no_end p s k (ends_of p q s (same_program profile texts p q h i) r)
 
   one_texts_end : (s t : Status) → TextsEnd names profile texts s → TextsEnd names profile texts t → s ≡ t
   one_texts_end s t (AreRefused _ h) (AreRefused _ k) = one_refusal names profile texts s t h k
   one_texts_end s t (AreRefused _ h) (NotPacked q _ i r) = absurd (program_not_refused names profile texts q s i h)
   one_texts_end s t (NotPacked p _ h r) (AreRefused _ k) = absurd (program_not_refused names profile texts p t h k)
   one_texts_end s t (NotPacked p _ h r) (NotPacked q _ i o) =
-      one_program_end (slice_index_or names 0 []) p s t r (ends_of p q t (same_program profile texts p q h i) o)
+      one_program_end p s t r (ends_of p q t (same_program profile texts p q h i) o)
 
 module _ (names : List (List ℕ)) (p q : Profile) (same : SaySame p q) (texts : List (List ℕ)) where
   texts_end_as : (s : Status) → TextsEnd names q texts s → TextsEnd names p texts s

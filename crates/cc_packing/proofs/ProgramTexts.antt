@@ -1,21 +1,19 @@
 -- From what the parts answer of a program to the texts that are written of it, or to why none are.
-use Rattle.std.proofs.Common.{◌≡◌, ◌∙◌, ◌≤◌, ◌<◌, ◌↔◌, ℕ, Bool, true, IsTrue, List, [], ◌∷◌, length, Option, Some, None, IfSome, Result, Ok, Err, IfOk, IfErr, refl, ap, sym, subst, arith}
-use Rattle.std.specs.Prelude.{◌≢◌, slice_index_or}
+use Rattle.std.proofs.Common.{◌≡◌, ◌∙◌, ◌≤◌, ◌<◌, ℕ, true, List, [], ◌∷◌, length, Option, Some, None, IfSome, Result, Ok, Err, IfOk, IfErr, refl, ap, sym, subst, arith}
+use Rattle.std.specs.Prelude.{◌≢◌}
 use Rattle.cc_cost.specs.declared.profile.Profile.{Profile}
 use Rattle.cc_layout.specs.Seats.{ram}
 use Rattle.cc_lower.specs.Lowered.{HasIds}
-use Rattle.cc_lower_sound.specs.Folded.{has_folded_expressions}
 use Rattle.cc_material.proofs.LimitLaws.{lt-true, above-over}
 use Rattle.cc_material.specs.Material.{is_refusal}
 use Rattle.cc_material.specs.Programs.{IsAbove, IsProgram, IsWithin}
-use Rattle.cc_packing.specs.Ends.{ProgramEnds, TextsEnd, NotPacked, NotNormal, AboveLimit, LongText, is_pack_refusal}
+use Rattle.cc_packing.specs.Ends.{ProgramEnds, TextsEnd, NotPacked, AboveLimit, LongText, is_pack_refusal}
 use Rattle.cc_packing.specs.Headline.{AreMade, IsPackable, IsPackedText, output_of}
-use Rattle.cc_packing.specs.Written.{AreTextsOf, WhyNone, NoNormalForm, Above, Long}
+use Rattle.cc_packing.specs.Written.{AreTextsOf}
 use Rattle.cc_packing.specs.declared.outputs.Texts.{Texts}
 use Rattle.cc_print.specs.Printed.{text}
 use Rattle.cc_program.specs.declared.program.Program.{Program}
 use Rattle.cc_read.specs.Texts.{Reads}
-use Rattle.cc_status.specs.Statuses.{is_over}
 use Rattle.cc_status.specs.declared.status.Status.{Status}
 use Rattle.cc_status.specs.declared.status.Status.TheVariants as status
 use Rattle.cc_status.specs.declared.status.What.{What}
@@ -23,7 +21,7 @@ use Rattle.cc_status.specs.declared.status.What.TheVariants as what
 use Rattle.cc_steps.specs.Runs.{Follows, Answers}
 use Rattle.cc_syntax.proofs.StructureLemmas.{sound_sizes}
 use Rattle.cc_syntax.specs.Layout.{HasSizes}
-use Rattle.cc_syntax.specs.Normal.{IsNormal, devices_in_order}
+use Rattle.cc_syntax.specs.Normal.{IsNormal}
 use Rattle.cc_syntax.specs.Sound.{IsSound}
 use Rattle.cc_table.specs.Table.{table_text}
 
@@ -44,15 +42,6 @@ module _ (q : Program) where
   long_text bytes n e t h =
       let same : n ≡ length (text q) = e ∙ ap length t in (ap (status.Limit what.Out) same, subst (λ m. 16777216 < m) same h)
 
-  pub normal_of : (b : Bool) → IsTrue b ↔ IsNormal q → b ≡ true → IsNormal q
-  normal_of b h e = h.0 e
-
-  -- why none are written
-  pub why-none : (first : List ℕ) (limit : Option (What × ℕ)) (r : Result Texts Status) → IsNormal q → limit ≡ None →
-      IfErr r (λ s. s ≢ status.NoMemory → (s ≡ status.Limit what.Out (length (text q))) × (16777216 < length (text q))) → IfErr r (λ s. s ≢ status.NoMemory → WhyNone first limit q s)
-  why-none first limit (Ok x) n e h = tt
-  why-none first limit (Err s) n e h = λ k. let x = h k in subst (WhyNone first limit q) (sym x.0) (Long n e x.1)
-
 -- ---- and of the program that was lowered to it
 
 module _ (p : Program) where
@@ -71,35 +60,31 @@ module _ (p : Program) where
         tabled = k.tabled ∙ ap (λ n. table_text n (ram (output_of p))) b;
       }
 
-  -- it is in normal form where the source is folded and its devices stand in order
-  pub normal-by : (is_folded : Bool) (q : Program) → q ≡ output_of p → is_folded ≡ has_folded_expressions p → HasIds p →
-      (has_folded_expressions p ≡ true → HasIds p → devices_in_order (output_of p) ≡ true → IsNormal (output_of p)) → is_folded ≡ true → devices_in_order q ≡ true → IsNormal q
-  normal-by is_folded q e f ids law h k = subst IsNormal (sym e) (law (sym f ∙ h) ids (ap devices_in_order (sym e) ∙ k))
+  -- it is in normal form, as the source is folded and accesses its devices
+  pub normal-by : (q : Program) → q ≡ output_of p → HasIds p → (HasIds p → IsNormal (output_of p)) → IsNormal q
+  normal-by q e ids law = subst IsNormal (sym e) (law ids)
 
   pub packable-by : (r : Result Texts Status) (before : ℕ) (q : Program) → q ≡ output_of p → IsWithin p → IfOk r (λ t. AreTextsOf before q t.out.items t.table.items) → IfOk r (λ t. IsPackable p)
   packable-by (Err s) before q e w h = tt
   packable-by (Ok x) before q e w h = of_it (subst (λ q. AreTextsOf before q x.out.items x.table.items) e h)
     where
       of_it : AreTextsOf before (output_of p) x.out.items x.table.items → IsPackable p
-      of_it k = record { normal = k.normal; within = w; short = k.short }
+      of_it k = record { within = w; short = k.short }
 
   -- why none are written
-  ends-as : (first : List ℕ) (limit : Option (What × ℕ)) (s : Status) → (limit ≡ None → IsWithin p) → ((w : What) (n : ℕ) → limit ≡ Some (w, n) → IsAbove p w n) → WhyNone first limit (output_of p) s → ProgramEnds first p s
-  ends-as first limit _ within above (NoNormalForm h) = NotNormal h
-  ends-as first limit _ within above (Above h w n e) = AboveLimit h w n (above w n e)
-  ends-as first limit _ within above (Long h e k) = LongText h (within e) k
+  pub ends-by : (r : Result Texts Status) (q : Program) → q ≡ output_of p → IsWithin p → IfErr r (λ s. s ≢ status.NoMemory → (s ≡ status.Limit what.Out (length (text q))) × (16777216 < length (text q))) → IfErr r (λ s. s ≢ status.NoMemory → ProgramEnds p s)
+  ends-by (Ok x) q e within h = tt
+  ends-by (Err s) q e within h = λ n. let long = subst (λ q. (s ≡ status.Limit what.Out (length (text q))) × (16777216 < length (text q))) e (h n) in subst (ProgramEnds p) (sym long.0) (LongText within long.1)
 
-  pub ends-by : (first : List ℕ) (limit : Option (What × ℕ)) (r : Result Texts Status) (q : Program) → q ≡ output_of p → (limit ≡ None → IsWithin p) → IfSome limit (λ l. IsAbove p l.0 l.1) → IfErr r (λ s. s ≢ status.NoMemory → WhyNone first limit q s) →
-      IfErr r (λ s. s ≢ status.NoMemory → ProgramEnds first p s)
-  ends-by first limit (Ok x) q e within above h = tt
-  ends-by first limit (Err s) q e within above h = λ n. ends-as first limit s within (λ w k i. subst (λ l. IfSome l (λ l. IsAbove p l.0 l.1)) i above) (subst (λ q. WhyNone first limit q s) e (h n))
+-- a program above a limit is not packed
+is_above : (p : Program) (limit : Option (What × ℕ)) (w : What) (n : ℕ) → limit ≡ Some (w, n) → IfSome limit (λ l. IsAbove p l.0 l.1) → IsAbove p w n
+is_above p limit w n e h = subst (λ l. IfSome l (λ l. IsAbove p l.0 l.1)) e h
 
-pub over-limit : (p : Program) (w : What) (n : ℕ) → IsAbove p w n → is_pack_refusal (status.Limit w n) ≡ true
-over-limit p w n h = above-over p w n h
+pub limit-ends : (p : Program) (limit : Option (What × ℕ)) (w : What) (n : ℕ) → limit ≡ Some (w, n) → IfSome limit (λ l. IsAbove p l.0 l.1) → ProgramEnds p (status.Limit w n)
+limit-ends p limit w n e h = AboveLimit w n (is_above p limit w n e h)
 
-pub over-limits : (p : Program) (limit : Option (What × ℕ)) → IfSome limit (λ l. IsAbove p l.0 l.1) → IfSome limit (λ l. is_over l.0 l.1 ≡ true)
-over-limits p None h = tt
-over-limits p (Some l) h = over-limit p l.0 l.1 h
+pub limit-refuses : (p : Program) (limit : Option (What × ℕ)) (w : What) (n : ℕ) → limit ≡ Some (w, n) → IfSome limit (λ l. IsAbove p l.0 l.1) → is_pack_refusal (status.Limit w n) ≡ true
+limit-refuses p limit w n e h = above-over p w n (is_above p limit w n e h)
 
 pub over-out : (n : ℕ) → 16777216 < n → is_pack_refusal (status.Limit what.Out n) ≡ true
 over-out n h = lt-true 16777216 n h
@@ -117,9 +102,8 @@ pack-refusal (status.Arrivals row) h = h
 pack-refusal (status.Limit w n) h = absurd (cc)
 pack-refusal (status.WriteFault name) h = h
 pack-refusal status.NoMemory h = h
-pack-refusal (status.Later name) h = refl
 
-pub ruleset of_programs = (sizes, sizes_of_sound, over-out, over-limits)
+pub ruleset of_programs = (sizes, sizes_of_sound, over-out)
 
 -- ---- sources
 
@@ -133,6 +117,6 @@ module _ (profile : Profile) (texts : List (List ℕ)) (p : Program) (h : IsProg
   are-made (Ok t) k o = record { read = p; is_program = h; packable = k; output = packed-for t.out.items t.table.items o }
   are-made (Err s) k o = tt
 
-  pub not-packed : (names : List (List ℕ)) (r : Result Texts Status) → IfErr r (λ s. s ≢ status.NoMemory → ProgramEnds (slice_index_or names 0 []) p s) → IfErr r (λ s. s ≢ status.NoMemory → TextsEnd names profile texts s)
+  pub not-packed : (names : List (List ℕ)) (r : Result Texts Status) → IfErr r (λ s. s ≢ status.NoMemory → ProgramEnds p s) → IfErr r (λ s. s ≢ status.NoMemory → TextsEnd names profile texts s)
   not-packed names (Ok t) e = tt
   not-packed names (Err s) e = λ n. NotPacked p s h (e n)

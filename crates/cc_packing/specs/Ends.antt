@@ -1,5 +1,5 @@
 -- How packing ends where nothing is written: the first cause, in the order in which they are looked for.
-use Rattle.std.specs.Prelude.{◌<◌, ℕ, Bool, true, List, [], length, slice_index_or}
+use Rattle.std.specs.Prelude.{◌<◌, ℕ, Bool, List, length}
 use Rattle.cc_cost.specs.declared.profile.Profile.{Profile}
 use Rattle.cc_edge.specs.Files.{Files}
 use Rattle.cc_files.specs.Unread.{IsFirstSourceUnread}
@@ -15,24 +15,21 @@ use Rattle.cc_status.specs.declared.status.Status.{Status}
 use Rattle.cc_status.specs.declared.status.Status.TheVariants as status
 use Rattle.cc_status.specs.declared.status.What.{What}
 use Rattle.cc_status.specs.declared.status.What.TheVariants as what
-use Rattle.cc_syntax.specs.Normal.{IsNormal}
 
 -- the profile is not read, and else the first source that is not
 pub data FilesEnd (files : Files) (rose : Type 0) (a : Asked) : Status → Type 0 where
   AtProfile : (s : Status) → ProfileEnds files rose a.profile s → FilesEnd files rose a s
   AtSources : (profile : Profile) (u : Unread) → IsProfile files a.profile profile → IsFirstSourceUnread files rose a.sources u → FilesEnd files rose a (for_unread u)
 
--- The program of sources, of which `first` is the name of the first, is not packed: what it is lowered to is not in normal form,
--- or the program is above a limit, or the printed text is.
-pub data ProgramEnds (first : List ℕ) (p : Program) : Status → Type 0 where
-  NotNormal : (IsNormal (output_of p) → ⊥) → ProgramEnds first p (status.Later first)
-  AboveLimit : IsNormal (output_of p) → (w : What) (n : ℕ) → IsAbove p w n → ProgramEnds first p (status.Limit w n)
-  LongText : IsNormal (output_of p) → IsWithin p → 16777216 < length (text (output_of p)) → ProgramEnds first p (status.Limit what.Out (length (text (output_of p))))
+-- the program is not packed: it is above a limit, or the printed text is
+pub data ProgramEnds (p : Program) : Status → Type 0 where
+  AboveLimit : (w : What) (n : ℕ) → IsAbove p w n → ProgramEnds p (status.Limit w n)
+  LongText : IsWithin p → 16777216 < length (text (output_of p)) → ProgramEnds p (status.Limit what.Out (length (text (output_of p))))
 
 -- sources of these names are refused, or their program is not packed
 pub data TextsEnd (names : List (List ℕ)) (profile : Profile) (texts : List (List ℕ)) : Status → Type 0 where
   AreRefused : (s : Status) → TellsRefusal names profile texts s → TextsEnd names profile texts s
-  NotPacked : (p : Program) (s : Status) → IsProgram profile texts p → ProgramEnds (slice_index_or names 0 []) p s → TextsEnd names profile texts s
+  NotPacked : (p : Program) (s : Status) → IsProgram profile texts p → ProgramEnds p s → TextsEnd names profile texts s
 
 -- where memory did not run out; where the store's faults have risen, a file may be told not to be read
 pub data PackEnds (files : Files) (rose : Type 0) (a : Asked) : Status → Type 0 where
@@ -42,5 +39,4 @@ pub data PackEnds (files : Files) (rose : Type 0) (a : Asked) : Status → Type 
 -- an answer of packing before anything is written: a number that is told is above its limit
 abbrev pub is_pack_refusal : Status → Bool
 is_pack_refusal (status.Limit w n) = is_over w n
-is_pack_refusal (status.Later name) = true
 is_pack_refusal s = is_refusal s

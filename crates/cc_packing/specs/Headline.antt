@@ -28,9 +28,8 @@ pub record IsPacked (q p : Program) : Type 0 where
 abbrev pub output_of : Program → Program
 output_of p = lowered p
 
--- the program is one that is packed: what it is lowered to is in normal form, and it and the text of the output are within the limits
+-- the program is one that is packed: it and the text of the output are within the limits
 pub record IsPackable (p : Program) : Type 0 where
-  pub normal : IsNormal (output_of p)
   pub within : IsWithin p
   pub short : length (text (output_of p)) ≤ 16777216
 

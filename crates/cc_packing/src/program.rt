@@ -1,25 +1,24 @@
 //! The texts of one program.
 
-ghost use Rattle.std.specs.Prelude.{◌≡◌, ◌≢◌, ◌<◌, ◌↔◌, true, None, length, IsTrue, IfOk, IfErr, IfSome};
+ghost use Rattle.std.specs.Prelude.{◌≡◌, ◌≢◌, ◌<◌, true, length, IfOk, IfErr};
+ghost use Rattle.cc_accessed_operands.specs.Accessed.{AreDevicesAccessed};
+ghost use Rattle.cc_lower_sound.specs.Folded.{has_folded_expressions};
 ghost use Rattle.cc_material.specs.Material.{TellsFile};
+ghost use Rattle.cc_material.specs.Programs.{IsWithin};
 ghost use Rattle.cc_packing.specs.Ends.{ProgramEnds, is_pack_refusal};
 ghost use Rattle.cc_packing.specs.Headline.{IsPackable, IsPackedText};
-ghost use Rattle.cc_packing.specs.Written.{AreTextsOf, WhyNone};
+ghost use Rattle.cc_packing.specs.Written.{AreTextsOf};
 ghost use Rattle.cc_print.specs.Printed.{text};
-ghost use Rattle.cc_status.specs.Statuses.{is_over};
 ghost use Rattle.cc_status.specs.declared.status.Status.TheVariants as status;
 ghost use Rattle.cc_status.specs.declared.status.What.TheVariants as what;
-ghost use Rattle.cc_syntax.specs.Normal.{IsNormal, devices_in_order as devices_in_order_of};
+ghost use Rattle.cc_syntax.specs.Normal.{IsNormal};
 ghost use Rattle.cc_syntax.specs.Sound.{IsSound};
 
 use crate::outputs::Texts;
 use cc_discard::discard_program;
 use cc_layout::ram;
 use cc_lower::{laws as lowering_laws, lower};
-use cc_lower_folded::has_folded_expressions;
 use cc_material::above;
-use cc_normal::{devices_in_order, is_normal};
-use cc_num::Name;
 use cc_print::print;
 use cc_printed_programs::programs_read;
 use cc_program::Program;
@@ -49,61 +48,45 @@ fn texts_within(alloc: Global, before: u64, q: &Program) -> Result<Texts, Status
     Ok(Texts { out, table })
 }
 
-/// Whether a lowered program is in normal form: it is, where its source is folded and its devices stand in the order of the text.
-fn is_in_normal_form(is_folded: bool, q: &Program) -> bool
-    requires lowered { is_folded ≡ true → devices_in_order_of q.now ≡ true → IsNormal q.now }
-    ensures { IsTrue result ↔ IsNormal q.now }
-{
-    if is_folded && devices_in_order(q) {
-        return true;
-    }
-    is_normal(q)
-}
-
-/// The texts that are written of a lowered program, or why none are; `limit` is the limit that its source is above, and `first`
-/// is the name of the first text.
+/// The texts that are written of a program within the limits, or why none are.
 #[tactic(auto, using(crate::proofs::ProgramTexts::of_programs))]
-fn texts_of_lowered(
-    alloc: Global,
-    first: Name,
-    limit: Option<(What, u64)>,
-    before: u64,
-    is_folded: bool,
-    q: &Program,
-) -> Result<Texts, Status>
-    requires lowered { is_folded ≡ true → devices_in_order_of q.now ≡ true → IsNormal q.now }
-    requires over { IfSome limit (λ l. is_over l.0 l.1 ≡ true) }
-    ensures within { IfOk result (λ _. limit ≡ None) }
-    ensures written { IfOk result (λ t. AreTextsOf before q.now t.out.items t.table.items) }
-    ensures ends { IfErr result (λ s. s ≢ status.NoMemory → WhyNone first limit q.now s) }
-    ensures refusal { IfErr result (λ s. is_pack_refusal s ≡ true) }
-    ensures no_file { IfErr result (λ s. TellsFile (λ _. ⊥) (λ _. ⊥) s) }
-{
-    if !is_in_normal_form(is_folded, q) {
-        return Err(Status::Later(first));
-    }
-    match limit {
-        Some((what, number)) => Err(Status::Limit(what, number)),
-        None => texts_within(alloc, before, q),
-    }
-}
-
-/// The texts that are written of a sound program, or why none are; `first` is the name of the first of its sources.
-#[tactic(auto, using(crate::proofs::ProgramTexts::of_programs))]
-pub fn texts_of(alloc: Global, first: Name, p: Program) -> Result<Texts, Status>
-    requires { IsSound p }
+fn texts_of_lowered(alloc: Global, p: Program) -> Result<Texts, Status>
+    requires sound { IsSound p }
+    requires folded { has_folded_expressions p ≡ true }
+    requires accessed { AreDevicesAccessed p }
+    requires within { IsWithin p }
     ensures packable { IfOk result (λ _. IsPackable p) }
     ensures packed { IfOk result (λ t. IsPackedText p.target p.roles p t.out.items t.table.items) }
-    ensures ends { IfErr result (λ s. s ≢ status.NoMemory → ProgramEnds first p s) }
+    ensures ends { IfErr result (λ s. s ≢ status.NoMemory → ProgramEnds p s) }
     ensures refusal { IfErr result (λ s. is_pack_refusal s ≡ true) }
     ensures no_file { IfErr result (λ s. TellsFile (λ _. ⊥) (λ _. ⊥) s) }
 {
     lowering_laws();
-    let limit = above(&p);
     let before = ram(&p);
-    let is_folded = has_folded_expressions(&p);
     let q = lower(alloc, p)?;
-    let texts = texts_of_lowered(alloc, first, limit, before, is_folded, &q);
+    let texts = texts_within(alloc, before, &q);
     discard_program(q);
     texts
+}
+
+/// The texts that are written of a program, or why none are. It is as reading leaves programs: sound, with folded expressions,
+/// which access each device without a name.
+#[tactic(auto, using(crate::proofs::ProgramTexts::of_programs))]
+pub fn texts_of(alloc: Global, p: Program) -> Result<Texts, Status>
+    requires sound { IsSound p }
+    requires folded { has_folded_expressions p ≡ true }
+    requires accessed { AreDevicesAccessed p }
+    ensures packable { IfOk result (λ _. IsPackable p) }
+    ensures packed { IfOk result (λ t. IsPackedText p.target p.roles p t.out.items t.table.items) }
+    ensures ends { IfErr result (λ s. s ≢ status.NoMemory → ProgramEnds p s) }
+    ensures refusal { IfErr result (λ s. is_pack_refusal s ≡ true) }
+    ensures no_file { IfErr result (λ s. TellsFile (λ _. ⊥) (λ _. ⊥) s) }
+{
+    match above(&p) {
+        Some((what, number)) => {
+            discard_program(p);
+            Err(Status::Limit(what, number))
+        }
+        None => texts_of_lowered(alloc, p),
+    }
 }

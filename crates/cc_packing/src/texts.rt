@@ -11,7 +11,9 @@ use crate::outputs::Texts;
 use crate::program::texts_of;
 use cc_cost::Profile;
 use cc_material::program_of;
-use cc_status::{Status, name_at};
+use cc_read_accessed::read_laws as access_laws;
+use cc_read_folded::read_laws as folding_laws;
+use cc_status::Status;
 use std::alloc::Global;
 
 /// The texts that are written of the program that sources are, or why none are.
@@ -28,7 +30,8 @@ pub fn texts_of_sources(
     ensures refusal { IfErr result (λ s. is_pack_refusal s ≡ true) }
     ensures no_file { IfErr result (λ s. TellsFile (λ _. ⊥) (λ _. ⊥) s) }
 {
-    let first = name_at(alloc, names, 0)?;
+    folding_laws();
+    access_laws();
     let p = program_of(alloc, names, profile, sources)?;
-    texts_of(alloc, first, p)
+    texts_of(alloc, p)
 }

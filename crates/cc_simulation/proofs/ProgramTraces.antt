@@ -95,7 +95,6 @@ run-refusal (status.Arrivals n) h = refl
 run-refusal (status.Limit w n) h = absurd (cc)
 run-refusal (status.WriteFault name) h = h
 run-refusal status.NoMemory h = h
-run-refusal (status.Later name) h = h
 
 module _ (profile : Profile) (sources : List (List ℕ)) (inputs arrivals : List ℕ) (p : Program) (h : IsProgram profile sources p) where
   pub is-made : (steps : ℕ) (r : Result (Vec ℕ Global) Status) → IfOk r (λ _. IsRunnable p) → IfOk r (λ t. IsTrace p inputs arrivals steps t.items) → IfOk r (λ t. IsMade profile sources inputs arrivals steps t.items)

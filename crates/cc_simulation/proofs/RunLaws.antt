@@ -18,8 +18,4 @@ module _ (a : Asked) (files : Files) (old new text : List ℕ) (asked : IsAsked 
 pub many-steps : (files : Files) (rose : Type 0) (a : Asked) (n : ℕ) → n ≡ a.steps → 1000000 < a.steps → RunEnds files rose a (status.Limit what.Steps n)
 many-steps files rose a n e h = subst (λ m. RunEnds files rose a (status.Limit what.Steps m)) (sym e) (ManySteps h)
 
--- no program is put off
-pub not-later : (s : Status) (name : List ℕ) → is_run_refusal s ≡ true → s ≡ status.Later name → ⊥
-not-later s name h e = let k : is_run_refusal (status.Later name) ≡ true = ap is_run_refusal (sym e) ∙ h in absurd (cc)
-
-pub ruleset of_runs = (says, says-front, many-steps, not-later)
+pub ruleset of_runs = (says, says-front, many-steps)

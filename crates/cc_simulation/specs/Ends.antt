@@ -70,8 +70,7 @@ abbrev pub for_arrivals : RowFault → Status
 for_arrivals (row.Row n) = status.Arrivals n
 for_arrivals row.NoMemory = status.NoMemory
 
--- an answer of so few steps that they are run, where nothing is said: it is not Later, and a number that is told is above its
--- limit
+-- an answer of so few steps that they are run, where nothing is said: a number that is told is above its limit
 abbrev pub is_run_refusal : Status → Bool
 is_run_refusal (status.Inputs n) = true
 is_run_refusal (status.Arrivals n) = true

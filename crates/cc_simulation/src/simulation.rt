@@ -79,9 +79,6 @@ pub fn simulate<F: Store, O: Sink>(
     ensures ends { may_write result ≡ false → result ≢ status.NoMemory → IsTrue (F.told store.old) → RunEnds (F.files store.old) (Rose (F.faults store.old) (F.faults store.new)) (asked_of asked.now) result }
     ensures refusal { may_write result ≡ false → asked.now.steps ≤ 1000000 → is_run_refusal result ≡ true }
 
-    // Each program that is read is run, within the limits.
-    ensures not_later { (name : ListOf ℕ) → result ≢ status.Later name }
-
     // Over a store that does not tell its files, a fault names one that is read, and it comes where the store's faults rose,
     // or where more bytes were taken than a file of its kind may have.
     ensures untold { F.told store.old ≡ false → IsUntold (asked_of asked.now) (Rose (F.faults store.old) (F.faults store.new)) (F.taken store.old) (F.taken store.new) result }

@@ -11,7 +11,7 @@ use Rattle.cc_status.specs.Causes.{cause_of}
 use Rattle.cc_status.specs.declared.status.Status.{Status}
 use Rattle.cc_status.specs.declared.status.What.{What}
 use Rattle.cc_status.specs.declared.status.What.TheVariants.{Count, Steps, Functions, Ram, Out}
-use Rattle.cc_status.specs.declared.status.Status.TheVariants.{Done, Usage, ReadFault, TooLong, Refused, Profile, Inputs, Arrivals, Limit, WriteFault, NoMemory, Later}
+use Rattle.cc_status.specs.declared.status.Status.TheVariants.{Done, Usage, ReadFault, TooLong, Refused, Profile, Inputs, Arrivals, Limit, WriteFault, NoMemory}
 
 abbrev pub number_of : Status → ℕ
 number_of Done = 0
@@ -25,7 +25,6 @@ number_of (Arrivals row) = 9
 number_of (Limit what number) = 10
 number_of (WriteFault name) = 11
 number_of NoMemory = 12
-number_of (Later name) = 13
 
 -- what stands in front of the number that is above a limit
 abbrev pub limit_text : What → List ℕ
@@ -51,7 +50,6 @@ text_of (Arrivals row) = codes "arrivals row " ++ decimal row
 text_of (Limit what number) = limit_text what ++ decimal number
 text_of (WriteFault name) = codes "cannot write " ++ name
 text_of NoMemory = codes "out of memory"
-text_of (Later name) = name ++ codes ": later"
 
 -- `ccomp: `, the text and a line feed; nothing where the work is done
 abbrev pub line_of : Status → List ℕ
@@ -71,7 +69,6 @@ may_write (Inputs row) = false
 may_write (Arrivals row) = false
 may_write (Limit what number) = false
 may_write NoMemory = false
-may_write (Later name) = false
 
 -- whether a limit is one of programs
 abbrev pub is_of_programs : What → Bool
@@ -102,7 +99,6 @@ is_of_files (Inputs row) = true
 is_of_files (Arrivals row) = true
 is_of_files (Limit what number) = is_of_programs what
 is_of_files NoMemory = false
-is_of_files (Later name) = true
 
 -- ---- the status for each fault of the parts; want of memory is always a status of its own
 

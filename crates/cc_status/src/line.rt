@@ -91,6 +91,5 @@ pub fn explain(alloc: Global, status: &Status) -> Result<Vec<u8>, NoMemory>
         Status::Limit(what, number) => number_line(alloc, limit_front(*what), *number),
         Status::WriteFault(name) => line(alloc, b"cannot write ", name.all(), b""),
         Status::NoMemory => line(alloc, b"out of memory", b"", b""),
-        Status::Later(name) => line(alloc, b"", name.all(), b": later"),
     }
 }

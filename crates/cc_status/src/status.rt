@@ -47,8 +47,6 @@ pub enum Status {
     WriteFault(Name),
     /// Memory ran out.
     NoMemory,
-    /// The sources, of which this is the name of the first, are a program that the command does not take yet.
-    Later(Name),
 }
 
 /// The number of a status, with which the program ends.
@@ -67,6 +65,5 @@ pub fn number(status: &Status) -> u8
         Status::Limit(_, _) => 10,
         Status::WriteFault(_) => 11,
         Status::NoMemory => 12,
-        Status::Later(_) => 13,
     }
 }

@@ -67,9 +67,6 @@ module _ (a : Simulated) (s : Status) (many : 1000000 < a.steps → s ≡ status
   pub run-no-memory-of-profile : (f : ProfileFault) → s ≡ status.Profile f → f ≢ fault.NoMemory
   run-no-memory-of-profile f e m = other (status.Profile fault.NoMemory) (e ∙ ap status.Profile m) refl (λ k. absurd (cc)) (λ k. absurd (cc))
 
-  pub run-no-later : (name : List ℕ) → s ≡ status.Later name → ⊥
-  run-no-later name e = other (status.Later name) e refl (λ k. absurd (cc)) (λ k. absurd (cc))
-
   over-run : (w : What) (n : ℕ) → is_run_refusal (status.Limit w n) ≡ true → IsRunLimit a w n
   over-run what.Count n k = absurd (cc)
   over-run what.Steps n k = absurd (cc)
@@ -109,9 +106,8 @@ of-files-first s h = by_cases s h
     by_cases (status.Arrivals n) h = refl
     by_cases (status.Limit w n) h = refl
     by_cases status.NoMemory h = absurd (cc)
-    by_cases (status.Later n) h = refl
 
 pub of-files-cause : (s : Status) → is_of_files s ≡ true → s ≢ status.NoMemory
 of-files-cause s h e = let k : is_of_files status.NoMemory ≡ true = ap is_of_files (sym e) ∙ h in absurd (cc)
 
-pub ruleset of_answers = (no-usage, over, no-inputs, no-arrivals, no-memory, no-memory-of-profile, run-no-usage, run-no-memory, run-no-memory-of-profile, run-no-later, run-limit, of-files-first, of-files-cause)
+pub ruleset of_answers = (no-usage, over, no-inputs, no-arrivals, no-memory, no-memory-of-profile, run-no-usage, run-no-memory, run-no-memory-of-profile, run-limit, of-files-first, of-files-cause)

@@ -63,12 +63,11 @@ pub fn ccomp<F: Store, O: Sink>(
         ForEach (command_of (texts words.now)) (λ a. is_over what number ≡ true) (λ a. IsRunLimit a what number) (λ seed count. (what ≡ What.Count) × (number ≡ count) × (1000 < count)) }
 
     // Any other answer of `pack` before it writes, and of `run` before it says anything, has its cause in the files, the first
-    // in the order in which they are looked for. Inputs and Arrivals are answers of `run` alone, and Later of `pack` alone.
+    // in the order in which they are looked for. Inputs and Arrivals are answers of `run` alone.
     ensures ends { is_of_files result ≡ true → IsTrue (F.told store.old) →
         ForFiles (command_of (texts words.now)) (λ a. PackEnds (F.files store.old) (Rose (F.faults store.old) (F.faults store.new)) a result) (λ a. RunEnds (F.files store.old) (Rose (F.faults store.old) (F.faults store.new)) a result) }
     ensures inputs { (row : ℕ) → result ≡ Status.Inputs row → ForFiles (command_of (texts words.now)) (λ a. ⊥) (λ a. ⊤) }
     ensures arrivals { (row : ℕ) → result ≡ Status.Arrivals row → ForFiles (command_of (texts words.now)) (λ a. ⊥) (λ a. ⊤) }
-    ensures later { (name : ListOf ℕ) → result ≡ Status.Later name → ForFiles (command_of (texts words.now)) (λ a. ⊤) (λ a. ⊥) }
     // Over a store that does not tell its files, a fault names one that is read, and it comes where the store's faults rose, or
     // where more bytes were taken than a file of its kind may have.
     ensures untold { is_of_files result ≡ true → F.told store.old ≡ false →

@@ -33,7 +33,7 @@ returns-clause-sound c = λ p sound few. c.lowered_laws.ensures.sound p sound fe
 
 pub returns-clause-normal : goal.returns-clause-normal
 unfolding lowered
-returns-clause-normal c = λ p sound folded few order. c.lowered_laws.ensures.ordered p sound folded few order
+returns-clause-normal c = λ p sound folded accessed few. c.lowered_laws.ensures.normal p sound folded accessed few
 
 pub returns-clause-target : goal.returns-clause-target
 unfolding lowered
