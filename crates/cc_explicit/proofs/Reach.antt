@@ -3,7 +3,8 @@ use Rattle.std.proofs.Common.{◌≡◌, ℕ, ◌^◌, ◌<◌, ℤ, pos, negsuc
 use Rattle.std.specs.Int.{w128}
 use Rattle.std.proofs.lemmas.Int.{ints}
 use Rattle.std.proofs.lemmas.List.Elements.{Contains-get_or}
-use Rattle.cc_explicit.specs.Sets.{IsInReach, AreInReach}
+use Rattle.cc_lattice.specs.Domains.{IsInReach}
+use Rattle.cc_explicit.specs.Sets.{AreInReach}
 
 pub reach_same : (v : ℤ) → IsInReach v → to_z w128 (of_z w128 v) ≡ v
 reach_same v h = let l = h.least in let m = h.most in omega (arith, ints)

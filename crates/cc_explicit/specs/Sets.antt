@@ -1,15 +1,11 @@
 -- Explicit sets of numbers, as ascending lists of few members.
-use Rattle.std.specs.Prelude.{◌≡◌, ℕ, ◌^◌, ◌<◌, ◌≤◌, ℤ, pos, neg_ℤ, ◌≤ℤ◌, ◌<ℤ◌, List, [], ◌∷◌, length, Option, Some, None}
+use Rattle.std.specs.Prelude.{ℕ, ◌<◌, ◌≤◌, ℤ, ◌<ℤ◌, List, [], ◌∷◌, length, Option, Some, None}
 use Rattle.std.specs.List.{Contains, slice_index_or}
+use Rattle.cc_lattice.specs.Domains.{IsInReach}
 
 -- the most members of an explicit set
 abbrev pub most_members : ℕ
 most_members = 64
-
--- a number of at most 65 bits in two's complement
-pub record IsInReach (v : ℤ) : Type 0 where
-  pub least : neg_ℤ (pos (2 ^ 64)) ≤ℤ v
-  pub most : v <ℤ pos (2 ^ 64)
 
 abbrev pub AreInReach : List ℤ → Type 0
 AreInReach xs = (v : ℤ) → Contains xs v → IsInReach v

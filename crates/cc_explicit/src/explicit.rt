@@ -1,7 +1,7 @@
 ghost use Rattle.std.specs.Prelude.{◌≡◌, ◌↔◌, ◌≤◌, ◌⊎◌, ℤ, List, [], ◌∷◌, true, false, IsTrue, length};
 ghost use Rattle.std.specs.List.{Contains};
-ghost use Rattle.cc_lattice.specs.Domains.{Ascends};
-ghost use Rattle.cc_explicit.specs.Sets.{most_members, IsInReach, AreInReach, list_ends};
+ghost use Rattle.cc_lattice.specs.Domains.{Ascends, IsInReach};
+ghost use Rattle.cc_explicit.specs.Sets.{most_members, AreInReach, list_ends};
 
 use crate::search::search;
 use smallvec::SmallVec;

@@ -1,11 +1,14 @@
 -- What domains of sets of numbers are asked: which numbers may stand in them, what the operands of an
 -- operator are, and which numbers pass a comparison.
-use Rattle.std.specs.Prelude.{ℕ, ◌^◌, ◌<◌, ◌≡◌, Bool, true, false, not, ℤ, pos, neg_ℤ, ◌<ℤ◌, ◌≤ℤ◌, int_lt, int_le, List, slice_get, Some}
+use Rattle.std.specs.Prelude.{ℕ, ◌^◌, ◌<◌, ◌≡◌, Bool, true, false, not, ℤ, pos, neg_ℤ, ◌<ℤ◌, ◌≤ℤ◌, int_lt, int_le, List, slice_get, Some, if◌then◌else◌}
 use Rattle.std.specs.Ordering.{int_eq}
 use Rattle.cc_num.specs.declared.int_type.IntType.{IntType}
+use Rattle.cc_num.specs.declared.int_type.IntType.TheVariants as int
 use Rattle.cc_num.specs.declared.target.Target.{Target}
 use Rattle.cc_num.specs.declared.op.BinOp.{BinOp}
 use Rattle.cc_num.specs.declared.op.BinOp.TheVariants as op
+use Rattle.cc_num.specs.declared.op.UnOp.{UnOp}
+use Rattle.cc_num.specs.declared.op.UnOp.TheVariants as unary
 use Rattle.cc_num.specs.Integers.{IsValueOf}
 use Rattle.cc_num.specs.Promotions.{promoted}
 use Rattle.cc_num.specs.Results.{is_shift}
@@ -13,6 +16,11 @@ use Rattle.cc_num.specs.Results.{is_shift}
 -- a value of some integer type of some target
 pub record IsIntValue (v : ℤ) : Type 0 where
   pub least : neg_ℤ (pos (2 ^ 63)) ≤ℤ v
+  pub most : v <ℤ pos (2 ^ 64)
+
+-- a number of at most 65 bits in two's complement
+pub record IsInReach (v : ℤ) : Type 0 where
+  pub least : neg_ℤ (pos (2 ^ 64)) ≤ℤ v
   pub most : v <ℤ pos (2 ^ 64)
 
 -- what a second operand may be: of a shift a value of any type, else one of the operator's type
@@ -40,6 +48,15 @@ is_comparison op.Ge = true
 is_comparison op.Eq = true
 is_comparison op.Ne = true
 is_comparison _ = false
+
+-- the type of what an operator gives in a type: of a comparison, and of `!`, int (C99 6.5.3.3, 5; 6.5.8, 6; 6.5.9, 3)
+abbrev pub type_given : BinOp → IntType → IntType
+type_given o t = if is_comparison o then int.Int else t
+
+abbrev pub type_given_of_one : UnOp → IntType → IntType
+type_given_of_one unary.Neg t = t
+type_given_of_one unary.Not t = t
+type_given_of_one unary.Lnot t = int.Int
 
 -- whether two numbers pass a comparison
 abbrev pub passes : BinOp → ℤ → ℤ → Bool

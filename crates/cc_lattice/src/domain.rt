@@ -7,7 +7,8 @@ ghost use Rattle.cc_num.specs.declared.op.BinOp.{BinOp};
 ghost use Rattle.cc_num.specs.declared.op.UnOp.{UnOp};
 ghost use Rattle.cc_num.specs.Integers.{IsValueOf, converted};
 ghost use Rattle.cc_num.specs.Results.{result_of, unary_result_of};
-ghost use Rattle.cc_lattice.specs.Domains.{IsIntValue, AreOperands, AreOperandsOne, is_comparison, passes, Ascends, AreEnds};
+ghost use Rattle.cc_lattice.specs.Orders.{IsLeastUpperBound};
+ghost use Rattle.cc_lattice.specs.Domains.{IsIntValue, IsInReach, AreOperands, AreOperandsOne, is_comparison, type_given, type_given_of_one, passes, Ascends, AreEnds};
 
 use crate::Lattice;
 use cc_num::{BinOp, IntType, Target, UnOp};
@@ -103,6 +104,24 @@ pub trait IntDomain: Lattice + Concrete {
 
     /// A value has every member of a value below it.
     ghost below_has: { (x y : Self) → Self.IsBelow x y → (v : ℤ) → Self.Has x v → Self.Has y v };
+
+    /// Members are numbers of at most 65 bits.
+    ghost in_reach: { (x : Self) (v : ℤ) → Self.Has x v → IsInReach v };
+
+    /// `op` gives values of its type, and a comparison those of int.
+    ghost op_typed: { (op : BinOp) (a b r : Self) (t : IntType) (c : Target) → AreOperands Self.Has op a b t c → OpGives op a b t c r →
+        (v : ℤ) → Self.Has r v → IsValueOf (type_given op t) c v };
+
+    /// `op_one` gives values of its type, and `!` those of int.
+    ghost op_one_typed: { (op : UnOp) (a r : Self) (t : IntType) (c : Target) → AreOperandsOne Self.Has a t c → OpOneGives op a t c r →
+        (v : ℤ) → Self.Has r v → IsValueOf (type_given_of_one op t) c v };
+
+    /// `to` gives values of the type.
+    ghost to_typed: { (a r : Self) (t : IntType) (c : Target) → ToGives a t c r → (v : ℤ) → Self.Has r v → IsValueOf t c v };
+
+    /// A join of values of a type has no others.
+    ghost join_typed: { (x y j : Self) (t : IntType) (c : Target) → IsLeastUpperBound Self.AreAlike Self.IsBelow x y j →
+        ((v : ℤ) → Self.Has x v → IsValueOf t c v) → ((v : ℤ) → Self.Has y v → IsValueOf t c v) → (v : ℤ) → Self.Has j v → IsValueOf t c v };
 
     /// `op` has every result that does not trap.
     ghost op_has: { (op : BinOp) (a b r : Self) (t : IntType) (c : Target) → AreOperands Self.Has op a b t c → OpGives op a b t c r →

@@ -32,6 +32,10 @@ EitherHas x y a = HasAddress x a ⊎ HasAddress y a
 abbrev pub OneMore : Addrs → Address → Address → Type 0
 OneMore s a b = HasAddress s b ⊎ (b ≡ a)
 
+-- the addresses in the places of a set's own
+abbrev pub InPlaceOf : Addrs → Address → Type 0
+InPlaceOf s b = (a : Address) × HasAddress s a × (starred a ≡ starred b)
+
 -- the members of a list, each starred
 abbrev pub AreStarred : List Address → List Address → Type 0
 AreStarred members places = (b : Address) → Contains places b ↔ ((m : Address) × Contains members m × (starred m ≡ b))

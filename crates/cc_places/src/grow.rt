@@ -3,14 +3,43 @@
 ghost use Rattle.std.specs.Prelude.{◌≡◌, ◌<◌, ◌≤◌, false, true, IsTrue, IfOk, length};
 ghost use Rattle.cc_places.specs.Order.{ascends};
 ghost use Rattle.cc_places.specs.Members.{most_exact};
-ghost use Rattle.cc_places.specs.Sets.{IsSetOf, EitherHas, OneMore, AreStarred};
+ghost use Rattle.cc_places.specs.Sets.{IsSetOf, EitherHas, OneMore, AreStarred, InPlaceOf};
 
 use crate::address::member_for;
 use crate::addrs::{Addrs, MOST_EXACT};
+use crate::listed::has_object;
 use crate::members::{add, copied};
 use cc_num::{List, NoMemory};
 use cc_program::Address;
 use std::alloc::Global;
+
+impl Addrs {
+    /// The set with one address more.
+    pub fn with(self, alloc: Global, a: &Address) -> Result<Addrs, NoMemory>
+        ensures { IfOk result (λ r. IsSetOf (OneMore self a.now) r) }
+    {
+        with(alloc, self, a)
+    }
+
+    /// The set of all addresses in the places of its own.
+    pub fn in_places(self, alloc: Global) -> Result<Addrs, NoMemory>
+        ensures { IfOk result (λ r. IsSetOf (InPlaceOf self) r) }
+    {
+        if self.is_exact {
+            if has_object(self.members.all()) {
+                let places = places(alloc, self.members.all())?;
+                Ok(Addrs {
+                    is_exact: false,
+                    members: List::of(places),
+                })
+            } else {
+                Ok(self)
+            }
+        } else {
+            Ok(self)
+        }
+    }
+}
 
 /// The set with one address more.
 pub(crate) fn with(alloc: Global, set: Addrs, a: &Address) -> Result<Addrs, NoMemory>

@@ -97,7 +97,7 @@ fn are_starred(members: &[Address]) -> bool
     members.iter().all(|member| is_starred(member))
 }
 
-fn has_object(members: &[Address]) -> bool
+pub(crate) fn has_object(members: &[Address]) -> bool
     ensures { result ≡ list_any is_object members.now }
 {
     members

@@ -27,6 +27,18 @@ impl Addrs {
             moved_places(alloc, self, by)
         }
     }
+
+    /// The set with the addresses to which one is moved by the numbers of another set, without a trap.
+    pub fn with_moved<I: Concrete>(
+        self,
+        alloc: Global,
+        a: &Address,
+        by: &I,
+    ) -> Result<Addrs, NoMemory>
+        ensures { IfOk result (λ r. IsSetOf (λ b. HasAddress self b ⊎ IsMoved (I.Has by.now) a.now b) r) }
+    {
+        with_moved(alloc, self, a, by)
+    }
 }
 
 /// The set of the addresses to which those of a list are moved.

@@ -6,3 +6,5 @@ pub mod RuleGrows
 pub mod RuleHas
 pub mod Saturated
 pub mod SpanLaws
+pub mod TypedRules
+pub mod TypedSpans

@@ -12,8 +12,8 @@ use Rattle.cc_num.specs.Integers.{IsValueOf, most_of, least_of_bits, most_of_bit
 use Rattle.cc_num.specs.Results.{result_of}
 use Rattle.cc_num.proofs.Conversions.{int_bytes_is}
 use Rattle.cc_num.proofs.ResultLaws.{least_low, represented_same}
-use Rattle.cc_lattice.specs.Domains.{passes}
-use Rattle.cc_explicit.specs.Sets.{most_members, IsInReach}
+use Rattle.cc_lattice.specs.Domains.{passes, IsInReach}
+use Rattle.cc_explicit.specs.Sets.{most_members}
 use Rattle.cc_explicit.specs.declared.explicit.Explicit.{Explicit}
 use Rattle.cc_explicit.proofs.Lists.{In, in_list, in_contains, rises, ascends, no_longer}
 use Rattle.cc_sets.specs.declared.range.Range.{Range}

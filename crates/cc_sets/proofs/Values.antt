@@ -8,9 +8,9 @@ use Rattle.std.proofs.lemmas.List.Elements.{Contains-get_or}
 use Rattle.cc_num.specs.declared.int_type.IntType.{IntType}
 use Rattle.cc_num.specs.declared.target.Target.{Target}
 use Rattle.cc_num.specs.Integers.{IsValueOf}
-use Rattle.cc_lattice.specs.Domains.{IsIntValue}
+use Rattle.cc_lattice.specs.Domains.{IsIntValue, IsInReach}
 use Rattle.cc_lattice.proofs.IntValues.{value_is_int}
-use Rattle.cc_explicit.specs.Sets.{IsInReach, AreInReach}
+use Rattle.cc_explicit.specs.Sets.{AreInReach}
 use Rattle.cc_explicit.proofs.Reach.{read_same}
 
 pub int_reach : (v : ℤ) → IsIntValue v → IsInReach v

@@ -2,3 +2,4 @@ pub mod Ends
 pub mod RungLaws
 pub mod Runs
 pub mod SetLaws
+pub mod TypedSets

@@ -2,7 +2,8 @@ ghost use Rattle.std.specs.Prelude.{◌≡◌, ◌-◌, ◌≤ℤ◌, ◌<ℤ◌
 ghost use Rattle.std.specs.Int.{int_max, int_min};
 ghost use Rattle.std.specs.List.{Contains, slice_index_or};
 ghost use Rattle.cc_ranges.specs.Ends.{EndsHave};
-ghost use Rattle.cc_explicit.specs.Sets.{most_members, IsInReach, AreInReach};
+ghost use Rattle.cc_lattice.specs.Domains.{IsInReach};
+ghost use Rattle.cc_explicit.specs.Sets.{most_members, AreInReach};
 ghost use Rattle.cc_sets.specs.declared.vals.Vals.{Vals as Set};
 ghost use Rattle.cc_sets.specs.Ranges.{AreLeastBits};
 ghost use Rattle.cc_sets.specs.Rungs.{ValsHas, ValsBelow, low_of, high_of};

@@ -4,7 +4,8 @@ ghost use Rattle.cc_num.specs.Integers.{IsValueOf, converted};
 ghost use Rattle.cc_num.specs.Promotions.{promoted};
 ghost use Rattle.cc_num.specs.Results.{result_of, unary_result_of, is_shift};
 ghost use Rattle.cc_ranges.specs.Ends.{EndsHave, between};
-ghost use Rattle.cc_explicit.specs.Sets.{IsInReach, AreInReach};
+ghost use Rattle.cc_lattice.specs.Domains.{IsInReach};
+ghost use Rattle.cc_explicit.specs.Sets.{AreInReach};
 ghost use Rattle.cc_sets.specs.Gatherings.{Adds};
 ghost use Rattle.cc_sets.specs.Rungs.{IsHull};
 

@@ -1,9 +1,9 @@
 ghost use Rattle.std.specs.Prelude.{◌≡◌, ◌↔◌, ◌≤ℤ◌, ◌<ℤ◌, ℤ, Some, true, IsTrue};
 ghost use Rattle.std.specs.List.{Contains};
-ghost use Rattle.cc_lattice.specs.Domains.{is_comparison};
+ghost use Rattle.cc_lattice.specs.Domains.{is_comparison, IsInReach};
 ghost use Rattle.cc_ranges.specs.Ends.{EndsHave};
 ghost use Rattle.cc_ranges.specs.Keep.{without, keep_rule, keep_ends};
-ghost use Rattle.cc_explicit.specs.Sets.{IsInReach, AreInReach};
+ghost use Rattle.cc_explicit.specs.Sets.{AreInReach};
 ghost use Rattle.cc_sets.specs.Gatherings.{Adds};
 ghost use Rattle.cc_sets.specs.Ranges.{IsSpread};
 ghost use Rattle.cc_sets.specs.Results.{PassesSome};

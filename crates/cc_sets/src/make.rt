@@ -1,6 +1,6 @@
 ghost use Rattle.std.specs.Prelude.{◌≡◌, ◌↔◌, ◌⊎◌, ℤ, pos};
 ghost use Rattle.cc_num.specs.Integers.{IsValueOf};
-ghost use Rattle.cc_explicit.specs.Sets.{IsInReach};
+ghost use Rattle.cc_lattice.specs.Domains.{IsInReach};
 ghost use Rattle.cc_sets.specs.Rungs.{ValsHas, IsHull};
 
 use crate::gathered::Gathered;

@@ -2,9 +2,10 @@ ghost use Rattle.std.specs.Prelude.{IsOkAnd};
 ghost use Rattle.cc_lattice.specs.Orders.{IsLeastUpperBound};
 ghost use Rattle.cc_sets.specs.Rungs.{ValsHas, ValsBelow, IsHull, vals_members, vals_ends, vals_room};
 ghost use Rattle.cc_sets.specs.Results.{OpResult, OneResult, IsConverted, IsKept};
-ghost use Rattle.cc_sets.specs.laws.Ends.{set_ends, set_none};
+ghost use Rattle.cc_sets.specs.laws.Ends.{set_ends, set_none, set_reach};
 ghost use Rattle.cc_sets.specs.laws.RungLaws.{sets_same, set_members_ascend, set_members_all, set_room, set_room_falls};
 ghost use Rattle.cc_sets.specs.laws.SetLaws.{set_op_has, set_op_grows, set_one_has, set_one_grows, set_to_has, set_to_grows, set_keep_has, set_keep_below, set_keep_grows};
+ghost use Rattle.cc_sets.specs.laws.TypedSets.{set_op_typed, set_one_typed, set_to_typed, set_join_typed};
 
 use crate::Vals;
 use crate::image::{convert_few, image, image_of_one};
@@ -135,6 +136,16 @@ impl IntDomain for Vals {
     ghost all_alike = { λ _ _. tt };
 
     ghost below_has = { λ x y h v. h v };
+
+    ghost in_reach = { set_reach };
+
+    ghost op_typed = { set_op_typed };
+
+    ghost op_one_typed = { set_one_typed };
+
+    ghost to_typed = { set_to_typed };
+
+    ghost join_typed = { set_join_typed };
 
     ghost op_has = { set_op_has };
 

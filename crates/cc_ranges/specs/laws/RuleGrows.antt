@@ -64,7 +64,7 @@ width_grows (pos v) (pos w) up h top =
 width_grows (pos v) (negsuc w) up h top = absurd (omega (arith, ints))
 width_grows (negsuc v) w up h top = absurd (omega (arith, ints))
 
-width_within : (v : ℤ) (t : IntType) (target : Target) → pos 0 ≤ℤ v → v ≤ℤ most_of t target → pos (2 ^ width_of v - 1) ≤ℤ most_of t target
+pub width_within : (v : ℤ) (t : IntType) (target : Target) → pos 0 ≤ℤ v → v ≤ℤ most_of t target → pos (2 ^ width_of v - 1) ≤ℤ most_of t target
 width_within (negsuc v) t target up h = absurd (omega (arith, ints))
 width_within (pos v) t target up h =
     let ones = most_ones t target in

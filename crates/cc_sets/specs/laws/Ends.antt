@@ -7,9 +7,9 @@ use Rattle.std.proofs.lemmas.Int.{ints}
 use Rattle.std.proofs.lemmas.List.Elements.{Contains-get_or}
 use Rattle.cc_num.specs.Integers.{least_of_bits, most_of_bits}
 use Rattle.cc_num.proofs.Residues.{halves}
-use Rattle.cc_lattice.specs.Domains.{AreEnds}
+use Rattle.cc_lattice.specs.Domains.{AreEnds, IsInReach}
 use Rattle.cc_ranges.specs.Ends.{Ends, EndsHave, EndsBelow}
-use Rattle.cc_explicit.specs.Sets.{most_members, IsInReach, list_ends}
+use Rattle.cc_explicit.specs.Sets.{most_members, list_ends}
 use Rattle.cc_explicit.proofs.Lists.{In, Rises, in_list, in_contains, rises}
 use Rattle.cc_sets.specs.declared.range.Range.{Range}
 use Rattle.cc_sets.specs.declared.vals.Vals.{Vals}

@@ -4,7 +4,8 @@ use Rattle.std.specs.Int.{w128, int_max, int_min}
 use Rattle.std.specs.List.{Contains}
 use Rattle.std.proofs.lemmas.Int.{ints, clamps}
 use Rattle.std.proofs.lemmas.List.{get_or_default}
-use Rattle.cc_explicit.specs.Sets.{most_members, IsInReach}
+use Rattle.cc_lattice.specs.Domains.{IsInReach}
+use Rattle.cc_explicit.specs.Sets.{most_members}
 use Rattle.cc_explicit.specs.declared.explicit.Explicit.{Explicit}
 use Rattle.cc_explicit.proofs.Lists.{rises}
 use Rattle.cc_explicit.proofs.Reach.{reach_same, read_same}

@@ -2,7 +2,7 @@
 use Rattle.std.proofs.Common.{rules, negsuc, unsigned_abs, ◌≡◌, ◌∙◌, ℕ, ◌+◌, true, ℤ, pos, neg_ℤ, ◌+ℤ◌, ◌≤ℤ◌, ◌<ℤ◌, refl, sym, ap, subst, arith, FitsSigned, to_z-of_z}
 use Rattle.std.specs.Int.{w128, int_max}
 use Rattle.std.proofs.lemmas.Int.{ints, clamps}
-use Rattle.cc_explicit.specs.Sets.{IsInReach}
+use Rattle.cc_lattice.specs.Domains.{IsInReach}
 use Rattle.cc_explicit.proofs.Reach.{reach_same}
 use Rattle.cc_sets.specs.declared.gathered.Spread.{Spread}
 use Rattle.cc_sets.specs.Ranges.{AreLeastBits}

@@ -1,7 +1,7 @@
 -- The least number of bits that tells the greater end.
 use Rattle.std.proofs.Common.{negsuc, unsigned_abs, ◌≡◌, ◌+◌, false, ℤ, pos, ◌+ℤ◌, ◌≤ℤ◌, refl, sym, subst, arith}
 use Rattle.std.proofs.lemmas.Int.{ints}
-use Rattle.cc_explicit.specs.Sets.{IsInReach}
+use Rattle.cc_lattice.specs.Domains.{IsInReach}
 use Rattle.cc_explicit.proofs.Reach.{reach_same}
 use Rattle.cc_sets.specs.declared.gathered.Spread.{Spread}
 use Rattle.cc_sets.specs.Ranges.{AreLeastBits}

@@ -2,7 +2,7 @@
 use Rattle.std.proofs.Common.{negsuc, unsigned_abs, int_lt, ◌≡◌, ◌∙◌, ℕ, ◌+◌, ◌^◌, true, false, ℤ, pos, neg_ℤ, ◌+ℤ◌, ◌-ℤ◌, ◌≤ℤ◌, ◌<ℤ◌, Some, refl, sym, ap, subst, arith, to_z, of_z, to_z-of_z}
 use Rattle.std.specs.Int.{w128}
 use Rattle.std.proofs.lemmas.Int.{ints, by_lt_z}
-use Rattle.cc_explicit.specs.Sets.{IsInReach}
+use Rattle.cc_lattice.specs.Domains.{IsInReach}
 use Rattle.cc_sets.specs.declared.vals.Vals.{Vals}
 use Rattle.cc_sets.specs.Rungs.{IsHull}
 use Rattle.cc_ranges.specs.Ends.{Ends, EndsHave, between}

@@ -1,12 +1,11 @@
 -- The ends of a set are in reach.
 use Rattle.std.proofs.Common.{ℤ, sym, subst, to_z, of_z}
 use Rattle.std.specs.Int.{w128}
-use Rattle.cc_explicit.specs.Sets.{IsInReach}
 use Rattle.cc_explicit.proofs.Reach.{reach_same}
 use Rattle.cc_sets.specs.declared.vals.Vals.{Vals}
 use Rattle.cc_sets.specs.Rungs.{ValsHas}
 use Rattle.cc_sets.proofs.Bounds as at
-use Rattle.cc_lattice.specs.Domains.{AreEnds}
+use Rattle.cc_lattice.specs.Domains.{AreEnds, IsInReach}
 use Rattle.cc_sets.specs.laws.Ends.{set_reach}
 use Rattle.cc_sets.proofs.keep.keep_range.Goals as goal
 

@@ -2,7 +2,7 @@
 use Rattle.std.proofs.Common.{◌≡◌, ◌∙◌, ℕ, ℤ, pos, ◌+ℤ◌, ◌-ℤ◌, ◌≤ℤ◌, sym, ap, ap₂, arith, to_z, of_z, to_z-of_z}
 use Rattle.std.specs.Int.{w128}
 use Rattle.std.proofs.lemmas.Int.{ints}
-use Rattle.cc_explicit.specs.Sets.{IsInReach}
+use Rattle.cc_lattice.specs.Domains.{IsInReach}
 use Rattle.cc_explicit.proofs.Reach.{reach_same}
 use Rattle.cc_sets.specs.declared.gathered.Spread.{Spread}
 use Rattle.cc_ranges.specs.Ends.{between}

@@ -4,8 +4,8 @@ use Rattle.std.specs.Int.{w128}
 use Rattle.std.specs.Result.{IsOk, OnOk}
 use Rattle.std.specs.List.{Contains, insert}
 use Rattle.std.proofs.lemmas.Bool.{cases_lt}
-use Rattle.cc_lattice.specs.Domains.{Ascends}
-use Rattle.cc_explicit.specs.Sets.{IsInReach, AreInReach, IsPlace}
+use Rattle.cc_lattice.specs.Domains.{Ascends, IsInReach}
+use Rattle.cc_explicit.specs.Sets.{AreInReach, IsPlace}
 use Rattle.cc_explicit.proofs.Lists.{in_list, in_contains, in_insert, insert_in, ascends_insert}
 use Rattle.cc_explicit.proofs.explicit.Explicit.insert.Goals as goal
 

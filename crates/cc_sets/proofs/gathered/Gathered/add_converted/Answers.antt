@@ -4,7 +4,7 @@ use Rattle.cc_num.specs.declared.int_type.IntType.{IntType}
 use Rattle.cc_num.specs.declared.target.Target.{Target}
 use Rattle.cc_num.specs.Integers.{converted}
 use Rattle.cc_num.proofs.Conversions.{converted-IsValueOf}
-use Rattle.cc_explicit.specs.Sets.{IsInReach}
+use Rattle.cc_lattice.specs.Domains.{IsInReach}
 use Rattle.cc_explicit.proofs.Reach.{reach_same, read_same}
 use Rattle.cc_sets.specs.declared.gathered.Gathered.{Gathered}
 use Rattle.cc_sets.specs.Gatherings.{Adds}

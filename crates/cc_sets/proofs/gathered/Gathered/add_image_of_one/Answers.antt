@@ -8,7 +8,8 @@ use Rattle.cc_num.specs.declared.op.UnOp.{UnOp}
 use Rattle.cc_num.specs.Integers.{IsValueOf}
 use Rattle.cc_num.specs.Results.{unary_result_of}
 use Rattle.cc_num.proofs.ResultLaws.{unary_result_lands}
-use Rattle.cc_explicit.specs.Sets.{IsInReach, AreInReach}
+use Rattle.cc_lattice.specs.Domains.{IsInReach}
+use Rattle.cc_explicit.specs.Sets.{AreInReach}
 use Rattle.cc_explicit.proofs.Reach.{read_same}
 use Rattle.cc_sets.specs.declared.gathered.Gathered.{Gathered}
 use Rattle.cc_sets.specs.Gatherings.{Adds}

@@ -1,6 +1,6 @@
 -- The numbers are added one by one.
 use Rattle.std.proofs.Common.{◌≡◌, ℤ, pos, arith}
-use Rattle.cc_explicit.specs.Sets.{IsInReach}
+use Rattle.cc_lattice.specs.Domains.{IsInReach}
 use Rattle.cc_explicit.proofs.Reach.{read_same}
 use Rattle.cc_sets.proofs.Adding.{before_none, before_more, before_all}
 use Rattle.cc_sets.proofs.Values.{read_has}

@@ -1,7 +1,7 @@
 -- The numbers that pass are added one by one.
 use Rattle.std.proofs.Common.{◌≡◌, ◌∙◌, Bool, ℤ, pos, get_or, IsTrue, refl, sym, subst, arith}
 use Rattle.cc_num.specs.declared.op.BinOp.{BinOp}
-use Rattle.cc_explicit.specs.Sets.{IsInReach}
+use Rattle.cc_lattice.specs.Domains.{IsInReach}
 use Rattle.cc_explicit.proofs.Reach.{read_same}
 use Rattle.cc_sets.specs.declared.gathered.Gathered.{Gathered}
 use Rattle.cc_sets.specs.declared.vals.Vals.{Vals}

@@ -9,7 +9,7 @@ use Rattle.cc_num.specs.declared.op.BinOp.{BinOp}
 use Rattle.cc_num.specs.Integers.{IsValueOf}
 use Rattle.cc_num.specs.Results.{result_of, is_shift}
 use Rattle.cc_num.proofs.ResultLaws.{result_lands}
-use Rattle.cc_explicit.specs.Sets.{IsInReach}
+use Rattle.cc_lattice.specs.Domains.{IsInReach}
 use Rattle.cc_explicit.proofs.Reach.{reach_same, read_same}
 use Rattle.cc_sets.specs.declared.gathered.Gathered.{Gathered}
 use Rattle.cc_sets.specs.Gatherings.{Adds}
