@@ -1,0 +1,4 @@
+pub mod Lists
+pub mod Addressed
+pub mod MarkLemmas
+pub mod KeptLemmas
