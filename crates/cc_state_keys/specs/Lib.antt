@@ -1,0 +1,5 @@
+pub mod Addressed
+pub mod Counts
+pub mod Keys
+pub mod Lists
+pub mod Tracked

@@ -1,0 +1,17 @@
+//! The keys of a program, those whose addresses are taken, and what is known of a program by point: the registers of its
+//! functions, its tracked cells, and how many facts there are.
+#![tactic(auto)]
+
+mod cells;
+mod counts;
+mod listed;
+mod lists;
+mod numbers;
+mod taken;
+mod text;
+
+pub use cells::cell_key;
+pub use counts::count_facts;
+pub use listed::keys;
+pub use numbers::{number_in, registers, tracked};
+pub use text::taken_keys;
