@@ -1,0 +1,9 @@
+pub mod AtPoint
+pub mod LevelBits
+pub mod OneKind
+pub mod Others
+pub mod PutLaws
+pub mod Puts
+pub mod RaisedPoints
+pub mod Through
+pub mod Zips

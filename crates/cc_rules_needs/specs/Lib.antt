@@ -1,0 +1,4 @@
+pub mod Flowing
+pub mod Needs
+pub mod Points
+pub mod Raised
