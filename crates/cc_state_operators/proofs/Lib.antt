@@ -1,0 +1,7 @@
+mod ByKind
+mod Choices
+mod Exact
+mod Hulls
+mod Images
+mod Sets
+mod Tests

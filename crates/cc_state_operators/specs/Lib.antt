@@ -1,0 +1,5 @@
+pub mod Addresses
+pub mod Domains
+pub mod Operands
+pub mod Results
+pub mod Types
