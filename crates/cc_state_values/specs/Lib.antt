@@ -1,0 +1,4 @@
+pub mod Contexts
+pub mod Layers
+pub mod Typed
+pub mod Values
