@@ -1,0 +1,12 @@
+-- The marks that a run gives an activation: each has the type of its step, and registers give values of their sets.
+use Rattle.std.specs.Prelude.{ℕ, ℤ, List, Option}
+use Rattle.cc_eval.specs.declared.action.Action.{Action}
+use Rattle.cc_eval.specs.declared.mark.Mark.{Mark}
+use Rattle.cc_eval.specs.Context.{Context}
+use Rattle.cc_places.specs.declared.abs.Abs.{Abs}
+use Rattle.cc_states.specs.Answers.{IsMarkOf}
+use Rattle.cc_state_values_sound.specs.Steps.{IsAnswer}
+
+pub record IsTypedAnswer {I : Type 0} (has : I → ℤ → Type 0) (c : Context) (openings : List ℕ) (register : ℕ → Option (Abs I)) (asked : Action) (m : Mark) : Type 0 where
+  pub typed : IsMarkOf c.program openings asked m
+  pub in_sets : IsAnswer has c register asked m
