@@ -1,0 +1,11 @@
+pub mod Actions
+pub mod Below
+pub mod Covered
+pub mod Locals
+pub mod Marks
+pub mod Pure
+pub mod Results
+pub mod Statements
+pub mod Steps
+pub mod Turns
+pub mod Written

@@ -1,0 +1,15 @@
+pub mod Arguments
+pub mod Assignments
+pub mod Calls
+pub mod ClosedFacts
+pub mod ClosedRules
+pub mod FullSteps
+pub mod Intrinsics
+pub mod LastStep
+pub mod NormalForms
+pub mod Places
+pub mod Results
+pub mod Returns
+pub mod StatementRules
+pub mod TestSteps
+pub mod Tests
