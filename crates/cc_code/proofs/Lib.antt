@@ -1,0 +1,4 @@
+pub mod CodeLemmas
+pub mod Examples
+pub mod KindLemmas
+pub mod MemberLemmas
