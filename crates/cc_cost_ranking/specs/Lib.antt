@@ -1,0 +1,4 @@
+pub mod Estimates
+pub mod Examples
+pub mod Priced
+pub mod Ranking
