@@ -1,6 +1,6 @@
 -- What domains of sets of numbers are asked: which numbers may stand in them, what the operands of an
 -- operator are, and which numbers pass a comparison.
-use Rattle.std.specs.Prelude.{ℕ, ◌^◌, ◌<◌, ◌≡◌, Bool, true, false, not, ℤ, pos, neg_ℤ, ◌<ℤ◌, ◌≤ℤ◌, int_lt, int_le, List, slice_get, Some, if◌then◌else◌}
+use Rattle.std.specs.Prelude.{ℕ, ◌^◌, ◌<◌, ◌≡◌, ◌↔◌, ◌⊎◌, Bool, true, false, not, ℤ, pos, neg_ℤ, ◌<ℤ◌, ◌≤ℤ◌, int_lt, int_le, List, slice_get, Option, Some, None, if◌then◌else◌}
 use Rattle.std.specs.Ordering.{int_eq}
 use Rattle.cc_num.specs.declared.int_type.IntType.{IntType}
 use Rattle.cc_num.specs.declared.int_type.IntType.TheVariants as int
@@ -11,7 +11,7 @@ use Rattle.cc_num.specs.declared.op.UnOp.{UnOp}
 use Rattle.cc_num.specs.declared.op.UnOp.TheVariants as unary
 use Rattle.cc_num.specs.Integers.{IsValueOf}
 use Rattle.cc_num.specs.Promotions.{promoted}
-use Rattle.cc_num.specs.Results.{is_shift}
+use Rattle.cc_num.specs.Results.{result_of, is_shift}
 
 -- a value of some integer type of some target
 pub record IsIntValue (v : ℤ) : Type 0 where
@@ -67,6 +67,26 @@ passes op.Ge v w = int_le w v
 passes op.Eq v w = int_eq v w
 passes op.Ne v w = not (int_eq v w)
 passes _ v w = false
+
+-- whether the comparison is one of order, and not `==` or `!=`
+abbrev pub is_order : BinOp → Bool
+is_order op.Lt = true
+is_order op.Le = true
+is_order op.Gt = true
+is_order op.Ge = true
+is_order _ = false
+
+-- a result of members of two sets
+abbrev pub IsResultOf : {D : Type 0} → (D → ℤ → Type 0) → BinOp → D → D → IntType → Target → ℤ → Type 0
+IsResultOf has op a b t target z = (v : ℤ) × (w : ℤ) × has a v × has b w × (result_of op v w t target ≡ Some z)
+
+-- at most one member
+abbrev pub IsAtMostOne : (ℤ → Type 0) → Type 0
+IsAtMostOne has = (v w : ℤ) → has v → has w → v ≡ w
+
+-- both sets are explicit, or neither is, or one has at most one member
+abbrev pub AreMatched : {D : Type 0} → (D → ℤ → Type 0) → (D → Option (List ℤ)) → D → D → Type 0
+AreMatched has members a b = ((members a ≡ None) ↔ (members b ≡ None)) ⊎ (IsAtMostOne (has a) ⊎ IsAtMostOne (has b))
 
 -- each number is less than those behind it
 abbrev pub Ascends : List ℤ → Type 0

@@ -1,4 +1,4 @@
-ghost use Rattle.std.specs.Prelude.{◌≡◌, ◌≢◌, ◌↔◌, ◌≤◌, ◌<◌, ◌^◌, ℕ, ℤ, List, Option, Some, None, true, IsTrue, IfSome};
+ghost use Rattle.std.specs.Prelude.{◌≡◌, ◌≢◌, ◌↔◌, ◌⊎◌, ◌≤◌, ◌<◌, ◌^◌, ℕ, ℤ, List, Option, Some, None, true, IsTrue, IfSome};
 ghost use Rattle.std.specs.List.{Contains};
 ghost use Rattle.std.specs.Option.{option_copied};
 ghost use Rattle.cc_num.specs.declared.int_type.IntType.{IntType};
@@ -8,7 +8,7 @@ ghost use Rattle.cc_num.specs.declared.op.UnOp.{UnOp};
 ghost use Rattle.cc_num.specs.Integers.{IsValueOf, converted};
 ghost use Rattle.cc_num.specs.Results.{result_of, unary_result_of};
 ghost use Rattle.cc_lattice.specs.Orders.{IsLeastUpperBound};
-ghost use Rattle.cc_lattice.specs.Domains.{IsIntValue, IsInReach, AreOperands, AreOperandsOne, is_comparison, type_given, type_given_of_one, passes, Ascends, AreEnds};
+ghost use Rattle.cc_lattice.specs.Domains.{IsIntValue, IsInReach, AreOperands, AreOperandsOne, AreMatched, IsResultOf, is_comparison, is_order, type_given, type_given_of_one, passes, Ascends, AreEnds};
 
 use crate::Lattice;
 use cc_num::{BinOp, IntType, Target, UnOp};
@@ -105,6 +105,9 @@ pub trait IntDomain: Lattice + Concrete {
     /// A value has every member of a value below it.
     ghost below_has: { (x y : Self) → Self.IsBelow x y → (v : ℤ) → Self.Has x v → Self.Has y v };
 
+    /// A value is below each value that has all its members.
+    ghost members_below: { (x y : Self) → ((v : ℤ) → Self.Has x v → Self.Has y v) → Self.IsBelow x y };
+
     /// Members are numbers of at most 65 bits.
     ghost in_reach: { (x : Self) (v : ℤ) → Self.Has x v → IsInReach v };
 
@@ -131,6 +134,11 @@ pub trait IntDomain: Lattice + Concrete {
     ghost op_grows: { (op : BinOp) (a b r x y s : Self) (t : IntType) (c : Target) → AreOperands Self.Has op x y t c →
         OpGives op a b t c r → OpGives op x y t c s → Self.IsBelow a x → Self.IsBelow b y → Self.IsBelow r s };
 
+    /// A comparison gives nothing but results of members, if it is one of order. `==` and `!=` may give more for an explicit set
+    /// of two members or more and one that is not explicit.
+    ghost comparison_told: { (op : BinOp) (a b r : Self) (t : IntType) (c : Target) → is_comparison op ≡ true → AreOperands Self.Has op a b t c →
+        OpGives op a b t c r → (is_order op ≡ true) ⊎ AreMatched Self.Has members_of a b → (z : ℤ) → Self.Has r z → IsResultOf Self.Has op a b t c z };
+
     /// `op_one` has every result that does not trap.
     ghost op_one_has: { (op : UnOp) (a r : Self) (t : IntType) (c : Target) → AreOperandsOne Self.Has a t c → OpOneGives op a t c r →
         (v z : ℤ) → Self.Has a v → unary_result_of op v t c ≡ Some z → Self.Has r z };
@@ -144,6 +152,9 @@ pub trait IntDomain: Lattice + Concrete {
 
     /// `to` gives more for more.
     ghost to_grows: { (a r x s : Self) (t : IntType) (c : Target) → ToGives a t c r → ToGives x t c s → Self.IsBelow a x → Self.IsBelow r s };
+
+    /// A value with members of a type alone stays what it is when it is converted to that type.
+    ghost to_kept: { (a r : Self) (t : IntType) (c : Target) → ToGives a t c r → ((v : ℤ) → Self.Has a v → IsValueOf t c v) → r ≡ a };
 
     /// `keep` keeps each member that passes against some member of the other.
     ghost keep_has: { (test : BinOp) (a b r : Self) → is_comparison test ≡ true → KeepGives test a b r →

@@ -6,5 +6,7 @@ pub mod RuleGrows
 pub mod RuleHas
 pub mod Saturated
 pub mod SpanLaws
+pub mod ToldRules
+pub mod ToldSpans
 pub mod TypedRules
 pub mod TypedSpans

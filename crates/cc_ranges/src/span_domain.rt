@@ -5,6 +5,7 @@ ghost use Rattle.cc_ranges.specs.Rules.{op_ends, op_one_ends, to_ends};
 ghost use Rattle.cc_ranges.specs.Keep.{keep_ends};
 ghost use Rattle.cc_ranges.specs.Spans.{ends_of, room_of_span};
 ghost use Rattle.cc_ranges.specs.laws.SpanLaws.{SpanHas, SpanBelow, span_itself, span_through, spans_same, span_below_has, span_op_has, span_op_grows, span_one_has, span_one_grows, span_to_has, span_to_grows, span_keep_has, span_keep_below, span_keep_grows, span_none, span_ends, span_room, span_room_falls};
+ghost use Rattle.cc_ranges.specs.laws.ToldSpans.{span_members_below, span_comparison_told, span_to_kept};
 ghost use Rattle.cc_ranges.specs.laws.TypedSpans.{span_in_reach, span_op_typed, span_one_typed, span_to_typed, span_join_typed};
 
 use crate::ends::{greater, lesser, whole};
@@ -140,6 +141,8 @@ impl IntDomain for Span {
 
     ghost below_has = { λ x y h v. span_below_has x y v h };
 
+    ghost members_below = { span_members_below };
+
     ghost in_reach = { span_in_reach };
 
     ghost op_typed = { span_op_typed };
@@ -154,6 +157,8 @@ impl IntDomain for Span {
 
     ghost op_grows = { span_op_grows };
 
+    ghost comparison_told = { span_comparison_told };
+
     ghost op_one_has = { span_one_has };
 
     ghost op_one_grows = { λ o a r x s t c _. span_one_grows o a r x s t c };
@@ -161,6 +166,8 @@ impl IntDomain for Span {
     ghost to_has = { span_to_has };
 
     ghost to_grows = { span_to_grows };
+
+    ghost to_kept = { span_to_kept };
 
     ghost keep_has = { span_keep_has };
 

@@ -1,10 +1,9 @@
 -- The least range that has two ends far apart, from the least numbers of bits that tell them.
-use Rattle.std.proofs.Common.{◌≡◌, ℕ, ◌+◌, ◌-◌, ◌^◌, ◌<◌, ◌≤◌, max, Bool, true, false, ℤ, pos, neg_ℤ, ◌+ℤ◌, ◌≤ℤ◌, ◌<ℤ◌, subst, sym, refl, arith, pow_mono, pow_pos}
+use Rattle.std.proofs.Common.{◌≡◌, ℕ, ◌+◌, ◌-◌, ◌^◌, ◌≤◌, max, Bool, true, false, ℤ, pos, neg_ℤ, ◌+ℤ◌, ◌≤ℤ◌, ◌<ℤ◌, subst, sym, refl, arith, pow_mono, pow_pos}
 use Rattle.std.specs.Int.{int_max}
 use Rattle.std.proofs.lemmas.Int.{ints, clamps}
 use Rattle.cc_num.specs.Integers.{least_of_bits, most_of_bits}
-use Rattle.cc_explicit.specs.Sets.{most_members}
-use Rattle.cc_sets.specs.Ranges.{most_bits, IsSpread, AreLeastBits}
+use Rattle.cc_sets.specs.Ranges.{IsSpread, AreLeastBits}
 use Rattle.cc_num.proofs.Residues.{halves}
 
 -- b is the least number of bits with n at most 2^b

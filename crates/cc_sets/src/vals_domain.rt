@@ -5,6 +5,7 @@ ghost use Rattle.cc_sets.specs.Results.{OpResult, OneResult, IsConverted, IsKept
 ghost use Rattle.cc_sets.specs.laws.Ends.{set_ends, set_none, set_reach};
 ghost use Rattle.cc_sets.specs.laws.RungLaws.{sets_same, set_members_ascend, set_members_all, set_room, set_room_falls};
 ghost use Rattle.cc_sets.specs.laws.SetLaws.{set_op_has, set_op_grows, set_one_has, set_one_grows, set_to_has, set_to_grows, set_keep_has, set_keep_below, set_keep_grows};
+ghost use Rattle.cc_sets.specs.laws.ToldSets.{set_comparison_told, set_to_kept};
 ghost use Rattle.cc_sets.specs.laws.TypedSets.{set_op_typed, set_one_typed, set_to_typed, set_join_typed};
 
 use crate::Vals;
@@ -137,6 +138,8 @@ impl IntDomain for Vals {
 
     ghost below_has = { λ x y h v. h v };
 
+    ghost members_below = { λ _ _ h. h };
+
     ghost in_reach = { set_reach };
 
     ghost op_typed = { set_op_typed };
@@ -151,6 +154,8 @@ impl IntDomain for Vals {
 
     ghost op_grows = { set_op_grows };
 
+    ghost comparison_told = { set_comparison_told };
+
     ghost op_one_has = { set_one_has };
 
     ghost op_one_grows = { set_one_grows };
@@ -158,6 +163,8 @@ impl IntDomain for Vals {
     ghost to_has = { set_to_has };
 
     ghost to_grows = { set_to_grows };
+
+    ghost to_kept = { set_to_kept };
 
     ghost keep_has = { set_keep_has };
 

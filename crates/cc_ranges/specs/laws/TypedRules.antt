@@ -1,5 +1,5 @@
 -- Each rule gives numbers of its type alone: of a comparison 0 and 1, of an operand's type what lies in it.
-use Rattle.std.proofs.Common.{◌≡◌, ◌/◌, ◌^◌, ◌-◌, Bool, true, false, ◌&&◌, ℕ, ℤ, pos, negsuc, neg_ℤ, ◌-ℤ◌, ◌*ℤ◌, ◌≤ℤ◌, int_le, int_lt, unsigned_abs, min, Option, Some, None, if◌then◌else◌, refl, sym, ap, subst, ◌∙◌, arith, div-le_self}
+use Rattle.std.proofs.Common.{◌≡◌, ◌^◌, ◌-◌, Bool, true, false, ◌&&◌, ℕ, ℤ, pos, negsuc, neg_ℤ, ◌-ℤ◌, ◌*ℤ◌, ◌≤ℤ◌, int_le, int_lt, unsigned_abs, min, Option, Some, None, if◌then◌else◌, refl, sym, subst, arith, div-le_self}
 use Rattle.std.specs.Int.{int_max, int_min}
 use Rattle.std.specs.Option.{IfSome}
 use Rattle.std.proofs.lemmas.Int.{ints, clamps}
@@ -16,7 +16,7 @@ use Rattle.cc_num.specs.Results.{floor_of, is_shift, unary_result_of}
 use Rattle.cc_num.proofs.ComplementLaws.{signed_complement, unsigned_complement}
 use Rattle.cc_num.proofs.ResultLaws.{least_low, most_high, unary_result_lands}
 use Rattle.cc_lattice.specs.Domains.{type_given, type_given_of_one}
-use Rattle.cc_ranges.specs.Ends.{Ends, EndsHave, EndsBelow, cut, whole_ends, lies_in, fitted, LieIn}
+use Rattle.cc_ranges.specs.Ends.{Ends, EndsHave, EndsBelow, whole_ends, lies_in, fitted, LieIn}
 use Rattle.cc_ranges.specs.Rules.{magnitude, mul_rule, only_zero, div_rule, rem_rule, and_rule, width_of, or_rule, counts_of, shl_by, shl_rule, shr_by, shr_rule, verdict, rule_of, rule_of_one, conversion_rule}
 use Rattle.cc_ranges.specs.laws.Fits.{ends_itself, fitted_signed, fitted_inside, fitted_outside, lies_tells, between_inside}
 use Rattle.cc_ranges.specs.laws.RuleGrows.{width_within}

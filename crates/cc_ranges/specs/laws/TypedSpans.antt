@@ -1,5 +1,5 @@
 -- Intervals keep to their types: operators, conversions and joins give no values but those of the type of their result.
-use Rattle.std.specs.Prelude.{◌≡◌, false, ℤ, pos, neg_ℤ, ◌≤ℤ◌, Some, None}
+use Rattle.std.specs.Prelude.{◌≡◌, ℤ, ◌≤ℤ◌}
 use Rattle.std.proofs.Common.{subst, arith}
 use Rattle.std.proofs.lemmas.Int.{ints}
 use Rattle.cc_num.specs.declared.int_type.IntType.{IntType}
@@ -14,7 +14,7 @@ use Rattle.cc_lattice.specs.Orders.{IsLeastUpperBound}
 use Rattle.cc_lattice.proofs.IntValues.{least_in, most_in}
 use Rattle.cc_ranges.specs.declared.span.Span.{Span}
 use Rattle.cc_ranges.specs.declared.span.Span.TheVariants.{Empty, Between}
-use Rattle.cc_ranges.specs.Ends.{Ends, EndsHave, EndsBelow, LieIn, whole_ends}
+use Rattle.cc_ranges.specs.Ends.{Ends, EndsHave, EndsBelow, whole_ends}
 use Rattle.cc_ranges.specs.Rules.{op_ends, op_one_ends, to_ends}
 use Rattle.cc_ranges.specs.Spans.{ends_of}
 use Rattle.cc_ranges.specs.laws.Fits.{below_has}

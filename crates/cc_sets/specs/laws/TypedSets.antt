@@ -100,7 +100,7 @@ whole_of : (t : IntType) (target : Target) → (x : Vals) × IsWhole t target x
 whole_of int.Bool target = truths_of target
 whole_of t target = range_of t target (λ e. cc)
 
-hull_typed : (P : ℤ → Type 0) (r : Vals) (t : IntType) (target : Target) → IsHull P r → ((z : ℤ) → P z → IsValueOf t target z) → (v : ℤ) → ValsHas r v → IsValueOf t target v
+pub hull_typed : (P : ℤ → Type 0) (r : Vals) (t : IntType) (target : Target) → IsHull P r → ((z : ℤ) → P z → IsValueOf t target z) → (v : ℤ) → ValsHas r v → IsValueOf t target v
 hull_typed P r t target p h v m =
     let w = whole_of t target in
     let x = w.1 in
