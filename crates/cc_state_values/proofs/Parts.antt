@@ -246,7 +246,7 @@ module _ (p : Program) (f : Func) where
   local_register r n true h = (refl, same_Some r n h)
   local_register r n false h = absurd (cc)
 
-  by_place : (a : Place) (n : ℕ) (x : one.Place-F Expr Place) → out-Place a ≡ x → (place_effects_of f a).register ≡ Some n →
+  pub by_place : (a : Place) (n : ℕ) (x : one.Place-F Expr Place) → out-Place a ≡ x → (place_effects_of f a).register ≡ Some n →
       (place_effect_step f (map-Place Expr Place Effects PlaceEffects (effects_of f) (place_effects_of f) x)).register ≡ Some n → IsRegister a
   by_place a n (one.Local r) h known k = let w = local_register r n (is_register f r) k in record { local = r; is_local = h; register = w.0; known = known ∙ ap Some (sym w.1) }
   by_place a n (one.Static i) h known k = absurd (cc)

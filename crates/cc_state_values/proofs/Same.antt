@@ -126,7 +126,7 @@ module _ {I : Type 0} (d : Domain I) (o : IsOrdered d) where
     Placed a s = Designates d p id f register a s
 
     -- how a value comes about, by the form of the expression
-    abbrev ValueAt : one.Expr-F Expr PlaceOf → Abs I → Type 0
+    abbrev pub ValueAt : one.Expr-F Expr PlaceOf → Abs I → Type 0
     ValueAt (one.Const n t) y = (x : I) × IsHull d (λ m. m ≡ n) x × (y ≡ abs.Ints x)
     ValueAt (one.Null t) y = (s : Addrs) × IsOnly address.Null s × (y ≡ abs.Addrs s)
     ValueAt (one.FuncAddr g) y = (s : Addrs) × IsOnly (address.Func g) s × (y ≡ abs.Addrs s)
@@ -149,7 +149,7 @@ module _ {I : Type 0} (d : Domain I) (o : IsOrdered d) where
     ValueAt (one.Intr i a) y = ⊥
     ValueAt (one.Seq a b) y = ⊥
 
-    abbrev PlacesAt : one.Place-F Expr PlaceOf → Addrs → Type 0
+    abbrev pub PlacesAt : one.Place-F Expr PlaceOf → Addrs → Type 0
     PlacesAt (one.Local r) s = IsOnly (object_address (root.Auto 0 id r) []) s
     PlacesAt (one.Static i) s = IsOnly (object_address (root.Static i) []) s
     PlacesAt (one.Device n) s = IsNone s
@@ -182,10 +182,10 @@ module _ {I : Type 0} (d : Domain I) (o : IsOrdered d) where
     place_form a s (AtMember b m t r h k l g) = subst (λ z. PlacesAt z s) (sym h) (t, r, k, l, g)
     place_form a s (AtTarget e h k) = subst (λ z. PlacesAt z s) (sym h) k
 
-    value_at : (e : Expr) (x : one.Expr-F Expr PlaceOf) (y : Abs I) → out-Expr e ≡ x → Valued e y → ValueAt x y
+    pub value_at : (e : Expr) (x : one.Expr-F Expr PlaceOf) (y : Abs I) → out-Expr e ≡ x → Valued e y → ValueAt x y
     value_at e x y h v = subst (λ z. ValueAt z y) h (value_form e y v)
 
-    places_at : (a : PlaceOf) (x : one.Place-F Expr PlaceOf) (s : Addrs) → out-Place a ≡ x → Placed a s → PlacesAt x s
+    pub places_at : (a : PlaceOf) (x : one.Place-F Expr PlaceOf) (s : Addrs) → out-Place a ≡ x → Placed a s → PlacesAt x s
     places_at a x s h v = subst (λ z. PlacesAt z s) h (place_form a s v)
 
     ints_same : (x y : I) → abs.Ints x ≡ abs.Ints y → x ≡ y

@@ -1,4 +1,4 @@
-ghost use Rattle.std.specs.Prelude.{◌≡◌, ℕ, ℤ, Option};
+ghost use Rattle.std.specs.Prelude.{◌≡◌, ℕ, Option};
 ghost use Rattle.cc_places.specs.declared.abs.Abs.{Abs};
 ghost use Rattle.cc_places.specs.declared.addrs.Addrs.{Addrs};
 ghost use Rattle.cc_program.specs.declared.expr.Expr.{Expr};
@@ -10,13 +10,12 @@ ghost use Rattle.cc_state_values.specs.Values.{IsVal, Designates};
 
 use cc_lattice::IntDomain;
 
-/// What expressions may give is one value, and the addresses of a place are one set, over each domain in which a set is below
-/// those that have its members. The call does nothing.
+/// What expressions may give is one value, and the addresses of a place are one set, over each domain. The call does nothing.
 pub fn laws<I: IntDomain>()
-    ensures one_value { ((x y : I) → ((n : ℤ) → I.Has x n → I.Has y n) → I.IsBelow x y) → (p : Program) (id : ℕ) (f : Func) (register : ℕ → Option (Abs I)) (e : Expr) (x y : Abs I) →
+    ensures one_value { (p : Program) (id : ℕ) (f : Func) (register : ℕ → Option (Abs I)) (e : Expr) (x y : Abs I) →
         IsVal (domain I.Has I.IsBelow I.OpGives I.OpOneGives I.ToGives I.KeepGives I.members_of) p id f register e x →
         IsVal (domain I.Has I.IsBelow I.OpGives I.OpOneGives I.ToGives I.KeepGives I.members_of) p id f register e y → x ≡ y }
-    ensures one_set { ((x y : I) → ((n : ℤ) → I.Has x n → I.Has y n) → I.IsBelow x y) → (p : Program) (id : ℕ) (f : Func) (register : ℕ → Option (Abs I)) (a : Place) (r s : Addrs) →
+    ensures one_set { (p : Program) (id : ℕ) (f : Func) (register : ℕ → Option (Abs I)) (a : Place) (r s : Addrs) →
         Designates (domain I.Has I.IsBelow I.OpGives I.OpOneGives I.ToGives I.KeepGives I.members_of) p id f register a r →
         Designates (domain I.Has I.IsBelow I.OpGives I.OpOneGives I.ToGives I.KeepGives I.members_of) p id f register a s → r ≡ s }
 {}

@@ -56,7 +56,7 @@ module _ (p : Program) (openings : List ℕ) where
   real_address to (address.Func f) h = tt
   real_address to (address.At o path index count) h = named_there to o path index count (place_in p o path) refl h.1
 
-  no_elements : (c v : Bool) (t : CType) (o : Root) (path : List Part) (a : PlaceType) → place_in p o path ≡ Some a → CanPoint c v t (Some a) → has_elements p (ObjectPlace c v t) o path ≡ false
+  pub no_elements : (c v : Bool) (t : CType) (o : Root) (path : List Part) (a : PlaceType) → place_in p o path ≡ Some a → CanPoint c v t (Some a) → has_elements p (ObjectPlace c v t) o path ≡ false
   no_elements c v t o path a e h =
       ap (λ x. are_alike (option_and_then element_of x) (ObjectPlace c v t)) (sym (one_as_then (object_type p o) (place_at p.structures path)) ∙ e) ∙ by_test (are_alike (element_of a) (ObjectPlace c v t)) refl
     where

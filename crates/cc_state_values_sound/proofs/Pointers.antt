@@ -65,7 +65,7 @@ by_offset : (back : Bool) (by : ℤ → Type 0) (n : ℤ) (a b : Address) → by
 by_offset true by n a b h k = (neg_ℤ n, subst by (sym (neg_twice n)) h, sym (moved_back n a) ∙ k)
 by_offset false by n a b h k = (n, h, k)
 
-moved_in : (exact back : Bool) (by : ℤ → Type 0) (s r : Addrs) (n : ℤ) (a b : Address) → s.is_exact ≡ exact → IsSetOf (HasMoved (offsets back by) s exact) r → Contains s.members (member_for exact a) → by n →
+pub moved_in : (exact back : Bool) (by : ℤ → Type 0) (s r : Addrs) (n : ℤ) (a b : Address) → s.is_exact ≡ exact → IsSetOf (HasMoved (offsets back by) s exact) r → Contains s.members (member_for exact a) → by n →
     moved_address back n a ≡ Some b → HasAddress r b
 moved_in true back by s r n a b e h k i m = (h.has b).1 (kept b, (kept a, k, by_offset back by n (kept a) (kept b) i (moved_kept back n a b m)), same r.is_exact)
   where

@@ -48,7 +48,7 @@ one_step : {A B : Type 0} (x : Option A) (f : A → Option B) (y : B) → of_one
 one_step None f y h = absurd (cc)
 one_step (Some a) f y h = (a, refl, h)
 
-path_starred : (structures : List Structure) (path : List Part) (a b : PlaceType) → place_at structures path a ≡ Some b → place_at structures (map starred_part path) a ≡ Some b
+pub path_starred : (structures : List Structure) (path : List Part) (a b : PlaceType) → place_at structures path a ≡ Some b → place_at structures (map starred_part path) a ≡ Some b
 path_starred structures [] a b h = h
 path_starred structures (step ∷ path) a b h =
     let w = one_step (step_into structures step a) (place_at structures path) b h in

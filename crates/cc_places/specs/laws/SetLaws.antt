@@ -160,7 +160,7 @@ Stands W e a = (b : Address) × W b × (member_for e b ≡ member_for e a)
 pub set_has : (W : Address → Type 0) (s : Addrs) → IsSetOf W s → (a : Address) → W a → HasAddress s a
 set_has W s h a w = (h.has a).1 (a, w, refl)
 
-set_in : (W : Address → Type 0) (s u : Addrs) → IsSetOf W s → ((a : Address) → W a → HasAddress u a) → IsWithin s u
+pub set_in : (W : Address → Type 0) (s u : Addrs) → IsSetOf W s → ((a : Address) → W a → HasAddress u a) → IsWithin s u
 set_in W s u h f a k = by_test s.is_exact u.is_exact refl refl
   where
     stands : Coarser s.is_exact u.is_exact → Stands W s.is_exact a → HasAddress u a
