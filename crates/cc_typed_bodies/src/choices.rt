@@ -13,7 +13,7 @@ use cc_num::{Boxed, IntType, List};
 use cc_scopes::{State, Stop, placed};
 use cc_syntax::Stmt;
 use cc_tree::{At, Line, Tree};
-use cc_typed_statements::{Cases, Jumps, switch_statement, switch_type};
+use cc_typed_statements::{Jumps, SwitchCases, switch_statement, switch_type};
 use std::alloc::Global;
 
 /// The body of a `switch`, in a scope of its own.
@@ -26,7 +26,7 @@ fn switch_body(
     alloc: Global,
     f: Function<'_>,
     state: &mut State,
-) -> Result<Option<Cases>, Stop>
+) -> Result<Option<SwitchCases>, Stop>
     ensures { Gives (λ cs. cs) result (state_of state.new) (switch_body_of jumps t (line_here f.entry.target.now f.entry.roles.now f.entry.defined.now f.entry.result.now a.now) (state_of state.old)) }
 {
     enter(alloc, state)?;

@@ -14,7 +14,7 @@ use cc_operands::{Breach, Rule};
 use cc_scopes::{State, Stop, placed};
 use cc_syntax::Stmt;
 use cc_tree::{At, Line, Tree};
-use cc_typed_statements::{Cases, Jumps, case_label, label_done};
+use cc_typed_statements::{Jumps, SwitchCases, case_label, label_done};
 use std::alloc::Global;
 
 /// A label elsewhere than in the body of a `switch` (C99 6.8.1, 2).
@@ -61,11 +61,11 @@ pub fn labelled(
     at: u32,
     jumps: Jumps,
     t: IntType,
-    cases: Cases,
+    cases: SwitchCases,
     alloc: Global,
     f: Function<'_>,
     state: &mut State,
-) -> Result<Cases, Stop>
+) -> Result<SwitchCases, Stop>
     ensures { Gives (λ cs. cs) result (state_of state.new) (label_found label (line_here f.entry.target.now f.entry.roles.now f.entry.defined.now f.entry.result.now a.now) jumps t cases at (state_of state.old)) }
 {
     let cases = cases.behind_label(alloc, &label)?;
@@ -82,11 +82,11 @@ pub fn case_item(
     at: u32,
     jumps: Jumps,
     t: IntType,
-    cases: Cases,
+    cases: SwitchCases,
     alloc: Global,
     f: Function<'_>,
     state: &mut State,
-) -> Result<Cases, Stop>
+) -> Result<SwitchCases, Stop>
     ensures { Gives (λ cs. cs) result (state_of state.new) (case_found f.entry.target.now f.entry.roles.now e.now (line_here f.entry.target.now f.entry.roles.now f.entry.defined.now f.entry.result.now a.now) jumps t cases at (state_of state.old)) }
 {
     let x = value_here(e, alloc, f, state)?;

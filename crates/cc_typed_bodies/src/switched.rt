@@ -19,7 +19,7 @@ use cc_objects::is_given;
 use cc_scopes::{State, Stop};
 use cc_syntax::Stmt;
 use cc_tree::{At, Init, Line};
-use cc_typed_statements::{Cases, Jumps, default_label, one};
+use cc_typed_statements::{Jumps, SwitchCases, default_label, one};
 use std::alloc::Global;
 
 fn gives_a_value(inits: &[At<Init>]) -> bool
@@ -46,7 +46,7 @@ fn is_empty(l: &Line) -> bool
 }
 
 /// An empty statement behind these cases.
-fn empty_item(cases: Cases, alloc: Global) -> Result<Cases, Stop>
+fn empty_item(cases: SwitchCases, alloc: Global) -> Result<SwitchCases, Stop>
     ensures { (s : Known) → Gives (λ cs. cs) result s (empty_item_of cases s) }
 {
     let empty = one(alloc, Stmt::Empty)?;
@@ -64,7 +64,7 @@ pub fn switched(
     alloc: Global,
     f: Function<'_>,
     state: &mut State,
-) -> Result<Option<Cases>, Stop>
+) -> Result<Option<SwitchCases>, Stop>
     ensures { Gives (λ cs. cs) result (state_of state.new) ((line_of f.entry.target.now f.entry.roles.now f.entry.defined.now f.entry.result.now l.now).switched jumps t at (state_of state.old)) }
 {
     match l {
@@ -83,7 +83,7 @@ fn no_block(
     alloc: Global,
     f: Function<'_>,
     state: &mut State,
-) -> Result<Option<Cases>, Stop>
+) -> Result<Option<SwitchCases>, Stop>
     ensures { Gives (λ cs. cs) result (state_of state.new) (not_switched (line_of f.entry.target.now f.entry.roles.now f.entry.defined.now f.entry.result.now l.now).line jumps at (state_of state.old)) }
 {
     line(l, at, jumps, alloc, f, state)?;
@@ -100,7 +100,7 @@ fn block_cases(
     alloc: Global,
     f: Function<'_>,
     state: &mut State,
-) -> Result<Option<Cases>, Stop>
+) -> Result<Option<SwitchCases>, Stop>
     ensures { Gives (λ cs. cs) result (state_of state.new) (scoped (cases_inside_of jumps t (map (line_here f.entry.target.now f.entry.roles.now f.entry.defined.now f.entry.result.now) ls.now)) (state_of state.old)) }
 {
     enter(alloc, state)?;
@@ -119,7 +119,7 @@ fn cases_inside(
     alloc: Global,
     f: Function<'_>,
     state: &mut State,
-) -> Result<Option<Cases>, Stop>
+) -> Result<Option<SwitchCases>, Stop>
     ensures { Gives (λ cs. cs) result (state_of state.new) (cases_inside_of jumps t (map (line_here f.entry.target.now f.entry.roles.now f.entry.defined.now f.entry.result.now) ls.now) (state_of state.old)) }
 {
     let cases = items(ls, jumps, t, alloc, f, state)?;
@@ -136,10 +136,10 @@ fn items(
     alloc: Global,
     f: Function<'_>,
     state: &mut State,
-) -> Result<Cases, Stop>
+) -> Result<SwitchCases, Stop>
     ensures { Gives (λ cs. cs) result (state_of state.new) (items_found jumps t (map (line_here f.entry.target.now f.entry.roles.now f.entry.defined.now f.entry.result.now) ls.now) (state_of state.old)) }
 {
-    let mut cases = Cases::none(alloc);
+    let mut cases = SwitchCases::none(alloc);
     for l in ls.all() {
         cases = item(&l.node, l.at, jumps, t, cases, alloc, f, state)?;
     }
@@ -154,11 +154,11 @@ pub fn item(
     at: u32,
     jumps: Jumps,
     t: IntType,
-    cases: Cases,
+    cases: SwitchCases,
     alloc: Global,
     f: Function<'_>,
     state: &mut State,
-) -> Result<Cases, Stop>
+) -> Result<SwitchCases, Stop>
     ensures { Gives (λ cs. cs) result (state_of state.new) ((line_of f.entry.target.now f.entry.roles.now f.entry.defined.now f.entry.result.now l.now).item jumps t cases at (state_of state.old)) }
 {
     match l {
@@ -178,11 +178,11 @@ fn unlabelled(
     l: &Line,
     at: u32,
     jumps: Jumps,
-    cases: Cases,
+    cases: SwitchCases,
     alloc: Global,
     f: Function<'_>,
     state: &mut State,
-) -> Result<Cases, Stop>
+) -> Result<SwitchCases, Stop>
     ensures { Gives (λ cs. cs) result (state_of state.new) (unlabelled_of (is_empty_of (out-Line l.now)) (counts_of (out-Line l.now)) (line_of f.entry.target.now f.entry.roles.now f.entry.defined.now f.entry.result.now l.now).line jumps cases at (state_of state.old)) }
 {
     if is_empty(l) {

@@ -1,10 +1,9 @@
 //! The cases of a `switch` up to a place of its body (C99 6.8.4.2).
 
 ghost use Rattle.std.specs.Prelude.{◌≡◌, IfOk};
-ghost use Rattle.cc_typed_statements.specs.Labels.{no_case, at_last, with_label as with_label_of, new_case as new_case_of, cases_with as cases_with_of, labelled as labelled_of, with_statements as with_statements_of, behind as behind_of, behind_empty as behind_empty_of, cases_behind};
+ghost use Rattle.cc_typed_statements.specs.Labels.{no_case, at_last, with_label as with_label_of, new_case as new_case_of, cases_with as cases_with_of, labelled as labelled_of, with_statements as with_statements_of, behind as behind_of, behind_empty as behind_empty_of};
 
 use cc_num::{List, NoMemory};
-use cc_operands::Rule;
 use cc_syntax::{Case, Stmt};
 use std::alloc::Global;
 
@@ -114,7 +113,7 @@ impl Cases {
     }
 
     /// Behind a label more.
-    fn labelled(self, alloc: Global, label: Option<i128>) -> Result<Cases, NoMemory>
+    pub fn labelled(self, alloc: Global, label: Option<i128>) -> Result<Cases, NoMemory>
         ensures { IfOk result (λ r. r ≡ labelled_of label self) }
     {
         let statement_first = self.statement_first;
@@ -124,20 +123,6 @@ impl Cases {
             only_labels: true,
             statement_first,
         })
-    }
-
-    /// Behind a label that was judged: one that is at fault stands nowhere.
-    pub fn behind_label(
-        self,
-        alloc: Global,
-        label: &Result<Option<i128>, Rule>,
-    ) -> Result<Cases, NoMemory>
-        ensures { IfOk result (λ r. r ≡ cases_behind label.now self) }
-    {
-        match label {
-            Ok(label) => self.labelled(alloc, *label),
-            Err(_) => Ok(self),
-        }
     }
 
     /// Behind further statements, which may not stand in front of the first label where the flag is set.

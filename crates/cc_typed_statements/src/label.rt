@@ -1,51 +1,19 @@
 //! Labels of a `switch`: each is a constant, converted to the type of the switch, and stands once (C99 6.8.4.2, 3 and 5).
 
 ghost use Rattle.std.specs.Prelude.{◌≡◌};
-ghost use Rattle.std.specs.List.{list_any};
-ghost use Rattle.cc_typed_statements.specs.Labels.{label_in as label_in_of, has_label as has_label_of, once as once_of, case_label as case_label_of, default_label as default_label_of, label_done as label_done_of};
+ghost use Rattle.cc_typed_statements.specs.Labels.{label_in as label_in_of, once as once_of, case_label as case_label_of, default_label as default_label_of, label_done as label_done_of};
 ghost use Rattle.cc_operands.specs.Verdicts.{Judges};
 ghost use Rattle.cc_operands.specs.View.{constant_view, operand_view};
-ghost use Rattle.cc_syntax.specs.Statements.{same_label as same_label_of};
 
-use crate::cases::Cases;
+use crate::switch_cases::SwitchCases;
 use cc_num::{IntType, Target, convert};
 use cc_operands::{Breach, Constant, Operand, Rule};
-use cc_syntax::Case;
-
-fn same_label(label: Option<i128>, other: Option<i128>) -> bool
-    ensures { result ≡ same_label_of label other }
-{
-    match (label, other) {
-        (None, None) => true,
-        (Some(m), Some(n)) => m == n,
-        _ => false,
-    }
-}
-
-fn is_among(label: Option<i128>, labels: &[Option<i128>]) -> bool
-    ensures { result ≡ list_any (same_label_of label) labels.now }
-{
-    labels.iter().any(|other| same_label(label, *other))
-}
-
-/// Whether a case has a label.
-fn has_label(label: Option<i128>, case: &Case) -> bool
-    ensures { result ≡ has_label_of label case.now }
-{
-    is_among(label, case.labels.all())
-}
-
-fn is_labelled(label: Option<i128>, cases: &[Case]) -> bool
-    ensures { result ≡ list_any (has_label_of label) cases.now }
-{
-    cases.iter().any(|case| has_label(label, case))
-}
 
 /// A label that stands in no case yet.
-fn once(cases: &Cases, label: Option<i128>) -> Result<Option<i128>, Rule>
+fn once(cases: &SwitchCases, label: Option<i128>) -> Result<Option<i128>, Rule>
     ensures { result ≡ once_of cases.now label }
 {
-    if is_labelled(label, cases.cases.all()) {
+    if cases.has(label) {
         Err(Rule::CaseLabel)
     } else {
         Ok(label)
@@ -68,7 +36,7 @@ pub fn case_label(
     target: &Target,
     t: IntType,
     x: &Operand,
-    cases: &Cases,
+    cases: &SwitchCases,
 ) -> Result<Option<i128>, Rule>
     ensures { result ≡ case_label_of target.now t (operand_view x.now) cases.now }
 {
@@ -77,7 +45,7 @@ pub fn case_label(
 }
 
 /// `default` behind these cases.
-pub fn default_label(cases: &Cases) -> Result<Option<i128>, Rule>
+pub fn default_label(cases: &SwitchCases) -> Result<Option<i128>, Rule>
     ensures { result ≡ default_label_of cases.now }
 {
     once(cases, None)

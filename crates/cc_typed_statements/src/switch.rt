@@ -6,8 +6,8 @@ ghost use Rattle.cc_operands.specs.Operands.{converted_to as converted_to_of};
 ghost use Rattle.cc_operands.specs.Verdicts.{Judges};
 ghost use Rattle.cc_operands.specs.View.{operand_view, type_view};
 
-use crate::cases::Cases;
 use crate::statements::sole_statement;
+use crate::switch_cases::SwitchCases;
 use cc_num::{IntType, List, NoMemory, Target, promote};
 use cc_operands::{Breach, Operand, OperandType, Rule, cast_to};
 use cc_syntax::{Case, Stmt};
@@ -39,12 +39,13 @@ fn converted_to(alloc: Global, target: &Target, t: IntType, x: Operand) -> Resul
 }
 
 /// The cases of a body, which is a block and has no statement in front of the first label.
-fn listed(cases: Option<Cases>) -> Result<List<Case>, Rule>
+fn listed(cases: Option<SwitchCases>) -> Result<List<Case>, Rule>
     ensures { result ≡ cases_of cases }
 {
     match cases {
         None => Err(Rule::Switch),
         Some(cases) => {
+            let cases = cases.into_cases();
             if cases.statement_first {
                 Err(Rule::Switch)
             } else {
@@ -59,7 +60,7 @@ pub fn switch_statement(
     alloc: Global,
     target: &Target,
     x: Operand,
-    cases: Option<Cases>,
+    cases: Option<SwitchCases>,
 ) -> Result<List<Stmt>, Breach>
     ensures { Judges (λ ss. ss) result (switch_of target.now (operand_view x) cases) }
 {
