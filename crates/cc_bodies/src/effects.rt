@@ -12,7 +12,7 @@ use crate::exprs::{Context, put_expr, put_place};
 use crate::spots::Spot;
 use cc_lex::Mark;
 use cc_num::{Name, NoMemory, at};
-use cc_pieces::{Piece, mark, name, put, spaced_mark};
+use cc_pieces::{Piece, Symbol, mark, name, put, spaced_mark};
 use cc_program::{CType, Expr, Intr, Place, Roles};
 use cc_typed::{PlaceType, Scope, ValueType};
 
@@ -29,7 +29,7 @@ pub fn intrinsic_name(roles: &Roles, intr: Intr) -> &Name
 }
 
 fn put_optional_argument<'p>(
-    out: &mut Vec<Piece<'p>>,
+    out: &mut Vec<Symbol>,
     c: Context<'p>,
     a: Option<&'p Expr>,
 ) -> Result<(), NoMemory>
@@ -43,7 +43,7 @@ fn put_optional_argument<'p>(
 }
 
 fn put_intrinsic<'p>(
-    out: &mut Vec<Piece<'p>>,
+    out: &mut Vec<Symbol>,
     c: Context<'p>,
     intr: Intr,
     a: Option<&'p Expr>,
@@ -59,7 +59,7 @@ fn put_intrinsic<'p>(
 
 /// Puts the arguments of a call in front; their nulls are of the types of the parameters.
 fn put_arguments<'p>(
-    out: &mut Vec<Piece<'p>>,
+    out: &mut Vec<Symbol>,
     c: Context<'p>,
     params: &'p [CType],
     args: &'p [Expr],
@@ -106,7 +106,7 @@ fn parameters_in<'p>(c: Context<'p>, g: &'p Expr) -> &'p [CType]
 }
 
 fn put_call<'p>(
-    out: &mut Vec<Piece<'p>>,
+    out: &mut Vec<Symbol>,
     c: Context<'p>,
     g: &'p Expr,
     args: &'p [Expr],
@@ -145,7 +145,7 @@ fn taker_in<'p>(c: Context<'p>, a: &'p Place) -> Option<&'p CType>
 
 /// Puts what is assigned to an object of the type in front.
 fn put_right_side<'p>(
-    out: &mut Vec<Piece<'p>>,
+    out: &mut Vec<Symbol>,
     c: Context<'p>,
     to: Option<&'p CType>,
     e: &'p Expr,
@@ -162,7 +162,7 @@ fn put_right_side<'p>(
 }
 
 fn put_assignment<'p>(
-    out: &mut Vec<Piece<'p>>,
+    out: &mut Vec<Symbol>,
     c: Context<'p>,
     a: &'p Place,
     e: &'p Expr,
@@ -176,7 +176,7 @@ fn put_assignment<'p>(
 }
 
 /// Puts an expression statement without its `;` in front.
-pub fn put_done<'p>(out: &mut Vec<Piece<'p>>, c: Context<'p>, e: &'p Expr) -> Result<(), NoMemory>
+pub fn put_done<'p>(out: &mut Vec<Symbol>, c: Context<'p>, e: &'p Expr) -> Result<(), NoMemory>
     requires { AreSized c.program.now.structures c.program.now.target }
     ensures { OnOk result (pieces_of out.new.items ≡ done c.entry.program.now c.entry.func.now e.now (pieces_of out.old.items)) }
 {

@@ -14,7 +14,7 @@ use crate::names::{func_name, local_name, member_name, object_name, put_named};
 use crate::spots::{Spot, wraps_conversion, wraps_operation};
 use cc_lex::Mark;
 use cc_num::NoMemory;
-use cc_pieces::{Piece, close, mark, open, put_cast, put_int_cast, spaced_mark};
+use cc_pieces::{Symbol, close, mark, open, put_cast, put_int_cast, spaced_mark};
 use cc_program::{Expr, Func, Place, Program};
 use cc_typed::{PlaceType, Scope};
 
@@ -42,7 +42,7 @@ pub fn place_type<'p>(c: Context<'p>, a: &'p Place) -> Option<PlaceType<'p>>
 #[cycle(expressions)]
 #[tactic(auto, unfolding(crate::specs::Exprs::written, crate::specs::Exprs::place))]
 pub fn put_expr<'p>(
-    out: &mut Vec<Piece<'p>>,
+    out: &mut Vec<Symbol>,
     c: Context<'p>,
     e: &'p Expr,
     spot: Spot<'p>,
@@ -108,7 +108,7 @@ pub fn put_expr<'p>(
 /// Puts an operation of two operands in front.
 #[cycle(expressions)]
 fn put_binary<'p>(
-    out: &mut Vec<Piece<'p>>,
+    out: &mut Vec<Symbol>,
     c: Context<'p>,
     o: Mark,
     a: &'p Expr,
@@ -129,7 +129,7 @@ fn put_binary<'p>(
 #[cycle(expressions)]
 #[tactic(auto, unfolding(crate::specs::Exprs::written, crate::specs::Exprs::place))]
 pub fn put_place<'p>(
-    out: &mut Vec<Piece<'p>>,
+    out: &mut Vec<Symbol>,
     c: Context<'p>,
     a: &'p Place,
     spot: Spot<'p>,

@@ -11,7 +11,7 @@ use crate::spots::{Spot, converts_constant, wraps_conversion};
 use cc_lex::Mark;
 use cc_num::{BinOp, IntType, Name, NoMemory, Target, UnOp, at};
 use cc_pieces::{
-    Piece, close, is_narrow, mark, number, open, put, put_cast, put_constant, put_int_cast,
+    Piece, Symbol, close, is_narrow, mark, number, open, put, put_cast, put_constant, put_int_cast,
     put_int_name, put_qualifiers, word,
 };
 use cc_program::{CType, Device, Structure};
@@ -61,7 +61,7 @@ pub fn movement_mark(back: bool) -> Mark
 }
 
 fn put_narrow(
-    out: &mut Vec<Piece>,
+    out: &mut Vec<Symbol>,
     converts: bool,
     target: &Target,
     n: i128,
@@ -82,7 +82,7 @@ fn put_narrow(
 
 /// Puts a constant in front.
 pub fn put_constant_text(
-    out: &mut Vec<Piece>,
+    out: &mut Vec<Symbol>,
     target: &Target,
     n: i128,
     t: IntType,
@@ -98,7 +98,7 @@ pub fn put_constant_text(
 }
 
 fn put_null_cast<'p>(
-    out: &mut Vec<Piece<'p>>,
+    out: &mut Vec<Symbol>,
     structures: &'p [Structure],
     t: &'p CType,
 ) -> Result<(), NoMemory>
@@ -108,7 +108,7 @@ fn put_null_cast<'p>(
     put_cast(out, structures, t)
 }
 
-fn put_void_null(out: &mut Vec<Piece>) -> Result<(), NoMemory>
+fn put_void_null(out: &mut Vec<Symbol>) -> Result<(), NoMemory>
     ensures { OnOk result (pieces_of out.new.items ≡ void_null (pieces_of out.old.items)) }
 {
     mark(out, Mark::RParen)?;
@@ -122,7 +122,7 @@ fn put_void_null(out: &mut Vec<Piece>) -> Result<(), NoMemory>
 }
 
 fn put_taken_null<'p>(
-    out: &mut Vec<Piece<'p>>,
+    out: &mut Vec<Symbol>,
     structures: &'p [Structure],
     t: &'p CType,
     to: Option<&'p CType>,
@@ -143,7 +143,7 @@ fn put_taken_null<'p>(
 
 /// Puts a null of a pointer type in front.
 pub fn put_null<'p>(
-    out: &mut Vec<Piece<'p>>,
+    out: &mut Vec<Symbol>,
     structures: &'p [Structure],
     t: &'p CType,
     spot: Spot<'p>,
@@ -165,7 +165,7 @@ pub fn put_null<'p>(
     }
 }
 
-fn put_numbered_device(out: &mut Vec<Piece>, device: &Device) -> Result<(), NoMemory>
+fn put_numbered_device(out: &mut Vec<Symbol>, device: &Device) -> Result<(), NoMemory>
     ensures { OnOk result (pieces_of out.new.items ≡ numbered_device device.now (pieces_of out.old.items)) }
 {
     mark(out, Mark::RParen)?;
@@ -181,7 +181,7 @@ fn put_numbered_device(out: &mut Vec<Piece>, device: &Device) -> Result<(), NoMe
 }
 
 fn put_device_by<'p>(
-    out: &mut Vec<Piece<'p>>,
+    out: &mut Vec<Symbol>,
     device: &'p Device,
     found: Option<&'p Name>,
 ) -> Result<(), NoMemory>
@@ -195,7 +195,7 @@ fn put_device_by<'p>(
 
 /// Puts a device in front: its name, or what is at its number.
 pub fn put_device<'p>(
-    out: &mut Vec<Piece<'p>>,
+    out: &mut Vec<Symbol>,
     devices: &'p [Device],
     device: u32,
 ) -> Result<(), NoMemory>

@@ -8,12 +8,12 @@ ghost use Rattle.cc_bodies.specs.Names.{named, local_name as local_name_of, obje
 ghost use Rattle.cc_typed.specs.View.{place_view};
 
 use cc_num::{Name, NoMemory, at};
-use cc_pieces::{Piece, name};
+use cc_pieces::{Symbol, name};
 use cc_program::{CType, Func, Object, Shape, Structure};
 use cc_typed::PlaceType;
 
 /// Puts a name in front, nothing where there is none.
-pub fn put_named<'p>(out: &mut Vec<Piece<'p>>, found: Option<&'p Name>) -> Result<(), NoMemory>
+pub fn put_named<'p>(out: &mut Vec<Symbol>, found: Option<&'p Name>) -> Result<(), NoMemory>
     ensures { OnOk result (pieces_of out.new.items ≡ named (option_copied found.entry) (pieces_of out.old.items)) }
 {
     match found {

@@ -14,7 +14,7 @@ use crate::exprs::{Context, put_expr};
 use crate::spots::Spot;
 use cc_lex::Mark;
 use cc_num::{Boxed, IntType, NoMemory, Target};
-use cc_pieces::{Piece, mark, put, put_constant, word};
+use cc_pieces::{Piece, Symbol, mark, put, put_constant, word};
 use cc_program::{Case, Expr, Stmt};
 use cc_typed::{Scope, ValueType};
 use cc_words::Word;
@@ -27,7 +27,7 @@ fn deeper(level: usize) -> Result<usize, NoMemory>
 }
 
 /// Puts the end of a statement's line in front.
-pub fn put_ended(out: &mut Vec<Piece>) -> Result<(), NoMemory>
+pub fn put_ended(out: &mut Vec<Symbol>) -> Result<(), NoMemory>
     ensures { OnOk result (pieces_of out.new.items ≡ ended (pieces_of out.old.items)) }
 {
     put(out, Piece::LineEnd)?;
@@ -35,7 +35,7 @@ pub fn put_ended(out: &mut Vec<Piece>) -> Result<(), NoMemory>
 }
 
 /// Puts `{` at the end of a line in front.
-pub fn put_opened(out: &mut Vec<Piece>) -> Result<(), NoMemory>
+pub fn put_opened(out: &mut Vec<Symbol>) -> Result<(), NoMemory>
     ensures { OnOk result (pieces_of out.new.items ≡ opened (pieces_of out.old.items)) }
 {
     put(out, Piece::LineEnd)?;
@@ -44,7 +44,7 @@ pub fn put_opened(out: &mut Vec<Piece>) -> Result<(), NoMemory>
 }
 
 /// Puts the line `}` in front.
-pub fn put_closed(out: &mut Vec<Piece>, level: usize) -> Result<(), NoMemory>
+pub fn put_closed(out: &mut Vec<Symbol>, level: usize) -> Result<(), NoMemory>
     ensures { OnOk result (pieces_of out.new.items ≡ closed level (pieces_of out.old.items)) }
 {
     put(out, Piece::LineEnd)?;
@@ -52,7 +52,7 @@ pub fn put_closed(out: &mut Vec<Piece>, level: usize) -> Result<(), NoMemory>
     put(out, Piece::Indent(level))
 }
 
-fn put_word_line(out: &mut Vec<Piece>, w: Word, level: usize) -> Result<(), NoMemory>
+fn put_word_line(out: &mut Vec<Symbol>, w: Word, level: usize) -> Result<(), NoMemory>
     ensures { OnOk result (pieces_of out.new.items ≡ indent level ∷ keyword w ∷ ended (pieces_of out.old.items)) }
 {
     put_ended(out)?;
@@ -61,7 +61,7 @@ fn put_word_line(out: &mut Vec<Piece>, w: Word, level: usize) -> Result<(), NoMe
 }
 
 fn put_head<'p>(
-    out: &mut Vec<Piece<'p>>,
+    out: &mut Vec<Symbol>,
     c: Context<'p>,
     w: Word,
     e: &'p Expr,
@@ -80,7 +80,7 @@ fn put_head<'p>(
 }
 
 fn put_returned<'p>(
-    out: &mut Vec<Piece<'p>>,
+    out: &mut Vec<Symbol>,
     c: Context<'p>,
     e: &'p Option<Boxed<Expr>>,
 ) -> Result<(), NoMemory>
@@ -121,7 +121,7 @@ fn label_type_in<'p>(c: Context<'p>, e: &'p Expr) -> IntType
 }
 
 fn put_label(
-    out: &mut Vec<Piece>,
+    out: &mut Vec<Symbol>,
     target: &Target,
     t: IntType,
     label: Option<i128>,
@@ -143,7 +143,7 @@ fn put_label(
 }
 
 fn put_labels(
-    out: &mut Vec<Piece>,
+    out: &mut Vec<Symbol>,
     target: &Target,
     t: IntType,
     labels: &[Option<i128>],
@@ -162,7 +162,7 @@ fn put_labels(
 /// Puts a statement in front.
 #[cycle(statements)]
 fn put_stmt<'p>(
-    out: &mut Vec<Piece<'p>>,
+    out: &mut Vec<Symbol>,
     c: Context<'p>,
     s: &'p Stmt,
     level: usize,
@@ -213,7 +213,7 @@ fn put_stmt<'p>(
 /// Puts statements at a level in front.
 #[cycle(statements)]
 fn put_list<'p>(
-    out: &mut Vec<Piece<'p>>,
+    out: &mut Vec<Symbol>,
     c: Context<'p>,
     list: &'p [Stmt],
     level: usize,
@@ -231,7 +231,7 @@ fn put_list<'p>(
 
 #[cycle(statements)]
 fn put_else<'p>(
-    out: &mut Vec<Piece<'p>>,
+    out: &mut Vec<Symbol>,
     c: Context<'p>,
     list: &'p [Stmt],
     level: usize,
@@ -253,7 +253,7 @@ fn put_else<'p>(
 
 #[cycle(statements)]
 fn put_case_body<'p>(
-    out: &mut Vec<Piece<'p>>,
+    out: &mut Vec<Symbol>,
     c: Context<'p>,
     list: &'p [Stmt],
     level: usize,
@@ -272,7 +272,7 @@ fn put_case_body<'p>(
 
 #[cycle(statements)]
 fn put_case<'p>(
-    out: &mut Vec<Piece<'p>>,
+    out: &mut Vec<Symbol>,
     c: Context<'p>,
     t: IntType,
     case: &'p Case,
@@ -288,7 +288,7 @@ fn put_case<'p>(
 /// Puts the cases of a `switch` in front.
 #[cycle(statements)]
 fn put_cases<'p>(
-    out: &mut Vec<Piece<'p>>,
+    out: &mut Vec<Symbol>,
     c: Context<'p>,
     t: IntType,
     cases: &'p [Case],
@@ -307,7 +307,7 @@ fn put_cases<'p>(
 
 /// Puts statements at a level in front.
 pub fn put_stmts<'p>(
-    out: &mut Vec<Piece<'p>>,
+    out: &mut Vec<Symbol>,
     c: Context<'p>,
     list: &'p [Stmt],
     level: usize,

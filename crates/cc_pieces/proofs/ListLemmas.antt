@@ -1,13 +1,10 @@
 -- Lists that are printed from the last element to the first: what an element more adds in front.
-use Rattle.std.proofs.Common.{arith, ◌≡◌, ℕ, suc, ◌+◌, ◌<◌, ◌≤◌, List, [], ◌∷◌, ◌++◌, map, drop, length, get_or, refl, ap, sym, ◌∙◌}
+use Rattle.std.proofs.Common.{arith, ◌≡◌, ℕ, suc, ◌+◌, ◌<◌, List, [], ◌∷◌, map, drop, length, get_or, ap, sym, ◌∙◌}
 use Rattle.std.proofs.Math.Seq.{drop-cons}
 use Rattle.std.proofs.Math.ListN.{drop_of_length-le}
 use Rattle.cc_lex.specs.declared.token.Mark.TheVariants as m
-use Rattle.cc_pieces.specs.declared.piece.Piece.{Piece as CodePiece}
 use Rattle.cc_pieces.specs.Declarators.{Declarator, further, parameters, type_name_of}
-use Rattle.cc_pieces.specs.Pieces.{Pieces, bytes_of, flat, punct, space}
-use Rattle.cc_pieces.specs.View.{piece_of, pieces_of}
-use Rattle.cc_pieces.proofs.PieceLemmas.{flat-front, pieces_of-nil}
+use Rattle.cc_pieces.specs.Pieces.{Pieces, punct, space}
 
 -- a list from an element on
 pub drop_at : {A : Type 0} (xs : List A) (i : ℕ) (x : A) → i < length xs → x ≡ get_or xs i x → drop i xs ≡ x ∷ drop (i + 1) xs
@@ -17,16 +14,6 @@ drop_at xs i x l e =
 
 pub drop_all : {A : Type 0} (xs : List A) → drop (length xs) xs ≡ []
 drop_all xs = drop_of_length-le xs {i = length xs} (omega arith)
-
--- a text's next piece
-pub spell_more : (xs : List CodePiece) (i k : ℕ) (d : CodePiece) (out new : List ℕ) → k ≡ suc i → i < length xs →
-    out ≡ flat (pieces_of (drop k xs)) → new ≡ out ++ bytes_of (piece_of (get_or xs i d)) → new ≡ flat (pieces_of (drop i xs))
-spell_more xs i k d out new n l h w =
-    w ∙ ap (λ bs. bs ++ bytes_of (piece_of (get_or xs i d))) (h ∙ ap (λ j. flat (pieces_of (drop j xs))) n)
-    ∙ sym (flat-front (get_or xs i d) (drop (suc i) xs)) ∙ ap (λ ys. flat (pieces_of ys)) (sym (drop-cons xs i d l))
-
-pub spell_none : (xs : List CodePiece) → [] ≡ flat (pieces_of (drop (length xs) xs))
-spell_none xs = sym (ap (λ ys. flat (pieces_of ys)) (drop_all xs) ∙ ap flat pieces_of-nil)
 
 -- a parameter more
 pub further_more : {A : Type 0} (f : A → Declarator) (xs : List A) (i k : ℕ) (x : A) (ps qs rs : Pieces) → k ≡ i + 1 → i < length xs → x ≡ get_or xs i x →

@@ -1,6 +1,6 @@
 -- A printed text as a list of pieces: kinds of tokens, each with one spelling, and gaps between tokens. Its bytes
 -- are a fold over it. What is printed stands in front of the pieces that follow.
-use Rattle.std.specs.Prelude.{ℕ, zero, suc, Bool, true, false, not, nat_eq, List, [], ◌∷◌, ◌++◌, codes, replicate}
+use Rattle.std.specs.Prelude.{ℕ, zero, suc, Bool, true, false, not, nat_eq, List, [], ◌∷◌, ◌++◌, codes}
 use Rattle.std.specs.Fmt.{decimal}
 use Rattle.cc_words.specs.declared.word.Word.{Word}
 use Rattle.cc_words.specs.Words.{spellings}

@@ -4,7 +4,7 @@ ghost use Rattle.std.specs.Prelude.{◌≡◌, OnOk};
 ghost use Rattle.cc_pieces.specs.Constants.{has_unsigned_letter as has_unsigned_letter_of, long_letters_of, of_type as of_type_of, is_narrow as is_narrow_of, negative, least, constant};
 ghost use Rattle.cc_pieces.specs.View.{piece_of, pieces_of};
 
-use crate::piece::Piece;
+use crate::piece::{Piece, Symbol};
 use crate::puts::{number_piece, put, put_all};
 use cc_lex::Mark;
 use cc_num::{IntType, NoMemory, Target};
@@ -69,7 +69,7 @@ fn of_type<'p>(t: IntType, n: u128) -> Piece<'p>
     number_piece(n, has_unsigned_letter(t), long_letters(t))
 }
 
-fn put_negative(out: &mut Vec<Piece>, t: IntType, n: u128) -> Result<(), NoMemory>
+fn put_negative(out: &mut Vec<Symbol>, t: IntType, n: u128) -> Result<(), NoMemory>
     ensures { OnOk result (pieces_of out.new.items ≡ negative t n (pieces_of out.old.items)) }
 {
     put_all(
@@ -83,7 +83,7 @@ fn put_negative(out: &mut Vec<Piece>, t: IntType, n: u128) -> Result<(), NoMemor
     )
 }
 
-fn put_least(out: &mut Vec<Piece>, t: IntType, n: u128) -> Result<(), NoMemory>
+fn put_least(out: &mut Vec<Symbol>, t: IntType, n: u128) -> Result<(), NoMemory>
     ensures { OnOk result (pieces_of out.new.items ≡ least t n (pieces_of out.old.items)) }
 {
     put_all(
@@ -104,7 +104,7 @@ fn put_least(out: &mut Vec<Piece>, t: IntType, n: u128) -> Result<(), NoMemory>
 /// Puts a value of a type in front.
 #[tactic(auto, unfolding(crate::specs::Constants::constant))]
 pub fn put_constant(
-    out: &mut Vec<Piece>,
+    out: &mut Vec<Symbol>,
     target: &Target,
     n: i128,
     t: IntType,

@@ -10,7 +10,7 @@ mod types;
 
 pub use bytes::spell;
 pub use constants::{is_narrow, put_constant};
-pub use piece::Piece;
+pub use piece::{Piece, Symbol};
 pub use puts::{
     close, mark, name, number, number_piece, open, put, put_all, spaced_mark, two_words, word,
 };

@@ -9,7 +9,7 @@ ghost use Rattle.cc_lex.specs.declared.token.Mark.TheVariants as m;
 ghost use Rattle.cc_program.specs.declared.types.Sig.{out-Sig};
 ghost use Rattle.cc_words.specs.declared.word.Word.TheVariants as w;
 
-use crate::piece::Piece;
+use crate::piece::{Piece, Symbol};
 use crate::puts::{close, mark, name, number_piece, open, put, put_all, two_words, word};
 use cc_lex::Mark;
 use cc_num::{IntType, NoMemory, at};
@@ -36,7 +36,7 @@ fn is_pointer(inside: Inside) -> bool
     }
 }
 
-fn put_gap(out: &mut Vec<Piece>, inside: Inside) -> Result<(), NoMemory>
+fn put_gap(out: &mut Vec<Symbol>, inside: Inside) -> Result<(), NoMemory>
     ensures { OnOk result (pieces_of out.new.items ≡ gap inside (pieces_of out.old.items)) }
 {
     match inside {
@@ -47,7 +47,7 @@ fn put_gap(out: &mut Vec<Piece>, inside: Inside) -> Result<(), NoMemory>
 }
 
 /// Puts the name of an integer type in front (C99 6.7.2).
-pub fn put_int_name(out: &mut Vec<Piece>, t: IntType) -> Result<(), NoMemory>
+pub fn put_int_name(out: &mut Vec<Symbol>, t: IntType) -> Result<(), NoMemory>
     ensures { OnOk result (pieces_of out.new.items ≡ int_name t (pieces_of out.old.items)) }
 {
     match t {
@@ -70,7 +70,7 @@ pub fn put_int_name(out: &mut Vec<Piece>, t: IntType) -> Result<(), NoMemory>
     }
 }
 
-fn put_word_if(out: &mut Vec<Piece>, is_there: bool, w: Word) -> Result<(), NoMemory>
+fn put_word_if(out: &mut Vec<Symbol>, is_there: bool, w: Word) -> Result<(), NoMemory>
     ensures { OnOk result (pieces_of out.new.items ≡ word_if is_there w (pieces_of out.old.items)) }
 {
     if is_there {
@@ -81,7 +81,7 @@ fn put_word_if(out: &mut Vec<Piece>, is_there: bool, w: Word) -> Result<(), NoMe
 }
 
 /// Puts qualifiers in front of a type's words.
-pub fn put_qualifiers(out: &mut Vec<Piece>, constant: bool, volatile: bool) -> Result<(), NoMemory>
+pub fn put_qualifiers(out: &mut Vec<Symbol>, constant: bool, volatile: bool) -> Result<(), NoMemory>
     ensures { OnOk result (pieces_of out.new.items ≡ qualifiers constant volatile (pieces_of out.old.items)) }
 {
     put_word_if(out, volatile, Word::Volatile)?;
@@ -89,7 +89,7 @@ pub fn put_qualifiers(out: &mut Vec<Piece>, constant: bool, volatile: bool) -> R
 }
 
 fn put_pointer_qualifiers(
-    out: &mut Vec<Piece>,
+    out: &mut Vec<Symbol>,
     constant: bool,
     volatile: bool,
     inside: Inside,
@@ -113,7 +113,7 @@ fn put_pointer_qualifiers(
     }
 }
 
-fn put_tag<'p>(out: &mut Vec<Piece<'p>>, structure: Option<&'p Structure>) -> Result<(), NoMemory>
+fn put_tag<'p>(out: &mut Vec<Symbol>, structure: Option<&'p Structure>) -> Result<(), NoMemory>
     ensures { OnOk result (pieces_of out.new.items ≡ tag (option_copied structure.entry) (pieces_of out.old.items)) }
 {
     match structure {
@@ -123,7 +123,7 @@ fn put_tag<'p>(out: &mut Vec<Piece<'p>>, structure: Option<&'p Structure>) -> Re
 }
 
 fn put_struct<'p>(
-    out: &mut Vec<Piece<'p>>,
+    out: &mut Vec<Symbol>,
     structures: &'p [Structure],
     id: u32,
 ) -> Result<(), NoMemory>
@@ -136,7 +136,7 @@ fn put_struct<'p>(
 /// Puts in front what a type writes in front of the declared name.
 #[tactic(auto, unfolding(crate::specs::Declarators::declarator, crate::specs::Declarators::signature))]
 pub fn put_front<'p>(
-    out: &mut Vec<Piece<'p>>,
+    out: &mut Vec<Symbol>,
     structures: &'p [Structure],
     t: &'p CType,
     inside: Inside,
@@ -176,7 +176,7 @@ pub fn put_front<'p>(
 }
 
 /// Puts the bound of an array in front.
-fn put_bound(out: &mut Vec<Piece>, n: u32) -> Result<(), NoMemory>
+fn put_bound(out: &mut Vec<Symbol>, n: u32) -> Result<(), NoMemory>
     ensures { OnOk result (pieces_of out.new.items ≡ punct m.LBracket ∷ plain_number n ∷ punct m.RBracket ∷ pieces_of out.old.items) }
 {
     put_all(
@@ -193,7 +193,7 @@ fn put_bound(out: &mut Vec<Piece>, n: u32) -> Result<(), NoMemory>
 #[cycle(declarators)]
 #[tactic(auto, unfolding(crate::specs::Declarators::declarator, crate::specs::Declarators::signature))]
 pub fn put_behind<'p>(
-    out: &mut Vec<Piece<'p>>,
+    out: &mut Vec<Symbol>,
     structures: &'p [Structure],
     t: &'p CType,
     inside: Inside,
@@ -224,7 +224,7 @@ pub fn put_behind<'p>(
 #[cycle(declarators)]
 #[tactic(auto, unfolding(crate::specs::Declarators::declarator, crate::specs::Declarators::signature))]
 pub fn put_parameters<'p>(
-    out: &mut Vec<Piece<'p>>,
+    out: &mut Vec<Symbol>,
     structures: &'p [Structure],
     sig: &'p Sig,
 ) -> Result<(), NoMemory>
@@ -235,7 +235,7 @@ pub fn put_parameters<'p>(
 
 #[cycle(declarators)]
 fn put_parameter_list<'p>(
-    out: &mut Vec<Piece<'p>>,
+    out: &mut Vec<Symbol>,
     structures: &'p [Structure],
     sig: &'p Sig,
 ) -> Result<(), NoMemory>
@@ -258,7 +258,7 @@ fn put_parameter_list<'p>(
 /// Puts the name of a type in front (C99 6.7.6).
 #[cycle(declarators)]
 pub fn put_type_name<'p>(
-    out: &mut Vec<Piece<'p>>,
+    out: &mut Vec<Symbol>,
     structures: &'p [Structure],
     t: &'p CType,
 ) -> Result<(), NoMemory>
@@ -270,7 +270,7 @@ pub fn put_type_name<'p>(
 
 /// Puts the declaration of a name with a type in front (C99 6.7.5).
 pub fn put_declaration<'p>(
-    out: &mut Vec<Piece<'p>>,
+    out: &mut Vec<Symbol>,
     structures: &'p [Structure],
     t: &'p CType,
     declared: &'p [u8],
@@ -284,7 +284,7 @@ pub fn put_declaration<'p>(
 
 /// Puts a type in parentheses in front (C99 6.5.4).
 pub fn put_cast<'p>(
-    out: &mut Vec<Piece<'p>>,
+    out: &mut Vec<Symbol>,
     structures: &'p [Structure],
     t: &'p CType,
 ) -> Result<(), NoMemory>
@@ -296,7 +296,7 @@ pub fn put_cast<'p>(
 }
 
 /// Puts an integer type in parentheses in front.
-pub fn put_int_cast(out: &mut Vec<Piece>, t: IntType) -> Result<(), NoMemory>
+pub fn put_int_cast(out: &mut Vec<Symbol>, t: IntType) -> Result<(), NoMemory>
     ensures { OnOk result (pieces_of out.new.items ≡ int_cast t (pieces_of out.old.items)) }
 {
     mark(out, Mark::RParen)?;

@@ -12,14 +12,14 @@ use cc_bodies::{Context, put_closed, put_ended, put_opened, put_stmts};
 use cc_lex::Mark;
 use cc_num::{Name, NoMemory};
 use cc_pieces::{
-    Inside, Piece, mark, name, put_all, put_behind, put_declaration, put_front, put_int_name,
-    put_parameters, put_qualifiers, word,
+    Inside, Piece, Symbol, mark, name, put_all, put_behind, put_declaration, put_front,
+    put_int_name, put_parameters, put_qualifiers, word,
 };
 use cc_program::{CType, Device, Entry, Func, Object, Program, Structure};
 use cc_words::Word;
 
 fn put_device_named<'p>(
-    out: &mut Vec<Piece<'p>>,
+    out: &mut Vec<Symbol>,
     device: &'p Device,
     found: Option<&'p Name>,
 ) -> Result<(), NoMemory>
@@ -37,14 +37,14 @@ fn put_device_named<'p>(
     }
 }
 
-fn put_device_line<'p>(out: &mut Vec<Piece<'p>>, device: &'p Device) -> Result<(), NoMemory>
+fn put_device_line<'p>(out: &mut Vec<Symbol>, device: &'p Device) -> Result<(), NoMemory>
     ensures { OnOk result (pieces_of out.new.items ≡ device_line device.now (pieces_of out.old.items)) }
 {
     put_device_named(out, device, device.name.as_ref())
 }
 
 /// Puts the declarations of devices that have names in front.
-pub fn put_device_lines<'p>(out: &mut Vec<Piece<'p>>, devices: &'p [Device]) -> Result<(), NoMemory>
+pub fn put_device_lines<'p>(out: &mut Vec<Symbol>, devices: &'p [Device]) -> Result<(), NoMemory>
     ensures { OnOk result (pieces_of out.new.items ≡ each device_line devices.now (pieces_of out.old.items)) }
 {
     let mut left = devices.len();
@@ -55,7 +55,7 @@ pub fn put_device_lines<'p>(out: &mut Vec<Piece<'p>>, devices: &'p [Device]) -> 
     Ok(())
 }
 
-fn put_attribute<'p>(out: &mut Vec<Piece<'p>>, text: &'p [u8]) -> Result<(), NoMemory>
+fn put_attribute<'p>(out: &mut Vec<Symbol>, text: &'p [u8]) -> Result<(), NoMemory>
     ensures { OnOk result (pieces_of out.new.items ≡ attribute text.now (pieces_of out.old.items)) }
 {
     put_all(
@@ -72,7 +72,7 @@ fn put_attribute<'p>(out: &mut Vec<Piece<'p>>, text: &'p [u8]) -> Result<(), NoM
     )
 }
 
-fn put_entry_attribute(out: &mut Vec<Piece>, entry: Option<Entry>) -> Result<(), NoMemory>
+fn put_entry_attribute(out: &mut Vec<Symbol>, entry: Option<Entry>) -> Result<(), NoMemory>
     ensures { OnOk result (pieces_of out.new.items ≡ entry_attribute entry (pieces_of out.old.items)) }
 {
     match entry {
@@ -84,7 +84,7 @@ fn put_entry_attribute(out: &mut Vec<Piece>, entry: Option<Entry>) -> Result<(),
 }
 
 fn put_prototype<'p>(
-    out: &mut Vec<Piece<'p>>,
+    out: &mut Vec<Symbol>,
     structures: &'p [Structure],
     f: &'p Func,
 ) -> Result<(), NoMemory>
@@ -102,7 +102,7 @@ fn put_prototype<'p>(
 
 /// Puts the prototypes of functions in front, a handler's with its attribute.
 pub fn put_prototypes<'p>(
-    out: &mut Vec<Piece<'p>>,
+    out: &mut Vec<Symbol>,
     structures: &'p [Structure],
     funcs: &'p [Func],
 ) -> Result<(), NoMemory>
@@ -118,7 +118,7 @@ pub fn put_prototypes<'p>(
 
 /// Puts parameters with their names in front.
 fn put_named_parameters<'p>(
-    out: &mut Vec<Piece<'p>>,
+    out: &mut Vec<Symbol>,
     structures: &'p [Structure],
     params: &'p [(Name, CType)],
 ) -> Result<(), NoMemory>
@@ -139,7 +139,7 @@ fn put_named_parameters<'p>(
 }
 
 fn put_object_line<'p>(
-    out: &mut Vec<Piece<'p>>,
+    out: &mut Vec<Symbol>,
     structures: &'p [Structure],
     o: &'p Object,
 ) -> Result<(), NoMemory>
@@ -152,7 +152,7 @@ fn put_object_line<'p>(
 
 /// Puts the declarations of static objects in front, without their first values.
 pub fn put_object_lines<'p>(
-    out: &mut Vec<Piece<'p>>,
+    out: &mut Vec<Symbol>,
     structures: &'p [Structure],
     objects: &'p [Object],
 ) -> Result<(), NoMemory>
@@ -180,7 +180,7 @@ fn split_locals(f: &Func) -> (&[(Name, CType)], &[(Name, CType)])
     }
 }
 
-fn put_function<'p>(out: &mut Vec<Piece<'p>>, p: &'p Program, f: &'p Func) -> Result<(), NoMemory>
+fn put_function<'p>(out: &mut Vec<Symbol>, p: &'p Program, f: &'p Func) -> Result<(), NoMemory>
     requires { AreSized p.now.structures p.now.target }
     ensures { OnOk result (pieces_of out.new.items ≡ function p.now f.now (pieces_of out.old.items)) }
 {
@@ -203,7 +203,7 @@ fn put_function<'p>(out: &mut Vec<Piece<'p>>, p: &'p Program, f: &'p Func) -> Re
 }
 
 /// Puts the functions in front.
-pub fn put_functions<'p>(out: &mut Vec<Piece<'p>>, p: &'p Program) -> Result<(), NoMemory>
+pub fn put_functions<'p>(out: &mut Vec<Symbol>, p: &'p Program) -> Result<(), NoMemory>
     requires { AreSized p.now.structures p.now.target }
     ensures { OnOk result (pieces_of out.new.items ≡ each (function p.now) p.now.funcs (pieces_of out.old.items)) }
 {

@@ -11,11 +11,11 @@ use crate::structures::{put_announcements, put_structures};
 use crate::uses::put_intrinsic_prototype;
 use crate::values::put_definitions;
 use cc_num::NoMemory;
-use cc_pieces::{Piece, spell};
+use cc_pieces::{Symbol, spell};
 use cc_program::{Intr, Program};
 use std::alloc::Global;
 
-fn put_intrinsics<'p>(out: &mut Vec<Piece<'p>>, p: &'p Program) -> Result<(), NoMemory>
+fn put_intrinsics<'p>(out: &mut Vec<Symbol>, p: &'p Program) -> Result<(), NoMemory>
     ensures { OnOk result (pieces_of out.new.items ≡ intrinsics p.now (pieces_of out.old.items)) }
 {
     put_intrinsic_prototype(out, p, Intr::Restore)?;
@@ -24,14 +24,14 @@ fn put_intrinsics<'p>(out: &mut Vec<Piece<'p>>, p: &'p Program) -> Result<(), No
     put_intrinsic_prototype(out, p, Intr::Off)
 }
 
-fn put_types<'p>(out: &mut Vec<Piece<'p>>, p: &'p Program) -> Result<(), NoMemory>
+fn put_types<'p>(out: &mut Vec<Symbol>, p: &'p Program) -> Result<(), NoMemory>
     ensures { OnOk result (pieces_of out.new.items ≡ types p.now (pieces_of out.old.items)) }
 {
     put_structures(out, p.structures.all())?;
     put_announcements(out, p.structures.all())
 }
 
-fn put_objects<'p>(out: &mut Vec<Piece<'p>>, p: &'p Program) -> Result<(), NoMemory>
+fn put_objects<'p>(out: &mut Vec<Symbol>, p: &'p Program) -> Result<(), NoMemory>
     ensures { OnOk result (pieces_of out.new.items ≡ objects p.now (pieces_of out.old.items)) }
 {
     put_definitions(out, p)?;
@@ -40,7 +40,7 @@ fn put_objects<'p>(out: &mut Vec<Piece<'p>>, p: &'p Program) -> Result<(), NoMem
 
 /// The pieces of a program's text, the last one first.
 #[tactic(auto, unfolding(crate::specs::Printed::printed), using(cc_pieces::proofs::PieceLemmas::of_pieces))]
-fn pieces<'p>(alloc: Global, p: &'p Program) -> Result<Vec<Piece<'p>>, NoMemory>
+fn pieces<'p>(alloc: Global, p: &'p Program) -> Result<Vec<Symbol>, NoMemory>
     requires { AreSized p.now.structures p.now.target }
     ensures { IfOk result (λ out. pieces_of out.items ≡ printed p.now) }
 {

@@ -11,7 +11,7 @@ ghost use Rattle.cc_program.specs.declared.types.Sig.{out-Sig};
 use cc_bodies::{put_ended, put_opened};
 use cc_lex::Mark;
 use cc_num::{Name, NoMemory};
-use cc_pieces::{Piece, mark, put, put_all, put_declaration};
+use cc_pieces::{Piece, Symbol, mark, put, put_all, put_declaration};
 use cc_program::{CType, Shape, Sig, Structure};
 use cc_words::Word;
 
@@ -114,7 +114,7 @@ fn is_in_parameters(found: Option<bool>) -> bool
     }
 }
 
-fn put_tag<'p>(out: &mut Vec<Piece<'p>>, s: &'p Structure) -> Result<(), NoMemory>
+fn put_tag<'p>(out: &mut Vec<Symbol>, s: &'p Structure) -> Result<(), NoMemory>
     ensures { OnOk result (pieces_of out.new.items ≡ keyword w.Struct ∷ space ∷ ident s.now.tag ∷ pieces_of out.old.items) }
 {
     put_all(
@@ -127,18 +127,14 @@ fn put_tag<'p>(out: &mut Vec<Piece<'p>>, s: &'p Structure) -> Result<(), NoMemor
     )
 }
 
-fn put_tag_line<'p>(out: &mut Vec<Piece<'p>>, s: &'p Structure) -> Result<(), NoMemory>
+fn put_tag_line<'p>(out: &mut Vec<Symbol>, s: &'p Structure) -> Result<(), NoMemory>
     ensures { OnOk result (pieces_of out.new.items ≡ tag_line s.now (pieces_of out.old.items)) }
 {
     put_ended(out)?;
     put_tag(out, s)
 }
 
-fn put_line_if<'p>(
-    out: &mut Vec<Piece<'p>>,
-    is_there: bool,
-    s: &'p Structure,
-) -> Result<(), NoMemory>
+fn put_line_if<'p>(out: &mut Vec<Symbol>, is_there: bool, s: &'p Structure) -> Result<(), NoMemory>
     ensures { OnOk result (pieces_of out.new.items ≡ line_if is_there s.now (pieces_of out.old.items)) }
 {
     if is_there {
@@ -150,7 +146,7 @@ fn put_line_if<'p>(
 
 /// Puts lines in front that name the structures which a list of parameters would name first.
 pub fn put_announcements<'p>(
-    out: &mut Vec<Piece<'p>>,
+    out: &mut Vec<Symbol>,
     structures: &'p [Structure],
 ) -> Result<(), NoMemory>
     ensures { OnOk result (pieces_of out.new.items ≡ announcements structures.now 0 structures.now (pieces_of out.old.items)) }
@@ -165,7 +161,7 @@ pub fn put_announcements<'p>(
 }
 
 fn put_member_line<'p>(
-    out: &mut Vec<Piece<'p>>,
+    out: &mut Vec<Symbol>,
     structures: &'p [Structure],
     member: &'p (Name, CType),
 ) -> Result<(), NoMemory>
@@ -178,7 +174,7 @@ fn put_member_line<'p>(
 
 /// Puts lines in front that declare names, of members or locals.
 pub fn put_member_lines<'p>(
-    out: &mut Vec<Piece<'p>>,
+    out: &mut Vec<Symbol>,
     structures: &'p [Structure],
     members: &'p [(Name, CType)],
 ) -> Result<(), NoMemory>
@@ -193,7 +189,7 @@ pub fn put_member_lines<'p>(
 }
 
 fn put_structure<'p>(
-    out: &mut Vec<Piece<'p>>,
+    out: &mut Vec<Symbol>,
     structures: &'p [Structure],
     s: &'p Structure,
 ) -> Result<(), NoMemory>
@@ -213,7 +209,7 @@ fn put_structure<'p>(
 
 /// Puts the structures in front.
 pub fn put_structures<'p>(
-    out: &mut Vec<Piece<'p>>,
+    out: &mut Vec<Symbol>,
     structures: &'p [Structure],
 ) -> Result<(), NoMemory>
     ensures { OnOk result (pieces_of out.new.items ≡ each (structure structures.now) structures.now (pieces_of out.old.items)) }

@@ -11,7 +11,7 @@ ghost use Rattle.std.specs.List.{list_any};
 use cc_bodies::{intrinsic_name, put_ended};
 use cc_lex::Mark;
 use cc_num::{IntType, NoMemory};
-use cc_pieces::{Piece, mark, put_all, put_int_name, word};
+use cc_pieces::{Piece, Symbol, mark, put_all, put_int_name, word};
 use cc_program::{Case, Expr, Intr, Program, Stmt};
 use cc_words::Word;
 
@@ -96,7 +96,7 @@ fn is_used(i: Intr, p: &Program) -> bool
     p.funcs.all().iter().any(|f| list_acts(i, f.body.all()))
 }
 
-fn put_intrinsic_result(out: &mut Vec<Piece>, i: Intr) -> Result<(), NoMemory>
+fn put_intrinsic_result(out: &mut Vec<Symbol>, i: Intr) -> Result<(), NoMemory>
     ensures { OnOk result (pieces_of out.new.items ≡ intrinsic_result i (pieces_of out.old.items)) }
 {
     match i {
@@ -107,7 +107,7 @@ fn put_intrinsic_result(out: &mut Vec<Piece>, i: Intr) -> Result<(), NoMemory>
     }
 }
 
-fn put_intrinsic_parameter(out: &mut Vec<Piece>, i: Intr) -> Result<(), NoMemory>
+fn put_intrinsic_parameter(out: &mut Vec<Symbol>, i: Intr) -> Result<(), NoMemory>
     ensures { OnOk result (pieces_of out.new.items ≡ intrinsic_parameter i (pieces_of out.old.items)) }
 {
     match i {
@@ -118,7 +118,7 @@ fn put_intrinsic_parameter(out: &mut Vec<Piece>, i: Intr) -> Result<(), NoMemory
     }
 }
 
-fn put_intrinsic_line<'p>(out: &mut Vec<Piece<'p>>, p: &'p Program, i: Intr) -> Result<(), NoMemory>
+fn put_intrinsic_line<'p>(out: &mut Vec<Symbol>, p: &'p Program, i: Intr) -> Result<(), NoMemory>
     ensures { OnOk result (pieces_of out.new.items ≡ intrinsic_line p.now i (pieces_of out.old.items)) }
 {
     put_ended(out)?;
@@ -137,7 +137,7 @@ fn put_intrinsic_line<'p>(out: &mut Vec<Piece<'p>>, p: &'p Program, i: Intr) -> 
 
 /// Puts the prototype of an intrinsic in front, where the program uses it.
 pub fn put_intrinsic_prototype<'p>(
-    out: &mut Vec<Piece<'p>>,
+    out: &mut Vec<Symbol>,
     p: &'p Program,
     i: Intr,
 ) -> Result<(), NoMemory>

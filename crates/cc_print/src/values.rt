@@ -14,7 +14,7 @@ use cc_bodies::{func_name, member_name, put_ended, put_named};
 use cc_lex::Mark;
 use cc_num::{IntType, Name, NoMemory, at};
 use cc_pieces::{
-    Piece, mark, number, number_piece, put_all, put_constant, put_declaration, spaced_mark,
+    Piece, Symbol, mark, number, number_piece, put_all, put_constant, put_declaration, spaced_mark,
 };
 use cc_program::{Address, CType, Leaf, Object, Part, Program, Root, Shape, Structure};
 use cc_typed::{PlaceType, alike, object_place, step_into};
@@ -48,7 +48,7 @@ fn has_elements(to: &CType, a: Option<PlaceType>) -> bool
     is_element(to, element_of(a))
 }
 
-fn put_index(out: &mut Vec<Piece>, index: u32) -> Result<(), NoMemory>
+fn put_index(out: &mut Vec<Symbol>, index: u32) -> Result<(), NoMemory>
     ensures { OnOk result (pieces_of out.new.items ≡ punct m.LBracket ∷ plain_number index ∷ punct m.RBracket ∷ pieces_of out.old.items) }
 {
     put_all(
@@ -61,7 +61,7 @@ fn put_index(out: &mut Vec<Piece>, index: u32) -> Result<(), NoMemory>
     )
 }
 
-fn put_one_past(out: &mut Vec<Piece>, is_past: bool) -> Result<(), NoMemory>
+fn put_one_past(out: &mut Vec<Symbol>, is_past: bool) -> Result<(), NoMemory>
     ensures { OnOk result (pieces_of out.new.items ≡ one_past is_past (pieces_of out.old.items)) }
 {
     if is_past {
@@ -80,7 +80,7 @@ fn put_one_past(out: &mut Vec<Piece>, is_past: bool) -> Result<(), NoMemory>
 }
 
 fn put_last_index(
-    out: &mut Vec<Piece>,
+    out: &mut Vec<Symbol>,
     is_element: bool,
     index: u32,
     count: u32,
@@ -95,7 +95,7 @@ fn put_last_index(
 }
 
 fn put_step<'p>(
-    out: &mut Vec<Piece<'p>>,
+    out: &mut Vec<Symbol>,
     structures: &'p [Structure],
     a: Option<PlaceType<'p>>,
     step: Part,
@@ -127,7 +127,7 @@ fn next_place<'p>(
 /// Puts members and indexes in front, and behind them the last index for a pointer to a type. A path is as deep as
 /// the type of its object.
 fn put_path<'p>(
-    out: &mut Vec<Piece<'p>>,
+    out: &mut Vec<Symbol>,
     structures: &'p [Structure],
     to: &'p CType,
     index: u32,
@@ -148,7 +148,7 @@ fn put_path<'p>(
 }
 
 fn put_object_path<'p>(
-    out: &mut Vec<Piece<'p>>,
+    out: &mut Vec<Symbol>,
     p: &'p Program,
     to: &'p CType,
     path: &'p [Part],
@@ -169,7 +169,7 @@ fn put_object_path<'p>(
 }
 
 fn put_root_path<'p>(
-    out: &mut Vec<Piece<'p>>,
+    out: &mut Vec<Symbol>,
     p: &'p Program,
     to: &'p CType,
     path: &'p [Part],
@@ -202,7 +202,7 @@ fn put_root_path<'p>(
 
 /// Puts the value of a pointer to a type in front.
 fn put_address<'p>(
-    out: &mut Vec<Piece<'p>>,
+    out: &mut Vec<Symbol>,
     p: &'p Program,
     to: &'p CType,
     a: &'p Address,
@@ -222,7 +222,7 @@ fn put_address<'p>(
 }
 
 fn put_int_leaf(
-    out: &mut Vec<Piece>,
+    out: &mut Vec<Symbol>,
     p: &Program,
     t: IntType,
     leaf: Option<&Leaf>,
@@ -237,7 +237,7 @@ fn put_int_leaf(
 }
 
 fn put_pointer_leaf<'p>(
-    out: &mut Vec<Piece<'p>>,
+    out: &mut Vec<Symbol>,
     p: &'p Program,
     to: &'p CType,
     leaf: Option<&'p Leaf>,
@@ -259,7 +259,7 @@ struct Source<'p> {
 }
 
 fn put_int<'p>(
-    out: &mut Vec<Piece<'p>>,
+    out: &mut Vec<Symbol>,
     source: Source<'p>,
     t: IntType,
     left: usize,
@@ -276,7 +276,7 @@ fn put_int<'p>(
 }
 
 fn put_pointer<'p>(
-    out: &mut Vec<Piece<'p>>,
+    out: &mut Vec<Symbol>,
     source: Source<'p>,
     to: &'p CType,
     left: usize,
@@ -293,7 +293,7 @@ fn put_pointer<'p>(
 }
 
 /// Puts a comma and a space in front.
-fn put_separator(out: &mut Vec<Piece>) -> Result<(), NoMemory>
+fn put_separator(out: &mut Vec<Symbol>) -> Result<(), NoMemory>
     ensures { OnOk result (pieces_of out.new.items ≡ punct m.Comma ∷ space ∷ pieces_of out.old.items) }
 {
     put_all(out, &[Piece::Punct(Mark::Comma), Piece::Space])
@@ -303,7 +303,7 @@ fn put_separator(out: &mut Vec<Piece>) -> Result<(), NoMemory>
 #[cycle(values)]
 #[tactic(auto, using(crate::proofs::FillerLemmas::of_fillers))]
 fn put_value<'p>(
-    out: &mut Vec<Piece<'p>>,
+    out: &mut Vec<Symbol>,
     source: Source<'p>,
     structures: &'p [Structure],
     left: usize,
@@ -339,7 +339,7 @@ fn put_value<'p>(
 
 #[cycle(values)]
 fn put_elements<'p>(
-    out: &mut Vec<Piece<'p>>,
+    out: &mut Vec<Symbol>,
     source: Source<'p>,
     structures: &'p [Structure],
     left: usize,
@@ -363,7 +363,7 @@ fn put_elements<'p>(
 
 #[cycle(values)]
 fn put_members<'p>(
-    out: &mut Vec<Piece<'p>>,
+    out: &mut Vec<Symbol>,
     source: Source<'p>,
     structures: &'p [Structure],
     left: usize,
@@ -386,7 +386,7 @@ fn put_members<'p>(
 }
 
 fn put_object_value<'p>(
-    out: &mut Vec<Piece<'p>>,
+    out: &mut Vec<Symbol>,
     p: &'p Program,
     o: &'p Object,
 ) -> Result<(), NoMemory>
@@ -408,7 +408,7 @@ fn has_leaves(leaves: &[Leaf]) -> bool
 }
 
 fn put_definition_line<'p>(
-    out: &mut Vec<Piece<'p>>,
+    out: &mut Vec<Symbol>,
     p: &'p Program,
     o: &'p Object,
 ) -> Result<(), NoMemory>
@@ -421,11 +421,7 @@ fn put_definition_line<'p>(
     put_all(out, &[Piece::Keyword(Word::Static), Piece::Space])
 }
 
-fn put_definition<'p>(
-    out: &mut Vec<Piece<'p>>,
-    p: &'p Program,
-    o: &'p Object,
-) -> Result<(), NoMemory>
+fn put_definition<'p>(out: &mut Vec<Symbol>, p: &'p Program, o: &'p Object) -> Result<(), NoMemory>
     ensures { OnOk result (pieces_of out.new.items ≡ definition p.now o.now (pieces_of out.old.items)) }
 {
     if has_leaves(o.init.all()) || o.ctype.is_const() {
@@ -436,7 +432,7 @@ fn put_definition<'p>(
 }
 
 /// Puts the definitions of static objects in front that have first values or are const.
-pub fn put_definitions<'p>(out: &mut Vec<Piece<'p>>, p: &'p Program) -> Result<(), NoMemory>
+pub fn put_definitions<'p>(out: &mut Vec<Symbol>, p: &'p Program) -> Result<(), NoMemory>
     ensures { OnOk result (pieces_of out.new.items ≡ each (definition p.now) p.now.objects (pieces_of out.old.items)) }
 {
     let objects = p.objects.all();
