@@ -133,17 +133,17 @@ module _ (p : Program) (v : View) (closed : IsClosed p v) (normal : (g : ℕ) (f
       )
 
   module _ (object : Root) (path : List Part) (manner : Manner) (waits : progress_of p a (expression_of a) ≡ Waits (Read (cell.At object path) manner)) (allowed : Allowed p v s.memory a f n (Read (cell.At object path) manner)) where
-    bad_by : (b : Bool) → Fits p v (if b then did p s (Gave None) else stopped s Trap)
-    bad_by true = stay_keeps s (Gave None) (Read (cell.At object path) manner) refl refl refl waits (allowed.1 (Gave None)) (None, refl, λ x e. absurd (cc))
-    bad_by false = stopped_keeps p v s Trap fits
+    bad_by : (b : Bool) → manner.may_be_bad ≡ b → Fits p v (if b then did p s (Gave None) else stopped s Trap)
+    bad_by true bad = stay_keeps s (Gave None) (Read (cell.At object path) manner) refl refl refl waits (allowed.1 (Gave None)) (None, refl, (λ x e. absurd (cc)), λ e. bad)
+    bad_by false bad = stopped_keeps p v s Trap fits
 
     content_keeps : (c : Content) → content_at s object (cell_position p object path) ≡ c → Fits p v (has_read p s (cell.At object path) manner c)
     content_keeps Gone e = stopped_keeps p v s Trap fits
-    content_keeps Unwritten e = bad_by manner.may_be_bad
+    content_keeps Unwritten e = bad_by manner.may_be_bad refl
     content_keeps (Holds x) e =
         let t = flag_event manner.is_event s (event.Read (cell.At object path) x) in
         stay_keeps (with_event manner.is_event s (event.Read (cell.At object path) x)) (Gave (Some x)) (Read (cell.At object path) manner) t.2 t.0 t.1 waits (allowed.1 (Gave (Some x)))
-        (Some x, refl, λ y w. subst (IsCurrentAt p v s.memory a f n (cell.At object path)) (same_Some x y w) (holds_current object path manner x waits allowed e))
+        (Some x, refl, (λ y w. subst (IsCurrentAt p v s.memory a f n (cell.At object path)) (same_Some x y w) (holds_current object path manner x waits allowed e)), λ q. absurd (cc))
 
   device_keeps : (d : ℕ) (manner : Manner) → progress_of p a (expression_of a) ≡ Waits (Read (cell.Device d) manner) → Allowed p v s.memory a f n (Read (cell.Device d) manner) → (x : Option Device) → slice_get p.devices d ≡ x → (inputs : List ℤ) → Fits p v (input_read p s d x inputs)
   device_keeps d manner waits allowed None e inputs = stopped_keeps p v s Trap fits
@@ -151,7 +151,7 @@ module _ (p : Program) (v : View) (closed : IsClosed p v) (normal : (g : ℕ) (f
   device_keeps d manner waits allowed (Some device) e (z ∷ inputs) =
       let x = Int (converted z device.int p.target) in
       stay_keeps (with_event true (with_inputs s inputs) (event.Read (cell.Device d) x)) (Gave (Some x)) (Read (cell.Device d) manner) refl refl refl waits (allowed.1 (Gave (Some x)))
-      (Some x, refl, λ y w. subst (IsDeviceValue p d) (same_Some x y w) (device, z, e, refl))
+      (Some x, refl, (λ y w. subst (IsDeviceValue p d) (same_Some x y w) (device, z, e, refl)), λ q. absurd (cc))
 
   read_keeps : (at : Cell) (manner : Manner) → progress_of p a (expression_of a) ≡ Waits (Read at manner) → Allowed p v s.memory a f n (Read at manner) → Fits p v (read p s at manner)
   read_keeps (cell.Device d) manner waits h = device_keeps d manner waits h (slice_get p.devices d) refl s.memory.inputs

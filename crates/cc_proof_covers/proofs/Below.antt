@@ -93,7 +93,7 @@ module _ (p : Program) (v : View) (closed : IsClosed p v) where
       cell_kept (cell.At (root.Auto number id r) path) y h = h
 
       mark_kept : (action : Action) (mark : Mark) → IsCurrent p v m b f n action mark → IsCurrent p v m' b f n action mark
-      mark_kept (Read at manner) mark h = (h.0, h.1, λ y e. cell_kept at y (h.2 y e))
+      mark_kept (Read at manner) mark h = (h.0, h.1, (λ y e. cell_kept at y (h.2 y e)), h.3)
       mark_kept (Write at is_event w) mark h = h
       mark_kept (Choose c) mark h = h
       mark_kept (Call callee args) mark h = h
@@ -183,7 +183,7 @@ module _ (p : Program) (v : View) (closed : IsClosed p v) where
       cell_same (cell.At (root.Auto number id r) path) y h = h
 
       pub mark_same : (action : Action) (mark : Mark) → IsCurrent p v m b f n action mark → IsCurrent p v m' b f n action mark
-      mark_same (Read at manner) mark h = (h.0, h.1, λ y e. cell_same at y (h.2 y e))
+      mark_same (Read at manner) mark h = (h.0, h.1, (λ y e. cell_same at y (h.2 y e)), h.3)
       mark_same (Write at is_event w) mark h = h
       mark_same (Choose c) mark h = h
       mark_same (Call callee args) mark h = h

@@ -62,7 +62,7 @@ module _ (p : Program) (v : View) (closed : IsClosed p v) where
       cell_kept (cell.At (root.Auto number id r) path) x h = ((λ same reg. kept r reg ∙ h.0 same reg), h.1)
 
       mark_kept : (action : Action) (mark : Mark) → IsCurrent p v m b f n action mark → IsCurrent p v m b' f n action mark
-      mark_kept (Read at manner) mark h = (h.0, h.1, λ x e. cell_kept at x (h.2 x e))
+      mark_kept (Read at manner) mark h = (h.0, h.1, (λ x e. cell_kept at x (h.2 x e)), h.3)
       mark_kept (Write at is_event w) mark h = h
       mark_kept (Choose c) mark h = h
       mark_kept (Call callee args) mark h = h

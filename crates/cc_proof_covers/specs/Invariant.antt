@@ -74,9 +74,9 @@ module _ (p : Program) where
           (number ≡ a.number → is_register f r ≡ true → scalar_in a.locals r 0 ≡ Some (Some x)) ×
           ((g : Func) → slice_get p.funcs id ≡ Some g → is_register g r ≡ false → v.local_at id r (cell_position p (root.Auto number id r) path) x)
 
-      -- a mark of a step of the operands: at the point no other step is done; a bad value is in no set
+      -- a mark of a step of the operands: at the point no other step is done; a bad value, which a read may give that says so, is in no set
       abbrev pub IsCurrent : Action → Mark → Type 0
-      IsCurrent (Read at manner) mark = (o : Option Value) × (mark ≡ Gave o) × ((x : Value) → o ≡ Some x → IsCurrentAt at x)
+      IsCurrent (Read at manner) mark = (o : Option Value) × (mark ≡ Gave o) × ((x : Value) → o ≡ Some x → IsCurrentAt at x) × (o ≡ None → manner.may_be_bad ≡ true)
       IsCurrent (Choose b) mark = mark ≡ Chose b
       IsCurrent (Write at is_event w) mark = ⊥
       IsCurrent (Call callee args) mark = ⊥

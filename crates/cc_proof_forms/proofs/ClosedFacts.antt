@@ -7,14 +7,16 @@ use Rattle.cc_eval.specs.declared.mark.Mark.{Mark}
 use Rattle.cc_eval.specs.Eval.{Meaning, meaning, opened}
 use Rattle.cc_eval.specs.Progress.{Progress, Known, Waits, no_value}
 use Rattle.cc_flow.specs.declared.next.Site.{Site}
+use Rattle.cc_flow.specs.declared.types.Point.{Point}
 use Rattle.cc_flow.specs.Points.{count_of, flow_of}
 use Rattle.cc_flow_sound.proofs.Normal.{normal_body}
 use Rattle.cc_flow_sound.proofs.Numbered.{at_statement}
 use Rattle.cc_flow_sound.proofs.Opened.{all_normal, normal_case, NormalAt}
-use Rattle.cc_flow_sound.proofs.Places.{first_number}
+use Rattle.cc_flow_sound.proofs.Places.{first_number, exit_of as site_exit}
 use Rattle.cc_flow_sound.proofs.Reached.{active_statement}
 use Rattle.cc_flow_sound.specs.Sites.{arm_point, number_at, StandsAt, base_of}
 use Rattle.cc_flow_sound.specs.Statements.{statement_at}
+use Rattle.cc_num.specs.Results.{one_if}
 use Rattle.cc_program.specs.declared.expr.Expr.TheOpen as one
 use Rattle.cc_program.specs.declared.expr.Expr.{Expr, out-Expr}
 use Rattle.cc_program.specs.declared.expr.Place.{Place}
@@ -26,9 +28,10 @@ use Rattle.cc_program.specs.declared.stmt.Stmt.{Stmt, out-Stmt}
 use Rattle.cc_program.specs.declared.value.Value.{Value}
 use Rattle.cc_proof_covers.proofs.Results.{operand_pure}
 use Rattle.cc_proof_covers.proofs.Statements.{AtStatement, at_statement_of, own, is_normal, works_on}
-use Rattle.cc_proof_covers.specs.Invariant.{IsCurrent}
+use Rattle.cc_proof_covers.specs.Invariant.{exit_of, IsCurrent}
 use Rattle.cc_proof_covers.specs.Rules.{Allowed, Goes, Leaves, IsHere}
 use Rattle.cc_proof_covers.specs.Views.{View}
+use Rattle.cc_proof_forms.proofs.Outside.{leads_out}
 use Rattle.cc_proof_forms.proofs.Returns.{returned_leaves, left_leaves}
 use Rattle.cc_proof_forms.proofs.StatementRules.{expression_allowed, expression_waits}
 use Rattle.cc_proof_forms.proofs.TestSteps.{if_allowed, while_allowed, switch_allowed, return_allowed}
@@ -127,9 +130,9 @@ module _ (p : Program) (v : View) (o : OperandSets) (m : Memory) (a : Active) (f
     statement_goes (AtExpression e i rule) r = absurd (expression_waits p v o m a f n here at e i rule w ms known)
     statement_goes (AtJump stays none flows) r = jump_goes p v m a f n here at w ms known stays flows
     statement_goes (AtIf e these those i may refines) r =
-        let q = may m a refl here w ms known in tested_goes p v m a f n here at w ms known (o.passes n) (o.passes_with n) (arm_point (is_true w) these those site) (if_there p v m a f n here at w ms known e these those i) q.0 q.1 (refines (is_true w))
+        let q = may m a refl here at.rest at.here w ms known in tested_goes p v m a f n here at w ms known (o.passes n) (o.passes_with n) (one_if (is_true w)) (arm_point (is_true w) these those site) (if_there p v m a f n here at w ms known e these those i) q.0 q.1 (refines (is_true w))
     statement_goes (AtSwitch e cases i may refines) r =
-        let q = may m a refl here w ms known in tested_goes p v m a f n here at w ms known (o.passes n) (o.passes_with n) (switch_point (number_in w) cases site) (switch_there p v m a f n here at w ms known e cases i) q.0 q.1 (refines (number_in w))
+        let q = may m a refl here at.rest at.here w ms known in tested_goes p v m a f n here at w ms known (o.passes n) (o.passes_with n) (number_in w) (switch_point (number_in w) cases site) (switch_there p v m a f n here at w ms known e cases i) q.0 q.1 (refines (number_in w))
     statement_goes (AtReturn e i operand result flows keeps) r = goes_not (Some e) i r
     statement_goes (AtEnd i none flows keeps) r = goes_not None i r
 
@@ -160,6 +163,10 @@ module _ (p : Program) (v : View) (o : OperandSets) where
       number_is : here.there.0.number ≡ n
       number_is = sym (first_number s rest here.there.0) ∙ ap (λ (l : List Stmt). number_at l here.there.0) (sym first) ∙ here.there.2
 
+      its_exit : (q : Point) → q.func ≡ a.func → (own p a f its_place).exit ≡ exit_of p q.func f
+      its_exit q own_point =
+          (site_exit p.target f (base_of p a.func f) f.body a.around (s ∷ rest) a.here.position here.there.0 its_place.stands).0 ∙ ap (λ (g : ℕ). exit_of p g f) (sym own_point)
+
       its_rule : StatementRule p v o a.func f n s (own p a f its_place)
       its_rule =
           let there = at_statement p a.func f here.function few (a.here, a.around) s rest here.there.0 first its_place.stands in
@@ -167,7 +174,7 @@ module _ (p : Program) (v : View) (o : OperandSets) where
           let numbered : slice_get (flow_of p).points n ≡ Some q = subst (λ (z : ℕ). slice_get (flow_of p).points z ≡ Some q) number_is there.point_at.numbered in
           let function : slice_get p.funcs q.func ≡ Some f = ap (slice_get p.funcs) there.point_at.function ∙ here.function in
           let statement : statement_at f.body q.path ≡ Some s = ap (statement_at f.body) there.point_at.path ∙ active_statement p normal few here.openings a here.active f here.function s rest first in
-          subst (λ (g : ℕ). StatementRule p v o g f n s (own p a f its_place)) there.point_at.function (rules n q f s numbered function statement here.reached (own p a f its_place) number_is (sym there.next_is))
+          subst (λ (g : ℕ). StatementRule p v o g f n s (own p a f its_place)) there.point_at.function (rules n q f s numbered function statement here.reached (own p a f its_place) number_is (sym there.next_is) (leads_out p a.func f a.around s rest a.here.position here.there.0 its_place.stands) (its_exit q there.point_at.function))
 
       pub goes_of : (w : Value) (ms : List Mark) → progress_of p a (expression_of a) ≡ Known (Some w) ms → is_return (out-Stmt s) ≡ false → Goes p v m a f n (out-Stmt s) w
       goes_of w ms known r = statement_goes p v o m a f n here its_place w ms known its_rule r

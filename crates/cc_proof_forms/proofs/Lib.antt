@@ -7,6 +7,7 @@ pub mod FullSteps
 pub mod Intrinsics
 pub mod LastStep
 pub mod NormalForms
+pub mod Outside
 pub mod Places
 pub mod Results
 pub mod Returns

@@ -115,12 +115,12 @@ module _ (p : Program) (v : View) (m : Memory) (a : Active) (f : Func) (n : ℕ)
         let r = rule there.0 there.2 in
         flows_on there.0 (goes_at p.target f base f.body p a (next_place (out-Stmt s) a w) there.0 there.1) r.0 r.1
 
-  -- ---- a test that leads to this point refines registers and what they are the same as
+  -- ---- a test of this outcome refines registers and what they are the same as, where it leads
 
-  module _ (Passes : ℕ → Type 0) (With : ℕ → Value → ℕ → Type 0) (k : ℕ) (there : IsAtPoint p f (goes_to p a (next_place (out-Stmt s) a w)) k) (passes : Passes k)
-      (with : (r : ℕ) (x : Value) → ((q : ℕ) (u : Value) → is_register f q ≡ true → scalar_in a.locals q 0 ≡ Some (Some u) → AtMember v n r x q u) → With r x k) where
+  module _ (Passes : ℤ → Type 0) (With : ℕ → Value → ℤ → Type 0) (z : ℤ) (k : ℕ) (there : IsAtPoint p f (goes_to p a (next_place (out-Stmt s) a w)) k) (passes : Passes z)
+      (with : (r : ℕ) (x : Value) → ((q : ℕ) (u : Value) → is_register f q ≡ true → scalar_in a.locals q 0 ≡ Some (Some u) → AtMember v n r x q u) → With r x z) where
     abbrev Left : ℕ → Value → Type 0
-    Left r x = With r x k
+    Left r x = With r x z
 
     -- what a register holds is left
     left : (r : ℕ) (x : Value) → ((u : Value) → scalar_in a.locals r 0 ≡ Some (Some u) → u ≡ x) → Left r x
@@ -143,10 +143,10 @@ module _ (p : Program) (v : View) (m : Memory) (a : Active) (f : Func) (n : ℕ)
     same_left : (r i : ℕ) (x : Value) → v.same n r i → scalar_in m.statics i 0 ≡ Some x → Left r x
     same_left r i x h g = left r x (λ u k. same_Some u x (sym (here.memory.sames r i u h k) ∙ g))
 
-    may_lead : MayLead v f n Passes With k
+    may_lead : MayLead v f n Passes With z
     may_lead = record { all = passes; some = λ r x register h. some_left r x register h (scalar_in a.locals r 0) refl }
 
-    pub tested_goes : (MayLead v f n Passes With k → Refines v f n Passes With k) → Goes p v m a f n (out-Stmt s) w
+    pub tested_goes : (MayLead v f n Passes With z → Refines v f n Passes With z k) → Goes p v m a f n (out-Stmt s) w
     tested_goes rule =
         let r = rule may_lead in
         record {

@@ -1,5 +1,5 @@
 -- What facts have to say for each form of statement in normal form, at its point.
-use Rattle.std.specs.Prelude.{◌≡◌, ℕ, ℤ, Bool, true, false, List, [], Option, Some, None, slice_get}
+use Rattle.std.specs.Prelude.{◌≡◌, ℕ, ℤ, Bool, true, false, List, [], ◌∷◌, Option, Some, None, slice_get}
 use Rattle.std.specs.List.{Contains}
 use Rattle.cc_cells.specs.Cells.{scalar_in}
 use Rattle.cc_eval.specs.Context.{reached}
@@ -13,6 +13,7 @@ use Rattle.cc_flow.specs.declared.types.Point.{Point}
 use Rattle.cc_flow.specs.Points.{flow_of}
 use Rattle.cc_flow_sound.specs.Sites.{arm_point, nexts}
 use Rattle.cc_flow_sound.specs.Statements.{statement_at}
+use Rattle.cc_num.specs.Results.{one_if}
 use Rattle.cc_program.specs.declared.expr.Expr.TheOpen as one
 use Rattle.cc_program.specs.declared.expr.Expr.{Expr, out-Expr}
 use Rattle.cc_program.specs.declared.expr.Intr.TheVariants as intr
@@ -33,7 +34,7 @@ use Rattle.cc_proof_covers.specs.Invariant.{exit_of, IsCurrent}
 use Rattle.cc_proof_covers.specs.Operands.{IsOperandStep}
 use Rattle.cc_proof_covers.specs.Rules.{Flows, KeepsFlag, IsHere}
 use Rattle.cc_proof_covers.specs.Views.{View}
-use Rattle.cc_proof_forms.specs.Branches.{switch_point}
+use Rattle.cc_proof_forms.specs.Branches.{switch_point, LeadsOut}
 use Rattle.cc_proof_forms.specs.CallRules.{CallRule, SaveRule}
 use Rattle.cc_proof_forms.specs.Refined.{AtMember, MayLead, Refines}
 use Rattle.cc_proof_forms.specs.Sets.{OperandSets, Good}
@@ -63,11 +64,11 @@ module _ (p : Program) (v : View) (o : OperandSets) (id : ℕ) (f : Func) (n : �
   abbrev pub IsCellOf : PlaceOf → Cell → Type 0
   IsCellOf d to = (s : Option Spot) × o.leads n d s × (reached p (place_type p f.locals d) s ≡ Some to)
 
-  -- where a test leads it may lead, also with any register at what it holds
-  abbrev pub Passes : (Value → ℕ) → Type 0
-  Passes point =
-      (m : Memory) (a : Active) → a.func ≡ id → IsHere p v m a f n → (w : Value) (ms : List Mark) → progress_of p a (expression_of a) ≡ Known (Some w) ms →
-      o.passes n (point w) × ((r : ℕ) (x : Value) → ((q : ℕ) (u : Value) → is_register f q ≡ true → scalar_in a.locals q 0 ≡ Some (Some u) → AtMember v n r x q u) → o.passes_with n r x (point w))
+  -- the outcome of a statement's test is one that it may have, also with any register at what it holds
+  abbrev pub Passes : Stmt → (Value → ℤ) → Type 0
+  Passes s outcome =
+      (m : Memory) (a : Active) → a.func ≡ id → IsHere p v m a f n → (rest : List Stmt) → a.here.rest ≡ s ∷ rest → (w : Value) (ms : List Mark) → progress_of p a (expression_of a) ≡ Known (Some w) ms →
+      o.passes n (outcome w) × ((r : ℕ) (x : Value) → ((q : ℕ) (u : Value) → is_register f q ≡ true → scalar_in a.locals q 0 ≡ Some (Some u) → AtMember v n r x q u) → o.passes_with n r x (outcome w))
 
   -- ---- reads
 
@@ -148,15 +149,16 @@ module _ (p : Program) (v : View) (o : OperandSets) (id : ℕ) (f : Func) (n : �
       AtExpression : (e : Expr) → out-Stmt s ≡ is.Do e → ExpressionRule site.behind e → StatementRule
       -- a jump, or a test that refines nothing
       AtJump : is_return (out-Stmt s) ≡ false → ((e : Expr) → out-Stmt s ≡ is.Do e → ⊥) → ((k : ℕ) → Contains (nexts (out-Stmt s) site) k → Flows p v n k None None × KeepsFlag p v n k) → StatementRule
-      AtIf : (e : Expr) (these those : List Stmt) → out-Stmt s ≡ is.If e these those → Passes (λ w. arm_point (is_true w) these those site) →
-          ((b : Bool) → MayLead v f n (o.passes n) (o.passes_with n) (arm_point b these those site) → Refines v f n (o.passes n) (o.passes_with n) (arm_point b these those site)) → StatementRule
-      AtSwitch : (e : Expr) (cases : List Case) → out-Stmt s ≡ is.Switch e cases → Passes (λ w. switch_point (number_in w) cases site) →
-          ((z : ℤ) → MayLead v f n (o.passes n) (o.passes_with n) (switch_point z cases site) → Refines v f n (o.passes n) (o.passes_with n) (switch_point z cases site)) → StatementRule
+      AtIf : (e : Expr) (these those : List Stmt) → out-Stmt s ≡ is.If e these those → Passes s (λ w. one_if (is_true w)) →
+          ((b : Bool) → MayLead v f n (o.passes n) (o.passes_with n) (one_if b) → Refines v f n (o.passes n) (o.passes_with n) (one_if b) (arm_point b these those site)) → StatementRule
+      AtSwitch : (e : Expr) (cases : List Case) → out-Stmt s ≡ is.Switch e cases → Passes s number_in →
+          ((z : ℤ) → MayLead v f n (o.passes n) (o.passes_with n) z → Refines v f n (o.passes n) (o.passes_with n) z (switch_point z cases site)) → StatementRule
       AtReturn : (e : Expr) → out-Stmt s ≡ is.Return (Some e) → IsOperand e → ((x : Value) → o.holds n e x → v.result id x) → Flows p v n (exit_of p id f) None None → KeepsFlag p v n (exit_of p id f) → StatementRule
       AtEnd : out-Stmt s ≡ is.Return None → gives_nothing (Some f) ≡ true → Flows p v n (exit_of p id f) None None → KeepsFlag p v n (exit_of p id f) → StatementRule
 
--- each reached point that is no exit, with its statement and a site of its next points, has what that asks
+-- each reached point that is no exit, with its statement and a site of its next points, which leads out of it and to the exit of its function,
+-- has what that asks
 abbrev pub AreStatementRules : Program → View → OperandSets → Type 0
 AreStatementRules p v o =
     (n : ℕ) (q : Point) (f : Func) (s : Stmt) → slice_get (flow_of p).points n ≡ Some q → slice_get p.funcs q.func ≡ Some f → statement_at f.body q.path ≡ Some s → v.reached n →
-    (site : Site) → site.number ≡ n → nexts (out-Stmt s) site ≡ q.next → StatementRule p v o q.func f n s site
+    (site : Site) → site.number ≡ n → nexts (out-Stmt s) site ≡ q.next → LeadsOut s site → site.exit ≡ exit_of p q.func f → StatementRule p v o q.func f n s site

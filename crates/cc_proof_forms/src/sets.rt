@@ -1,4 +1,4 @@
-ghost use Rattle.std.specs.Prelude.{ℕ, Option};
+ghost use Rattle.std.specs.Prelude.{ℕ, ℤ, Option};
 ghost use Rattle.cc_eval.specs.declared.spots.Spot.{Spot};
 ghost use Rattle.cc_program.specs.declared.expr.Expr.{Expr};
 ghost use Rattle.cc_program.specs.declared.expr.Place.{Place};
@@ -12,9 +12,9 @@ pub trait OperandView {
     /// Where a place may lead at a point.
     ghost Leads: { ℕ → Place → Option Spot → Type 0 };
 
-    /// The test at a point may lead to another point.
-    ghost Passes: { ℕ → ℕ → Type 0 };
+    /// The test at a point may have an outcome: of `if` 0 or 1, of `switch` the number that it chooses by.
+    ghost Passes: { ℕ → ℤ → Type 0 };
 
-    /// It may do so with a register at a member of its set, the others being in theirs.
-    ghost PassesWith: { ℕ → ℕ → Value → ℕ → Type 0 };
+    /// It may have it with a register at a member of its set, the others being in theirs.
+    ghost PassesWith: { ℕ → ℕ → Value → ℤ → Type 0 };
 }
