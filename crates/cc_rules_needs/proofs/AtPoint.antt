@@ -2,7 +2,7 @@
 use Rattle.std.proofs.Common.{arith, ◌≡◌, ◌⊎◌, inl, inr, ℕ, zero, suc, ◌+◌, ◌*◌, ◌/◌, ◌%◌, ◌<◌, ◌≤◌, Bool, true, false, true≢false, not, ◌&&◌, ◌||◌, nat_eq, List, [], ◌∷◌, ◌++◌, map, length, All, Option, Some, None, slice_get, refl, sym, ap, subst, ◌∙◌}
 use Rattle.std.specs.Prelude.{option_and_then, if◌then◌else◌}
 use Rattle.std.specs.List.{AllByRecursion, AllZip, flat_map, list_all, list_any}
-use Rattle.std.proofs.lemmas.List.Elements.{All-from_recursion, All-head, All-tail}
+use Rattle.std.proofs.lemmas.List.Elements.{All-from_recursion, All-head, All-tail, length_all_zip}
 use Rattle.std.proofs.lemmas.Map.Keys.{any_passes_from_place}
 use Rattle.cc_places.specs.declared.abs.Abs.{Abs}
 use Rattle.cc_places.specs.Abstract.{AreOfOneKind, IsBelowAbs}
@@ -10,7 +10,7 @@ use Rattle.cc_rules_needs.specs.Flowing.{of_fact, numbers, each_pair, need_apart
 use Rattle.cc_rules_needs.specs.Needs.{Slot, Flag, Apart, Part, Mark, Flags, flags_in, apart_in, AreValuesBelow, IsBelowPart, Has, HasAll}
 use Rattle.cc_rules_needs.specs.Points.{is_same, AreRowsAlike, ArePointsAlike, AreRowsBelow, IsFactOf, IsPointBelow}
 use Rattle.cc_rules_needs.proofs.Puts.{none_not_some, some_same}
-use Rattle.cc_rules_needs.proofs.Zips.{AreSome, some_at, zip_from, zip_length}
+use Rattle.cc_rules_needs.proofs.Zips.{AreSome, some_at, zip_from}
 use Rattle.cc_state_facts.specs.declared.facts.Facts.{Facts}
 use Rattle.cc_state_facts.specs.declared.facts.PointFact.{PointFact}
 use Rattle.cc_state_facts.specs.declared.facts.Row.{Row}
@@ -119,7 +119,7 @@ module _ {I : Type 0} (below : I → I → Type 0) where
   some_values (Some x) None h = h
   some_values (Some x) (Some y) h = h
 
-  values_some : (x y : Option (Abs I)) → AreValuesBelow below x y → AreSome (IsBelowAbs below) x y
+  pub values_some : (x y : Option (Abs I)) → AreValuesBelow below x y → AreSome (IsBelowAbs below) x y
   values_some None y h = tt
   values_some (Some x) None h = h
   values_some (Some x) (Some y) h = h
@@ -136,6 +136,37 @@ module _ {I : Type 0} (below : I → I → Type 0) where
   apart_of : (facts : Facts I) (k r j : ℕ) (b : Bool) → Each (Has below facts) (if b then [] else (Apart k r j, Mark true) ∷ []) → b ≡ false → Has below facts (Apart k r j, Mark true)
   apart_of facts k r j true h e = absurd (true≢false e)
   apart_of facts k r j false h e = h.0
+
+  -- rows from their cells
+  module _ (flow fact : PointFact I) where
+    in_row : (q i : ℕ) (x y : Row I) → slice_get flow.rows q ≡ Some x → slice_get fact.rows q ≡ Some y → (j : ℕ) → j / 16 ≡ q → j % 16 ≡ i → AreValuesBelow below (cell_of flow j) (cell_of fact j) → AreSome (IsBelowAbs below) (slice_get x.cells i) (slice_get y.cells i)
+    in_row q i x y ex ey j dq di h =
+        let here : AreValuesBelow below (option_and_then (λ (row : Row I). slice_get row.cells i) (slice_get flow.rows q)) (option_and_then (λ (row : Row I). slice_get row.cells i) (slice_get fact.rows q)) =
+        subst (λ n. AreValuesBelow below (option_and_then (λ (row : Row I). slice_get row.cells n) (slice_get flow.rows q)) (option_and_then (λ (row : Row I). slice_get row.cells n) (slice_get fact.rows q))) di
+        (subst (λ n. AreValuesBelow below (option_and_then (λ (row : Row I). slice_get row.cells (j % 16)) (slice_get flow.rows n)) (option_and_then (λ (row : Row I). slice_get row.cells (j % 16)) (slice_get fact.rows n))) dq h) in
+        values_some (slice_get x.cells i) (slice_get y.cells i)
+        (subst (λ (o : Option (Row I)). AreValuesBelow below (slice_get x.cells i) (option_and_then (λ (row : Row I). slice_get row.cells i) o)) ey
+        (subst (λ (o : Option (Row I)). AreValuesBelow below (option_and_then (λ (row : Row I). slice_get row.cells i) o) (option_and_then (λ (row : Row I). slice_get row.cells i) (slice_get fact.rows q))) ex here))
+
+    row_from : (q : ℕ) (x y : Option (Row I)) → slice_get flow.rows q ≡ x → slice_get fact.rows q ≡ y → AreSome AreRowsAlike x y →
+        ((row : Row I) → slice_get flow.rows q ≡ Some row → (i : ℕ) → i < length row.cells → (i < row_length) × AreValuesBelow below (cell_of flow (row_length * q + i)) (cell_of fact (row_length * q + i))) →
+        AreSome (AreRowsBelow below) x y
+    row_from q None y ex ey a each = tt
+    row_from q (Some x) None ex ey a each = absurd a
+    row_from q (Some x) (Some y) ex ey a each = zip_from (IsBelowAbs below) x.cells y.cells (length_all_zip AreOfOneKind x.cells y.cells a)
+        (λ i l. let b = each x ex i l in in_row q i x y ex ey (16 * q + i) (quotient q i b.0) (remainder q i b.0) b.1)
+      where
+        quotient : (q i : ℕ) → i < 16 → (16 * q + i) / 16 ≡ q
+        quotient q i l = omega (arith, l)
+
+        remainder : (q i : ℕ) → i < 16 → (16 * q + i) % 16 ≡ i
+        remainder q i l = omega (arith, l)
+
+    pub rows_from : AllZip AreRowsAlike flow.rows fact.rows →
+        ((q : ℕ) (row : Row I) → slice_get flow.rows q ≡ Some row → (i : ℕ) → i < length row.cells → (i < row_length) × AreValuesBelow below (cell_of flow (row_length * q + i)) (cell_of fact (row_length * q + i))) →
+        AllZip (AreRowsBelow below) flow.rows fact.rows
+    rows_from a each = zip_from (AreRowsBelow below) flow.rows fact.rows (length_all_zip AreRowsAlike flow.rows fact.rows a)
+        (λ q l. row_from q (slice_get flow.rows q) (slice_get fact.rows q) refl refl (some_at AreRowsAlike flow.rows fact.rows a q) (each q))
 
   module _ (facts : Facts I) (k : ℕ) (flow fact : PointFact I) (e : fact_at facts k ≡ Some fact) where
     local_has : AllZip (IsBelowAbs below) flow.locals fact.locals → (r : ℕ) → Has below facts (need_local k (of_fact flow) r)
@@ -170,29 +201,6 @@ module _ {I : Type 0} (below : I → I → Type 0) where
     cell_of_has : (j : ℕ) → Has below facts (need_cell k (of_fact flow) j) → AreValuesBelow below (cell_of flow j) (cell_of fact j)
     cell_of_has j h = subst (λ (o : Option (PointFact I)). AreValuesBelow below (cell_of flow j) (option_and_then (λ x. cell_of x j) o)) e h
 
-    in_row : (q i : ℕ) (x y : Row I) → slice_get flow.rows q ≡ Some x → slice_get fact.rows q ≡ Some y → (j : ℕ) → j / 16 ≡ q → j % 16 ≡ i → AreValuesBelow below (cell_of flow j) (cell_of fact j) → AreSome (IsBelowAbs below) (slice_get x.cells i) (slice_get y.cells i)
-    in_row q i x y ex ey j dq di h =
-        let here : AreValuesBelow below (option_and_then (λ (row : Row I). slice_get row.cells i) (slice_get flow.rows q)) (option_and_then (λ (row : Row I). slice_get row.cells i) (slice_get fact.rows q)) =
-        subst (λ n. AreValuesBelow below (option_and_then (λ (row : Row I). slice_get row.cells n) (slice_get flow.rows q)) (option_and_then (λ (row : Row I). slice_get row.cells n) (slice_get fact.rows q))) di
-        (subst (λ n. AreValuesBelow below (option_and_then (λ (row : Row I). slice_get row.cells (j % 16)) (slice_get flow.rows n)) (option_and_then (λ (row : Row I). slice_get row.cells (j % 16)) (slice_get fact.rows n))) dq h) in
-        values_some (slice_get x.cells i) (slice_get y.cells i)
-        (subst (λ (o : Option (Row I)). AreValuesBelow below (slice_get x.cells i) (option_and_then (λ (row : Row I). slice_get row.cells i) o)) ey
-        (subst (λ (o : Option (Row I)). AreValuesBelow below (option_and_then (λ (row : Row I). slice_get row.cells i) o) (option_and_then (λ (row : Row I). slice_get row.cells i) (slice_get fact.rows q))) ex here))
-
-    row_from : (cells : ℕ) → ((n i : ℕ) (row : Row I) → slice_get flow.rows n ≡ Some row → i < length row.cells → (i < row_length) × (row_length * n + i < cells)) →
-        ((j : ℕ) → j < cells → AreValuesBelow below (cell_of flow j) (cell_of fact j)) →
-        (q : ℕ) (x y : Option (Row I)) → slice_get flow.rows q ≡ x → slice_get fact.rows q ≡ y → AreSome AreRowsAlike x y → AreSome (AreRowsBelow below) x y
-    row_from cells fits each q None y ex ey a = tt
-    row_from cells fits each q (Some x) None ex ey a = absurd a
-    row_from cells fits each q (Some x) (Some y) ex ey a = zip_from (IsBelowAbs below) x.cells y.cells (zip_length AreOfOneKind x.cells y.cells a)
-        (λ i l. let b = fits q i x ex l in in_row q i x y ex ey (16 * q + i) (quotient q i b.0) (remainder q i b.0) (each (16 * q + i) b.1))
-      where
-        quotient : (q i : ℕ) → i < 16 → (16 * q + i) / 16 ≡ q
-        quotient q i l = omega (arith, l)
-
-        remainder : (q i : ℕ) → i < 16 → (16 * q + i) % 16 ≡ i
-        remainder q i l = omega (arith, l)
-
     same_from : (p : ℕ × ℕ) (i : ℕ) → slice_get fact.same i ≡ Some p → Each (Has below facts) (need_apart k (has_pair flow) p) → (b : Bool) → is_same flow p ≡ b → b ≡ true
     same_from p i at h true n = refl
     same_from p i at h false n =
@@ -217,9 +225,8 @@ module _ {I : Type 0} (below : I → I → Type 0) where
         record {
           off = flag.0;
           on = flag.1;
-          locals = zip_from (IsBelowAbs below) flow.locals fact.locals (zip_length AreOfOneKind flow.locals fact.locals alike.locals) (λ r l. local r (subst (λ n. r < n) of.each l));
-          rows = zip_from (AreRowsBelow below) flow.rows fact.rows (zip_length AreRowsAlike flow.rows fact.rows alike.rows)
-              (λ q l. row_from cells of.within cell q (slice_get flow.rows q) (slice_get fact.rows q) refl refl (some_at AreRowsAlike flow.rows fact.rows alike.rows q));
+          locals = zip_from (IsBelowAbs below) flow.locals fact.locals (length_all_zip AreOfOneKind flow.locals fact.locals alike.locals) (λ r l. local r (subst (λ n. r < n) of.each l));
+          rows = rows_from flow fact alike.rows (λ q row e i l. let b = of.within q i row e l in (b.0, cell (row_length * q + i) b.1));
           same = passes_each (is_same flow) fact.same (all_at (λ p. is_same flow p ≡ true) fact.same (λ i p at.
               let range = at_all (λ p. (p.0 < registers) × (p.1 < cells)) fact.same (each_of (λ p. (p.0 < registers) × (p.1 < cells)) fact.same held.between) i p at in
               same_from p i at (of_pair (λ q. Each (Has below facts) (need_apart k (has_pair flow) q)) registers cells pairs p.0 p.1 range.0 range.1) (is_same flow p) refl));

@@ -1,6 +1,5 @@
 pub mod AtPoint
-pub mod LevelBits
-pub mod OneKind
+pub mod ByParts
 pub mod Others
 pub mod PutLaws
 pub mod Puts

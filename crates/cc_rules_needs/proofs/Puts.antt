@@ -8,7 +8,7 @@ use Rattle.cc_places.specs.declared.abs.Abs.TheVariants as abs
 use Rattle.cc_places.specs.Abstract.{AreOfOneKind, IsBelowAbs}
 use Rattle.cc_rules_needs.specs.Needs.{Slot, Whole, HandlerReads, HandlerWrites, ReadLevels, WriteLevels, Result, ByMain, ByHandler, Levels, From, Part, Mark, LevelSet, Flags, Values, get, IsBelowPart}
 use Rattle.cc_rules_needs.specs.Raised.{MayBePut, MayGet, held_mark, held_levels, put_mark, put_levels, IsLeastPart, IsLeastIn, IsPut}
-use Rattle.cc_rules_needs.proofs.LevelBits.{or_left, or_right, or_least}
+use Rattle.cc_state_facts.proofs.LevelBits.{or_left, or_right, or_least}
 use Rattle.cc_state_facts.specs.declared.facts.Facts.{Facts}
 
 abbrev is_there : {A : Type 0} → Option A → Bool

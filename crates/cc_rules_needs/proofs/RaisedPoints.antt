@@ -12,12 +12,13 @@ use Rattle.cc_rules_needs.proofs.AtPoint.{Each, each_passes, passes_each, some_v
 use Rattle.cc_rules_needs.proofs.Others.{AtOrOther, set_at, set_there}
 use Rattle.cc_rules_needs.proofs.Puts.{below_alike}
 use Rattle.cc_rules_needs.proofs.Through.{values_itself, part_itself}
-use Rattle.cc_rules_needs.proofs.Zips.{some_at, zip_itself}
+use Rattle.cc_rules_needs.proofs.Zips.{some_at}
 use Rattle.std.proofs.lemmas.Map.Keys.{any_passes_from_place}
 use Rattle.cc_state_facts.specs.declared.facts.Facts.{Facts}
 use Rattle.cc_state_facts.specs.declared.facts.PointFact.{PointFact}
 use Rattle.cc_state_facts.specs.declared.facts.Row.{Row}
 use Rattle.cc_state_facts.specs.Facts.{fact_at, cell_of, local_of, has_pair}
+use Rattle.cc_state_facts.specs.laws.Places.{zip_itself}
 
 true_or_false : (b : Bool) → (b ≡ true) ⊎ (b ≡ false)
 true_or_false true = inl refl
@@ -52,7 +53,7 @@ module _ {I : Type 0} (below : I → I → Type 0) (abs_itself : (x : Abs I) →
   no_flags_below None = ((λ h. h), (λ h. h))
   no_flags_below (Some y) = ((λ h. not_true h), (λ h. not_true h))
 
-  known_none : (p : Option (PointFact I)) → AreKnown None p
+  pub known_none : (p : Option (PointFact I)) → AreKnown None p
   known_none p = record { flag = no_flags_below p; local = λ r. tt; cell = λ j. tt; apart = λ r j h. not_true h }
 
   pub known_below : (x y : PointFact I) → IsPointBelow below x y → AreKnown (Some x) (Some y)

@@ -1,5 +1,5 @@
 -- Sets in order that are below others, place by place and by their positions.
-use Rattle.std.proofs.Common.{arith, ◌≡◌, ℕ, zero, suc, ◌<◌, List, [], ◌∷◌, length, Option, Some, None, slice_get, refl, ap}
+use Rattle.std.proofs.Common.{arith, ◌≡◌, ℕ, zero, suc, ◌<◌, List, [], ◌∷◌, length, Option, Some, None, slice_get}
 use Rattle.std.specs.List.{AllZip}
 
 -- something is there and related, where there is something
@@ -19,21 +19,3 @@ zip_from R [] [] e h = tt
 zip_from R [] (y ∷ ys) e h = absurd (let f : zero ≡ suc (length ys) = e in omega (arith, f))
 zip_from R (x ∷ xs) [] e h = absurd (let f : suc (length xs) ≡ zero = e in omega (arith, f))
 zip_from R (x ∷ xs) (y ∷ ys) e h = (h zero (omega arith), zip_from R xs ys (let f : suc (length xs) ≡ suc (length ys) = e in omega (arith, f)) (λ n k. h (suc n) (omega (arith, k))))
-
--- the other way round
-pub zip_back : {A B : Type 0} (R : A → B → Type 0) (S : B → A → Type 0) → ((x : A) (y : B) → R x y → S y x) → (xs : List A) (ys : List B) → AllZip R xs ys → AllZip S ys xs
-zip_back R S each [] [] h = tt
-zip_back R S each [] (y ∷ ys) h = absurd h
-zip_back R S each (x ∷ xs) [] h = absurd h
-zip_back R S each (x ∷ xs) (y ∷ ys) h = (each x y h.0, zip_back R S each xs ys h.1)
-
--- each with itself
-pub zip_itself : {A : Type 0} (R : A → A → Type 0) → ((x : A) → R x x) → (xs : List A) → AllZip R xs xs
-zip_itself R each [] = tt
-zip_itself R each (x ∷ xs) = (each x, zip_itself R each xs)
-
-pub zip_length : {A B : Type 0} (R : A → B → Type 0) (xs : List A) (ys : List B) → AllZip R xs ys → length xs ≡ length ys
-zip_length R [] [] h = refl
-zip_length R [] (y ∷ ys) h = absurd h
-zip_length R (x ∷ xs) [] h = absurd h
-zip_length R (x ∷ xs) (y ∷ ys) h = ap suc (zip_length R xs ys h.1)

@@ -6,13 +6,11 @@ ghost use Rattle.cc_places.specs.Abstract.{IsBelowAbs};
 ghost use Rattle.cc_rules_needs.specs.Needs.{apart_in, flags_in, IsBelowPart, Has, HasAll, IsFirstLacking};
 ghost use Rattle.cc_state_facts.specs.Facts.{fact_at, mark_of, levels_of};
 
-use crate::levels::are_within;
 use crate::needs::{Need, Part, Slot};
-use crate::pairs::is_pair;
 use cc_lattice::{IntDomain, Lattice};
 use cc_num::at;
 use cc_places::Abs;
-use cc_state_facts::{Facts, PointFact};
+use cc_state_facts::{Facts, PointFact, are_levels_within, is_pair};
 
 /// Whether all values of a set are in another one, which is of the same kind.
 pub(crate) fn is_below<I: IntDomain>(values: &Abs<I>, others: &Abs<I>) -> bool
@@ -46,7 +44,7 @@ fn has_levels<I: IntDomain>(part: &Part<I>, held: u8) -> bool
 {
     match part {
         Part::Mark(_) => false,
-        Part::LevelSet(levels) => are_within(*levels, held),
+        Part::LevelSet(levels) => are_levels_within(*levels, held),
         Part::Flags(_, _) => false,
         Part::Values(_) => false,
     }

@@ -1,13 +1,15 @@
 //! What needs, slots and points keep.
 
-ghost use Rattle.std.specs.Prelude.{◌≡◌, ◌⊎◌, ◌<◌, ℕ, Some, None, true, length};
+ghost use Rattle.std.specs.Prelude.{◌≡◌, ◌↔◌, ◌⊎◌, ◌<◌, ℕ, Some, None, true, length};
+ghost use Rattle.cc_lattice.specs.Systems.{IsRaised};
 ghost use Rattle.cc_rules_needs.specs.Flowing.{of_fact, needs_at};
 ghost use Rattle.cc_rules_needs.specs.Needs.{Slot, Part, Needs, Has, HasAll, IsBelow};
-ghost use Rattle.cc_rules_needs.specs.Points.{ArePointsAlike, IsFactOf, IsPointBelow, HasFlow, IsRaisedAt};
+ghost use Rattle.cc_rules_needs.specs.Points.{ArePointsAlike, IsFactOf, AreWellFormed, IsPointBelow, HasFlow, IsRaisedAt};
 ghost use Rattle.cc_rules_needs.specs.Raised.{MayGet, IsPut};
 ghost use Rattle.cc_state_facts.specs.declared.facts.Facts.{Facts};
 ghost use Rattle.cc_state_facts.specs.declared.facts.PointFact.{PointFact};
 ghost use Rattle.cc_state_facts.specs.Facts.{fact_at};
+ghost use Rattle.cc_state_facts.specs.Orders.{AreAlike, IsBelow as IsBelowByParts};
 
 use crate::needs::Part;
 use cc_lattice::IntDomain;
@@ -41,5 +43,13 @@ impl<I: IntDomain> Part<I> {
             HasFlow I.IsBelow flow (fact_at g point) }
         ensures raised_least { (f g h : Facts I) (point : ℕ) (flow : PointFact I) → point < length f.at → IsRaisedAt I.IsBelow f point flow g →
             IsBelow I.IsBelow f h → HasFlow I.IsBelow flow (fact_at h point) → IsBelow I.IsBelow g h }
+
+        // The order by slots is the order part by part, in which facts are a lattice, where facts are of one kind. So the least facts above others that
+        // have what is needed are the same in both.
+        ensures slots { (f g : Facts I) → IsBelowByParts I.IsBelow f g → IsBelow I.IsBelow f g }
+        ensures parts { (f g : Facts I) → AreAlike f g → AreWellFormed f → IsBelow I.IsBelow f g → IsBelowByParts I.IsBelow f g }
+        ensures least { (needs : Needs I) (f g : Facts I) → AreAlike f g → AreWellFormed f → AreWellFormed g →
+            (IsRaised (λ h. AreAlike f h × AreAlike g h) (IsBelow I.IsBelow) (λ _ h. HasAll I.IsBelow needs h) f g ↔
+            IsRaised (λ h. AreAlike f h × AreAlike g h) (IsBelowByParts I.IsBelow) (λ _ h. HasAll I.IsBelow needs h) f g) }
     {}
 }

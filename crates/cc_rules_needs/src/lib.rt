@@ -3,13 +3,9 @@
 
 mod lacking;
 mod law;
-mod levels;
 mod needs;
-mod pairs;
 mod point;
 mod raise;
-mod rows;
-mod sets;
 
 pub use lacking::{first_lacking, has};
 pub use needs::{Need, Part, Slot};

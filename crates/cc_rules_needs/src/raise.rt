@@ -6,12 +6,11 @@ ghost use Rattle.cc_rules_needs.specs.Raised.{MayBePut, MayGet, IsLeastIn, IsPut
 ghost use Rattle.cc_state_facts.specs.Facts.{mark_of, levels_of};
 
 use crate::lacking::has;
-use crate::levels::both;
 use crate::needs::{Need, Part, Slot};
 use cc_lattice::{IntDomain, Lattice};
 use cc_num::{List, NoMemory};
 use cc_places::Abs;
-use cc_state_facts::Facts;
+use cc_state_facts::{Facts, levels_of_both};
 use std::alloc::Global;
 use std::mem;
 
@@ -40,7 +39,7 @@ fn raise_levels(alloc: Global, sets: &mut List<u8>, n: u32, levels: u8)
     ensures { sets.new ≡ slice_set sets.old n (bit_or (levels_of sets.old n) levels) }
 {
     let held = sets.all()[n as usize];
-    set(alloc, sets, n as usize, both(held, levels));
+    set(alloc, sets, n as usize, levels_of_both(held, levels));
 }
 
 /// Joins a set of values with some more.

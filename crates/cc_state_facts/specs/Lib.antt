@@ -1,2 +1,4 @@
 pub mod Facts
 pub mod Levels
+pub mod Orders
+pub mod laws

@@ -1,5 +1,6 @@
 -- Each law is a lemma of its own.
 use Rattle.cc_places.specs.laws.AbstractLaws.{abs_itself, abs_through}
+use Rattle.cc_rules_needs.proofs.ByParts.{slots_below, parts_below, raised_by_parts, raised_by_slots}
 use Rattle.cc_rules_needs.proofs.AtPoint.{point_has, has_below, not_reached}
 use Rattle.cc_rules_needs.proofs.Through.{facts_itself, facts_through, has_more}
 use Rattle.cc_rules_needs.proofs.PutLaws.{is_put_above, is_put_has, is_put_least}
@@ -24,4 +25,7 @@ returns g c =
       raised_above = λ f g k flow l r. raised_above below self through f g k flow l r;
       raised_has = λ f g k flow l r. raised_has below self through f g k flow l r;
       raised_least = λ f g h k flow l r b has. raised_least below self through f g k flow l r h b has;
+      slots = slots_below below self through;
+      parts = parts_below below self through;
+      least = λ needs f g a u v. (raised_by_parts below self through _ _ f g a u v (λ h k. k), raised_by_slots below self through _ _ f g a u v (λ h k. k));
     }

@@ -1,7 +1,0 @@
-use Rattle.std.proofs.Common.{take}
-use Rattle.cc_lattice.specs.Tables.{AreJoins}
-use Rattle.cc_rules_needs.specs.Points.{IsRowJoin}
-use Rattle.cc_rules_needs.proofs.rows.joined_rows.Given as goal
-
-abbrev pub invariant-loop-at : goal.invariant-loop-at
-invariant-loop-at g l = AreJoins (IsRowJoin g.I.Lattice.IsBelow) (take l.at l.rows) (take l.at l.others) l.both.items

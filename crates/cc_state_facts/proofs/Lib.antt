@@ -1,0 +1,4 @@
+pub mod FactJoins
+pub mod LevelBits
+pub mod OneKind
+pub mod Steps

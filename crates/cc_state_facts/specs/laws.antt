@@ -1,0 +1,3 @@
+pub mod OrderLaws
+pub mod Pairs
+pub mod Places
