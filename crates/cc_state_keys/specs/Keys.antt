@@ -1,5 +1,5 @@
 -- Keys: a key names a class of cells, that of a scalar or of all scalars of an array. A member's stands for all objects of its structure.
-use Rattle.std.specs.Prelude.{ℕ, Bool, true, false, not, ◌&&◌, List, [], ◌∷◌, ◌++◌, Option, Some, None}
+use Rattle.std.specs.Prelude.{ℕ, ◌==◌, Bool, true, false, not, ◌&&◌, List, [], ◌∷◌, ◌++◌, Option, Some, None, position}
 use Rattle.cc_program.specs.declared.func.Func.{Func}
 use Rattle.cc_program.specs.declared.object.Object.{Object}
 use Rattle.cc_program.specs.declared.program.Program.{Program}
@@ -54,6 +54,16 @@ member_keys id s = made_from has_member_key (key.Member id) 0 s.members
 -- those of the static objects, of the locals and of the members, each kind by its numbers
 abbrev pub keys_of : Program → List Key
 keys_of p = made_from has_object_key key.Object 0 p.objects ++ (all_from local_keys 0 p.funcs ++ all_from member_keys 0 p.structures)
+
+abbrev pub is_key : Key → Key → Bool
+is_key (key.Object i) (key.Object j) = i == j
+is_key (key.Local f r) (key.Local g q) = (f == g) && (r == q)
+is_key (key.Member s m) (key.Member t n) = (s == t) && (m == n)
+is_key _ _ = false
+
+-- the position of a key among them
+abbrev pub key_number : Program → Key → Option ℕ
+key_number p k = position (is_key k) (keys_of p)
 
 -- ---- the key of a place in an object: that of the last member on the path to it, or else of the object
 

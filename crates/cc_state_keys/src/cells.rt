@@ -38,7 +38,7 @@ fn structure_of(a: PlaceType) -> Option<u32>
 }
 
 /// The key of a member of the structure that a place is of.
-pub(crate) fn member_key(a: Option<PlaceType>, m: u32) -> Option<Key>
+pub fn member_key(a: Option<PlaceType>, m: u32) -> Option<Key>
     ensures { result ≡ option_map (λ s. key.Member s m) (option_and_then structure_in (option_map place_view a.entry)) }
 {
     match structure_of(a?) {

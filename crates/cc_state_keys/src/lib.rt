@@ -4,14 +4,16 @@
 
 mod cells;
 mod counts;
+mod found;
 mod listed;
 mod lists;
 mod numbers;
 mod taken;
 mod text;
 
-pub use cells::cell_key;
+pub use cells::{cell_key, member_key};
 pub use counts::count_facts;
+pub use found::{is_key, key_number};
 pub use listed::keys;
 pub use numbers::{number_in, registers, tracked};
 pub use text::taken_keys;
