@@ -11,7 +11,7 @@ use Rattle.cc_places.specs.Kept.{kept, starred, member_for, is_starred, is_objec
 use Rattle.cc_places.specs.Order.{ascends}
 use Rattle.cc_places.specs.Members.{most_exact, are_many, are_members}
 use Rattle.cc_places.specs.Sets.{HasAddress, AreFew, IsSetOf, AreStarred, InPlaceOf}
-use Rattle.cc_places.specs.laws.ListLaws.{and_true, or_left, same_in, all_from, any_at, any_from, none_at}
+use Rattle.cc_places.specs.laws.ListLaws.{and_true, or_left, all_from, any_at, any_from, none_at}
 use Rattle.cc_places.specs.laws.KeptLaws.{starred_is, starred_of_kept, object_starred, other_starred, at_object}
 use Rattle.cc_places.specs.laws.SetLaws.{Stands, has_member, many_elements, set_closed, set_of_itself}
 

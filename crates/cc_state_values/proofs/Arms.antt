@@ -8,7 +8,7 @@ use Rattle.cc_num.specs.declared.int_type.IntType.{IntType}
 use Rattle.cc_num.specs.declared.op.BinOp.{BinOp}
 use Rattle.cc_num.specs.declared.op.UnOp.{UnOp}
 use Rattle.cc_num.specs.declared.target.Target.{Target}
-use Rattle.cc_num.specs.Integers.{IsValueOf, is_value_of}
+use Rattle.cc_num.specs.Integers.{IsValueOf}
 use Rattle.cc_num.proofs.ResultLaws.{value_from_test}
 use Rattle.cc_lattice.proofs.IntValues.{value_is_int}
 use Rattle.cc_places.specs.Abstract.{AreOfOneKind}
@@ -29,11 +29,10 @@ use Rattle.cc_places.specs.laws.ListLaws.{none_in}
 use Rattle.cc_program.specs.declared.value.Address.{Address}
 use Rattle.cc_program.specs.declared.value.Address.TheVariants as address
 use Rattle.cc_program.specs.declared.value.Root.TheVariants as root
-use Rattle.cc_syntax.specs.Effects.{no_one, place_effects_of}
-use Rattle.cc_syntax.specs.Expressions.{of_one, of_two}
+use Rattle.cc_syntax.specs.Expressions.{of_one}
 use Rattle.cc_syntax.specs.Operators.{subscript_type}
 use Rattle.cc_syntax.specs.Programs.{type_of, place_type}
-use Rattle.cc_syntax.specs.Values.{ValueType, PlaceType, Integer, is_scalar, pointed_to, read_from, address_of, object_place, scalar_value}
+use Rattle.cc_syntax.specs.Values.{ValueType, PlaceType, Integer, is_scalar, pointed_to, read_from, address_of, object_place}
 use Rattle.cc_state_operators.specs.declared.operators.OneOperand.{OneOperand}
 use Rattle.cc_state_operators.specs.declared.operators.OneOperand.TheVariants as kind_one
 use Rattle.cc_state_operators.specs.declared.operators.TwoOperands.{TwoOperands}
@@ -49,7 +48,7 @@ use Rattle.cc_state_values.specs.declared.context.Context.{Context}
 use Rattle.cc_state_values.specs.Typed.{IsPure, IsPurePlace, HaveSets, IsKnown}
 use Rattle.cc_state_values.specs.Values.{IsVal, OfConst, OfNull, OfFunction, OfRegister, OfAddress, OfUn, OfBin, OfConv, OfQualify, OfMove, OfGap, OfCompare, OfBoth, OfEither, OfChoose, Designates, AtLocal, AtStatic, AtDevice, AtElement, AtMember, AtTarget}
 use Rattle.cc_state_values.proofs.Fits.{pointers_are, as_pointers, numbers_are, assigned_of, alike_arms, arms_as, one_fits, one_typed, two_fit, two_typed}
-use Rattle.cc_state_values.proofs.Parts.{typed_as, pure_as, one_rule, one_type, two_rule, two_type, IsChoiceType, choice_parts_type, qualified_assigned, element_type, target_type, IsRegister, register_part, register_type}
+use Rattle.cc_state_values.proofs.Parts.{typed_as, pure_as, one_rule, one_type, two_rule, two_type, choice_parts_type, qualified_assigned, element_type, target_type, IsRegister, register_part, register_type}
 use Rattle.cc_state_values.proofs.Rules.{one_there, two_there, when_there, address_pointer, pointed_pointer, subscript_there, null_pointer, function_pointer}
 
 none_set : (s : Addrs) → s.is_exact ≡ true → s.members ≡ [] → IsNone s

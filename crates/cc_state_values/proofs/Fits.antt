@@ -1,12 +1,11 @@
 -- Values of the types of operands: on them the operators work, and what they give is of the type of the whole.
-use Rattle.std.proofs.Common.{◌≡◌, ◌⊎◌, ℤ, Bool, true, false, inl, inr, Option, Some, None, refl, ap, sym, ◌∙◌, subst, Result, Ok, Err, IfOk}
+use Rattle.std.proofs.Common.{◌≡◌, ℤ, Bool, true, false, inl, inr, Some, refl, sym, ◌∙◌, subst, Result, Ok, Err, IfOk}
 use Rattle.cc_lattice.specs.Domains.{IsSecond, AreOperands, AreOperandsOne}
 use Rattle.cc_lattice.proofs.IntValues.{value_is_int}
 use Rattle.cc_num.specs.declared.int_type.IntType.{IntType}
 use Rattle.cc_num.specs.declared.op.BinOp.{BinOp}
 use Rattle.cc_num.specs.declared.op.UnOp.{UnOp}
 use Rattle.cc_num.specs.declared.target.Target.{Target}
-use Rattle.cc_num.specs.Integers.{IsValueOf}
 use Rattle.cc_num.specs.Results.{is_shift}
 use Rattle.cc_places.specs.Abstract.{AreOfOneKind}
 use Rattle.cc_places.specs.declared.abs.Abs.{Abs}

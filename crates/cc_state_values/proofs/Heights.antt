@@ -1,5 +1,5 @@
 -- How high expressions and places are: a measure of the recursion over them.
-use Rattle.std.proofs.Common.{◌≡◌, ℕ, ◌+◌, max, refl, ap, sym, ◌∙◌}
+use Rattle.std.proofs.Common.{◌≡◌, ℕ, ◌+◌, max, ap, sym, ◌∙◌}
 use Rattle.cc_num.specs.declared.int_type.IntType.{IntType}
 use Rattle.cc_num.specs.declared.op.BinOp.{BinOp}
 use Rattle.cc_num.specs.declared.op.UnOp.{UnOp}

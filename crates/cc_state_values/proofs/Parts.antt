@@ -1,21 +1,18 @@
 -- The parts of pure expressions and places: what is pure in them, and their types.
-use Rattle.std.proofs.Common.{◌≡◌, ◌⊎◌, ℕ, ℤ, Bool, true, false, not, ◌&&◌, List, Option, Some, None, refl, ap, sym, ◌∙◌, subst}
+use Rattle.std.proofs.Common.{◌≡◌, ℕ, Bool, true, false, ◌&&◌, Option, Some, None, refl, ap, sym, ◌∙◌}
 use Rattle.std.specs.Prelude.{if◌then◌else◌, option_map, slice_get}
 use Rattle.std.proofs.lemmas.Option.{same_Some}
-use Rattle.cc_num.specs.declared.int_type.IntType.{IntType}
-use Rattle.cc_num.specs.declared.op.UnOp.{UnOp}
-use Rattle.cc_num.specs.declared.target.Target.{Target}
 use Rattle.cc_program.specs.declared.expr.Expr.{Expr, out-Expr, roll-Expr, roll-out-Expr, map-Expr, fold-roll-Expr}
 use Rattle.cc_program.specs.declared.expr.Expr.TheOpen as one
 use Rattle.cc_program.specs.declared.expr.Place.{Place, out-Place, roll-Place, roll-out-Place, map-Place, fold-roll-Place}
 use Rattle.cc_program.specs.declared.func.Func.{Func}
 use Rattle.cc_program.specs.declared.program.Program.{Program}
 use Rattle.cc_program.specs.declared.types.CType.{CType}
-use Rattle.cc_syntax.specs.Effects.{Effects, PlaceEffects, no_one, only, is_soft, effect_step, place_effect_step, effects_of, place_effects_of}
+use Rattle.cc_syntax.specs.Effects.{Effects, PlaceEffects, no_one, is_soft, effect_step, place_effect_step, effects_of, place_effects_of}
 use Rattle.cc_syntax.specs.Expressions as typing
 use Rattle.cc_syntax.specs.Expressions.{of_one, of_two}
-use Rattle.cc_syntax.specs.Operators.{constant_type, first_of, when_assignable, unary_type, binary_type, conversion_type, moved_type, gap_type, comparison_type, logical_type, choice_type, subscript_type}
-use Rattle.cc_syntax.specs.Programs.{expr_step, place_step, type_of, place_type, pointer_type, null_type, qualified_type}
+use Rattle.cc_syntax.specs.Operators.{unary_type, binary_type, conversion_type, moved_type, gap_type, comparison_type, logical_type, choice_type, subscript_type}
+use Rattle.cc_syntax.specs.Programs.{expr_step, place_step, type_of, place_type, pointer_type, qualified_type}
 use Rattle.cc_syntax.specs.Registers.{is_register}
 use Rattle.cc_syntax.specs.Values.{ValueType, PlaceType, is_scalar, is_assignable, read_from, address_of, pointed_to, member_of, object_place}
 use Rattle.cc_syntax.proofs.Prefixes.{both_true}
@@ -25,7 +22,7 @@ use Rattle.cc_state_operators.specs.declared.operators.TwoOperands.{TwoOperands}
 use Rattle.cc_state_operators.specs.declared.operators.TwoOperands.TheVariants as kind_two
 use Rattle.cc_state_values.specs.Layers.{of_one as one_layer, of_two as two_layer}
 use Rattle.cc_state_values.specs.Typed.{IsPure, IsPurePlace}
-use Rattle.cc_state_values.proofs.Rules.{one_there, two_there, IsPointer, pointer_scalar, points_first, points_second, object_pointer, pointed_pointer, address_pointer, some_integer, integer_scalar, when_there, AreIntegers, are_integers, second_scalar, IsOneInteger, is_one_integer, AreArms, are_arms, arms_scalar, subscript_there, assigned_scalar, assigned_there}
+use Rattle.cc_state_values.proofs.Rules.{one_there, two_there, pointer_scalar, points_first, points_second, object_pointer, pointed_pointer, some_integer, integer_scalar, when_there, are_integers, second_scalar, is_one_integer, AreArms, are_arms, arms_scalar, subscript_there, assigned_scalar, assigned_there}
 
 module _ (f : Func) where
   pub effects_at : (e : Expr) (x : one.Expr-F Expr Place) → out-Expr e ≡ x → effects_of f e ≡ effect_step (map-Expr Expr Place Effects PlaceEffects (effects_of f) (place_effects_of f) x)

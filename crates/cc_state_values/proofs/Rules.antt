@@ -3,7 +3,6 @@ use Rattle.std.proofs.Common.{◌≡◌, ◌⊎◌, Bool, true, false, not, ◌&
 use Rattle.std.specs.Prelude.{if◌then◌else◌}
 use Rattle.std.proofs.lemmas.Option.{same_Some}
 use Rattle.cc_num.specs.declared.int_type.IntType.{IntType}
-use Rattle.cc_num.specs.declared.int_type.IntType.TheVariants as int
 use Rattle.cc_num.specs.declared.op.BinOp.{BinOp}
 use Rattle.cc_num.specs.declared.op.UnOp.{UnOp}
 use Rattle.cc_num.specs.declared.target.Target.{Target}
@@ -17,7 +16,7 @@ use Rattle.cc_program.specs.declared.types.Shape.TheOpen as shape
 use Rattle.cc_program.specs.declared.types.Sig.{Sig}
 use Rattle.cc_program.specs.declared.types.Structure.{Structure}
 use Rattle.cc_syntax.specs.Expressions.{of_one, of_two}
-use Rattle.cc_syntax.specs.Operators.{when, pointer_in, void_pointer_in, first_of, is_unqualified, function_type, is_promoted, is_of, is_integer, is_promoted_value, second_fits, unary_type, unary_result, binary_type, binary_result, conversion_type, when_assignable, points_to_object, moved_type, has_difference, difference_type, gap_type, comparison_type, is_comparison, logical_type, common_type, choice_type, subscript_type}
+use Rattle.cc_syntax.specs.Operators.{when, pointer_in, void_pointer_in, first_of, is_unqualified, function_type, is_promoted, is_of, is_integer, is_promoted_value, second_fits, unary_type, unary_result, binary_type, binary_result, when_assignable, points_to_object, common_type, choice_type, subscript_type}
 use Rattle.cc_syntax.specs.Programs.{pointer_type, null_type}
 use Rattle.cc_syntax.specs.SameTypes.{same_int, same_sig, alike}
 use Rattle.cc_syntax.specs.Values.{ValueType, NoValue, Integer, ToObject, ToFunction, PlaceType, DevicePlace, ObjectPlace, FunctionPlace, pointer_shape, pointer_to, is_scalar, is_void, is_assignable, point_alike, pointed_to, address_of, element_of}

@@ -1,6 +1,6 @@
 -- An expression has one abstract value, and a place one set of addresses. By induction over how the first one comes about; the second one
 -- comes about by the same form. What a domain gives on the same sets is below itself both ways, and so the same.
-use Rattle.std.proofs.Common.{◌≡◌, ◌⊎◌, ℕ, ℤ, Bool, true, false, ◌&&◌, [], Option, Some, None, refl, ap, sym, ◌∙◌, subst}
+use Rattle.std.proofs.Common.{◌≡◌, ℕ, ℤ, Bool, true, false, ◌&&◌, [], Option, Some, ap, sym, ◌∙◌, subst}
 use Rattle.std.proofs.lemmas.Option.{same_Some}
 use Rattle.std.specs.Prelude.{option_and_then}
 use Rattle.cc_lattice.specs.Domains.{AreOperands, AreOperandsOne}
@@ -8,7 +8,6 @@ use Rattle.cc_num.specs.declared.int_type.IntType.{IntType}
 use Rattle.cc_num.specs.declared.op.BinOp.{BinOp}
 use Rattle.cc_num.specs.declared.op.UnOp.{UnOp}
 use Rattle.cc_num.specs.declared.target.Target.{Target}
-use Rattle.cc_places.specs.Abstract.{AreOfOneKind, IsBelowAbs}
 use Rattle.cc_places.specs.Moves.{HasMoved}
 use Rattle.cc_places.specs.Sets.{IsSetOf}
 use Rattle.cc_places.specs.declared.abs.Abs.{Abs}

@@ -1,4 +1,4 @@
-ghost use Rattle.std.specs.Prelude.{◌≡◌, ℕ, Option, Some, slice_get};
+ghost use Rattle.std.specs.Prelude.{◌≡◌, ℕ, Bool, Option, Some, slice_get};
 ghost use Rattle.cc_places.specs.declared.abs.Abs.{Abs};
 ghost use Rattle.cc_places.specs.declared.addrs.Addrs.{Addrs};
 ghost use Rattle.cc_places.specs.Abstract.{IsBelowAbs};
@@ -7,14 +7,13 @@ ghost use Rattle.cc_program.specs.declared.expr.Expr.{Expr};
 ghost use Rattle.cc_program.specs.declared.expr.Place.{Place};
 ghost use Rattle.cc_program.specs.declared.func.Func.{Func};
 ghost use Rattle.cc_program.specs.declared.program.Program.{Program};
-ghost use Rattle.cc_state_operators.specs.Domains.{domain};
+ghost use Rattle.cc_state_operators.specs.Domains.{domain, MayBe};
 ghost use Rattle.cc_state_values.specs.Values.{IsVal, Designates};
 ghost use Rattle.cc_state_values_grow.specs.Growth.{AreRegistersBelow, LeadSomewhere, RegistersPoint};
 
 use cc_lattice::IntDomain;
 
-/// What holds over each domain of the sets of some registers and of greater ones, where by the former places have addresses that
-/// lead somewhere. The call does nothing.
+/// What holds over each domain of the sets of the registers of a function, and of greater ones. The call does nothing.
 pub fn laws<I: IntDomain>()
     // By registers that have addresses of their types places lead somewhere.
     ensures leads { (p : Program) (id : ℕ) (f : Func) (register : ℕ → Option (Abs I)) → slice_get p.funcs id ≡ Some f → RegistersPoint p f register →
@@ -31,4 +30,9 @@ pub fn laws<I: IntDomain>()
         LeadSomewhere (domain I.Has I.IsBelow I.OpGives I.OpOneGives I.ToGives I.KeepGives I.members_of) p id f register → (a : Place) (r s : Addrs) →
         Designates (domain I.Has I.IsBelow I.OpGives I.OpOneGives I.ToGives I.KeepGives I.members_of) p id f register a r →
         Designates (domain I.Has I.IsBelow I.OpGives I.OpOneGives I.ToGives I.KeepGives I.members_of) p id f more a s → IsWithin r s }
+
+    // A test that may go a way by some value may go it by a greater one.
+    ensures tests { (way : Bool) (x y : Abs I) → IsBelowAbs I.IsBelow x y →
+        MayBe (domain I.Has I.IsBelow I.OpGives I.OpOneGives I.ToGives I.KeepGives I.members_of) way x →
+        MayBe (domain I.Has I.IsBelow I.OpGives I.OpOneGives I.ToGives I.KeepGives I.members_of) way y }
 {}

@@ -1,14 +1,14 @@
 -- What operators on integers, and choices, give is in the sets that they have. A choice goes as a value of its condition goes.
-use Rattle.std.proofs.Common.{◌≡◌, ◌⊎◌, inl, inr, ℤ, pos, Bool, true, false, not, Option, Some, None, refl, ap, sym, ◌∙◌, subst}
+use Rattle.std.proofs.Common.{◌≡◌, inl, inr, ℤ, pos, Bool, true, false, Option, Some, None, refl, ap, sym, ◌∙◌, subst}
 use Rattle.std.proofs.lemmas.Option.{same_Some}
-use Rattle.std.specs.Prelude.{option_map, option_and_then, if◌then◌else◌}
+use Rattle.std.specs.Prelude.{option_map, if◌then◌else◌}
 use Rattle.cc_eval.specs.declared.action.Action.{Action}
 use Rattle.cc_eval.specs.declared.action.Action.TheVariants as action
 use Rattle.cc_eval.specs.declared.mark.Mark.{Mark}
 use Rattle.cc_eval.specs.declared.mark.Mark.TheVariants.{Chose}
 use Rattle.cc_eval.specs.Eval.{Meaning, from_one, both_values, from_two, branch, outcome, arms, choice, as_condition}
 use Rattle.cc_eval.specs.Marks.{Works}
-use Rattle.cc_eval.specs.Progress.{Get, known, ask, bind, needs, chosen}
+use Rattle.cc_eval.specs.Progress.{Get, known, ask, bind, chosen}
 use Rattle.cc_eval.proofs.Works.{works_known, works_ask, works_bind, works_needs}
 use Rattle.cc_lattice.specs.Domains.{AreOperands, AreOperandsOne}
 use Rattle.cc_num.specs.declared.int_type.IntType.{IntType}

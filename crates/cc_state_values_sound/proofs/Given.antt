@@ -1,8 +1,8 @@
 -- A pure expression gives a value of its abstract value, or a bad one, and asks for nothing but reads of registers and branch steps; a place
 -- leads to one of its addresses. By induction over how the abstract value comes about, whatever marks and steps are to be.
-use Rattle.std.proofs.Common.{◌≡◌, ℕ, ℤ, pos, Bool, true, false, List, [], Option, Some, None, refl, ap, sym, ◌∙◌, subst}
+use Rattle.std.proofs.Common.{◌≡◌, ℕ, Bool, true, false, List, [], Option, Some, None, refl, ap, sym, ◌∙◌, subst}
 use Rattle.std.proofs.lemmas.Option.{same_Some}
-use Rattle.std.specs.Prelude.{option_map, option_and_then, if◌then◌else◌}
+use Rattle.std.specs.Prelude.{option_map, if◌then◌else◌}
 use Rattle.cc_eval.specs.declared.action.Action.{Action}
 use Rattle.cc_eval.specs.declared.action.Action.TheVariants as action
 use Rattle.cc_eval.specs.declared.action.Manner.{Manner}
@@ -11,22 +11,18 @@ use Rattle.cc_eval.specs.declared.mark.Mark.TheVariants.{Chose}
 use Rattle.cc_eval.specs.declared.spots.Spot.{Spot}
 use Rattle.cc_eval.specs.declared.spots.Spot.TheVariants as spot
 use Rattle.cc_eval.specs.Context.{Context, cell_at, member}
-use Rattle.cc_eval.specs.Eval.{Meaning, Designation, meaning, designation, opened, place_opened, expr_effects, manner, fetched, place_and_value, from_one, from_two, choice, as_condition, address_of, element_at}
+use Rattle.cc_eval.specs.Eval.{Meaning, Designation, meaning, designation, opened, place_opened, expr_effects, manner, fetched, place_and_value, from_one, address_of, element_at}
 use Rattle.cc_eval.specs.Marks.{AnswerSteps, Works}
 use Rattle.cc_eval.specs.Progress.{Get, Known, known, ask, bind, needs, given}
 use Rattle.cc_eval.proofs.Links.{level, place_level, place_effects_linked, place_type_linked}
 use Rattle.cc_eval.proofs.Works.{works_known, works_trap, works_ask, works_bind}
-use Rattle.cc_num.specs.declared.target.Target.{Target}
-use Rattle.cc_places.specs.Abstract.{HasValue}
-use Rattle.cc_places.specs.Sets.{HasAddress}
 use Rattle.cc_places.specs.declared.abs.Abs.{Abs}
 use Rattle.cc_places.specs.declared.abs.Abs.TheVariants as abs
 use Rattle.cc_places.specs.declared.addrs.Addrs.{Addrs}
 use Rattle.cc_program.proofs.ExprInduction.{Parts, PlaceParts}
 use Rattle.cc_program.specs.declared.expr.Expr.{Expr, out-Expr, roll-Expr, roll-out-Expr, map-Expr}
 use Rattle.cc_program.specs.declared.expr.Expr.TheOpen as one
-use Rattle.cc_program.specs.declared.expr.Place.{Place as PlaceOf, out-Place, roll-Place, roll-out-Place, map-Place}
-use Rattle.cc_program.specs.declared.value.Address.{Address}
+use Rattle.cc_program.specs.declared.expr.Place.{Place as PlaceOf, out-Place, roll-Place, roll-out-Place}
 use Rattle.cc_program.specs.declared.value.Address.TheVariants as address
 use Rattle.cc_program.specs.declared.value.Root.TheVariants as root
 use Rattle.cc_program.specs.declared.value.Value.{Value}

@@ -1,9 +1,8 @@
 -- In an activation that was opened in a run of a sound program, where each mark has the type of the step: places lead to objects of their
 -- types, so where they lead is fit.
-use Rattle.std.proofs.Common.{◌≡◌, ℕ, ℤ, Bool, true, false, List, [], ◌∷◌, Option, Some, None, refl, ap, sym, ◌∙◌, subst}
+use Rattle.std.proofs.Common.{◌≡◌, ℕ, Bool, true, false, List, [], ◌∷◌, Option, Some, None, refl, ap, sym, ◌∙◌, subst}
 use Rattle.std.specs.Prelude.{is_some, option_and_then}
 use Rattle.cc_eval.specs.declared.action.Action.{Action}
-use Rattle.cc_eval.specs.declared.action.Action.TheVariants as action
 use Rattle.cc_eval.specs.declared.mark.Mark.{Mark}
 use Rattle.cc_eval.specs.declared.spots.Spot.{Spot}
 use Rattle.cc_eval.specs.declared.spots.Spot.TheVariants as spot
@@ -15,9 +14,9 @@ use Rattle.cc_places.specs.declared.abs.Abs.{Abs}
 use Rattle.cc_places.specs.declared.addrs.Addrs.{Addrs}
 use Rattle.cc_program.proofs.Each.{Each}
 use Rattle.cc_program.proofs.ExprInduction.{Parts, PlaceParts}
-use Rattle.cc_program.specs.declared.expr.Expr.{Expr, out-Expr, roll-Expr, roll-out-Expr}
+use Rattle.cc_program.specs.declared.expr.Expr.{Expr, out-Expr, roll-out-Expr}
 use Rattle.cc_program.specs.declared.expr.Expr.TheOpen as one
-use Rattle.cc_program.specs.declared.expr.Place.{Place as PlaceOf, out-Place, roll-Place, roll-out-Place}
+use Rattle.cc_program.specs.declared.expr.Place.{Place as PlaceOf, out-Place, roll-out-Place}
 use Rattle.cc_program.specs.declared.func.Func.{Func}
 use Rattle.cc_program.specs.declared.program.Program.{Program}
 use Rattle.cc_program.specs.declared.types.CType.{CType}
@@ -29,14 +28,14 @@ use Rattle.cc_state_operators.specs.Domains.{Domain}
 use Rattle.cc_state_values.specs.Values.{IsVal, Designates}
 use Rattle.cc_state_values_sound.proofs.Choices.{GivesAll}
 use Rattle.cc_state_values_sound.proofs.Given.{value_gives, place_leads}
-use Rattle.cc_state_values_sound.specs.Steps.{MayGive, IsOwnStep, Reads, Branches, IsAnswer, LeadsInto, leads_anywhere, IsReal, IsFit, MayFit}
+use Rattle.cc_state_values_sound.specs.Steps.{MayGive, IsOwnStep, Reads, Branches, LeadsInto, leads_anywhere, IsReal, IsFit, MayFit}
 use Rattle.cc_state_values_sound.specs.Typed.{IsTypedAnswer}
-use Rattle.cc_states.specs.Answers.{IsActivation, IsMarkOf, TakesAddressesOf, PlaceTakesAddressesOf}
-use Rattle.cc_states.specs.Typed.{place_in, IsAddress, IsSpot, MayLead}
+use Rattle.cc_states.specs.Answers.{IsActivation, TakesAddressesOf, PlaceTakesAddressesOf}
+use Rattle.cc_states.specs.Typed.{place_in, IsAddress, MayLead}
 use Rattle.cc_states.proofs.AddressLemmas.{IfTaken, PlaceIfTaken, parts_at, place_parts_at, rolled_takes, rolled_place_takes}
 use Rattle.cc_states.proofs.EvalTypes.{designation_typed}
 use Rattle.cc_states.proofs.Options.{one_as_then}
-use Rattle.cc_states.proofs.PlaceLemmas.{CanPoint, real, not_whole}
+use Rattle.cc_states.proofs.PlaceLemmas.{CanPoint, not_whole}
 use Rattle.cc_syntax.specs.Effects.{Registers}
 use Rattle.cc_syntax.specs.Initial.{place_at, names}
 use Rattle.cc_syntax.specs.Values.{ValueType, ToObject, ToFunction, PlaceType, DevicePlace, ObjectPlace, FunctionPlace, element_of}

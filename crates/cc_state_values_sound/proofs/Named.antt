@@ -1,38 +1,32 @@
 -- Where places lead is an address of the set that the place has: the place names the object that the address names.
-use Rattle.std.proofs.Common.{◌≡◌, ℕ, ℤ, Bool, true, false, List, [], ◌∷◌, ◌++◌, Option, Some, None, refl, ap, sym, ◌∙◌, subst}
+use Rattle.std.proofs.Common.{◌≡◌, ℕ, ℤ, Bool, true, false, List, [], ◌∷◌, ◌++◌, Option, Some, None, refl, ap, sym, subst}
 use Rattle.std.proofs.lemmas.Option.{same_Some}
-use Rattle.std.specs.Prelude.{nat_lt, option_map, option_and_then, if◌then◌else◌}
+use Rattle.std.specs.Prelude.{option_map, option_and_then}
 use Rattle.cc_eval.specs.Context.{Context, has_elements, path_to, named_by, designated, element_in as spot_in, element, member, address_at}
 use Rattle.cc_eval.specs.Eval.{element_at as spot_at}
 use Rattle.cc_eval.specs.declared.spots.Spot.{Spot}
 use Rattle.cc_eval.specs.declared.spots.Spot.TheVariants as spot
-use Rattle.cc_places.specs.Abstract.{HasValue}
 use Rattle.cc_places.specs.Kept.{member_for}
-use Rattle.cc_places.specs.Sets.{HasAddress, IsSetOf}
-use Rattle.cc_places.specs.declared.abs.Abs.{Abs}
+use Rattle.cc_places.specs.Sets.{HasAddress}
 use Rattle.cc_places.specs.declared.abs.Abs.TheVariants as abs
 use Rattle.cc_places.specs.declared.addrs.Addrs.{Addrs}
 use Rattle.cc_program.specs.declared.program.Program.{Program}
 use Rattle.cc_program.specs.declared.value.Address.{Address}
-use Rattle.cc_program.specs.declared.value.Address.TheVariants as address
 use Rattle.cc_program.specs.declared.value.Part.{Part}
 use Rattle.cc_program.specs.declared.value.Part.TheVariants as part
 use Rattle.cc_program.specs.declared.value.Root.{Root}
 use Rattle.cc_program.specs.declared.value.Root.TheVariants as root
 use Rattle.cc_program.specs.declared.value.Value.{Value}
 use Rattle.cc_program.specs.declared.value.Value.TheVariants.{Int, Place}
-use Rattle.cc_state_operators.specs.Addresses.{object_address, IsOnly, member_address, element_in, element_address, IsElement, AreMembers, AreElements}
+use Rattle.cc_state_operators.specs.Addresses.{object_address, IsOnly, member_address, element_in, IsElement, AreMembers, AreElements}
 use Rattle.cc_state_values_sound.proofs.Starring.{stepped_has, member_steps, element_steps}
-use Rattle.cc_state_values_sound.specs.Steps.{MayGive, LeadsInto, leads_anywhere, IsReal, IsFit, MayFit}
+use Rattle.cc_state_values_sound.specs.Steps.{MayGive, LeadsInto, IsReal, IsFit, MayFit}
 use Rattle.cc_syntax.specs.Expressions.{of_two}
 use Rattle.cc_syntax.specs.Initial.{bound_of}
 use Rattle.cc_syntax.specs.Values.{PlaceType}
-use Rattle.cc_values.specs.Values.{integer, address_in, element_at}
+use Rattle.cc_values.specs.Values.{address_in, element_at}
 
 -- a named object, whatever the number of its activation is
-
-static_same : (exact : Bool) (i : ℕ) → member_for exact (object_address (root.Static i) []) ≡ member_for exact (object_address (root.Static i) [])
-static_same exact i = refl
 
 own_same : (exact : Bool) (number f r : ℕ) → member_for exact (object_address (root.Auto 0 f r) []) ≡ member_for exact (object_address (root.Auto number f r) [])
 own_same true number f r = refl

@@ -1,5 +1,5 @@
 -- What operators on pointers give is in the sets that they have: of a set that tells its addresses each address is a member itself.
-use Rattle.std.proofs.Common.{arith, ◌≡◌, ◌⊎◌, inl, inr, ℕ, ℤ, pos, neg_ℤ, ◌+ℤ◌, ◌-ℤ◌, Bool, true, false, not, ◌&&◌, List, Option, Some, None, refl, ap, sym, ◌∙◌, subst}
+use Rattle.std.proofs.Common.{arith, ◌≡◌, inl, inr, ℕ, ℤ, pos, neg_ℤ, ◌+ℤ◌, ◌-ℤ◌, Bool, true, false, not, ◌&&◌, Option, Some, None, refl, ap, sym, ◌∙◌, subst}
 use Rattle.std.proofs.lemmas.Int.{ints}
 use Rattle.std.proofs.lemmas.Option.{same_Some}
 use Rattle.std.specs.List.{Contains, list_all}
@@ -7,30 +7,26 @@ use Rattle.std.specs.Prelude.{nat_lt, nat_le, option_map, option_and_then, if◌
 use Rattle.cc_num.specs.declared.op.BinOp.{BinOp}
 use Rattle.cc_num.specs.declared.op.BinOp.TheVariants as op
 use Rattle.cc_num.specs.declared.target.Target.{Target}
-use Rattle.cc_num.specs.Integers.{is_value_of, IsValueOf}
+use Rattle.cc_num.specs.Integers.{is_value_of}
 use Rattle.cc_num.specs.Results.{one_if}
 use Rattle.cc_num.proofs.ResultLaws.{value_from_test}
-use Rattle.cc_places.specs.Kept.{kept_root, kept, starred_part, starred, member_for, is_object}
-use Rattle.cc_places.specs.Moves.{IsMoved, AreMoved, HasMoved}
+use Rattle.cc_places.specs.Kept.{kept_root, kept, starred, member_for, is_object}
+use Rattle.cc_places.specs.Moves.{IsMoved, HasMoved}
 use Rattle.cc_places.specs.Sets.{HasAddress, IsSetOf}
-use Rattle.cc_places.specs.declared.abs.Abs.{Abs}
 use Rattle.cc_places.specs.declared.abs.Abs.TheVariants as abs
 use Rattle.cc_places.specs.declared.addrs.Addrs.{Addrs}
 use Rattle.cc_places.specs.laws.KeptLaws.{kept_twice, starred_of_kept}
 use Rattle.cc_places.specs.laws.ListLaws.{both_true, all_at}
-use Rattle.cc_places.specs.laws.SetLaws.{has_same}
 use Rattle.cc_program.specs.declared.value.Address.{Address}
 use Rattle.cc_program.specs.declared.value.Address.TheVariants as address
-use Rattle.cc_program.specs.declared.value.Part.{Part}
-use Rattle.cc_program.specs.declared.value.Root.{Root}
 use Rattle.cc_program.specs.declared.value.Root.TheVariants as root
 use Rattle.cc_program.specs.declared.value.Value.{Value}
 use Rattle.cc_program.specs.declared.value.Value.TheVariants.{Int, Place}
-use Rattle.cc_state_operators.specs.Domains.{Domain, IsHull, IsWhole}
-use Rattle.cc_state_operators.specs.Results.{is_static, is_told, offsets, Together, IsZeroOrOne, IsComparison, IsGap}
+use Rattle.cc_state_operators.specs.Domains.{Domain}
+use Rattle.cc_state_operators.specs.Results.{is_static, is_told, offsets, IsZeroOrOne, IsComparison, IsGap}
 use Rattle.cc_state_values_sound.specs.Steps.{MayGive}
 use Rattle.cc_syntax.specs.Operators.{difference_type}
-use Rattle.cc_values.specs.Values.{address_in, integer, index_in, element_at, offset, moved_address, movement, in_one_array, difference, gap, ordered, same_address, compared, comparison}
+use Rattle.cc_values.specs.Values.{index_in, offset, moved_address, movement, in_one_array, difference, gap, same_address, compared, comparison}
 
 -- ---- moves
 

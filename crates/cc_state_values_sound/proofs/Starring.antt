@@ -1,6 +1,6 @@
 -- What a set of addresses keeps of one leads where the address itself leads: an activation's number and the indexes of elements tell nothing
 -- of types. So what is in an object of a set is in the set of what is in its objects.
-use Rattle.std.proofs.Common.{arith, ◌≡◌, ℕ, ℤ, Bool, true, false, ◌<◌, ltb-true, lt-ltb, List, [], ◌∷◌, ◌++◌, map, Option, Some, None, refl, ap, sym, ◌∙◌, subst}
+use Rattle.std.proofs.Common.{arith, ◌≡◌, ℕ, ℤ, Bool, true, false, ltb-true, lt-ltb, List, [], ◌∷◌, ◌++◌, map, Option, Some, None, refl, ap, sym, ◌∙◌, subst}
 use Rattle.std.proofs.lemmas.List.{map-append}
 use Rattle.std.proofs.lemmas.Option.{same_Some}
 use Rattle.std.specs.List.{Contains}
@@ -9,7 +9,7 @@ use Rattle.cc_eval.specs.Context.{object_type, has_elements, path_to, named_by, 
 use Rattle.cc_places.specs.Kept.{kept_root, kept, starred_part, starred, member_for}
 use Rattle.cc_places.specs.Sets.{HasAddress, IsSetOf}
 use Rattle.cc_places.specs.declared.addrs.Addrs.{Addrs}
-use Rattle.cc_places.specs.laws.KeptLaws.{kept_twice, starred_twice, starred_of_kept}
+use Rattle.cc_places.specs.laws.KeptLaws.{kept_twice, starred_of_kept}
 use Rattle.cc_program.specs.declared.program.Program.{Program}
 use Rattle.cc_program.specs.declared.types.Structure.{Structure}
 use Rattle.cc_program.specs.declared.value.Address.{Address}
@@ -18,12 +18,12 @@ use Rattle.cc_program.specs.declared.value.Part.{Part}
 use Rattle.cc_program.specs.declared.value.Part.TheVariants as part
 use Rattle.cc_program.specs.declared.value.Root.{Root}
 use Rattle.cc_program.specs.declared.value.Root.TheVariants as root
-use Rattle.cc_state_operators.specs.Addresses.{object_address, member_address, element_in, element_address, IsElement, FromEach, HasStepped}
+use Rattle.cc_state_operators.specs.Addresses.{object_address, member_address, element_in, IsElement, HasStepped}
 use Rattle.cc_state_values_sound.specs.Steps.{leads_anywhere, IsReal}
 use Rattle.cc_syntax.specs.Expressions.{of_one}
 use Rattle.cc_syntax.specs.Initial.{bound_of, is_below, step_into, place_at}
 use Rattle.cc_syntax.specs.Values.{PlaceType, element_of}
-use Rattle.cc_values.specs.Values.{index_in, element_at}
+use Rattle.cc_values.specs.Values.{index_in}
 
 -- ---- paths
 

@@ -1,5 +1,5 @@
 -- The set of a number has that number alone.
-use Rattle.std.proofs.Common.{◌≡◌, ◌∙◌, ◌^◌, ◌≤ℤ◌, ◌<ℤ◌, ℤ, pos, neg_ℤ, to_z, of_z, arith, sym, subst, refl}
+use Rattle.std.proofs.Common.{◌≡◌, ◌∙◌, ℤ, to_z, of_z, arith, sym, subst, refl}
 use Rattle.std.specs.Int.{w128}
 use Rattle.std.proofs.lemmas.Int.{ints}
 use Rattle.cc_lattice.specs.Domains.{IsIntValue}

@@ -2,7 +2,7 @@
 use Rattle.cc_state_operators.specs.Domains.{domain}
 use Rattle.cc_state_values.proofs.Same.{order_of}
 use Rattle.cc_state_values_grow.proofs.Growing.{value_more, place_more}
-use Rattle.cc_state_values_grow.proofs.Images.{order_given}
+use Rattle.cc_state_values_grow.proofs.Images.{order_given, truth_grows}
 use Rattle.cc_state_values_grow.proofs.Leading.{leads_somewhere}
 use Rattle.cc_state_values_grow.proofs.law.laws.Goals as goal
 
@@ -17,4 +17,5 @@ returns g c =
       leads = λ p id f register own points. leads_somewhere d p id f register own points;
       values = λ p id f register more below real e x y h k. value_more d ordered order p id f register more below real e x y h k;
       places = λ p id f register more below real a r s h k. place_more d ordered order p id f register more below real a r s h k;
+      tests = λ way x y h k. truth_grows d ordered order way x y h k;
     }
