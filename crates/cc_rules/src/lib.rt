@@ -1,0 +1,2 @@
+//! The constraints on facts about all runs of a program in normal form.
+#![tactic(auto)]

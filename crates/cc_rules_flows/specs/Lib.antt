@@ -1,0 +1,4 @@
+pub mod Acts
+pub mod Flows
+pub mod Nexts
+pub mod Tests

@@ -1,0 +1,117 @@
+-- What a test leaves of the sets of registers, and of those of the tracked cells that equal one, where it passes (C99 6.8.4). All are
+-- refined at once, from the sets at the point.
+use Rattle.std.specs.Prelude.{◌≡◌, ◌⊎◌, ℕ, ◌==◌, ℤ, Bool, true, false, List, [], ◌∷◌, Option, Some, None, if◌then◌else◌}
+use Rattle.std.specs.List.{Contains}
+use Rattle.cc_num.specs.declared.int_type.IntType.{IntType}
+use Rattle.cc_num.specs.declared.op.BinOp.{BinOp}
+use Rattle.cc_num.specs.declared.op.BinOp.TheVariants as op
+use Rattle.cc_lattice.specs.Domains.{is_comparison}
+use Rattle.cc_places.specs.declared.abs.Abs.{Abs}
+use Rattle.cc_places.specs.declared.abs.Abs.TheVariants as abs
+use Rattle.cc_places.specs.declared.addrs.Addrs.{Addrs}
+use Rattle.cc_places.specs.Abstract.{HasValue}
+use Rattle.cc_program.specs.declared.expr.Expr.{Expr, out-Expr}
+use Rattle.cc_program.specs.declared.expr.Expr.TheOpen as one
+use Rattle.cc_program.specs.declared.expr.Place.{Place}
+use Rattle.cc_program.specs.declared.func.Func.{Func}
+use Rattle.cc_program.specs.declared.program.Program.{Program}
+use Rattle.cc_program.specs.declared.value.Value.{Value}
+use Rattle.cc_program.specs.declared.value.Value.TheVariants as value
+use Rattle.cc_state_operators.specs.Domains.{Domain, IsHull}
+use Rattle.cc_state_values.specs.Values.{IsVal}
+use Rattle.cc_syntax.specs.Effects.{place_effects_of}
+use Rattle.cc_values.specs.Values.{is_true}
+
+-- of the value of an `if`'s condition: that it is true, or false; of that of a `switch`: that it equals a label, or, for `default`, none of all
+pub data Test : Type 0 where
+  Is : Bool → Test
+  Equals : ℤ → Test
+  Differs : List ℤ → Test
+
+abbrev pub Passes : Test → Value → Type 0
+Passes (Is b) v = is_true v ≡ b
+Passes (Equals n) v = v ≡ value.Int n
+Passes (Differs ns) v = (n : ℤ) → Contains ns n → v ≡ value.Int n → ⊥
+
+-- the comparison that passes where another one does not, and that which passes with its operands the other way round
+abbrev pub negated : BinOp → BinOp
+negated op.Lt = op.Ge
+negated op.Le = op.Gt
+negated op.Gt = op.Le
+negated op.Ge = op.Lt
+negated op.Eq = op.Ne
+negated op.Ne = op.Eq
+negated o = o
+
+abbrev pub turned : BinOp → BinOp
+turned op.Lt = op.Gt
+turned op.Le = op.Ge
+turned op.Gt = op.Lt
+turned op.Ge = op.Le
+turned o = o
+
+abbrev pub passing : Bool → BinOp → BinOp
+passing true o = o
+passing false o = negated o
+
+module _ {I : Type 0} (d : Domain I) (p : Program) (id : ℕ) (f : Func) (register : ℕ → Option (Abs I)) (e : Expr) (test : Test) where
+  -- a set has a value with which the test passes
+  abbrev pub HasPassing : Abs I → Type 0
+  HasPassing y = (v : Value) × HasValue d.has y v × Passes test v
+
+  -- the test may pass, as the registers are
+  abbrev pub MayPass : Type 0
+  MayPass = (y : Abs I) → IsVal d p id f register e y → HasPassing y
+
+  -- one register at a member, the others as at the point
+  abbrev pub with_member : ℕ → I → ℕ → Option (Abs I)
+  with_member r one q = if q == r then Some (abs.Ints one) else register q
+
+  -- with the register at this member the test may pass
+  abbrev pub Stays : ℕ → ℤ → Type 0
+  Stays r m = (one : I) (y : Abs I) → IsHull d (λ n. n ≡ m) one → IsVal d p id f (with_member r one) e y → HasPassing y
+
+  -- an operand is the register, or a conversion of it that keeps all members of its set
+  abbrev pub IsRead : ℕ → Expr → Type 0
+  IsRead r a = (place : Place) × (out-Expr a ≡ one.Load place) × ((place_effects_of f place).register ≡ Some r)
+
+  abbrev pub KeepsAll : IntType → I → Type 0
+  KeepsAll t x = (y : I) × d.to x t p.target y × ((n : ℤ) → (d.has x n → d.has y n) × (d.has y n → d.has x n))
+
+  abbrev pub IsOperand : ℕ → I → Expr → Type 0
+  IsOperand r x a = IsRead r a ⊎ ((t : IntType) × (c : Expr) × (out-Expr a ≡ one.Conv t c) × (IsRead r c × KeepsAll t x))
+
+  -- a condition compares it so with another operand: as the left one, or else as the right one
+  pub data Compares (r : ℕ) (x : I) : BinOp → Expr → Type 0 where
+    Left : {o : BinOp} {c : Expr} (t : IntType) (a : Expr) → out-Expr e ≡ one.Bin o t a c → is_comparison o ≡ true → IsOperand r x a → Compares r x o c
+    Right : {o : BinOp} {c : Expr} (q : BinOp) (t : IntType) (a : Expr) → out-Expr e ≡ one.Bin q t c a → is_comparison q ≡ true → (IsOperand r x c → ⊥) → IsOperand r x a → o ≡ turned q → Compares r x o c
+
+  -- by labels, one after the other
+  pub data IsCutBy : List ℤ → I → I → Type 0 where
+    ByNone : {ns : List ℤ} {x z : I} → ns ≡ [] → z ≡ x → IsCutBy ns x z
+    ByFirst : {ns : List ℤ} {x z : I} (n : ℤ) (rest : List ℤ) (one u : I) → ns ≡ n ∷ rest → IsHull d (λ m. m ≡ n) one → d.keep op.Ne x one u → IsCutBy rest u z → IsCutBy ns x z
+
+  -- a range, where the test compares
+  pub data IsCut (r : ℕ) (x z : I) : Test → Type 0 where
+    ByComparison : {t : Test} (b : Bool) (o : BinOp) (c : Expr) (w : I) → t ≡ Is b → Compares r x o c → IsVal d p id f register c (abs.Ints w) → d.keep (passing b o) x w z → IsCut r x z t
+    ByLabel : {t : Test} (n : ℤ) (one : I) → t ≡ Equals n → IsOperand r x e → IsHull d (λ m. m ≡ n) one → d.keep op.Eq x one z → IsCut r x z t
+    ByLabels : {t : Test} (ns : List ℤ) → t ≡ Differs ns → IsOperand r x e → IsCutBy ns x z → IsCut r x z t
+
+  -- a test that compares the register, where its set is this one
+  abbrev pub ComparesIt : ℕ → I → Test → Type 0
+  ComparesIt r x (Is b) = (o : BinOp) × (c : Expr) × Compares r x o c
+  ComparesIt r x (Equals n) = IsOperand r x e
+  ComparesIt r x (Differs ns) = IsOperand r x e
+
+  -- what is left of a set of a register, or of a cell that equals it: of an explicit one the members that stay, of a range what the
+  -- comparison keeps; a set of addresses stays
+  pub data IsLeft (r : ℕ) : Abs I → Abs I → Type 0 where
+    OfMembers : {y z : Abs I} (x u : I) (members : List ℤ) → y ≡ abs.Ints x → d.members x ≡ Some members → IsHull d (λ m. Contains members m × Stays r m) u → z ≡ abs.Ints u → IsLeft r y z
+    OfRange : {y z : Abs I} (x u : I) → y ≡ abs.Ints x → d.members x ≡ None → IsCut r x u test → z ≡ abs.Ints u → IsLeft r y z
+    OfOther : {y z : Abs I} (x : I) → y ≡ abs.Ints x → d.members x ≡ None → (ComparesIt r x test → ⊥) → z ≡ y → IsLeft r y z
+    OfAddresses : {y z : Abs I} (s : Addrs) → y ≡ abs.Addrs s → z ≡ y → IsLeft r y z
+
+  -- by several registers, one after the other
+  abbrev pub IsLeftBy : List ℕ → Abs I → Abs I → Type 0
+  IsLeftBy [] y z = z ≡ y
+  IsLeftBy (r ∷ rs) y z = (u : Abs I) × IsLeft r y u × IsLeftBy rs u z
