@@ -3,7 +3,7 @@
 ghost use Rattle.std.specs.Prelude.{◌≡◌, IfOk, map};
 ghost use Rattle.cc_lower_numbers.specs.Numbered.{device_order as device_order_of, numbered_func, numbered};
 ghost use Rattle.cc_lower_numbers.specs.Order.{place_in};
-ghost use Rattle.cc_lower_numbers.specs.Renamed.{number_at, stmt_renamed};
+ghost use Rattle.cc_lower_numbers.specs.Renamed.{number_at};
 ghost use Rattle.cc_lower_numbers.specs.Temporaries.{kept_count as kept_count_of, temporaries as temporaries_of};
 
 use crate::devices::{arranged_devices, device_order};
@@ -13,37 +13,40 @@ use crate::order::places;
 use crate::stmt::rename_stmts;
 use crate::temporaries::{kept_count, temporaries};
 use cc_num::{List, Name, NoMemory};
-use cc_program::{Func, Program, Stmt, copy_list};
+use cc_program::{Func, Program};
 use std::alloc::Global;
 
-/// A body with new numbers of temporaries, which stand in this order, and of devices.
+/// The places of a function's locals whose temporaries stand in this order.
 #[tactic(auto, using(crate::proofs::Tables::of_tables))]
-fn numbered_body(
-    alloc: Global,
-    order: &[usize],
-    devices: &[u32],
-    f: &Func,
-) -> Result<List<Stmt>, NoMemory>
-    ensures { IfOk result (λ r. order.now ≡ temporaries_of f.now → r ≡ map (stmt_renamed (place_in (kept_count_of f.now) (temporaries_of f.now)) (number_at devices.now)) f.now.body) }
+fn places_of(alloc: Global, order: &[usize], f: &Func) -> Result<Vec<u32>, NoMemory>
+    ensures { IfOk result (λ r. order.now ≡ temporaries_of f.now → number_at r.items ≡ place_in (kept_count_of f.now) (temporaries_of f.now)) }
 {
     let places = places(alloc, kept_count(f), order, f.locals.all().len())?;
-    let body = rename_stmts(alloc, places.as_slice(), devices, &f.body)?;
-    Ok(body)
+    Ok(places)
 }
 
-fn number_func(alloc: Global, names: &[Name], devices: &[u32], f: &Func) -> Result<Func, NoMemory>
-    ensures { IfOk result (λ r. r ≡ numbered_func names.now (number_at devices.now) f.now) }
+/// A function with new numbers of temporaries and of devices.
+fn number_func(alloc: Global, names: &[Name], devices: &[u32], f: Func) -> Result<Func, NoMemory>
+    ensures { IfOk result (λ r. r ≡ numbered_func names.now (number_at devices.now) f) }
 {
-    let order = temporaries(alloc, f)?;
-    let body = numbered_body(alloc, order.as_slice(), devices, f)?;
-    let locals = numbered_locals(alloc, names, order.as_slice(), f)?;
-    let name = copy_list(alloc, &f.name)?;
-    let sig = f.sig.copy(alloc)?;
+    let order = temporaries(alloc, &f)?;
+    let places = places_of(alloc, order.as_slice(), &f)?;
+    let locals = numbered_locals(alloc, names, order.as_slice(), &f)?;
+    let Func {
+        name,
+        sig,
+        entry,
+        params,
+        locals: before,
+        body,
+    } = f;
+    drop(before);
+    let body = rename_stmts(alloc, places.as_slice(), devices, body)?;
     Ok(Func {
         name,
         sig,
-        entry: f.entry,
-        params: f.params,
+        entry,
+        params,
         locals: List::of(locals),
         body,
     })
@@ -53,26 +56,24 @@ fn number_funcs(
     alloc: Global,
     names: &[Name],
     devices: &[u32],
-    funcs: &List<Func>,
+    funcs: List<Func>,
 ) -> Result<List<Func>, NoMemory>
-    ensures { IfOk result (λ r. r ≡ map (numbered_func names.now (number_at devices.now)) funcs.now) }
+    ensures { IfOk result (λ r. r ≡ map (numbered_func names.now (number_at devices.now)) funcs) }
 {
     let mut out = Vec::new(alloc);
-    for f in funcs.all() {
+    for f in funcs.into_vec() {
         out.push(number_func(alloc, names, devices, f)?)?;
     }
     Ok(List::of(out))
 }
 
-/// The functions of a program, with its devices in this order.
+/// The places of a program's devices, which stand in this order.
 #[tactic(auto, using(crate::proofs::Tables::of_tables))]
-fn funcs_in_order(alloc: Global, order: &[usize], p: &Program) -> Result<List<Func>, NoMemory>
-    ensures { IfOk result (λ r. order.now ≡ device_order_of p.now → r ≡ (numbered p.now).funcs) }
+fn device_places(alloc: Global, order: &[usize], p: &Program) -> Result<Vec<u32>, NoMemory>
+    ensures { IfOk result (λ r. order.now ≡ device_order_of p.now → number_at r.items ≡ place_in 0 (device_order_of p.now)) }
 {
     let places = places(alloc, 0, order, p.devices.all().len())?;
-    let names = temporary_names(alloc, p)?;
-    let funcs = number_funcs(alloc, names.as_slice(), places.as_slice(), &p.funcs)?;
-    Ok(funcs)
+    Ok(places)
 }
 
 /// The program whose temporaries have names and stand in the order of their first writing, and whose devices stand in the order of
@@ -81,7 +82,8 @@ pub fn number_program(alloc: Global, p: Program) -> Result<Program, NoMemory>
     ensures exact { IfOk result (λ q. q ≡ numbered p) }
 {
     let order = device_order(alloc, &p)?;
-    let funcs = funcs_in_order(alloc, order.as_slice(), &p)?;
+    let places = device_places(alloc, order.as_slice(), &p)?;
+    let names = temporary_names(alloc, &p)?;
     let devices = arranged_devices(alloc, p.devices.all(), order.as_slice())?;
     let Program {
         target,
@@ -89,9 +91,10 @@ pub fn number_program(alloc: Global, p: Program) -> Result<Program, NoMemory>
         structures,
         devices: _,
         objects,
-        funcs: _,
+        funcs,
         main,
     } = p;
+    let funcs = number_funcs(alloc, names.as_slice(), places.as_slice(), funcs)?;
     Ok(Program {
         target,
         roles,

@@ -5,28 +5,28 @@ ghost use Rattle.cc_lower_numbers.specs.Renamed.{number_at, expr_renamed, stmt_r
 
 use crate::expr::rename_boxed;
 use cc_num::{Boxed, List, NoMemory};
-use cc_program::{Case, Expr, Stmt, copy_list};
+use cc_program::{Case, Expr, Stmt};
 use std::alloc::Global;
 
 #[cycle(rename)]
 #[tactic(auto, unfolding(crate::specs::Renamed::stmt_renamed, crate::specs::Renamed::case_renamed))]
-fn rename_stmt(alloc: Global, locals: &[u32], devices: &[u32], s: &Stmt) -> Result<Stmt, NoMemory>
-    ensures { IfOk result (λ r. r ≡ stmt_renamed (number_at locals.now) (number_at devices.now) s.now) }
+fn rename_stmt(alloc: Global, locals: &[u32], devices: &[u32], s: Stmt) -> Result<Stmt, NoMemory>
+    ensures { IfOk result (λ r. r ≡ stmt_renamed (number_at locals.now) (number_at devices.now) s) }
 {
     match s {
-        Stmt::Do(e) => Ok(Stmt::Do(rename_boxed(alloc, locals, devices, e.get())?)),
+        Stmt::Do(e) => Ok(Stmt::Do(rename_boxed(alloc, locals, devices, e)?)),
         Stmt::If(e, these, those) => {
             let these = rename_stmts(alloc, locals, devices, these)?;
             let those = rename_stmts(alloc, locals, devices, those)?;
-            Ok(Stmt::If(rename_boxed(alloc, locals, devices, e.get())?, these, those))
+            Ok(Stmt::If(rename_boxed(alloc, locals, devices, e)?, these, those))
         }
         Stmt::While(e, body) => {
             let body = rename_stmts(alloc, locals, devices, body)?;
-            Ok(Stmt::While(rename_boxed(alloc, locals, devices, e.get())?, body))
+            Ok(Stmt::While(rename_boxed(alloc, locals, devices, e)?, body))
         }
         Stmt::DoWhile(body, e) => {
             let body = rename_stmts(alloc, locals, devices, body)?;
-            Ok(Stmt::DoWhile(body, rename_boxed(alloc, locals, devices, e.get())?))
+            Ok(Stmt::DoWhile(body, rename_boxed(alloc, locals, devices, e)?))
         }
         Stmt::For(first, test, again, body) => {
             let body = rename_stmts(alloc, locals, devices, body)?;
@@ -37,7 +37,7 @@ fn rename_stmt(alloc: Global, locals: &[u32], devices: &[u32], s: &Stmt) -> Resu
         }
         Stmt::Switch(e, cases) => {
             let cases = rename_cases(alloc, locals, devices, cases)?;
-            Ok(Stmt::Switch(rename_boxed(alloc, locals, devices, e.get())?, cases))
+            Ok(Stmt::Switch(rename_boxed(alloc, locals, devices, e)?, cases))
         }
         Stmt::Break => Ok(Stmt::Break),
         Stmt::Continue => Ok(Stmt::Continue),
@@ -54,12 +54,12 @@ pub fn rename_stmts(
     alloc: Global,
     locals: &[u32],
     devices: &[u32],
-    list: &List<Stmt>,
+    list: List<Stmt>,
 ) -> Result<List<Stmt>, NoMemory>
-    ensures { IfOk result (λ r. r ≡ map (λ s. stmt_renamed (number_at locals.now) (number_at devices.now) s) list.now) }
+    ensures { IfOk result (λ r. r ≡ map (λ s. stmt_renamed (number_at locals.now) (number_at devices.now) s) list) }
 {
     let mut renamed = Vec::new(alloc);
-    for s in list.all() {
+    for s in list.into_vec() {
         renamed.push(rename_stmt(alloc, locals, devices, s)?)?;
     }
     Ok(List::of(renamed))
@@ -71,12 +71,12 @@ fn rename_cases(
     alloc: Global,
     locals: &[u32],
     devices: &[u32],
-    cases: &List<Case>,
+    cases: List<Case>,
 ) -> Result<List<Case>, NoMemory>
-    ensures { IfOk result (λ r. r ≡ map (λ c. case_renamed (number_at locals.now) (number_at devices.now) c) cases.now) }
+    ensures { IfOk result (λ r. r ≡ map (λ c. case_renamed (number_at locals.now) (number_at devices.now) c) cases) }
 {
     let mut renamed = Vec::new(alloc);
-    for case in cases.all() {
+    for case in cases.into_vec() {
         renamed.push(rename_case(alloc, locals, devices, case)?)?;
     }
     Ok(List::of(renamed))
@@ -84,18 +84,13 @@ fn rename_cases(
 
 #[cycle(rename)]
 #[tactic(auto, unfolding(crate::specs::Renamed::stmt_renamed, crate::specs::Renamed::case_renamed))]
-fn rename_case(
-    alloc: Global,
-    locals: &[u32],
-    devices: &[u32],
-    case: &Case,
-) -> Result<Case, NoMemory>
-    ensures { IfOk result (λ r. r ≡ case_renamed (number_at locals.now) (number_at devices.now) case.now) }
+fn rename_case(alloc: Global, locals: &[u32], devices: &[u32], case: Case) -> Result<Case, NoMemory>
+    ensures { IfOk result (λ r. r ≡ case_renamed (number_at locals.now) (number_at devices.now) case) }
 {
-    let labels = copy_list(alloc, &case.labels)?;
+    let Case { labels, body } = case;
     Ok(Case {
         labels,
-        body: rename_stmts(alloc, locals, devices, &case.body)?,
+        body: rename_stmts(alloc, locals, devices, body)?,
     })
 }
 
@@ -103,12 +98,12 @@ fn rename_optional(
     alloc: Global,
     locals: &[u32],
     devices: &[u32],
-    e: &Option<Boxed<Expr>>,
+    e: Option<Boxed<Expr>>,
 ) -> Result<Option<Boxed<Expr>>, NoMemory>
-    ensures { IfOk result (λ r. r ≡ option_map (λ e. expr_renamed (number_at locals.now) (number_at devices.now) e) e.now) }
+    ensures { IfOk result (λ r. r ≡ option_map (λ e. expr_renamed (number_at locals.now) (number_at devices.now) e) e) }
 {
     match e {
         None => Ok(None),
-        Some(e) => Ok(Some(rename_boxed(alloc, locals, devices, e.get())?)),
+        Some(e) => Ok(Some(rename_boxed(alloc, locals, devices, e)?)),
     }
 }
