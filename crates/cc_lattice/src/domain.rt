@@ -167,6 +167,12 @@ pub trait IntDomain: Lattice + Concrete {
     ghost keep_grows: { (test : BinOp) (a b r x y s : Self) → is_comparison test ≡ true → KeepGives test a b r → KeepGives test x y s →
         Self.IsBelow a x → Self.IsBelow b y → Self.IsBelow r s };
 
+    /// The least value that has a number has no other.
+    ghost least_alone: { (x : Self) (v : ℤ) → Self.Has x v → ((y : Self) → Self.Has y v → Self.IsBelow x y) → (w : ℤ) → Self.Has x w → v ≡ w };
+
+    /// What is below an explicit set is explicit.
+    ghost below_explicit: { (x y : Self) → Self.IsBelow x y → members_of x ≡ None → members_of y ≡ None };
+
     /// Explicit members ascend.
     ghost members_ascend: { (x : Self) → IfSome (members_of x) Ascends };
 

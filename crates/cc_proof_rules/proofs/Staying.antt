@@ -39,7 +39,7 @@ use Rattle.cc_program.specs.declared.value.Root.TheVariants as root
 use Rattle.cc_program.specs.declared.value.Value.{Value}
 use Rattle.cc_program.specs.declared.value.Value.TheVariants.{Int, Place}
 use Rattle.cc_proof_covers.proofs.Pure.{register_leads}
-use Rattle.cc_rules_flows.specs.Tests.{Test, Passes, turned, passing, with_member, Compares, Left, Right, IsCutBy, ByNone, ByFirst, IsCut, ByComparison, ByLabel, ByLabels, IsLeft, OfMembers, OfRange, OfOther, OfAddresses}
+use Rattle.cc_rules_flows.specs.Tests.{Test, Passes, turned, passing, with_member, IsCutAs, Cut, Uncut, IsCutBy, ByNone, ByFirst, IsCut, ByComparison, ByLabel, ByLabels, IsLeft, OfMembers, OfRange, OfOther, OfAddresses}
 use Rattle.cc_state_operators.specs.Domains.{Domain}
 use Rattle.cc_state_values.specs.Values.{IsVal}
 use Rattle.cc_state_values_sound.specs.Steps.{MayGive, own_cell}
@@ -51,14 +51,12 @@ use Rattle.cc_values.specs.Values.{takes_both, binary_result, binary, conversion
 -- what the laws of a domain say of what tests keep
 pub record KeepsMembers {I : Type 0} (d : Domain I) : Type 0 where
   pub keep_has : (o : BinOp) (a b r : I) → is_comparison o ≡ true → d.keep o a b r → (v w : ℤ) → d.has a v → d.has b w → passes o v w ≡ true → d.has r v
-  pub to_typed : (a r : I) (t : IntType) (target : Target) → d.to a t target r → (v : ℤ) → d.has r v → IsValueOf t target v
   pub members_all : (x : I) (ms : List ℤ) → d.members x ≡ Some ms → (v : ℤ) → d.has x v → Contains ms v
 
 pub members_kept : {I : Type 0} (d : Domain I) → ((o : BinOp) (a b r : I) → is_comparison o ≡ true → d.keep o a b r → (v w : ℤ) → d.has a v → d.has b w → passes o v w ≡ true → d.has r v) →
-    ((a r : I) (t : IntType) (target : Target) → d.to a t target r → (v : ℤ) → d.has r v → IsValueOf t target v) → ((x : I) → IfSome (d.members x) (λ vs. (v : ℤ) → Contains vs v ↔ d.has x v)) → KeepsMembers d
-members_kept d keep to members = record {
+    ((x : I) → IfSome (d.members x) (λ vs. (v : ℤ) → Contains vs v ↔ d.has x v)) → KeepsMembers d
+members_kept d keep members = record {
   keep_has = keep;
-  to_typed = to;
   members_all = λ x ms e v h. (subst (λ (o : Option (List ℤ)). IfSome o (λ vs. (v : ℤ) → Contains vs v ↔ d.has x v)) e (members x) v).1 h;
 }
 
@@ -206,15 +204,14 @@ module _ {I : Type 0} (d : Domain I) (keeps : KeepsMembers d) (c : Context) (IsM
 
     abbrev Operand : Expr → Type 0
     Operand a =
-        Reads a ⊎ ((t : IntType) × (b : Expr) × (out-Expr a ≡ one.Conv t b) × (Reads b × ((z : I) × d.to y t c.program.target z × ((n : ℤ) → (d.has y n → d.has z n) × (d.has z n → d.has y n)))))
+        Reads a ⊎ ((t : IntType) × (b : Expr) × (out-Expr a ≡ one.Conv t b) × (Reads b × ((n : ℤ) → d.has y n → IsValueOf t c.program.target n)))
 
     operand_is : (a : Expr) → Operand a → (later : Registers) → IsSame ((meaning c a).next later)
     operand_is a (inl h) later =
         let w = read_is a h later in
         record { known = λ ms rest v answers e. (let k = w.known ms rest v answers e in (k.0, plain_is v k.1)); waits = w.waits }
     operand_is a (inr (t, b, o, w)) later =
-        let all = w.1 in
-        let fits = keeps.to_typed y all.0 t c.program.target all.1 m ((all.2 m).0 member) in
+        let fits = w.1 m member in
         subst (λ (z : Meaning). IsSame (z.next later)) (sym (meaning_at c a (one.Conv t b) o))
         (works_bind IsMark AnyStep (IsIt x) (IsIt (Int m)) ((meaning c b).next later) (λ v. known (conversion t c.program.target v)) (read_is b w.0 later)
         (λ v k. works_known IsMark AnyStep (IsIt (Int m)) (conversion t c.program.target v) (converted_is t fits v k)))
@@ -247,7 +244,7 @@ module _ {I : Type 0} (d : Domain I) (keeps : KeepsMembers d) (c : Context) (IsM
   module _ (e : Expr) (test : Test) (result : Value)
       (told : (P : Option Value → Type 0) → ((later : Registers) → Works IsMark AnyStep P ((meaning c e).next later)) → P (Some result))
       (passed : Passes test result)
-      (parts : (o : BinOp) (t : IntType) (a b : Expr) → out-Expr e ≡ one.Bin o t a b → (k : Expr) → (k ≡ a) ⊎ (k ≡ b) → (w : Abs I) → IsVal d c.program c.id c.func register k w → (later : Registers) → Works IsMark AnyStep (MayGive d.has w) ((meaning c k).next later))
+      (parts : (m : ℤ) → x ≡ Int m → (single : I) → d.has single m → (o : BinOp) (t : IntType) (a b : Expr) → out-Expr e ≡ one.Bin o t a b → (k : Expr) → (k ≡ a) ⊎ (k ≡ b) → (w : Abs I) → IsVal d c.program c.id c.func (with_member d c.program c.id c.func register e test r single) k w → (later : Registers) → Works IsMark AnyStep (MayGive d.has w) ((meaning c k).next later))
       (with_it : (m : ℤ) → x ≡ Int m → (single : I) → d.has single m → (w : Abs I) → IsVal d c.program c.id c.func (with_member d c.program c.id c.func register e test r single) e w → HasValue d.has w result) where
     abbrev Leaves : Abs I → Abs I → Type 0
     Leaves y z = IsLeft d c.program c.id c.func register e test r y z
@@ -255,29 +252,32 @@ module _ {I : Type 0} (d : Domain I) (keeps : KeepsMembers d) (c : Context) (IsM
     abbrev Cuts : I → I → Test → Type 0
     Cuts y z t = IsCut d c.program c.id c.func register e test r y z t
 
-    abbrev ComparesWith : I → BinOp → Expr → Type 0
-    ComparesWith y o k = Compares d c.program c.id c.func register e test r y o k
+    abbrev CutsAs : I → BinOp → Expr → Expr → I → I → Type 0
+    CutsAs y o a k u z = IsCutAs d c.program c.id c.func register e test r y o a k u z
 
     at_meaning : (P : Option Value → Type 0) (y : one.Expr-F Expr PlaceOf) → out-Expr e ≡ y → ((later : Registers) → Works IsMark AnyStep P ((opened c y).next later)) → P (Some result)
     at_meaning P y i h = told P (λ later. subst (λ (z : Meaning). Works IsMark AnyStep P (z.next later)) (sym (meaning_at c e y i)) (h later))
 
     module _ (y : I) (m : ℤ) (is : x ≡ Int m) (member : d.has y m) where
       -- by the other operand of a comparison
-      compared : (o : BinOp) (k : Expr) (w : I) → ComparesWith y o k → IsVal d c.program c.id c.func register k (abs.Ints w) → (j : ℤ) × d.has w j × (is_true result ≡ passes o m j) × (is_comparison o ≡ true)
-      compared o k w (Left t a i compares operand) val =
-          let g = at_meaning (Gives y m is member o compares w (λ j. passes o m j)) (one.Bin o t a k) i
-          (λ later. works_two IsMark (IsIt (Int m)) (MayGive d.has (abs.Ints w)) (Gives y m is member o compares w (λ j. passes o m j)) (binary o t c.program.target) (meaning c a) (meaning c k) later (operand_is y m is member a operand)
-          (parts o t a k i k (inr refl) (abs.Ints w) val) (left_gives y m is member o compares w t)) result refl in
-          (g.0, g.1, g.2, compares)
-      compared o k w (Right q t a i compares none operand turns) val =
-          let g = at_meaning (Gives y m is member q compares w (λ j. passes q j m)) (one.Bin q t k a) i
-          (λ later. works_two IsMark (MayGive d.has (abs.Ints w)) (IsIt (Int m)) (Gives y m is member q compares w (λ j. passes q j m)) (binary q t c.program.target) (meaning c k) (meaning c a) later
-          (parts q t k a i k (inl refl) (abs.Ints w) val) (operand_is y m is member a operand) (right_gives y m is member q compares w t)) result refl in (
-            g.0,
-            g.1,
-            g.2 ∙ sym (turned_passes q m g.0 compares) ∙ ap (λ (z : BinOp). passes z m g.0) (sym turns),
-            ap is_comparison turns ∙ turned_compares q compares,
-          )
+      module _ (b : Bool) (o : BinOp) (t : IntType) (i k : Expr) (is_bin : out-Expr e ≡ one.Bin o t i k) (compares : is_comparison o ≡ true) (truth : is_true result ≡ b) where
+        cut_as_left : (u z : I) → d.has u m → CutsAs y (passing b o) i k u z → d.has z m
+        cut_as_left u z h (Uncut none same) = subst (λ (q : I). d.has q m) (sym same) h
+        cut_as_left u z h (Cut w operand val kept) =
+            let g = at_meaning (Gives y m is member o compares w (λ j. passes o m j)) (one.Bin o t i k) is_bin
+            (λ later. works_two IsMark (IsIt (Int m)) (MayGive d.has (abs.Ints w)) (Gives y m is member o compares w (λ j. passes o m j)) (binary o t c.program.target) (meaning c i) (meaning c k) later (operand_is y m is member i operand)
+            (parts m is y member o t i k is_bin k (inr refl) (abs.Ints w) val) (left_gives y m is member o compares w t)) result refl in
+            keeps.keep_has (passing b o) u w z (passing_compares b o compares) kept m g.0 h g.1 (passes_as b o m g.0 compares (sym g.2 ∙ truth))
+
+        cut_as_right : (u z : I) → d.has u m → CutsAs y (turned (passing b o)) k i u z → d.has z m
+        cut_as_right u z h (Uncut none same) = subst (λ (q : I). d.has q m) (sym same) h
+        cut_as_right u z h (Cut w operand val kept) =
+            let g = at_meaning (Gives y m is member o compares w (λ j. passes o j m)) (one.Bin o t i k) is_bin
+            (λ later. works_two IsMark (MayGive d.has (abs.Ints w)) (IsIt (Int m)) (Gives y m is member o compares w (λ j. passes o j m)) (binary o t c.program.target) (meaning c i) (meaning c k) later
+            (parts m is y member o t i k is_bin i (inl refl) (abs.Ints w) val) (operand_is y m is member k operand) (right_gives y m is member o compares w t)) result refl in
+            let passing_is = passing_compares b o compares in
+            keeps.keep_has (turned (passing b o)) u w z (turned_compares (passing b o) passing_is) kept m g.0 h g.1
+            (turned_passes (passing b o) m g.0 passing_is ∙ passes_as b o g.0 m compares (sym g.2 ∙ truth))
 
       -- the value of the register is what is tested
       itself : Operand y m is member e → result ≡ Int m
@@ -299,10 +299,9 @@ module _ {I : Type 0} (d : Domain I) (keeps : KeepsMembers d) (c : Context) (IsM
           in_later n rest j there = Contains-append_right (n ∷ []) rest j there
 
       cut_has : (z : I) → Cuts y z test → d.has z m
-      cut_has z (ByComparison b o k w i compares val kept) =
-          let g = compared o k w compares val in
-          let truth : is_true result ≡ b = subst (λ (t : Test). Passes t result) i passed in
-          keeps.keep_has (passing b o) y w z (passing_compares b o g.3) kept m g.0 member g.1 (passes_as b o m g.0 g.3 (sym g.2 ∙ truth))
+      cut_has z (ByComparison b o t i k u j is_bin compares left right) =
+          let truth : is_true result ≡ b = subst (λ (t : Test). Passes t result) j passed in
+          cut_as_right b o t i k is_bin compares truth u z (cut_as_left b o t i k is_bin compares truth y u member left) right
       cut_has z (ByLabel n single i operand hull kept) =
           let same : m ≡ n = int_same m n (sym (itself operand) ∙ subst (λ (t : Test). Passes t result) i passed) in
           keeps.keep_has op.Eq y single z refl kept m n member (hull.has_all n refl) ((Decides-int_eq m n).1 same)

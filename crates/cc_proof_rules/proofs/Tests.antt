@@ -220,7 +220,7 @@ module _ {I : Type 0} (d : Domain I) (all : GivesAll d) (keeps : KeepsMembers d)
       left_with : (test : Test) → Passes test w → (y u : Abs I) → IsLeft d p a.func f sets e test r y u → HasValue d.has y x → HasValue d.has u x
       left_with test passed y u left h =
           stays_left d keeps c IsMark sets r x (λ how mark k u g. it_holds u (reads_own r own how mark k u g)) e test w told passed
-          (λ o t b k i part which s val later. value_given sets sets_fit part (by o t b k i part which) s val later)
+          (λ z is single has o t b k i part which s val later. value_given (member_sets z is single has test) (λ q u h. in_member z is single has test q u (q == r) refl h) part (by o t b k i part which) s val later)
           (λ z is single has s val. member_value z is single has test s val) y u left h
         where
           by : (o : BinOp) (t : IntType) (b k : Expr) → out-Expr e ≡ one.Bin o t b k → (part : Expr) → (part ≡ b) ⊎ (part ≡ k) → TakesAddressesOf f part

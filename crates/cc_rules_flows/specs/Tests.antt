@@ -6,6 +6,7 @@ use Rattle.cc_num.specs.declared.int_type.IntType.{IntType}
 use Rattle.cc_num.specs.declared.op.BinOp.{BinOp}
 use Rattle.cc_num.specs.declared.op.BinOp.TheVariants as op
 use Rattle.cc_lattice.specs.Domains.{is_comparison}
+use Rattle.cc_num.specs.Integers.{IsValueOf}
 use Rattle.cc_places.specs.declared.abs.Abs.{Abs}
 use Rattle.cc_places.specs.declared.abs.Abs.TheVariants as abs
 use Rattle.cc_places.specs.declared.addrs.Addrs.{Addrs}
@@ -63,7 +64,7 @@ module _ {I : Type 0} (d : Domain I) (p : Program) (id : ℕ) (f : Func) (regist
   abbrev pub MayPass : Type 0
   MayPass = (y : Abs I) → IsVal d p id f register e y → HasPassing y
 
-  -- one register at a member, the others as at the point
+  -- one register at other members, the others as at the point
   abbrev pub with_member : ℕ → I → ℕ → Option (Abs I)
   with_member r one q = if q == r then Some (abs.Ints one) else register q
 
@@ -71,44 +72,45 @@ module _ {I : Type 0} (d : Domain I) (p : Program) (id : ℕ) (f : Func) (regist
   abbrev pub Stays : ℕ → ℤ → Type 0
   Stays r m = (one : I) (y : Abs I) → IsHull d (λ n. n ≡ m) one → IsVal d p id f (with_member r one) e y → HasPassing y
 
-  -- an operand is the register, or a conversion of it that keeps all members of its set
+  -- an operand is the register, or a conversion of it to a type that has all members of its set
   abbrev pub IsRead : ℕ → Expr → Type 0
   IsRead r a = (place : Place) × (out-Expr a ≡ one.Load place) × ((place_effects_of f place).register ≡ Some r)
 
   abbrev pub KeepsAll : IntType → I → Type 0
-  KeepsAll t x = (y : I) × d.to x t p.target y × ((n : ℤ) → (d.has x n → d.has y n) × (d.has y n → d.has x n))
+  KeepsAll t x = (n : ℤ) → d.has x n → IsValueOf t p.target n
 
   abbrev pub IsOperand : ℕ → I → Expr → Type 0
   IsOperand r x a = IsRead r a ⊎ ((t : IntType) × (c : Expr) × (out-Expr a ≡ one.Conv t c) × (IsRead r c × KeepsAll t x))
 
-  -- a condition compares it so with another operand: as the left one, or else as the right one
-  pub data Compares (r : ℕ) (x : I) : BinOp → Expr → Type 0 where
-    Left : {o : BinOp} {c : Expr} (t : IntType) (a : Expr) → out-Expr e ≡ one.Bin o t a c → is_comparison o ≡ true → IsOperand r x a → Compares r x o c
-    Right : {o : BinOp} {c : Expr} (q : BinOp) (t : IntType) (a : Expr) → out-Expr e ≡ one.Bin q t c a → is_comparison q ≡ true → (IsOperand r x c → ⊥) → IsOperand r x a → o ≡ turned q → Compares r x o c
+  -- by the one operand of a comparison, where it is such an operand, its set is cut by what the other one gives with the register in that set
+  pub data IsCutAs (r : ℕ) (x : I) (o : BinOp) (a c : Expr) (u z : I) : Type 0 where
+    Cut : (w : I) → IsOperand r x a → IsVal d p id f (with_member r x) c (abs.Ints w) → d.keep o u w z → IsCutAs r x o a c u z
+    Uncut : (IsOperand r x a → ⊥) → z ≡ u → IsCutAs r x o a c u z
 
   -- by labels, one after the other
   pub data IsCutBy : List ℤ → I → I → Type 0 where
     ByNone : {ns : List ℤ} {x z : I} → ns ≡ [] → z ≡ x → IsCutBy ns x z
     ByFirst : {ns : List ℤ} {x z : I} (n : ℤ) (rest : List ℤ) (one u : I) → ns ≡ n ∷ rest → IsHull d (λ m. m ≡ n) one → d.keep op.Ne x one u → IsCutBy rest u z → IsCutBy ns x z
 
-  -- a range, where the test compares
+  -- a range, where the test compares: by the left operand, and then by the right one
   pub data IsCut (r : ℕ) (x z : I) : Test → Type 0 where
-    ByComparison : {t : Test} (b : Bool) (o : BinOp) (c : Expr) (w : I) → t ≡ Is b → Compares r x o c → IsVal d p id f register c (abs.Ints w) → d.keep (passing b o) x w z → IsCut r x z t
+    ByComparison : {t : Test} (b : Bool) (o : BinOp) (of : IntType) (a c : Expr) (u : I) → t ≡ Is b → out-Expr e ≡ one.Bin o of a c → is_comparison o ≡ true →
+        IsCutAs r x (passing b o) a c x u → IsCutAs r x (turned (passing b o)) c a u z → IsCut r x z t
     ByLabel : {t : Test} (n : ℤ) (one : I) → t ≡ Equals n → IsOperand r x e → IsHull d (λ m. m ≡ n) one → d.keep op.Eq x one z → IsCut r x z t
     ByLabels : {t : Test} (ns : List ℤ) → t ≡ Differs ns → IsOperand r x e → IsCutBy ns x z → IsCut r x z t
 
-  -- a test that compares the register, where its set is this one
-  abbrev pub ComparesIt : ℕ → I → Test → Type 0
-  ComparesIt r x (Is b) = (o : BinOp) × (c : Expr) × Compares r x o c
-  ComparesIt r x (Equals n) = IsOperand r x e
-  ComparesIt r x (Differs ns) = IsOperand r x e
+  -- a test that compares, or that equals the register, where its set is this one, with labels
+  abbrev pub Compares : ℕ → I → Test → Type 0
+  Compares r x (Is b) = (o : BinOp) × (of : IntType) × (a : Expr) × (c : Expr) × (out-Expr e ≡ one.Bin o of a c) × (is_comparison o ≡ true)
+  Compares r x (Equals n) = IsOperand r x e
+  Compares r x (Differs ns) = IsOperand r x e
 
   -- what is left of a set of a register, or of a cell that equals it: of an explicit one the members that stay, of a range what the
   -- comparison keeps; a set of addresses stays
   pub data IsLeft (r : ℕ) : Abs I → Abs I → Type 0 where
     OfMembers : {y z : Abs I} (x u : I) (members : List ℤ) → y ≡ abs.Ints x → d.members x ≡ Some members → IsHull d (λ m. Contains members m × Stays r m) u → z ≡ abs.Ints u → IsLeft r y z
     OfRange : {y z : Abs I} (x u : I) → y ≡ abs.Ints x → d.members x ≡ None → IsCut r x u test → z ≡ abs.Ints u → IsLeft r y z
-    OfOther : {y z : Abs I} (x : I) → y ≡ abs.Ints x → d.members x ≡ None → (ComparesIt r x test → ⊥) → z ≡ y → IsLeft r y z
+    OfOther : {y z : Abs I} (x : I) → y ≡ abs.Ints x → d.members x ≡ None → (Compares r x test → ⊥) → z ≡ y → IsLeft r y z
     OfAddresses : {y z : Abs I} (s : Addrs) → y ≡ abs.Addrs s → z ≡ y → IsLeft r y z
 
   -- by several registers, one after the other

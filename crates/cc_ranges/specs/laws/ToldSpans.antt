@@ -12,7 +12,7 @@ use Rattle.cc_lattice.specs.Domains.{AreOperands, AreMatched, IsResultOf, is_com
 use Rattle.cc_ranges.specs.declared.span.Interval.{Interval}
 use Rattle.cc_ranges.specs.declared.span.Span.{Span}
 use Rattle.cc_ranges.specs.declared.span.Span.TheVariants.{Empty, Between}
-use Rattle.cc_ranges.specs.Ends.{Ends, EndsHave, EndsBelow}
+use Rattle.cc_ranges.specs.Ends.{Ends, EndsHave, EndsBelow, IsInterval}
 use Rattle.cc_ranges.specs.Rules.{op_ends, to_ends}
 use Rattle.cc_ranges.specs.Spans.{ends_of}
 use Rattle.cc_ranges.specs.laws.Fits.{ends_itself}
@@ -67,3 +67,16 @@ same_span r a e = spans_same r a
 
 pub span_to_kept : (a r : Span) (t : IntType) (target : Target) → ends_of r ≡ to_ends (ends_of a) t target → ((v : ℤ) → SpanHas a v → IsValueOf t target v) → r ≡ a
 span_to_kept a r t target e h = same_span r a (e ∙ to_ends_kept a t target h)
+
+-- the least interval that has a number has no other
+
+alone : (v : ℤ) → IsInterval v v → Span
+alone v e = Between (record { low = v; high = v; ends = e })
+
+pub span_least_alone : (x : Span) (v : ℤ) → SpanHas x v → ((y : Span) → SpanHas y v → SpanBelow x y) → (w : ℤ) → SpanHas x w → v ≡ w
+unfolding alone
+span_least_alone Empty v h least w m = absurd h
+span_least_alone (Between i) v h least w m =
+    let e = i.ends in let low = h.0 in let high = h.1 in
+    let ends : IsInterval v v = record { ordered = omega (arith, ints); least = let a = e.least in omega (arith, ints); most = let b = e.most in omega (arith, ints) } in
+    let k = least (alone v ends) (omega (arith, ints), omega (arith, ints)) in let k0 = k.0 in let k1 = k.1 in let m0 = m.0 in let m1 = m.1 in omega (arith, ints)

@@ -27,9 +27,9 @@ use Rattle.cc_sets.specs.declared.range.Range.{Range}
 use Rattle.cc_sets.specs.declared.vals.Vals.{Vals}
 use Rattle.cc_sets.specs.declared.vals.Vals.TheVariants.{Few, Many}
 use Rattle.cc_sets.specs.Results.{OpResult, IsConverted}
-use Rattle.cc_sets.specs.Rungs.{low_of, high_of, ValsHas, IsHull, vals_members, vals_ends}
-use Rattle.cc_sets.specs.laws.Ends.{range_spread, range_ordered, set_ends}
-use Rattle.cc_sets.specs.laws.RungLaws.{sets_same}
+use Rattle.cc_sets.specs.Rungs.{low_of, high_of, ValsHas, ValsBelow, IsHull, vals_members, vals_ends}
+use Rattle.cc_sets.specs.laws.Ends.{range_spread, range_ordered, set_ends, set_reach}
+use Rattle.cc_sets.specs.laws.RungLaws.{not_few, sets_same}
 use Rattle.cc_sets.specs.laws.TypedSets.{hull_typed}
 
 -- The hull of some of the numbers 0 and 1 has no others, where it is known which of them they are.
@@ -258,3 +258,13 @@ pub set_to_kept : (a r : Vals) (t : IntType) (target : Target) → IsHull (IsCon
 set_to_kept a r t target p h = sets_same r a
     (p.least a (λ z q. (converted_has a t target h z).0 q))
     (λ v m. p.covers v ((converted_has a t target h v).1 m))
+
+-- The least set that has a number has no other, and what is below an explicit set is explicit.
+
+pub set_least_alone : (x : Vals) (v : ℤ) → ValsHas x v → ((y : Vals) → ValsHas y v → ValsBelow x y) → (w : ℤ) → ValsHas x w → v ≡ w
+set_least_alone x v h least w m = let r = set_reach x v h in single_only v r w (least (single v r) (single_has v r v refl) w m)
+
+pub set_below_explicit : (x y : Vals) → ValsBelow x y → vals_members x ≡ None → vals_members y ≡ None
+set_below_explicit x (Many q) h e = refl
+set_below_explicit (Many r) (Few s) h e = absurd (not_few r s h)
+set_below_explicit (Few s) (Few t) h e = let n : Some s.items.items ≡ None = e in cc
