@@ -19,7 +19,6 @@ returns g c =
           solutions_cover d (all_given d i.below_has i.op_has i.op_one_has i.to_has)
           (record {
             keep_has = i.keep_has;
-            to_typed = i.to_typed;
             members_all = λ x ms e v member. listed (d.members x) (d.has x) (i.members_all x) ms e v member;
           })
           p normal few facts shape solution;
