@@ -1,4 +1,4 @@
-ghost use Rattle.std.specs.Prelude.{◌≡◌, ◌≢◌, ◌↔◌, ◌⊎◌, ◌≤◌, ◌<◌, ◌^◌, ℕ, ℤ, List, Option, Some, None, true, IsTrue, IfSome};
+ghost use Rattle.std.specs.Prelude.{◌≡◌, ◌≢◌, ◌↔◌, ◌⊎◌, ◌≤◌, ◌<◌, ◌≤ℤ◌, ◌^◌, ℕ, ℤ, List, Option, Some, None, true, IsTrue, IfSome};
 ghost use Rattle.std.specs.List.{Contains};
 ghost use Rattle.std.specs.Option.{option_copied};
 ghost use Rattle.cc_num.specs.declared.int_type.IntType.{IntType};
@@ -172,6 +172,9 @@ pub trait IntDomain: Lattice + Concrete {
 
     /// What is below an explicit set is explicit.
     ghost below_explicit: { (x y : Self) → Self.IsBelow x y → members_of x ≡ None → members_of y ≡ None };
+
+    /// A range has all numbers between its bounds.
+    ghost range_has: { (x : Self) → members_of x ≡ None → IfSome (bounds_of x) (λ ends. (v : ℤ) → ends.0 ≤ℤ v → v ≤ℤ ends.1 → Self.Has x v) };
 
     /// Explicit members ascend.
     ghost members_ascend: { (x : Self) → IfSome (members_of x) Ascends };

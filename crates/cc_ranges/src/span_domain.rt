@@ -5,7 +5,7 @@ ghost use Rattle.cc_ranges.specs.Rules.{op_ends, op_one_ends, to_ends};
 ghost use Rattle.cc_ranges.specs.Keep.{keep_ends};
 ghost use Rattle.cc_ranges.specs.Spans.{ends_of, room_of_span};
 ghost use Rattle.cc_ranges.specs.laws.SpanLaws.{SpanHas, SpanBelow, span_itself, span_through, spans_same, span_below_has, span_op_has, span_op_grows, span_one_has, span_one_grows, span_to_has, span_to_grows, span_keep_has, span_keep_below, span_keep_grows, span_none, span_ends, span_room, span_room_falls};
-ghost use Rattle.cc_ranges.specs.laws.ToldSpans.{span_members_below, span_comparison_told, span_to_kept, span_least_alone};
+ghost use Rattle.cc_ranges.specs.laws.ToldSpans.{span_members_below, span_comparison_told, span_to_kept, span_least_alone, span_range_has};
 ghost use Rattle.cc_ranges.specs.laws.TypedSpans.{span_in_reach, span_op_typed, span_one_typed, span_to_typed, span_join_typed};
 
 use crate::ends::{greater, lesser, whole};
@@ -178,6 +178,8 @@ impl IntDomain for Span {
     ghost least_alone = { span_least_alone };
 
     ghost below_explicit = { λ _ _ _ e. e };
+
+    ghost range_has = { λ x _. span_range_has x };
 
     ghost members_ascend = { λ _. tt };
 

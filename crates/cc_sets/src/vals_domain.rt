@@ -5,7 +5,7 @@ ghost use Rattle.cc_sets.specs.Results.{OpResult, OneResult, IsConverted, IsKept
 ghost use Rattle.cc_sets.specs.laws.Ends.{set_ends, set_none, set_reach};
 ghost use Rattle.cc_sets.specs.laws.RungLaws.{sets_same, set_members_ascend, set_members_all, set_room, set_room_falls};
 ghost use Rattle.cc_sets.specs.laws.SetLaws.{set_op_has, set_op_grows, set_one_has, set_one_grows, set_to_has, set_to_grows, set_keep_has, set_keep_below, set_keep_grows};
-ghost use Rattle.cc_sets.specs.laws.ToldSets.{set_comparison_told, set_to_kept, set_least_alone, set_below_explicit};
+ghost use Rattle.cc_sets.specs.laws.ToldSets.{set_comparison_told, set_to_kept, set_least_alone, set_below_explicit, set_range_has};
 ghost use Rattle.cc_sets.specs.laws.TypedSets.{set_op_typed, set_one_typed, set_to_typed, set_join_typed};
 
 use crate::Vals;
@@ -175,6 +175,8 @@ impl IntDomain for Vals {
     ghost least_alone = { set_least_alone };
 
     ghost below_explicit = { set_below_explicit };
+
+    ghost range_has = { set_range_has };
 
     ghost members_ascend = { set_members_ascend };
 

@@ -3,6 +3,7 @@
 use Rattle.std.specs.Prelude.{◌≡◌, ◌⊎◌, true, ℤ, ◌≤ℤ◌, None}
 use Rattle.std.specs.Int.{int_max}
 use Rattle.std.proofs.Common.{refl, sym, subst, ◌∙◌, arith}
+use Rattle.std.specs.Option.{IfSome}
 use Rattle.std.proofs.lemmas.Int.{ints, clamps}
 use Rattle.cc_num.specs.declared.int_type.IntType.{IntType}
 use Rattle.cc_num.specs.declared.target.Target.{Target}
@@ -80,3 +81,9 @@ span_least_alone (Between i) v h least w m =
     let e = i.ends in let low = h.0 in let high = h.1 in
     let ends : IsInterval v v = record { ordered = omega (arith, ints); least = let a = e.least in omega (arith, ints); most = let b = e.most in omega (arith, ints) } in
     let k = least (alone v ends) (omega (arith, ints), omega (arith, ints)) in let k0 = k.0 in let k1 = k.1 in let m0 = m.0 in let m1 = m.1 in omega (arith, ints)
+
+-- an interval has all numbers between its ends
+
+pub span_range_has : (x : Span) → IfSome (ends_of x) (λ (ends : ℤ × ℤ). (v : ℤ) → ends.0 ≤ℤ v → v ≤ℤ ends.1 → SpanHas x v)
+span_range_has Empty = tt
+span_range_has (Between i) = λ v low high. (low, high)

@@ -259,7 +259,7 @@ set_to_kept a r t target p h = sets_same r a
     (p.least a (λ z q. (converted_has a t target h z).0 q))
     (λ v m. p.covers v ((converted_has a t target h v).1 m))
 
--- The least set that has a number has no other, and what is below an explicit set is explicit.
+-- The least set that has a number has no other, what is below an explicit set is explicit, and a range has all numbers between its ends.
 
 pub set_least_alone : (x : Vals) (v : ℤ) → ValsHas x v → ((y : Vals) → ValsHas y v → ValsBelow x y) → (w : ℤ) → ValsHas x w → v ≡ w
 set_least_alone x v h least w m = let r = set_reach x v h in single_only v r w (least (single v r) (single_has v r v refl) w m)
@@ -268,3 +268,7 @@ pub set_below_explicit : (x y : Vals) → ValsBelow x y → vals_members x ≡ N
 set_below_explicit x (Many q) h e = refl
 set_below_explicit (Many r) (Few s) h e = absurd (not_few r s h)
 set_below_explicit (Few s) (Few t) h e = let n : Some s.items.items ≡ None = e in cc
+
+pub set_range_has : (x : Vals) → vals_members x ≡ None → IfSome (vals_ends x) (λ (ends : ℤ × ℤ). (v : ℤ) → ends.0 ≤ℤ v → v ≤ℤ ends.1 → ValsHas x v)
+set_range_has (Many r) e = λ v low high. (low, high)
+set_range_has (Few s) e = let n : Some s.items.items ≡ None = e in cc
