@@ -22,9 +22,9 @@ use Rattle.cc_proof_rules.specs.Arrivals.{flag_in, HasFlag, IsKnown, Arrives}
 use Rattle.cc_proof_rules.specs.Outcomes.{IsTestAt, PassesAt, PassesWith}
 use Rattle.cc_rules.specs.Rules.{act_at, IsSolution}
 use Rattle.cc_rules_flows.specs.Acts.{Act}
-use Rattle.cc_rules_flows.specs.Flows.{tests_of, equals, equal_to, IsSide, IsTaken, Side, Taken, Untaken, AreSides, Flows, OfSets, OfReads, OfWrites, OfTurns, OfSaves, OfSavesAlone, OfRestores, OfTests, OfReturns, OfPasses, OfCalls}
+use Rattle.cc_rules_flows.specs.Flows.{tests_of, equals, equal_to, IsSide, IsTaken, Side, Taken, Barred, Untaken, AreSides, Flows, OfSets, OfReads, OfWrites, OfTurns, OfSaves, OfSavesAlone, OfRestores, OfTests, OfReturns, OfPasses, OfCalls}
 use Rattle.cc_rules_flows.specs.Nexts.{statement_of}
-use Rattle.cc_rules_flows.specs.Tests.{Test, IsLeftBy}
+use Rattle.cc_rules_flows.specs.Tests.{Test, MayPass, IsLeftAlike, Alike, Unlike, IsLeftBy}
 use Rattle.cc_rules_needs.specs.Flowing.{Flowing, of_fact}
 use Rattle.cc_state.specs.Shape.{HaveShape, IsPointFact}
 use Rattle.cc_state.specs.View.{view}
@@ -114,9 +114,10 @@ module _ {I : Type 0} (d : Domain I) (all : GivesAll d) (p : Program) (facts : F
       )
     ]
 
-    taken_side : (e : Expr) (test : Test) (k : ℕ) (flows : List (ℕ × Flowing I)) → ((flow : Flowing I) → IsASide e test flow → IsATaken e test flow) → ASide e test k flows → (flow : Flowing I) × IsASide e test flow × Contains flows (k, flow)
-    taken_side e test k flows h (Taken flow side taken is) = (flow, side, subst (λ (l : List (ℕ × Flowing I)). Contains l (k, flow)) (sym is) (in_first (k, flow) []))
-    taken_side e test k flows h (Untaken flow side none is) = absurd (none (h flow side))
+    taken_side : (e : Expr) (test : Test) (k : ℕ) (flows : List (ℕ × Flowing I)) → MayPass d p q.func f sets e test → ((flow : Flowing I) → IsASide e test flow → IsATaken e test flow) → ASide e test k flows → (flow : Flowing I) × IsASide e test flow × Contains flows (k, flow)
+    taken_side e test k flows may h (Taken flow side taken is) = (flow, side, subst (λ (l : List (ℕ × Flowing I)). Contains l (k, flow)) (sym is) (in_first (k, flow) []))
+    taken_side e test k flows may h (Barred none is) = absurd (none may)
+    taken_side e test k flows may h (Untaken flow side none is) = absurd (none (h flow side))
 
     -- ---- the test of an outcome
 
@@ -178,8 +179,11 @@ module _ {I : Type 0} (d : Domain I) (all : GivesAll d) (p : Program) (facts : F
       left_by : (x : Value) (rs : List ℕ) → ((r : ℕ) → Contains rs r → (is_register f r ≡ true) × With r x) → (y u : Abs I) → IsLeftBy d p q.func f sets e test rs y u → HasValue d.has y x → HasValue d.has u x
       left_by x [] each y u same h = subst (λ (a : Abs I). HasValue d.has a x) (sym same) h
       left_by x (r ∷ rs) each y u (mid, left, more) h =
-          let w = each r (in_first r rs) in
-          left_by x rs (λ s c. each s (in_rest r rs s c)) mid u more (w.1 q.func f e test tested w.0 y mid left h)
+          left_by x rs (λ s c. each s (in_rest r rs s c)) mid u more (step left)
+        where
+          step : IsLeftAlike d p q.func f sets e test r y mid → HasValue d.has mid x
+          step (Alike own by) = let w = each r (in_first r rs) in w.1 q.func f e test tested w.0 y mid by h
+          step (Unlike none same) = subst (λ (a : Abs I). HasValue d.has a x) (sym same) h
 
       equal_register : (cell r : ℕ) → Contains (equal_to d p q.func f facts q n fact cell) r → (number : ℕ) × (register_number f r ≡ Some number) × (has_pair fact number cell ≡ true)
       equal_register cell r c = by (register_number f r) refl (of_filter (λ s. equals d p q.func f facts q n fact (register_number f s) cell) (registers f) r c).1
@@ -229,7 +233,7 @@ module _ {I : Type 0} (d : Domain I) (all : GivesAll d) (p : Program) (facts : F
           let met = flow_met d all p facts solution n q f fact numbered function there in
           let sides = flow_sides (act_at (statement_of f q) f) e tests met.1.0 are met.1.1 in
           let one = side_among e tests met.1.0 sides test k among in
-          let taken_flow = taken_side e test k one.0 (λ flow side. taken flow side leads) one.1 in
+          let taken_flow = taken_side e test k one.0 (leads.all q.func f e test tested) (λ flow side. taken flow side leads) one.1 in
           let flow = taken_flow.0 in
           refines k flow taken_flow.1
           (flow_arrives d all p facts solution n q f fact numbered function there k at flow (side_flag flow taken_flow.1) met.1.0 met.0 met.1.2 met.2 (one.2 (k, flow) taken_flow.2))

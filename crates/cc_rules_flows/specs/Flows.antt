@@ -83,6 +83,7 @@ module _ {I : Type 0} (d : Domain I) (p : Program) (id : ℕ) (f : Func) (facts 
 
   pub data Side (e : Expr) (test : Test) (k : ℕ) : List (ℕ × Flowing I) → Type 0 where
     Taken : {flows : List (ℕ × Flowing I)} (flow : Flowing I) → IsSide e test flow → IsTaken e test flow → flows ≡ (k, flow) ∷ [] → Side e test k flows
+    Barred : {flows : List (ℕ × Flowing I)} → (MayPass d p id f sets e test → ⊥) → flows ≡ [] → Side e test k flows
     Untaken : {flows : List (ℕ × Flowing I)} (flow : Flowing I) → IsSide e test flow → (IsTaken e test flow → ⊥) → flows ≡ [] → Side e test k flows
 
   abbrev pub AreSides : Expr → List (Test × ℕ) → List (ℕ × Flowing I) → Type 0

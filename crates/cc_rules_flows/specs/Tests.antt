@@ -1,6 +1,6 @@
 -- What a test leaves of the sets of registers, and of those of the tracked cells that equal one, where it passes (C99 6.8.4). All are
 -- refined at once, from the sets at the point.
-use Rattle.std.specs.Prelude.{◌≡◌, ◌⊎◌, ℕ, ◌==◌, ℤ, Bool, true, false, List, [], ◌∷◌, Option, Some, None, if◌then◌else◌}
+use Rattle.std.specs.Prelude.{◌≡◌, ◌⊎◌, ℕ, ◌==◌, ℤ, Bool, true, false, List, [], ◌∷◌, Option, Some, None, slice_get, if◌then◌else◌}
 use Rattle.std.specs.List.{Contains}
 use Rattle.cc_num.specs.declared.int_type.IntType.{IntType}
 use Rattle.cc_num.specs.declared.op.BinOp.{BinOp}
@@ -19,8 +19,11 @@ use Rattle.cc_program.specs.declared.program.Program.{Program}
 use Rattle.cc_program.specs.declared.value.Value.{Value}
 use Rattle.cc_program.specs.declared.value.Value.TheVariants as value
 use Rattle.cc_state_operators.specs.Domains.{Domain, IsHull}
+use Rattle.cc_state_operators.specs.Types.{AreOf}
 use Rattle.cc_state_values.specs.Values.{IsVal}
 use Rattle.cc_syntax.specs.Effects.{place_effects_of}
+use Rattle.cc_syntax.specs.Types.{Named}
+use Rattle.cc_syntax.specs.Values.{ValueType, scalar_value}
 use Rattle.cc_values.specs.Values.{is_true}
 
 -- of the value of an `if`'s condition: that it is true, or false; of that of a `switch`: that it equals a label, or, for `default`, none of all
@@ -113,7 +116,16 @@ module _ {I : Type 0} (d : Domain I) (p : Program) (id : ℕ) (f : Func) (regist
     OfOther : {y z : Abs I} (x : I) → y ≡ abs.Ints x → d.members x ≡ None → (Compares r x test → ⊥) → z ≡ y → IsLeft r y z
     OfAddresses : {y z : Abs I} (s : Addrs) → y ≡ abs.Addrs s → z ≡ y → IsLeft r y z
 
+  -- the set of a cell has only values of the type of a register
+  abbrev pub IsOfRegister : ℕ → Abs I → Type 0
+  IsOfRegister r y = (l : Named) × (t : ValueType) × (slice_get f.locals r ≡ Some l) × (scalar_value l.1 ≡ Some t) × AreOf d p.target t y
+
+  -- what a register that equals a cell leaves of its set
+  pub data IsLeftAlike (r : ℕ) (y z : Abs I) : Type 0 where
+    Alike : IsOfRegister r y → IsLeft r y z → IsLeftAlike r y z
+    Unlike : (IsOfRegister r y → ⊥) → z ≡ y → IsLeftAlike r y z
+
   -- by several registers, one after the other
   abbrev pub IsLeftBy : List ℕ → Abs I → Abs I → Type 0
   IsLeftBy [] y z = z ≡ y
-  IsLeftBy (r ∷ rs) y z = (u : Abs I) × IsLeft r y u × IsLeftBy rs u z
+  IsLeftBy (r ∷ rs) y z = (u : Abs I) × IsLeftAlike r y u × IsLeftBy rs u z
