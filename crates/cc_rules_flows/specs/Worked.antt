@@ -1,6 +1,6 @@
 -- The values that are worked for a test: of its expression, as the registers are, and, where the test may pass, with a register at a member of an explicit set, be it
 -- its own one, or what the registers before it leave of that of a tracked cell that equals them all.
-use Rattle.std.specs.Prelude.{◌≡◌, ◌⊎◌, ℕ, ℤ, List, ◌∷◌, ◌++◌, Some, slice_get}
+use Rattle.std.specs.Prelude.{◌≡◌, ◌⊎◌, ℕ, ℤ, List, ◌∷◌, ◌++◌, Option, Some, slice_get}
 use Rattle.std.specs.List.{Contains}
 use Rattle.cc_flow.specs.declared.types.Point.{Point}
 use Rattle.cc_places.specs.declared.abs.Abs.{Abs}
