@@ -1,13 +1,10 @@
 -- Counts that loops make, one more at a time.
 use Rattle.std.proofs.Common.{◌≡◌, ◌∙◌, ◌+◌, ◌<◌, ◌≤◌, ◌++◌, ◌||◌, ℕ, suc, Bool, true, false, List, [], ◌∷◌, length, get_or, take, drop, map, max, refl, ap, sym, arith, append_assoc, if◌then◌else◌}
-use Rattle.std.specs.Prelude.{fold, replicate}
+use Rattle.std.specs.Prelude.{fold}
 use Rattle.std.specs.List.{list_any}
-use Rattle.std.proofs.lemmas.List.{append-nil, map-append, take_more, length-take-le, drop_more, drop_all, replicate_more}
+use Rattle.std.proofs.lemmas.List.{append-nil, map-append, take_more, length-take-le, drop_more, drop_all}
 use Rattle.std.proofs.lemmas.List.Folds.{list_any-append}
 use Rattle.std.proofs.lemmas.Grind.{fold-append}
-use Rattle.cc_names.specs.Names.{Wish}
-use Rattle.cc_names.specs.View.{wish_of, wishes_of}
-use Rattle.cc_names.specs.declared.wish.Wish.{Wish as WishOf}
 use Rattle.cc_program.specs.declared.func.Func.{Func}
 use Rattle.cc_program.specs.declared.object.Device.{Device}
 use Rattle.cc_syntax.specs.Normal.{has_name as device_named}
@@ -79,18 +76,3 @@ most_more fs i d h =
     ∙ fold-append max 0 (map temporary_count (take i fs)) (temporary_count (get_or fs i d) ∷ [])
 
 pub ruleset of_most = (most_more)
-
--- ---- wishes
-
-pub wishes_more : (ws : List WishOf) (w : WishOf) → wishes_of (ws ++ w ∷ []) ≡ wishes_of ws ++ wish_of w ∷ []
-unfolding wishes_of
-wishes_more ws w = map-append wish_of ws (w ∷ [])
-
-pub wishes_nil : wishes_of [] ≡ []
-unfolding wishes_of
-wishes_nil = refl
-
-pub same_wishes_more : (n : ℕ) (w : Wish) → replicate (n + 1) w ≡ replicate n w ++ w ∷ []
-same_wishes_more n w = sym (replicate_more n w)
-
-pub ruleset of_wishes = (wishes_more, wishes_nil, same_wishes_more)

@@ -5,3 +5,4 @@ pub mod Places
 pub mod Reservations
 pub mod Tables
 pub mod Texts
+pub mod TemporaryNames

@@ -1,8 +1,11 @@
 -- Names that are reserved, one more at a time, and all that a program has.
-use Rattle.std.proofs.Common.{◌≡◌, ◌∙◌, ◌+◌, ◌<◌, ◌≤◌, ℕ, List, [], ◌∷◌, ◌++◌, length, get_or, take, map, Option, Some, None, refl, ap, sym, append_assoc}
+use Rattle.std.proofs.Common.{◌≡◌, ◌∙◌, ◌+◌, ◌<◌, ◌≤◌, ℕ, List, [], ◌∷◌, ◌++◌, length, get_or, take, map, Option, Some, None, refl, ap, sym, subst, append_assoc, true, if◌then◌else◌}
 use Rattle.std.specs.List.{flat_map}
 use Rattle.std.proofs.lemmas.Grind.{flat_map-append}
 use Rattle.std.proofs.lemmas.List.{append-nil, map-append, take_more, take_all}
+use Rattle.cc_names.specs.Names.{is_among}
+use Rattle.cc_names.specs.View.{HaveSame, with_name as with_one}
+use Rattle.cc_names.proofs.Takings.{same-with}
 use Rattle.cc_program.specs.declared.func.Func.{Func}
 use Rattle.cc_program.specs.declared.object.Device.{Device}
 use Rattle.cc_program.specs.declared.object.Object.{Object}
@@ -66,3 +69,17 @@ pub all_reserved : (p : Program) (ss us : List Structure) (fs : List Func) → s
 all_reserved p ss us fs s u f =
     (λ i. ((([] ++ map (λ s. s.tag) (s i)) ++ flat_map (λ s. local_names s.members) (u i)) ++ file_names p) ++ flat_map (λ f. local_names f.locals) (f i))
     ∙ four_parts [] (tags p) (flat_map (λ s. local_names s.members) p.structures) (file_names p) (flat_map (λ f. local_names f.locals) p.funcs)
+
+-- ---- one name more
+
+pub none_reserved : (names : List (List ℕ)) → names ≡ [] → HaveSame names []
+none_reserved names h x = ap (is_among x) h
+
+pub reserved_already : (names reserved : List (List ℕ)) (x : List ℕ) → is_among x names ≡ true → HaveSame names reserved → HaveSame names (reserved ++ x ∷ [])
+reserved_already names reserved x there h =
+    subst (λ n. HaveSame n (reserved ++ x ∷ [])) (ap (λ b. if b then names else names ++ x ∷ []) there) (same-with names reserved x h)
+
+pub reserved_next : (names reserved : List (List ℕ)) (x : List ℕ) → HaveSame names reserved → HaveSame (with_one names x) (reserved ++ x ∷ [])
+reserved_next names reserved x h = same-with names reserved x h
+
+pub ruleset of_names = (reserved_already, reserved_next)
