@@ -1,4 +1,3 @@
 pub mod AssignedLemmas
 pub mod Opened
 pub mod AccessRules
-pub mod RegisterLemmas

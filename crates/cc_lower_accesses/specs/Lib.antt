@@ -1,3 +1,2 @@
-pub mod Kept
 pub mod Assigned
 pub mod Modes

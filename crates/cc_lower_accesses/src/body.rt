@@ -1,7 +1,7 @@
 //! The function in whose body expressions stand.
 
 ghost use Rattle.std.specs.Prelude.{◌≡◌, option_map, option_and_then};
-ghost use Rattle.cc_lower_accesses.specs.Kept.{AreKept};
+ghost use Rattle.cc_registers.specs.Kept.{AreKept};
 ghost use Rattle.cc_syntax.specs.Programs.{type_of as type_of_of, place_type as place_type_of};
 ghost use Rattle.cc_syntax.specs.Registers.{is_register as is_register_of};
 ghost use Rattle.cc_syntax.specs.Sizes.{AreSized};

@@ -3,7 +3,7 @@
 ghost use Rattle.std.specs.Prelude.{◌≡◌, ◌++◌, map, IfOk, OnOk};
 ghost use Rattle.std.specs.List.{flat_map};
 ghost use Rattle.cc_lower_accesses.specs.Assigned.{among, listed, registers_in, place_registers_in};
-ghost use Rattle.cc_lower_accesses.specs.Kept.{AreKept};
+ghost use Rattle.cc_registers.specs.Kept.{AreKept};
 ghost use Rattle.cc_syntax.specs.Effects.{also, is_soft as is_soft_of, effects_of, place_effects_of, all_assigned};
 
 use crate::body::Body;

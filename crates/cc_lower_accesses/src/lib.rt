@@ -6,9 +6,7 @@ mod accesses;
 mod body;
 mod effects;
 mod folded;
-mod registers;
 mod temporaries;
 
 pub use body::Body;
-pub use registers::registers_of;
 pub use temporaries::{assign, fresh, into, load, set};

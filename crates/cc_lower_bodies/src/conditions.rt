@@ -2,7 +2,7 @@
 
 ghost use Rattle.std.specs.Prelude.{◌≡◌, ◌++◌, map, length, IfOk, OnOk};
 ghost use Rattle.cc_lower_accesses.specs.Assigned.{among};
-ghost use Rattle.cc_lower_accesses.specs.Kept.{AreKept};
+ghost use Rattle.cc_registers.specs.Kept.{AreKept};
 ghost use Rattle.cc_lower_accesses.specs.Modes.{as_locals};
 ghost use Rattle.cc_lower_bodies.specs.Conditions.{condition_view, nest, alone_of, conditions_of};
 ghost use Rattle.cc_syntax.specs.Sizes.{AreSized};

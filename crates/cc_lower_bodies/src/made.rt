@@ -1,7 +1,7 @@
 //! Statements of each kind, over what their parts became.
 
 ghost use Rattle.std.specs.Prelude.{◌≡◌, ◌++◌, ◌∷◌, [], map, length, IfOk, OnOk};
-ghost use Rattle.cc_lower_accesses.specs.Kept.{AreKept};
+ghost use Rattle.cc_registers.specs.Kept.{AreKept};
 ghost use Rattle.cc_lower_accesses.specs.Modes.{as_locals};
 ghost use Rattle.cc_lower_bodies.specs.Conditions.{condition_view, nest};
 ghost use Rattle.cc_lower_expressions.specs.Statements.{lower as lower_of};

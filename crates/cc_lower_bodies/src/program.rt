@@ -5,9 +5,10 @@ ghost use Rattle.cc_lower_expressions.specs.Programs.{lower_func as lower_func_o
 ghost use Rattle.cc_syntax.specs.Sizes.{AreSized};
 
 use crate::statements::lower_list;
-use cc_lower_accesses::{Body, registers_of};
+use cc_lower_accesses::Body;
 use cc_num::{List, NoMemory};
 use cc_program::{Func, Program, copy_list, copy_named};
+use cc_registers::registers_of;
 use std::alloc::Global;
 
 #[tactic(auto, using(cc_lower_accesses::proofs::AccessRules::locals_rules), unfolding(crate::specs::Lists::list_made, cc_lower_accesses::specs::Modes::as_locals))]

@@ -1,7 +1,7 @@
 //! Statements by their kind, lists of them, and cases.
 
 ghost use Rattle.std.specs.Prelude.{◌≡◌, ◌++◌, length, IfOk, OnOk};
-ghost use Rattle.cc_lower_accesses.specs.Kept.{AreKept};
+ghost use Rattle.cc_registers.specs.Kept.{AreKept};
 ghost use Rattle.cc_lower_accesses.specs.Modes.{as_locals};
 ghost use Rattle.cc_lower_bodies.specs.Lists.{list_made, cases_made, guarded_of};
 ghost use Rattle.cc_lower_expressions.specs.Statements.{lower as lower_of, lower_case as lower_case_of};

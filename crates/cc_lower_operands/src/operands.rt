@@ -2,7 +2,7 @@
 
 ghost use Rattle.std.specs.Prelude.{IfOk, option_map};
 ghost use Rattle.cc_lower_accesses.specs.Assigned.{among};
-ghost use Rattle.cc_lower_accesses.specs.Kept.{AreKept};
+ghost use Rattle.cc_registers.specs.Kept.{AreKept};
 ghost use Rattle.cc_lower_accesses.specs.Modes.{operand_of, whole_of, effect_of, place_of, pair_of, placed_of, arguments_of, calling_of, intrinsic_of, condition_in, chosen_of, chosen_void_of, assigned_of};
 ghost use Rattle.cc_lower_operands.specs.Branches.{decided_of};
 ghost use Rattle.cc_lower_operands.specs.Made.{IsMade};

@@ -1,7 +1,7 @@
 //! What is made of operands that are lowered already.
 
 ghost use Rattle.std.specs.Prelude.{◌≡◌, ◌++◌, ◌∷◌, [], pos, length, IfOk, OnOk, option_map, Some};
-ghost use Rattle.cc_lower_accesses.specs.Kept.{AreKept};
+ghost use Rattle.cc_registers.specs.Kept.{AreKept};
 ghost use Rattle.cc_lower_accesses.specs.Modes.{as_locals, callee_of};
 ghost use Rattle.cc_lower_expressions.specs.Expressions.{temp, is_void_value, set as set_of, truth_of as truth_of_of};
 ghost use Rattle.cc_lower_expressions.specs.Temporaries.{declared_type, is_same_type};
