@@ -1,5 +1,5 @@
 -- Facts cover a program: each state of each run, for all inputs and arrivals, lies in them.
-use Rattle.std.specs.Prelude.{◌≤◌, ℕ, ℤ, List}
+use Rattle.std.specs.Prelude.{◌≤◌, ℤ, List}
 use Rattle.cc_flow.specs.Points.{count_of}
 use Rattle.cc_program.specs.declared.program.Program.{Program}
 use Rattle.cc_state.specs.Shape.{HaveShape}

@@ -1,3 +1,4 @@
 pub mod Covered
+pub mod Points
 pub mod Shape
 pub mod View

@@ -1,0 +1,19 @@
+//! Facts are kept that cover a program.
+
+ghost use Rattle.std.specs.Prelude.{◌≡◌};
+ghost use Rattle.cc_state.specs.Covered.{IsCovered};
+ghost use Rattle.cc_state_operators.specs.Domains.{domain};
+
+use crate::kinds::Covered;
+use cc_lattice::IntDomain;
+use cc_program::Program;
+use cc_state_facts::Facts;
+
+/// Facts that cover a program, with the program.
+pub fn covered<I: IntDomain>(p: &Program, facts: Facts<I>) -> Covered<'_, I>
+    requires { IsCovered (domain I.Has I.IsBelow I.OpGives I.OpOneGives I.ToGives I.KeepGives I.members_of) p.now facts }
+    ensures program { result.program.now ≡ p.now }
+    ensures facts { result.facts ≡ facts }
+{
+    Covered { program: p, facts }
+}
