@@ -1,0 +1,22 @@
+-- The law, by the laws of the domain.
+use Rattle.cc_state_operators.specs.Domains.{domain}
+use Rattle.cc_rules_grow.proofs.Asked.{asked_had}
+use Rattle.cc_rules_grow.proofs.Kept.{kept_given}
+use Rattle.cc_rules_grow.proofs.law.laws.Goals as goal
+use Rattle.cc_state_values.proofs.Same.{order_of}
+use Rattle.cc_state_values_grow.proofs.Images.{order_given}
+
+pub returns : goal.returns
+returns g c =
+    let l = g.met.I.Lattice in
+    let i = g.met.I.IntDomain in
+    let d = domain g.I.Concrete.Has g.I.Lattice.IsBelow g.I.IntDomain.OpGives g.I.IntDomain.OpOneGives g.I.IntDomain.ToGives g.I.IntDomain.KeepGives g.I.IntDomain.members_of in
+    let ordered = order_of d g.I.Lattice.AreAlike i.all_alike l.below_itself l.below_both_ways i.op_grows i.op_one_grows i.to_grows i.members_below in
+    let order = order_given d g.I.Lattice.AreAlike i.all_alike l.below_through i.below_has in
+    let kept =
+    kept_given d g.I.Lattice.AreAlike g.I.IntDomain.bounds_of i.all_alike l.below_itself l.below_through i.below_has i.members_below i.keep_has i.keep_below i.keep_grows i.comparison_told i.to_kept i.least_alone i.below_explicit i.members_all i.bounds_none i.bounds_ends in
+    record {
+      grows = λ p types facts others shape other_shape less c worked ns asked asks. asked_had d ordered order kept p types facts others shape other_shape less c worked ns asked asks.0 asks.1 asks.2;
+      solutions = λ p types facts others shape other_shape less solution c listed worked ns asked.
+          (let asks = solution c listed in asked_had d ordered order kept p types facts others shape other_shape less c worked ns asked asks.0 asks.1 asks.2);
+    }
