@@ -21,17 +21,19 @@ use Rattle.cc_rules_flows.specs.Acts.{Act, Sets, Reads, Writes, Calls, Saves, Tu
 use Rattle.cc_rules_flows.specs.Nexts.{IsPoint, statement_of, exit_of}
 use Rattle.cc_rules_flows.specs.Tests.{Test}
 use Rattle.cc_rules_flows.specs.Worked.{AreWorked}
+use Rattle.cc_rules_grow.proofs.Accesses.{place_typed}
 use Rattle.cc_rules_grow.proofs.Asking.{NamedMore, PlacesMore, written_grows, touched_grows, given_grows, handlers_more, stability_more}
 use Rattle.cc_rules_grow.proofs.Below.{AreSomeBelow, IsFactBelow, Had}
 use Rattle.cc_rules_grow.proofs.Calling.{calls_grow}
 use Rattle.cc_rules_grow.proofs.Classes.{named_more, read_more}
 use Rattle.cc_rules_grow.proofs.Elements.{each_all, all_each, each_from}
 use Rattle.cc_rules_grow.proofs.Exits.{exit_there}
+use Rattle.cc_rules_grow.proofs.Firsts.{first_there}
 use Rattle.cc_rules_grow.proofs.Flowed.{flows_as, acts_below, comes_to_each}
 use Rattle.cc_rules_grow.proofs.Kept.{IsKept, ValuesGrow}
 use Rattle.cc_rules_grow.proofs.Places.{register_there}
 use Rattle.cc_rules_grow.proofs.Starting.{first_sets_grow, started_grows}
-use Rattle.cc_rules_grow.specs.Grown.{HasTypes, AreTestsWorked}
+use Rattle.cc_rules_grow.specs.Grown.{AreTestsWorked, IsWorked}
 use Rattle.cc_rules_needs.specs.declared.needs.Part.TheVariants.{Flags}
 use Rattle.cc_rules_needs.specs.declared.needs.Slot.TheVariants.{LocalAt, CellAt, Flag, Apart}
 use Rattle.cc_rules_needs.specs.Needs.{flags_in, apart_in, Needs, AreValuesBelow, IsBelowPart, Has, HasAll, IsBelow}
@@ -49,6 +51,7 @@ use Rattle.cc_state_values_grow.proofs.Growing.{value_more}
 use Rattle.cc_state_values_grow.proofs.Images.{IsOrder}
 use Rattle.cc_state_values_grow.proofs.Leading.{leads_somewhere}
 use Rattle.cc_state_values_grow.specs.Growth.{AreRegistersBelow, LeadSomewhere, RegistersPoint, MayPoint}
+use Rattle.cc_syntax.specs.Normal.{IsNormal}
 use Rattle.cc_syntax.specs.Programs.{place_type}
 use Rattle.cc_syntax.specs.Types.{Named}
 use Rattle.cc_syntax.specs.Values.{ValueType, NoValue, Integer, ToObject, ToFunction, PlaceType, scalar_value}
@@ -78,7 +81,7 @@ fact_there : {A : Type 0} (x : Option (Option A)) (y : A) → option_and_then (�
 fact_there None y e = absurd (cc)
 fact_there (Some z) y e = ap Some e
 
-module _ {I : Type 0} (d : Domain I) (o : IsOrdered d) (k : IsKept d) (p : Program) (types : HasTypes p)
+module _ {I : Type 0} (d : Domain I) (o : IsOrdered d) (k : IsKept d) (p : Program) (normal : IsNormal p)
     (grown : (id : ℕ) (f : Func) → slice_get p.funcs id ≡ Some f → ValuesGrow d p id f)
     (leads : (id : ℕ) (f : Func) (register : ℕ → Option (Abs I)) → slice_get p.funcs id ≡ Some f → RegistersPoint p f register → LeadSomewhere d p id f register)
     (facts others : Facts I) (shape : HaveShape d p facts) (other_shape : HaveShape d p others) (less : IsBelow d.below facts others) where
@@ -203,7 +206,7 @@ module _ {I : Type 0} (d : Domain I) (o : IsOrdered d) (k : IsKept d) (p : Progr
       act = act_at (statement_of f point) f
 
       act_places : PlacesMore d k p facts others less n id f point fact other act
-      act_places = places_more act (λ a accessed. types.places n id f point a is_point accessed)
+      act_places = places_more act (λ a accessed. place_typed p normal n id f point a is_point accessed)
 
       values : (e : Expr) (y z : Abs I) → IsVal d p id f (registers_at facts f n) e y → IsVal d p id f (registers_at others f n) e z → IsBelowAbs d.below y z
       values e y z v w = grown id f is_point.function (registers_at facts f n) (registers_at others f n) register_points registers_below e y z v w
@@ -212,13 +215,13 @@ module _ {I : Type 0} (d : Domain I) (o : IsOrdered d) (k : IsKept d) (p : Progr
       reads_grow a y z h l =
           read_more d k p id f (grown id f is_point.function) (registers_at facts f n) (registers_at others f n) register_points (leads id f (registers_at facts f n) is_point.function register_points) registers_below facts others less whole_grows n a y z h l
 
-      asked_here : (rule : Rule) (ns ms : Needs I) → AreTestsWorked d p facts n → AskedHere d p facts n id f point fact rule act ns → AskedHere d p others n id f point other rule act ms → OthersHave ms → OthersHave ns
+      asked_here : (rule : Rule) (ns ms : Needs I) → (rule ≡ Flow → AreTestsWorked d p facts n) → AskedHere d p facts n id f point fact rule act ns → AskedHere d p others n id f point other rule act ms → OthersHave ms → OthersHave ns
       asked_here Initial ns ms worked l m had = subst OthersHave (sym l) tt
       asked_here Start ns ms worked l m had = subst OthersHave (sym l) tt
       asked_here Flow ns ms worked (flows, are_flows, comes) (more_flows, are_more, comes_more) had =
           comes_to_each d o k p id f (grown id f is_point.function) facts others point n fact other register_points registers_below known fact_below of_other.local_count reads_grow point.next flows more_flows ns ms
           (acts_below d o k p id f (grown id f is_point.function) facts others point n fact other register_points registers_below known fact_below of_other.local_count reads_grow act flows more_flows
-          (λ e tests is. each_from (λ (t : Test × ℕ). AreWorked d p id f facts point n fact e t.0) tests (worked id f point fact is_point known e tests is))
+          (λ e tests is. each_from (λ (t : Test × ℕ). AreWorked d p id f facts point n fact e t.0) tests (worked refl id f point fact is_point known e tests is))
           (flows_as d p id f facts point n fact act flows are_flows) (flows_as d p id f others point n other act more_flows are_more)) comes comes_more had
       asked_here Write ns ms worked l m had = written_grows d k p facts others less n id f point fact other act ns ms values act_places l m had
       asked_here Touch ns ms worked l m had = touched_grows d k p facts others less n id f point fact other act ns ms act_places l m had
@@ -230,7 +233,7 @@ module _ {I : Type 0} (d : Domain I) (o : IsOrdered d) (k : IsKept d) (p : Progr
 
   -- ---- of each constraint
 
-  asked_in : (rule : Rule) (n : ℕ) (x y : Option (PointFact I)) (ns ms : Needs I) → fact_at facts n ≡ x → fact_at others n ≡ y → AreTestsWorked d p facts n → AskedIn d p facts rule n x ns → AskedIn d p others rule n y ms → OthersHave ms → OthersHave ns
+  asked_in : (rule : Rule) (n : ℕ) (x y : Option (PointFact I)) (ns ms : Needs I) → fact_at facts n ≡ x → fact_at others n ≡ y → (rule ≡ Flow → AreTestsWorked d p facts n) → AskedIn d p facts rule n x ns → AskedIn d p others rule n y ms → OthersHave ms → OthersHave ns
   asked_in rule n None y ns ms e g worked is l had = subst OthersHave (sym is) tt
   asked_in rule n (Some fact) None ns ms e g worked (id, f, point, is_point, asked) l had =
       let (other, there) = reached n id f point fact is_point e in
@@ -242,30 +245,30 @@ module _ {I : Type 0} (d : Domain I) (o : IsOrdered d) (k : IsKept d) (p : Progr
       let same_asked = subst (λ (x : Func). AskedHere d p others n id x point other rule (act_at (statement_of x point) x) ms) same_f in_function in
       asked_here n id f point fact is_point e other g rule ns ms worked asked same_asked had
 
-  pub asked_grows : (c : Constraint) (ns ms : Needs I) → AreTestsWorked d p facts c.point → IsAsked d p facts c ns → IsAsked d p others c ms → OthersHave ms → OthersHave ns
-  asked_grows c ns ms worked l m had = by c.rule l m
+  pub asked_grows : (c : Constraint) (ns ms : Needs I) → IsWorked d p facts c → IsAsked d p facts c ns → IsAsked d p others c ms → OthersHave ms → OthersHave ns
+  asked_grows c ns ms worked l m had = by c.rule worked l m
     where
       n : ℕ
       n = c.point
 
-      by : (rule : Rule) → IsAsked d p facts (record { rule = rule; point = c.point }) ns → IsAsked d p others (record { rule = rule; point = c.point }) ms → OthersHave ns
-      by Initial l m = first_sets_grow d k p facts others less 0 (keys_of p) ns ms l m had
-      by Start l m = started_grows d k p facts others less types.first n ns ms l m had
-      by Flow l m = asked_in Flow n (fact_at facts n) (fact_at others n) ns ms refl refl worked l m had
-      by Write l m = asked_in Write n (fact_at facts n) (fact_at others n) ns ms refl refl worked l m had
-      by Touch l m = asked_in Touch n (fact_at facts n) (fact_at others n) ns ms refl refl worked l m had
-      by Call l m = asked_in Call n (fact_at facts n) (fact_at others n) ns ms refl refl worked l m had
-      by Back l m = asked_in Back n (fact_at facts n) (fact_at others n) ns ms refl refl worked l m had
-      by Return l m = asked_in Return n (fact_at facts n) (fact_at others n) ns ms refl refl worked l m had
-      by Handler l m = asked_in Handler n (fact_at facts n) (fact_at others n) ns ms refl refl worked l m had
-      by Stability l m = asked_in Stability n (fact_at facts n) (fact_at others n) ns ms refl refl worked l m had
+      by : (rule : Rule) → (rule ≡ Flow → AreTestsWorked d p facts n) → IsAsked d p facts (record { rule = rule; point = c.point }) ns → IsAsked d p others (record { rule = rule; point = c.point }) ms → OthersHave ns
+      by Initial worked l m = first_sets_grow d k p facts others less 0 (keys_of p) ns ms l m had
+      by Start worked l m = started_grows d k p facts others less (first_there p normal) n ns ms l m had
+      by Flow worked l m = asked_in Flow n (fact_at facts n) (fact_at others n) ns ms refl refl worked l m had
+      by Write worked l m = asked_in Write n (fact_at facts n) (fact_at others n) ns ms refl refl worked l m had
+      by Touch worked l m = asked_in Touch n (fact_at facts n) (fact_at others n) ns ms refl refl worked l m had
+      by Call worked l m = asked_in Call n (fact_at facts n) (fact_at others n) ns ms refl refl worked l m had
+      by Back worked l m = asked_in Back n (fact_at facts n) (fact_at others n) ns ms refl refl worked l m had
+      by Return worked l m = asked_in Return n (fact_at facts n) (fact_at others n) ns ms refl refl worked l m had
+      by Handler worked l m = asked_in Handler n (fact_at facts n) (fact_at others n) ns ms refl refl worked l m had
+      by Stability worked l m = asked_in Stability n (fact_at facts n) (fact_at others n) ns ms refl refl worked l m had
 
 -- with what values give, by the laws on them
-pub asked_had : {I : Type 0} (d : Domain I) (o : IsOrdered d) (order : IsOrder d) (k : IsKept d) (p : Program) → HasTypes p → (facts others : Facts I) → HaveShape d p facts → HaveShape d p others → IsBelow d.below facts others → (c : Constraint) →
-    AreTestsWorked d p facts c.point → (ns : Needs I) → IsAsked d p facts c ns → (ms : Needs I) → IsAsked d p others c ms → HasAll d.below ms others → HasAll d.below ns others
-asked_had d o order k p types facts others shape other_shape less c worked ns l ms m had =
+pub asked_had : {I : Type 0} (d : Domain I) (o : IsOrdered d) (order : IsOrder d) (k : IsKept d) (p : Program) → IsNormal p → (facts others : Facts I) → HaveShape d p facts → HaveShape d p others → IsBelow d.below facts others → (c : Constraint) →
+    IsWorked d p facts c → (ns : Needs I) → IsAsked d p facts c ns → (ms : Needs I) → IsAsked d p others c ms → HasAll d.below ms others → HasAll d.below ns others
+asked_had d o order k p normal facts others shape other_shape less c worked ns l ms m had =
     all_each (Has d.below others) ns
-    (asked_grows d o k p types
+    (asked_grows d o k p normal
     (λ id f own register more points below e x y h g. value_more d o order p id f register more below (leads_somewhere d p id f register own points) e x y h g)
     (λ id f register own points. leads_somewhere d p id f register own points)
     facts others shape other_shape less c ns ms worked l m (each_all (Has d.below others) ms had))

@@ -1,11 +1,12 @@
 ghost use Rattle.cc_program.specs.declared.program.Program.{Program};
 ghost use Rattle.cc_rules.specs.Constraints.{Constraint, constraints};
 ghost use Rattle.cc_rules.specs.Rules.{IsAsked, Asks, IsSolution};
-ghost use Rattle.cc_rules_grow.specs.Grown.{HasTypes, AreTestsWorked};
+ghost use Rattle.cc_rules_grow.specs.Grown.{IsWorked};
 ghost use Rattle.cc_rules_needs.specs.Needs.{Needs, HasAll, IsBelow};
 ghost use Rattle.cc_state.specs.Shape.{HaveShape};
 ghost use Rattle.cc_state_facts.specs.declared.facts.Facts.{Facts};
 ghost use Rattle.cc_state_operators.specs.Domains.{domain};
+ghost use Rattle.cc_syntax.specs.Normal.{IsNormal};
 ghost use Rattle.std.specs.List.{Contains};
 
 use cc_lattice::IntDomain;
@@ -13,16 +14,16 @@ use cc_lattice::IntDomain;
 /// What constraints ask of facts, and of greater ones. The call does nothing.
 pub fn laws<I: IntDomain>()
     // What a constraint asks of lesser facts, greater ones that meet it have.
-    ensures grows { (p : Program) → HasTypes p → (facts others : Facts I) → HaveShape (domain I.Has I.IsBelow I.OpGives I.OpOneGives I.ToGives I.KeepGives I.members_of) p facts →
+    ensures grows { (p : Program) → IsNormal p → (facts others : Facts I) → HaveShape (domain I.Has I.IsBelow I.OpGives I.OpOneGives I.ToGives I.KeepGives I.members_of) p facts →
         HaveShape (domain I.Has I.IsBelow I.OpGives I.OpOneGives I.ToGives I.KeepGives I.members_of) p others → IsBelow I.IsBelow facts others → (c : Constraint) →
-        AreTestsWorked (domain I.Has I.IsBelow I.OpGives I.OpOneGives I.ToGives I.KeepGives I.members_of) p facts c.point → (ns : Needs I) →
+        IsWorked (domain I.Has I.IsBelow I.OpGives I.OpOneGives I.ToGives I.KeepGives I.members_of) p facts c → (ns : Needs I) →
         IsAsked (domain I.Has I.IsBelow I.OpGives I.OpOneGives I.ToGives I.KeepGives I.members_of) p facts c ns →
         Asks (domain I.Has I.IsBelow I.OpGives I.OpOneGives I.ToGives I.KeepGives I.members_of) p c others others → HasAll I.IsBelow ns others }
 
     // So each solution above facts has all that is asked of these.
-    ensures solutions { (p : Program) → HasTypes p → (facts others : Facts I) → HaveShape (domain I.Has I.IsBelow I.OpGives I.OpOneGives I.ToGives I.KeepGives I.members_of) p facts →
+    ensures solutions { (p : Program) → IsNormal p → (facts others : Facts I) → HaveShape (domain I.Has I.IsBelow I.OpGives I.OpOneGives I.ToGives I.KeepGives I.members_of) p facts →
         HaveShape (domain I.Has I.IsBelow I.OpGives I.OpOneGives I.ToGives I.KeepGives I.members_of) p others → IsBelow I.IsBelow facts others →
         IsSolution (domain I.Has I.IsBelow I.OpGives I.OpOneGives I.ToGives I.KeepGives I.members_of) p others → (c : Constraint) → Contains (constraints p) c →
-        AreTestsWorked (domain I.Has I.IsBelow I.OpGives I.OpOneGives I.ToGives I.KeepGives I.members_of) p facts c.point → (ns : Needs I) →
+        IsWorked (domain I.Has I.IsBelow I.OpGives I.OpOneGives I.ToGives I.KeepGives I.members_of) p facts c → (ns : Needs I) →
         IsAsked (domain I.Has I.IsBelow I.OpGives I.OpOneGives I.ToGives I.KeepGives I.members_of) p facts c ns → HasAll I.IsBelow ns others }
 {}

@@ -16,7 +16,7 @@ returns g c =
     let kept =
     kept_given d g.I.Lattice.AreAlike g.I.IntDomain.bounds_of i.all_alike l.below_itself l.below_through i.below_has i.members_below i.keep_has i.keep_below i.keep_grows i.comparison_told i.to_kept i.least_alone i.below_explicit i.members_all i.bounds_none i.bounds_ends in
     record {
-      grows = λ p types facts others shape other_shape less c worked ns asked asks. asked_had d ordered order kept p types facts others shape other_shape less c worked ns asked asks.0 asks.1 asks.2;
-      solutions = λ p types facts others shape other_shape less solution c listed worked ns asked.
-          (let asks = solution c listed in asked_had d ordered order kept p types facts others shape other_shape less c worked ns asked asks.0 asks.1 asks.2);
+      grows = λ p normal facts others shape other_shape less c worked ns asked asks. asked_had d ordered order kept p normal facts others shape other_shape less c worked ns asked asks.0 asks.1 asks.2;
+      solutions = λ p normal facts others shape other_shape less solution c listed worked ns asked.
+          (let asks = solution c listed in asked_had d ordered order kept p normal facts others shape other_shape less c worked ns asked asks.0 asks.1 asks.2);
     }
