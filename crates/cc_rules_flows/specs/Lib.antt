@@ -1,5 +1,12 @@
 pub mod Acts
+pub mod Descents
+pub mod Flag
 pub mod Flows
+pub mod Here
+pub mod Joins
+pub mod Kept
+pub mod Known
 pub mod Nexts
 pub mod Tests
+pub mod View
 pub mod Worked
