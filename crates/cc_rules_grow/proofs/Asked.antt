@@ -1,20 +1,16 @@
 -- What a constraint asks of lesser facts is had by greater ones that meet it, rule by rule.
-use Rattle.std.proofs.Common.{arith, ◌≡◌, ◌⊎◌, inl, inr, ℕ, Bool, true, false, true≢false, not, length, Contains, Option, Some, None, slice_get, refl, ap, sym, ◌∙◌, subst}
+use Rattle.std.proofs.Common.{◌≡◌, ◌⊎◌, inl, inr, ℕ, Bool, true, false, true≢false, not, length, Option, Some, None, slice_get, refl, ap, sym, ◌∙◌, subst}
 use Rattle.std.specs.Prelude.{option_and_then}
-use Rattle.std.proofs.lemmas.Option.{same_Some, slice_get_within}
+use Rattle.std.proofs.lemmas.Option.{same_Some}
 use Rattle.cc_flow.specs.declared.types.Point.{Point}
 use Rattle.cc_flow.specs.Points.{flow_of}
 use Rattle.cc_num.specs.declared.int_type.IntType.{IntType}
 use Rattle.cc_places.specs.Abstract.{IsBelowAbs}
 use Rattle.cc_places.specs.declared.abs.Abs.{Abs}
-use Rattle.cc_places.specs.declared.abs.Abs.TheVariants as abs
-use Rattle.cc_places.specs.declared.addrs.Addrs.{Addrs}
 use Rattle.cc_program.specs.declared.expr.Expr.{Expr}
 use Rattle.cc_program.specs.declared.expr.Place.{Place}
 use Rattle.cc_program.specs.declared.func.Func.{Func}
 use Rattle.cc_program.specs.declared.program.Program.{Program}
-use Rattle.cc_program.specs.declared.value.Address.{Address}
-use Rattle.cc_program.specs.declared.value.Address.TheVariants as address
 use Rattle.cc_rules.specs.Constraints.{Rule, Initial, Start, Flow, Write, Touch, Call, Back, Return, Handler, Stability, Constraint}
 use Rattle.cc_rules.specs.Rules.{act_at, AskedHere, AskedIn, IsAsked}
 use Rattle.cc_rules_flows.specs.Acts.{Act, Sets, Reads, Writes, Calls, Saves, Turns, Restores, Tests, Chooses, Returns, Passes}
@@ -31,13 +27,13 @@ use Rattle.cc_rules_grow.proofs.Exits.{exit_there}
 use Rattle.cc_rules_grow.proofs.Firsts.{first_there}
 use Rattle.cc_rules_grow.proofs.Flowed.{flows_as, acts_below, comes_to_each}
 use Rattle.cc_rules_grow.proofs.Kept.{IsKept, ValuesGrow}
-use Rattle.cc_rules_grow.proofs.Places.{register_there}
 use Rattle.cc_rules_grow.proofs.Starting.{first_sets_grow, started_grows}
 use Rattle.cc_rules_grow.specs.Grown.{AreTestsWorked, IsWorked}
 use Rattle.cc_rules_needs.specs.declared.needs.Part.TheVariants.{Flags}
 use Rattle.cc_rules_needs.specs.declared.needs.Slot.TheVariants.{LocalAt, CellAt, Flag, Apart}
 use Rattle.cc_rules_needs.specs.Needs.{flags_in, apart_in, Needs, AreValuesBelow, IsBelowPart, Has, HasAll, IsBelow}
-use Rattle.cc_state.specs.Shape.{IsSetIn, MayPoint as MayPointIn, IsPointFact, HaveShape}
+use Rattle.cc_state.proofs.Sets.{its_shape, registers_point}
+use Rattle.cc_state.specs.Shape.{IsPointFact, HaveShape}
 use Rattle.cc_state_facts.specs.declared.facts.Facts.{Facts}
 use Rattle.cc_state_facts.specs.declared.facts.PointFact.{PointFact}
 use Rattle.cc_state_facts.specs.Facts.{fact_at, cell_of, local_of, local_at, cell_at, has_pair}
@@ -50,11 +46,10 @@ use Rattle.cc_state_values.specs.Values.{IsVal}
 use Rattle.cc_state_values_grow.proofs.Growing.{value_more}
 use Rattle.cc_state_values_grow.proofs.Images.{IsOrder}
 use Rattle.cc_state_values_grow.proofs.Leading.{leads_somewhere}
-use Rattle.cc_state_values_grow.specs.Growth.{AreRegistersBelow, LeadSomewhere, RegistersPoint, MayPoint}
+use Rattle.cc_state_values_grow.specs.Growth.{AreRegistersBelow, LeadSomewhere, RegistersPoint}
 use Rattle.cc_syntax.specs.Normal.{IsNormal}
 use Rattle.cc_syntax.specs.Programs.{place_type}
-use Rattle.cc_syntax.specs.Types.{Named}
-use Rattle.cc_syntax.specs.Values.{ValueType, NoValue, Integer, ToObject, ToFunction, PlaceType, scalar_value}
+use Rattle.cc_syntax.specs.Values.{PlaceType}
 
 -- ---- one point, of one function
 
@@ -64,23 +59,6 @@ same_point p n id id' f f' q q' h l =
     let number : id' ≡ id = sym l.own ∙ (ap (λ (x : Point). x.func) one ∙ h.own) in
     (one, number, same_Some f' f (sym l.function ∙ (ap (slice_get p.funcs) number ∙ h.function)))
 
--- an address that may stand in a set is one to which the pointer may point
-may_point : (p : Program) (to : ValueType) (a : Address) → MayPointIn p to a → MayPoint p to a
-may_point p to address.Null h = tt
-may_point p to (address.Func g) h = tt
-may_point p to (address.At object path index count) h = h.0
-
-points_in : {I : Type 0} (d : Domain I) (p : Program) (to : ValueType) (s : Addrs) → IsSetIn p d to (abs.Addrs s) → (a : Address) → Contains s.members a → MayPoint p to a
-points_in d p NoValue s h a c = absurd h
-points_in d p (Integer t) s h a c = absurd h
-points_in d p (ToObject constant volatile to) s h a c = may_point p (ToObject constant volatile to) a (h a c)
-points_in d p (ToFunction sig) s h a c = may_point p (ToFunction sig) a (h a c)
-
--- facts at a point that is reached
-fact_there : {A : Type 0} (x : Option (Option A)) (y : A) → option_and_then (λ (z : Option A). z) x ≡ Some y → x ≡ Some (Some y)
-fact_there None y e = absurd (cc)
-fact_there (Some z) y e = ap Some e
-
 module _ {I : Type 0} (d : Domain I) (o : IsOrdered d) (k : IsKept d) (p : Program) (normal : IsNormal p)
     (grown : (id : ℕ) (f : Func) → slice_get p.funcs id ≡ Some f → ValuesGrow d p id f)
     (leads : (id : ℕ) (f : Func) (register : ℕ → Option (Abs I)) → slice_get p.funcs id ≡ Some f → RegistersPoint p f register → LeadSomewhere d p id f register)
@@ -89,7 +67,7 @@ module _ {I : Type 0} (d : Domain I) (o : IsOrdered d) (k : IsKept d) (p : Progr
   OthersHave ns = Had d k others ns
 
   point_fact : (g : Facts I) → HaveShape d p g → (n : ℕ) (q : Point) (f : Func) (x : PointFact I) → slice_get (flow_of p).points n ≡ Some q → slice_get p.funcs q.func ≡ Some f → fact_at g n ≡ Some x → IsPointFact d p f x
-  point_fact g h n q f x numbered function at = h.point_facts n x q f (fact_there (slice_get g.at n) x at) numbered function
+  point_fact g h n q f x numbered function at = its_shape d p g h n q f (record { numbered = numbered; function = function }) x at
 
   whole_grows : (t : IntType) (x y : I) → IsWhole d t p.target x → IsWhole d t p.target y → d.below x y
   whole_grows t x y h l = k.by_members x y (λ n m. (l n).0 ((h n).1 m))
@@ -124,21 +102,7 @@ module _ {I : Type 0} (d : Domain I) (o : IsOrdered d) (k : IsKept d) (p : Progr
     -- the sets of its registers point as their types say
 
     register_points : RegistersPoint p f (registers_at facts f n)
-    register_points r local to s at scalar is a c = by (register_number f r) refl is
-      where
-        by : (number : Option ℕ) → register_number f r ≡ number → option_and_then (local_at facts n) number ≡ Some (abs.Addrs s) → MayPoint p to a
-        by None e i = absurd (cc)
-        by (Some number) e i =
-            let held : local_of fact number ≡ Some (abs.Addrs s) = subst (λ (x : Option (PointFact I)). option_and_then (λ (x : PointFact I). local_of x number) x ≡ Some (abs.Addrs s)) known i in
-            let l = slice_get_within fact.locals number (abs.Addrs s) held in
-            let count = of_fact.local_count in
-            let (t, y, both) = of_fact.locals.there number (omega (arith, l, count)) in
-            let ((q, m, there, local_is, type), get, set) = both in
-            let same_r : q ≡ r = same_Some q r (sym there ∙ register_there f r number e) in
-            let same_local : m ≡ local = same_Some m local (sym local_is ∙ (ap (slice_get f.locals) same_r ∙ at)) in
-            let same_type : t ≡ to = same_Some t to (sym type ∙ (ap (λ (x : Named). scalar_value x.1) same_local ∙ scalar)) in
-            let same_set : y ≡ abs.Addrs s = same_Some y (abs.Addrs s) (sym get ∙ held) in
-            points_in d p to s (subst (λ (x : ValueType). IsSetIn p d x (abs.Addrs s)) same_type (subst (λ (x : Abs I). IsSetIn p d t x) same_set set)) a c
+    register_points = registers_point d p facts shape n point f (record { numbered = is_point.numbered; function = function })
 
     registers_below : AreRegistersBelow d.below (registers_at facts f n) (registers_at others f n)
     registers_below r x y e g = by (register_number f r) e g

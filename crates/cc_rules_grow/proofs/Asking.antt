@@ -16,7 +16,7 @@ use Rattle.cc_program.specs.declared.program.Program.{Program}
 use Rattle.cc_rules.specs.Rules.{IsValue, AreNumbers, AreKeys, Written, OfWrite, OfNone, reads, writes, Touched, ByRead, ByWrite, ByNone, ForEach, Given, OfReturn, OfNoValue, handlers, entry_levels, at_handler, interrupted, entering, whole_number, is_written, is_unstable, unstable_cell, unstable, HandlersAsk}
 use Rattle.cc_rules_flows.specs.Acts.{Act, Sets, Reads, Writes, Calls, Saves, Turns, Restores, Tests, Chooses, Returns, Passes}
 use Rattle.cc_rules_grow.proofs.Below.{IsFactBelow, IsFlowBelow, values_of, Had, part_had, flow_had}
-use Rattle.cc_rules_grow.proofs.Elements.{Each, each_append, each_split, each_map, each_at, in_map, in_filter, filter_contained}
+use Rattle.cc_rules_grow.proofs.Elements.{Each, each_append, each_split, each_map, each_at, in_map, in_filter}
 use Rattle.cc_rules_grow.proofs.Kept.{IsKept}
 use Rattle.cc_rules_grow.proofs.Levels.{enters_more, one_enters_more}
 use Rattle.cc_rules_needs.specs.Flowing.{numbers, each_pair}
@@ -25,6 +25,7 @@ use Rattle.cc_rules_needs.specs.declared.needs.Part.TheVariants.{Mark, LevelSet,
 use Rattle.cc_rules_needs.specs.declared.needs.Slot.{Slot}
 use Rattle.cc_rules_needs.specs.declared.needs.Slot.TheVariants.{Whole, HandlerReads, HandlerWrites, ReadLevels, WriteLevels, Result, ByHandler, Levels, From, CellAt, Apart}
 use Rattle.cc_rules_needs.specs.Needs.{Needs, AreValuesBelow, Has, IsBelow}
+use Rattle.cc_state.proofs.Lists.{from_filter}
 use Rattle.cc_state_facts.specs.declared.facts.Facts.{Facts}
 use Rattle.cc_state_facts.specs.declared.facts.Key.{Key}
 use Rattle.cc_state_facts.specs.declared.facts.PointFact.{PointFact}
@@ -123,7 +124,7 @@ module _ {I : Type 0} (d : Domain I) (k : IsKept d) (p : Program) (facts others 
 
       enters : (h : ℕ) → Contains (entering d p facts n id f point fact) h → Contains (entering d p others n id f point other) h
       enters h c =
-          let (there, may) = filter_contained (λ h. may_enter (levels_of facts.levels id) (level_of p h)) (handlers p) h c in
+          let (there, may) = from_filter (λ h. may_enter (levels_of facts.levels id) (level_of p h)) (handlers p) h c in
           in_filter (λ h. may_enter (levels_of others.levels id) (level_of p h)) (handlers p) h there (enters_more (levels_of facts.levels id) (levels_of others.levels id) (level_of p h) running_less may)
 
       pub handlers_more : (on on' : Bool) (ns ms : Needs I) → (on ≡ true → on' ≡ true) → HandlersAsk d p facts n id f point fact on ns → HandlersAsk d p others n id f point other on' ms → OthersHave ms → OthersHave ns

@@ -5,9 +5,8 @@ use Rattle.std.specs.List.{AllZip}
 use Rattle.std.proofs.lemmas.Option.{same_Some}
 use Rattle.cc_flow.specs.declared.types.Point.{Point}
 use Rattle.cc_flow_sound.specs.Moves.{entry}
-use Rattle.cc_places.specs.Abstract.{AreOfOneKind, IsBelowAbs}
+use Rattle.cc_places.specs.Abstract.{IsBelowAbs}
 use Rattle.cc_places.specs.declared.abs.Abs.{Abs}
-use Rattle.cc_places.specs.declared.abs.Abs.TheVariants as abs
 use Rattle.cc_program.specs.declared.expr.Expr.{Expr}
 use Rattle.cc_program.specs.declared.func.Func.{Func}
 use Rattle.cc_program.specs.declared.program.Program.{Program}
@@ -20,8 +19,7 @@ use Rattle.cc_rules_flows.specs.Nexts.{exit_of}
 use Rattle.cc_rules_grow.proofs.Asking.{ValuesMore, for_each_more}
 use Rattle.cc_rules_grow.proofs.Below.{IsFactBelow, IsFlowBelow, IsFullBelow, values_of, fact_flows, less_full, local_below, Had, part_had, flow_had}
 use Rattle.cc_rules_grow.proofs.Elements.{each_append, each_split, each_flat}
-use Rattle.cc_rules_grow.proofs.Joined.{kind_below}
-use Rattle.cc_rules_grow.proofs.Kept.{IsKept, abs_through, value_grows}
+use Rattle.cc_rules_grow.proofs.Kept.{IsKept, abs_through, kind_through, value_grows}
 use Rattle.cc_rules_needs.proofs.Zips.{AreSome, some_at}
 use Rattle.cc_rules_needs.specs.Flowing.{Flowing, of_fact, with_local}
 use Rattle.cc_rules_needs.specs.declared.needs.Part.TheVariants.{Mark, LevelSet, Flags, Values}
@@ -34,14 +32,7 @@ use Rattle.cc_state_facts.specs.Facts.{fact_at, cell_of, cell_at, mark_of, level
 use Rattle.cc_state_keys.specs.Keys.{key_number}
 use Rattle.cc_state_keys.specs.Tracked.{registers, register_number, tracked}
 use Rattle.cc_state_operators.specs.Domains.{Domain}
-
-pub kind_through : {I : Type 0} (x y z : Abs I) → AreOfOneKind x y → AreOfOneKind y z → AreOfOneKind x z
-kind_through (abs.Ints x) (abs.Ints y) (abs.Ints z) h l = tt
-kind_through (abs.Ints x) (abs.Ints y) (abs.Addrs u) h l = absurd l
-kind_through (abs.Ints x) (abs.Addrs t) z h l = absurd h
-kind_through (abs.Addrs s) (abs.Ints y) z h l = absurd h
-kind_through (abs.Addrs s) (abs.Addrs t) (abs.Ints z) h l = absurd l
-kind_through (abs.Addrs s) (abs.Addrs t) (abs.Addrs u) h l = tt
+use Rattle.cc_state_values_grow.proofs.Images.{kind_below}
 
 one_result : (r s : Option ℕ) (g h : Expr) (xs ys : List Expr) → Calls r g xs ≡ Calls s h ys → (r ≡ s) × (g ≡ h) × (xs ≡ ys)
 one_result r s g h xs ys e = (cc, cc, cc)

@@ -4,7 +4,7 @@ use Rattle.std.proofs.Common.{arith, ◌≡◌, inl, inr, ℕ, Bool, true, false
 use Rattle.std.specs.Prelude.{is_some, option_and_then, if◌then◌else◌}
 use Rattle.std.specs.List.{flat_map}
 use Rattle.std.proofs.lemmas.Bool.{ltb-true, lt-ltb}
-use Rattle.std.proofs.lemmas.List.Elements.{Contains-append_left, Contains-append_right, Contains-append_cases}
+use Rattle.std.proofs.lemmas.List.Elements.{Contains-append_left, Contains-append_right}
 use Rattle.std.proofs.lemmas.Option.{same_Some}
 use Rattle.cc_eval.specs.Context.{object_type}
 use Rattle.cc_num.specs.declared.int_type.IntType.{IntType}
@@ -13,7 +13,7 @@ use Rattle.cc_places.specs.declared.abs.Abs.{Abs}
 use Rattle.cc_places.specs.declared.abs.Abs.TheVariants as abs
 use Rattle.cc_places.specs.declared.addrs.Addrs.{Addrs}
 use Rattle.cc_places.specs.Kept.{kept_root, starred_part, member_for}
-use Rattle.cc_places.specs.laws.ListLaws.{cons_cases, at_head, behind_head, none_in, any_at, any_from}
+use Rattle.cc_places.specs.laws.ListLaws.{cons_cases, none_in, any_at, any_from}
 use Rattle.cc_places.specs.laws.SetLaws.{has_member}
 use Rattle.cc_places.specs.Sets.{IsWithin}
 use Rattle.cc_program.specs.declared.expr.Expr.{Expr}
@@ -29,10 +29,11 @@ use Rattle.cc_program.specs.declared.value.Part.{Part}
 use Rattle.cc_program.specs.declared.value.Part.TheVariants as part
 use Rattle.cc_program.specs.declared.value.Root.{Root}
 use Rattle.cc_program.specs.declared.value.Root.TheVariants as root
-use Rattle.cc_rules_grow.proofs.Elements.{filter_contained, in_filter}
-use Rattle.cc_rules_grow.proofs.Kept.{IsKept, ValuesGrow, abs_through}
+use Rattle.cc_rules_grow.proofs.Elements.{in_filter}
+use Rattle.cc_rules_grow.proofs.Kept.{IsKept, ValuesGrow, abs_through, kind_through}
 use Rattle.cc_rules_needs.specs.declared.needs.Slot.TheVariants.{Whole, CellAt}
 use Rattle.cc_rules_needs.specs.Needs.{AreValuesBelow, IsBelow}
+use Rattle.cc_state.proofs.Lists.{from_filter, from_flat}
 use Rattle.cc_state_facts.specs.declared.facts.Facts.{Facts}
 use Rattle.cc_state_facts.specs.declared.facts.Key.{Key}
 use Rattle.cc_state_facts.specs.declared.facts.Key.TheVariants as key
@@ -99,13 +100,6 @@ module _ (p : Program) where
   class_for false (address.At object path index count) k real c =
       subst (λ (z : Key). Contains (z ∷ []) k) (sym (key_kept object (map starred_part path) ∙ key_starred p.structures path (object_type p object) (root_key object) real)) c
 
-  from_flat : {A : Type 0} (g : A → List Key) (xs : List A) (k : Key) → Contains (flat_map g xs) k → (x : A) × Contains xs x × Contains (g x) k
-  from_flat g [] k c = absurd (none_in k c)
-  from_flat g (x ∷ xs) k c = elim (Contains-append_cases (g x) (flat_map g xs) k c) [
-    | inl h ↦ (x, at_head x xs, h)
-    | inr h ↦ let (y, there, has) = from_flat g xs k h in (y, behind_head x xs y there, has)
-  ]
-
   to_flat : {A : Type 0} (g : A → List Key) (xs : List A) (x : A) (k : Key) → Contains xs x → Contains (g x) k → Contains (flat_map g xs) k
   to_flat g [] x k c h = absurd (none_in x c)
   to_flat g (y ∷ xs) x k c h = elim (cons_cases y xs x c) [
@@ -166,7 +160,7 @@ module _ {I : Type 0} (d : Domain I) (k : IsKept d) (p : Program) (id : ℕ) (f 
   -- the keys that it names
   pub named_more : (a : PlaceOf) (t : PlaceType) (keys more_keys : List Key) → place_type p f.locals a ≡ Some t → AreNamed d p id f register a keys → AreNamed d p id f more a more_keys → (q : Key) → Contains keys q → Contains more_keys q
   named_more a t keys more_keys typed (cs, classes, is) (ds, classes', is') q c =
-      let (there, among) = filter_contained (is_among cs) (keys_of p) q (subst (λ (l : List Key). Contains l q) is c) in
+      let (there, among) = from_filter (is_among cs) (keys_of p) q (subst (λ (l : List Key). Contains l q) is c) in
       subst (λ (l : List Key). Contains l q) (sym is') (in_filter (is_among ds) (keys_of p) q there (among_more cs ds (classes_more a t cs ds typed classes classes') q among))
 
   -- ---- what a read gives
@@ -192,14 +186,6 @@ module _ {I : Type 0} (d : Domain I) (k : IsKept d) (p : Program) (id : ℕ) (f 
     kind_of t (abs.Ints x) (abs.Addrs s) h l = absurd (true≢false (sym l ∙ h))
     kind_of t (abs.Addrs s) (abs.Ints x) h l = absurd (true≢false (sym h ∙ l))
     kind_of t (abs.Addrs s) (abs.Addrs r) h l = tt
-
-    kind_through : (x y z : Abs I) → AreOfOneKind x y → AreOfOneKind y z → AreOfOneKind x z
-    kind_through (abs.Ints x) (abs.Ints y) (abs.Ints z) h l = tt
-    kind_through (abs.Ints x) (abs.Ints y) (abs.Addrs u) h l = absurd l
-    kind_through (abs.Ints x) (abs.Addrs t) z h l = absurd h
-    kind_through (abs.Addrs s) (abs.Ints y) z h l = absurd h
-    kind_through (abs.Addrs s) (abs.Addrs t) (abs.Ints z) h l = absurd l
-    kind_through (abs.Addrs s) (abs.Addrs t) (abs.Addrs u) h l = tt
 
     typed_of : (t : ValueType) (u : Option PlaceType) → option_and_then read_from u ≡ Some t → (v : PlaceType) × (u ≡ Some v)
     typed_of t None e = absurd (cc)

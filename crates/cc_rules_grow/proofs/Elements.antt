@@ -1,13 +1,10 @@
 -- What holds of each element of lists that are joined, made and filtered; and what such lists contain.
-use Rattle.std.proofs.Common.{arith, ◌≡◌, inl, inr, ℕ, zero, suc, ◌+◌, ◌<◌, Bool, true, false, List, [], ◌∷◌, ◌++◌, map, length, cond, All, Contains, Some, slice_get, get_or, refl, sym, ap, subst, ◌∙◌}
-use Rattle.std.specs.Prelude.{◌==◌, position}
+use Rattle.std.proofs.Common.{arith, ◌≡◌, inl, inr, ℕ, zero, suc, ◌+◌, ◌<◌, Bool, true, false, List, [], ◌∷◌, ◌++◌, map, length, cond, All, Contains, Some, slice_get, refl, sym, ap, subst, ◌∙◌}
 use Rattle.std.specs.List.{AllByRecursion, filter, flat_map}
-use Rattle.std.proofs.lemmas.Bool.{eqb-true}
 use Rattle.std.proofs.lemmas.List.Elements.{All-head, All-tail, All-from_recursion, Contains-append_right}
-use Rattle.std.proofs.lemmas.List.Quantifiers.{position-Some}
-use Rattle.std.proofs.lemmas.Option.{slice_get-get_or, slice_get_within, get_or_from_slice_get}
-use Rattle.cc_places.specs.laws.ListLaws.{cons_cases, at_head, behind_head, none_in}
+use Rattle.cc_places.specs.laws.ListLaws.{cons_cases, at_head, behind_head}
 use Rattle.cc_rules_needs.specs.Flowing.{numbers}
+use Rattle.cc_state.proofs.Lists.{no_member}
 
 abbrev pub Each : {A : Type 0} → (A → Type 0) → List A → Type 0
 Each P xs = AllByRecursion P xs
@@ -42,19 +39,10 @@ each_flat P f g (x ∷ xs) h l = let t = each_split P (f x) (flat_map f xs) l in
 
 -- ---- what lists contain
 
-pub contains_at : {A : Type 0} (xs : List A) (i : ℕ) (x : A) → slice_get xs i ≡ Some x → Contains xs x
-contains_at xs i x e = (i, slice_get_within xs i x e, get_or_from_slice_get xs i x x e)
-
 pub some_within : {A : Type 0} (xs : List A) (i : ℕ) → i < length xs → (x : A) × (slice_get xs i ≡ Some x)
 some_within [] i l = absurd (omega (arith, l))
 some_within (x ∷ xs) zero l = (x, refl)
 some_within (x ∷ xs) (suc i) l = some_within xs i (omega (arith, l))
-
-pub at_contained : {A : Type 0} (xs : List A) (x : A) → Contains xs x → (i : ℕ) × (slice_get xs i ≡ Some x)
-at_contained xs x c = (c.0, slice_get-get_or xs c.0 x c.1 ∙ ap Some c.2)
-
-pub no_member : {A : Type 0} {C : Type 0} (x : A) → Contains [] x → C
-no_member x c = absurd (none_in x c)
 
 pub each_at : {A : Type 0} (P : A → Type 0) (xs : List A) (x : A) → Each P xs → Contains xs x → P x
 each_at P [] x h c = no_member x c
@@ -86,19 +74,5 @@ in_filter test (y ∷ xs) x c h = elim (cons_cases y xs x c) [
   | inr r ↦ in_kept (test y) y (filter test xs) x (in_filter test xs x r h)
 ]
 
-pub filter_contained : {A : Type 0} (test : A → Bool) (xs : List A) (x : A) → Contains (filter test xs) x → Contains xs x × (test x ≡ true)
-filter_contained test [] x c = no_member x c
-filter_contained test (y ∷ xs) x c = by (λ c. let t = filter_contained test xs x c in (behind_head y xs x t.0, t.1)) (test y) refl c
-  where
-    by : (Contains (filter test xs) x → Contains (y ∷ xs) x × (test x ≡ true)) → (b : Bool) → test y ≡ b → Contains (cond b (y ∷ filter test xs) (filter test xs)) x → Contains (y ∷ xs) x × (test x ≡ true)
-    by later true h c = elim (cons_cases y (filter test xs) x c) [ inl e ↦ (subst (λ z. Contains (y ∷ xs) z) e (at_head y xs), ap test (sym e) ∙ h) | inr r ↦ later r ]
-    by later false h c = later c
-
 pub in_middle : {A : Type 0} (xs : List A) (x : A) (ys : List A) → Contains (xs ++ x ∷ ys) x
 in_middle xs x ys = Contains-append_right xs (x ∷ ys) x (at_head x ys)
-
--- the first place of a number
-pub at_position : (xs : List ℕ) (x i : ℕ) → position (λ y. y == x) xs ≡ Some i → slice_get xs i ≡ Some x
-at_position xs x i e =
-    let w = position-Some (λ (y : ℕ). y == x) xs i x e in
-    slice_get-get_or xs i x w.0 ∙ ap Some (eqb-true (get_or xs i x) x w.1)

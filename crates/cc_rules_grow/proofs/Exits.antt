@@ -11,7 +11,8 @@ use Rattle.cc_flow_sound.specs.Moves.{entry}
 use Rattle.cc_program.specs.declared.func.Func.{Func}
 use Rattle.cc_program.specs.declared.program.Program.{Program}
 use Rattle.cc_rules_flows.specs.Nexts.{exit_of}
-use Rattle.cc_rules_grow.proofs.Elements.{contains_at, some_within}
+use Rattle.cc_rules_grow.proofs.Elements.{some_within}
+use Rattle.cc_state.proofs.Lists.{contains_at}
 
 pub exit_there : (p : Program) (id : ℕ) (f : Func) → slice_get p.funcs id ≡ Some f → (q : Point) × (slice_get (flow_of p).points (exit_of p id f) ≡ Some q) × (slice_get p.funcs q.func ≡ Some f)
 exit_there p id f function =

@@ -6,7 +6,7 @@ use Rattle.cc_num.specs.declared.int_type.IntType.{IntType}
 use Rattle.cc_num.specs.declared.op.BinOp.{BinOp}
 use Rattle.cc_num.specs.declared.target.Target.{Target}
 use Rattle.cc_num.specs.Integers.{IsValueOf}
-use Rattle.cc_places.specs.Abstract.{IsBelowAbs, HasValue}
+use Rattle.cc_places.specs.Abstract.{AreOfOneKind, IsBelowAbs, HasValue}
 use Rattle.cc_places.specs.declared.abs.Abs.{Abs}
 use Rattle.cc_places.specs.declared.abs.Abs.TheVariants as abs
 use Rattle.cc_places.specs.laws.SetLaws.{within_itself, within_through}
@@ -71,6 +71,14 @@ ValuesGrow {I = I} d p id f =
     IsVal d p id f register e x → IsVal d p id f more e y → IsBelowAbs d.below x y
 
 -- ---- abstract values
+
+pub kind_through : {I : Type 0} (x y z : Abs I) → AreOfOneKind x y → AreOfOneKind y z → AreOfOneKind x z
+kind_through (abs.Ints x) (abs.Ints y) (abs.Ints z) h l = tt
+kind_through (abs.Ints x) (abs.Ints y) (abs.Addrs u) h l = absurd l
+kind_through (abs.Ints x) (abs.Addrs t) z h l = absurd h
+kind_through (abs.Addrs s) (abs.Ints y) z h l = absurd h
+kind_through (abs.Addrs s) (abs.Addrs t) (abs.Ints z) h l = absurd l
+kind_through (abs.Addrs s) (abs.Addrs t) (abs.Addrs u) h l = tt
 
 module _ {I : Type 0} (d : Domain I) (k : IsKept d) where
   pub abs_itself : (x : Abs I) → IsBelowAbs d.below x x

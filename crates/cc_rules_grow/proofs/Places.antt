@@ -1,11 +1,8 @@
 -- The registers of a function stand at one place each among its registers.
-use Rattle.std.proofs.Common.{arith, ◌≡◌, ◌≤◌, ◌<◌, ◌+◌, ℕ, zero, suc, Bool, true, false, true≢false, not, nat_lt, List, [], ◌∷◌, ◌++◌, length, Some, None, slice_get, refl, ap, sym, ◌∙◌}
-use Rattle.std.specs.Prelude.{◌==◌, position, if◌then◌else◌}
-use Rattle.std.specs.List.{position_or_len}
-use Rattle.std.proofs.lemmas.Bool.{eq-eqb}
-use Rattle.std.proofs.lemmas.Option.{same_Some, slice_get_within}
+use Rattle.std.proofs.Common.{arith, ◌≡◌, ◌≤◌, ◌+◌, ℕ, zero, suc, Bool, true, false, List, [], ◌∷◌, ◌++◌, Some, slice_get, refl, ap, ◌∙◌}
+use Rattle.std.proofs.lemmas.Option.{same_Some}
 use Rattle.cc_program.specs.declared.func.Func.{Func}
-use Rattle.cc_rules_grow.proofs.Elements.{at_position}
+use Rattle.cc_state.proofs.Lists.{number_at, number_there}
 use Rattle.cc_state_keys.specs.Lists.{only_if, made_from}
 use Rattle.cc_state_keys.specs.Tracked.{registers, register_number}
 use Rattle.cc_syntax.specs.Registers.{is_register}
@@ -39,37 +36,12 @@ module _ {A : Type 0} (passes : ℕ → A → Bool) where
   one_place n [] i j a e g = absurd (cc)
   one_place n (x ∷ xs) i j a e g = one_by n i j a (made (n + 1) xs) (λ k h. low (n + 1) xs k a h) (λ k l h m. one_place (n + 1) xs k l a h m) (passes n x) e g
 
--- ---- the first place at which a test passes
-
-first_by : (b : Bool) (n : ℕ) → b ≡ true → (if not b then 1 + n else 0) ≤ 0
-first_by true n e = omega arith
-first_by false n e = absurd (true≢false (sym e))
-
-later_by : (b : Bool) (n k : ℕ) → n ≤ k → (if not b then 1 + n else 0) ≤ suc k
-later_by true n k h = omega arith
-later_by false n k h = omega (arith, h)
-
-not_behind : {A : Type 0} (test : A → Bool) (xs : List A) (k : ℕ) (x : A) → slice_get xs k ≡ Some x → test x ≡ true → position_or_len test xs ≤ k
-not_behind test [] k x e t = absurd (cc)
-not_behind test (y ∷ ys) zero x e t = first_by (test y) (position_or_len test ys) (ap test (same_Some y x e) ∙ t)
-not_behind test (y ∷ ys) (suc k) x e t = later_by (test y) (position_or_len test ys) k (not_behind test ys k x e t)
-
-less_true : (m n : ℕ) → m < n → nat_lt m n ≡ true
-less_true m n h = grind (arith, h)
-
-position_there : (xs : List ℕ) (k x : ℕ) → slice_get xs k ≡ Some x → (n : ℕ) × (position (λ y. y == x) xs ≡ Some n)
-position_there xs k x e =
-    let le = not_behind (λ (y : ℕ). y == x) xs k x e (eq-eqb x x refl) in
-    let lt = slice_get_within xs k x e in
-    let within : position_or_len (λ (y : ℕ). y == x) xs < length xs = omega (arith, le, lt) in
-    (position_or_len (λ (y : ℕ). y == x) xs, ap (λ (b : Bool). if b then Some (position_or_len (λ (y : ℕ). y == x) xs) else None) (less_true (position_or_len (λ (y : ℕ). y == x) xs) (length xs) within))
-
 -- ---- registers
 
 pub register_there : (f : Func) (r number : ℕ) → register_number f r ≡ Some number → slice_get (registers f) number ≡ Some r
-register_there f r number e = at_position (registers f) r number e
+register_there f r number e = number_at (registers f) r number e
 
 pub register_at : (f : Func) (number r : ℕ) → slice_get (registers f) number ≡ Some r → register_number f r ≡ Some number
 register_at f number r e =
-    let w = position_there (registers f) number r e in
+    let w = number_there (registers f) r (number, e) in
     w.1 ∙ ap Some (one_place (λ q (l : Named). is_register f q) 0 f.locals w.0 number r (register_there f r w.0 w.1) e)

@@ -17,12 +17,13 @@ use Rattle.cc_rules_flows.specs.Tests.{Test, MayPass, IsLeft}
 use Rattle.cc_rules_flows.specs.Worked.{AreWorked}
 use Rattle.cc_rules_grow.proofs.Below.{AreSomeBelow, IsFactBelow, IsFullBelow}
 use Rattle.cc_rules_grow.proofs.Chains.{WorkedBy, chain_grows, worked_by}
-use Rattle.cc_rules_grow.proofs.Elements.{Each, each_append, at_contained, filter_contained, in_middle, some_within}
+use Rattle.cc_rules_grow.proofs.Elements.{Each, each_append, in_middle, some_within}
 use Rattle.cc_rules_grow.proofs.Emptied.{something_left}
 use Rattle.cc_rules_grow.proofs.Kept.{IsKept, ValuesGrow, value_grows}
 use Rattle.cc_rules_grow.proofs.Leaving.{AreWorkedAt, left_as, left_grows}
 use Rattle.cc_rules_grow.proofs.Places.{register_at}
 use Rattle.cc_rules_needs.specs.Flowing.{Flowing}
+use Rattle.cc_state.proofs.Lists.{at_contained, from_filter}
 use Rattle.cc_state_facts.specs.declared.facts.Facts.{Facts}
 use Rattle.cc_state_facts.specs.declared.facts.PointFact.{PointFact}
 use Rattle.cc_state_facts.specs.Facts.{fact_at, cell_of, local_of}
@@ -84,7 +85,7 @@ module _ {I : Type 0} (d : Domain I) (o : IsOrdered d) (k : IsKept d) (p : Progr
           worked_by d o k p id f grown own more points below e test y [] (filter (equal_here cell) (registers f)) y refl
           (λ before r behind u same left of m x members is listed c.
           (let among = subst (λ (l : List ℕ). Contains l r) (sym same) (in_middle before r behind) in
-          let place = at_contained (registers f) r (filter_contained (equal_here cell) (registers f) r among).0 in
+          let place = at_contained (registers f) r (from_filter (equal_here cell) (registers f) r among).0 in
           worked.members may place.0 r m place.1 (inr (cell, before, behind, y, u, same, at, left, of, (x, members, is, listed, c)))))
 
       cells_below : (cell : ℕ) → cell < length (tracked p) → AreSomeBelow d (a.cell cell) (b.cell cell)

@@ -9,10 +9,8 @@ use Rattle.cc_program.specs.declared.program.Program.{Program}
 use Rattle.cc_program.specs.declared.value.Value.{Value}
 use Rattle.cc_rules.specs.Rules.{NeedsAt, IsFirstSet, AreFirstSets, IsOnly, IsStart, IsStarted, AtStart, Elsewhere}
 use Rattle.cc_rules_grow.proofs.Below.{IsFlowBelow, Had, part_had, flow_had}
-use Rattle.cc_rules_grow.proofs.Calling.{kind_through}
 use Rattle.cc_rules_grow.proofs.Elements.{some_within}
-use Rattle.cc_rules_grow.proofs.Joined.{kind_below}
-use Rattle.cc_rules_grow.proofs.Kept.{IsKept}
+use Rattle.cc_rules_grow.proofs.Kept.{IsKept, kind_through}
 use Rattle.cc_rules_needs.specs.Flowing.{Flowing}
 use Rattle.cc_rules_needs.specs.declared.needs.Part.TheVariants.{Values}
 use Rattle.cc_rules_needs.specs.declared.needs.Slot.TheVariants.{Whole}
@@ -21,6 +19,7 @@ use Rattle.cc_state_facts.specs.declared.facts.Facts.{Facts}
 use Rattle.cc_state_facts.specs.declared.facts.Key.{Key}
 use Rattle.cc_state_keys.specs.Tracked.{registers, tracked}
 use Rattle.cc_state_operators.specs.Domains.{Domain}
+use Rattle.cc_state_values_grow.proofs.Images.{kind_below}
 use Rattle.cc_steps.specs.State.{first_values}
 
 module _ {I : Type 0} (d : Domain I) (k : IsKept d) (p : Program) (facts others : Facts I) (less : IsBelow d.below facts others) where
