@@ -1,4 +1,4 @@
--- What a constraint asks of lesser facts is had by greater ones that meet it, rule by rule.
+-- What a constraint asks of lesser facts is had wherever all is had that it asks of greater ones, rule by rule.
 use Rattle.std.proofs.Common.{◌≡◌, ◌⊎◌, inl, inr, ℕ, Bool, true, false, true≢false, not, length, Option, Some, None, slice_get, refl, ap, sym, ◌∙◌, subst}
 use Rattle.std.specs.Prelude.{option_and_then}
 use Rattle.std.proofs.lemmas.Option.{same_Some}
@@ -62,9 +62,9 @@ same_point p n id id' f f' q q' h l =
 module _ {I : Type 0} (d : Domain I) (o : IsOrdered d) (k : IsKept d) (p : Program) (normal : IsNormal p)
     (grown : (id : ℕ) (f : Func) → slice_get p.funcs id ≡ Some f → ValuesGrow d p id f)
     (leads : (id : ℕ) (f : Func) (register : ℕ → Option (Abs I)) → slice_get p.funcs id ≡ Some f → RegistersPoint p f register → LeadSomewhere d p id f register)
-    (facts others : Facts I) (shape : HaveShape d p facts) (other_shape : HaveShape d p others) (less : IsBelow d.below facts others) where
-  abbrev OthersHave : Needs I → Type 0
-  OthersHave ns = Had d k others ns
+    (facts others holder : Facts I) (shape : HaveShape d p facts) (other_shape : HaveShape d p others) (less : IsBelow d.below facts others) where
+  abbrev AreHad : Needs I → Type 0
+  AreHad ns = Had d k holder ns
 
   point_fact : (g : Facts I) → HaveShape d p g → (n : ℕ) (q : Point) (f : Func) (x : PointFact I) → slice_get (flow_of p).points n ≡ Some q → slice_get p.funcs q.func ≡ Some f → fact_at g n ≡ Some x → IsPointFact d p f x
   point_fact g h n q f x numbered function at = its_shape d p g h n q f (record { numbered = numbered; function = function }) x at
@@ -149,11 +149,11 @@ module _ {I : Type 0} (d : Domain I) (o : IsOrdered d) (k : IsKept d) (p : Progr
         pairs = pairs_less;
       }
 
-      named : (a : Place) → (t : PlaceType) × (place_type p f.locals a ≡ Some t) → NamedMore d k p facts others less n id f point fact other a
+      named : (a : Place) → (t : PlaceType) × (place_type p f.locals a ≡ Some t) → NamedMore d k p facts others holder less n id f point fact other a
       named a typed keys more_keys h l q c =
           named_more d k p id f (grown id f is_point.function) (registers_at facts f n) (registers_at others f n) register_points (leads id f (registers_at facts f n) is_point.function register_points) registers_below a typed.0 keys more_keys typed.1 h l q c
 
-      places_more : (act : Act) → ((a : Place) → ((r : ℕ) × (act ≡ Reads r a)) ⊎ ((e : Expr) × (act ≡ Writes a e)) → (t : PlaceType) × (place_type p f.locals a ≡ Some t)) → PlacesMore d k p facts others less n id f point fact other act
+      places_more : (act : Act) → ((a : Place) → ((r : ℕ) × (act ≡ Reads r a)) ⊎ ((e : Expr) × (act ≡ Writes a e)) → (t : PlaceType) × (place_type p f.locals a ≡ Some t)) → PlacesMore d k p facts others holder less n id f point fact other act
       places_more (Writes a e) typed = named a (typed a (inr (e, refl)))
       places_more (Reads r a) typed = named a (typed a (inl (r, refl)))
       places_more (Sets r e) typed = tt
@@ -169,7 +169,7 @@ module _ {I : Type 0} (d : Domain I) (o : IsOrdered d) (k : IsKept d) (p : Progr
       abbrev act : Act
       act = act_at (statement_of f point) f
 
-      act_places : PlacesMore d k p facts others less n id f point fact other act
+      act_places : PlacesMore d k p facts others holder less n id f point fact other act
       act_places = places_more act (λ a accessed. place_typed p normal n id f point a is_point accessed)
 
       values : (e : Expr) (y z : Abs I) → IsVal d p id f (registers_at facts f n) e y → IsVal d p id f (registers_at others f n) e z → IsBelowAbs d.below y z
@@ -179,26 +179,26 @@ module _ {I : Type 0} (d : Domain I) (o : IsOrdered d) (k : IsKept d) (p : Progr
       reads_grow a y z h l =
           read_more d k p id f (grown id f is_point.function) (registers_at facts f n) (registers_at others f n) register_points (leads id f (registers_at facts f n) is_point.function register_points) registers_below facts others less whole_grows n a y z h l
 
-      asked_here : (rule : Rule) (ns ms : Needs I) → (rule ≡ Flow → AreTestsWorked d p facts n) → AskedHere d p facts n id f point fact rule act ns → AskedHere d p others n id f point other rule act ms → OthersHave ms → OthersHave ns
-      asked_here Initial ns ms worked l m had = subst OthersHave (sym l) tt
-      asked_here Start ns ms worked l m had = subst OthersHave (sym l) tt
+      asked_here : (rule : Rule) (ns ms : Needs I) → (rule ≡ Flow → AreTestsWorked d p facts n) → AskedHere d p facts n id f point fact rule act ns → AskedHere d p others n id f point other rule act ms → AreHad ms → AreHad ns
+      asked_here Initial ns ms worked l m had = subst AreHad (sym l) tt
+      asked_here Start ns ms worked l m had = subst AreHad (sym l) tt
       asked_here Flow ns ms worked (flows, are_flows, comes) (more_flows, are_more, comes_more) had =
-          comes_to_each d o k p id f (grown id f is_point.function) facts others point n fact other register_points registers_below known fact_below of_other.local_count reads_grow point.next flows more_flows ns ms
+          comes_to_each d o k p id f (grown id f is_point.function) facts others point n fact other register_points registers_below known fact_below of_other.local_count reads_grow holder point.next flows more_flows ns ms
           (acts_below d o k p id f (grown id f is_point.function) facts others point n fact other register_points registers_below known fact_below of_other.local_count reads_grow act flows more_flows
           (λ e tests is. each_from (λ (t : Test × ℕ). AreWorked d p id f facts point n fact e t.0) tests (worked refl id f point fact is_point known e tests is))
           (flows_as d p id f facts point n fact act flows are_flows) (flows_as d p id f others point n other act more_flows are_more)) comes comes_more had
-      asked_here Write ns ms worked l m had = written_grows d k p facts others less n id f point fact other act ns ms values act_places l m had
-      asked_here Touch ns ms worked l m had = touched_grows d k p facts others less n id f point fact other act ns ms act_places l m had
-      asked_here Call ns ms worked l m had = calls_grow d k p facts others less n id f point fact other fact_below values flagged true act ns ms l m had
-      asked_here Back ns ms worked l m had = calls_grow d k p facts others less n id f point fact other fact_below values flagged false act ns ms l m had
-      asked_here Return ns ms worked l m had = given_grows d k p facts others less n id f point fact other act ns ms values l m had
-      asked_here Handler ns ms worked l m had = handlers_more d k p facts others less n id f point fact other fact_below fact.on other.on ns ms fact_below.on l m had
-      asked_here Stability ns ms worked l m had = stability_more d k p facts others less n id f point fact other fact_below fact.on other.on ns ms fact_below.on l m had
+      asked_here Write ns ms worked l m had = written_grows d k p facts others holder less n id f point fact other act ns ms values act_places l m had
+      asked_here Touch ns ms worked l m had = touched_grows d k p facts others holder less n id f point fact other act ns ms act_places l m had
+      asked_here Call ns ms worked l m had = calls_grow d k p facts others holder less n id f point fact other fact_below values flagged true act ns ms l m had
+      asked_here Back ns ms worked l m had = calls_grow d k p facts others holder less n id f point fact other fact_below values flagged false act ns ms l m had
+      asked_here Return ns ms worked l m had = given_grows d k p facts others holder less n id f point fact other act ns ms values l m had
+      asked_here Handler ns ms worked l m had = handlers_more d k p facts others holder less n id f point fact other fact_below fact.on other.on ns ms fact_below.on l m had
+      asked_here Stability ns ms worked l m had = stability_more d k p facts others holder less n id f point fact other fact_below fact.on other.on ns ms fact_below.on l m had
 
   -- ---- of each constraint
 
-  asked_in : (rule : Rule) (n : ℕ) (x y : Option (PointFact I)) (ns ms : Needs I) → fact_at facts n ≡ x → fact_at others n ≡ y → (rule ≡ Flow → AreTestsWorked d p facts n) → AskedIn d p facts rule n x ns → AskedIn d p others rule n y ms → OthersHave ms → OthersHave ns
-  asked_in rule n None y ns ms e g worked is l had = subst OthersHave (sym is) tt
+  asked_in : (rule : Rule) (n : ℕ) (x y : Option (PointFact I)) (ns ms : Needs I) → fact_at facts n ≡ x → fact_at others n ≡ y → (rule ≡ Flow → AreTestsWorked d p facts n) → AskedIn d p facts rule n x ns → AskedIn d p others rule n y ms → AreHad ms → AreHad ns
+  asked_in rule n None y ns ms e g worked is l had = subst AreHad (sym is) tt
   asked_in rule n (Some fact) None ns ms e g worked (id, f, point, is_point, asked) l had =
       let (other, there) = reached n id f point fact is_point e in
       absurd (let h : None ≡ Some other = sym g ∙ there in cc)
@@ -209,15 +209,15 @@ module _ {I : Type 0} (d : Domain I) (o : IsOrdered d) (k : IsKept d) (p : Progr
       let same_asked = subst (λ (x : Func). AskedHere d p others n id x point other rule (act_at (statement_of x point) x) ms) same_f in_function in
       asked_here n id f point fact is_point e other g rule ns ms worked asked same_asked had
 
-  pub asked_grows : (c : Constraint) (ns ms : Needs I) → IsWorked d p facts c → IsAsked d p facts c ns → IsAsked d p others c ms → OthersHave ms → OthersHave ns
+  pub asked_grows : (c : Constraint) (ns ms : Needs I) → IsWorked d p facts c → IsAsked d p facts c ns → IsAsked d p others c ms → AreHad ms → AreHad ns
   asked_grows c ns ms worked l m had = by c.rule worked l m
     where
       n : ℕ
       n = c.point
 
-      by : (rule : Rule) → (rule ≡ Flow → AreTestsWorked d p facts n) → IsAsked d p facts (record { rule = rule; point = c.point }) ns → IsAsked d p others (record { rule = rule; point = c.point }) ms → OthersHave ns
-      by Initial worked l m = first_sets_grow d k p facts others less 0 (keys_of p) ns ms l m had
-      by Start worked l m = started_grows d k p facts others less (first_there p normal) n ns ms l m had
+      by : (rule : Rule) → (rule ≡ Flow → AreTestsWorked d p facts n) → IsAsked d p facts (record { rule = rule; point = c.point }) ns → IsAsked d p others (record { rule = rule; point = c.point }) ms → AreHad ns
+      by Initial worked l m = first_sets_grow d k p facts others holder less 0 (keys_of p) ns ms l m had
+      by Start worked l m = started_grows d k p facts others holder less (first_there p normal) n ns ms l m had
       by Flow worked l m = asked_in Flow n (fact_at facts n) (fact_at others n) ns ms refl refl worked l m had
       by Write worked l m = asked_in Write n (fact_at facts n) (fact_at others n) ns ms refl refl worked l m had
       by Touch worked l m = asked_in Touch n (fact_at facts n) (fact_at others n) ns ms refl refl worked l m had
@@ -229,10 +229,10 @@ module _ {I : Type 0} (d : Domain I) (o : IsOrdered d) (k : IsKept d) (p : Progr
 
 -- with what values give, by the laws on them
 pub asked_had : {I : Type 0} (d : Domain I) (o : IsOrdered d) (order : IsOrder d) (k : IsKept d) (p : Program) → IsNormal p → (facts others : Facts I) → HaveShape d p facts → HaveShape d p others → IsBelow d.below facts others → (c : Constraint) →
-    IsWorked d p facts c → (ns : Needs I) → IsAsked d p facts c ns → (ms : Needs I) → IsAsked d p others c ms → HasAll d.below ms others → HasAll d.below ns others
-asked_had d o order k p normal facts others shape other_shape less c worked ns l ms m had =
-    all_each (Has d.below others) ns
+    IsWorked d p facts c → (ns : Needs I) → IsAsked d p facts c ns → (ms : Needs I) → IsAsked d p others c ms → (holder : Facts I) → HasAll d.below ms holder → HasAll d.below ns holder
+asked_had d o order k p normal facts others shape other_shape less c worked ns l ms m holder had =
+    all_each (Has d.below holder) ns
     (asked_grows d o k p normal
     (λ id f own register more points below e x y h g. value_more d o order p id f register more below (leads_somewhere d p id f register own points) e x y h g)
     (λ id f register own points. leads_somewhere d p id f register own points)
-    facts others shape other_shape less c ns ms worked l m (each_all (Has d.below others) ms had))
+    facts others holder shape other_shape less c ns ms worked l m (each_all (Has d.below holder) ms had))

@@ -49,15 +49,15 @@ map_filter_more {A = A} {B = B} P g h test more (x ∷ xs) each had = by (λ l. 
     by rest false true e i l = rest l.1
     by rest false false e i l = rest l
 
-module _ {I : Type 0} (d : Domain I) (k : IsKept d) (p : Program) (facts others : Facts I) (less : IsBelow d.below facts others) where
-  abbrev OthersHave : Needs I → Type 0
-  OthersHave ns = Had d k others ns
+module _ {I : Type 0} (d : Domain I) (k : IsKept d) (p : Program) (facts others holder : Facts I) (less : IsBelow d.below facts others) where
+  abbrev AreHad : Needs I → Type 0
+  AreHad ns = Had d k holder ns
 
   abbrev has_it : Slot × Part I → Type 0
-  has_it need = Has d.below others need
+  has_it need = Has d.below holder need
 
   -- where all of a list have more
-  mapped_more : {A : Type 0} (make more : A → Slot × Part I) (xs ys : List A) → ((x : A) → Contains xs x → Contains ys x) → ((x : A) → has_it (more x) → has_it (make x)) → OthersHave (map more ys) → OthersHave (map make xs)
+  mapped_more : {A : Type 0} (make more : A → Slot × Part I) (xs ys : List A) → ((x : A) → Contains xs x → Contains ys x) → ((x : A) → has_it (more x) → has_it (make x)) → AreHad (map more ys) → AreHad (map make xs)
   mapped_more make more xs ys within each had = each_map has_it make xs (λ x c. each x (each_at has_it (map more ys) (more x) had (in_map more ys x (within x c))))
 
   -- ---- for each function
@@ -69,22 +69,22 @@ module _ {I : Type 0} (d : Domain I) (k : IsKept d) (p : Program) (facts others 
     abbrev ForEachMore : (ℕ → Func → Needs I → Type 0) → List ℕ → Needs I → Type 0
     ForEachMore asks gs ns = ForEach d p others n id f point other asks gs ns
 
-    for_one : (asks : ℕ → Func → Needs I → Type 0) (gs : List ℕ) (ns : Needs I) → ForEachMore asks gs ns → OthersHave ns → (g : ℕ) → Contains gs g → (callee : Func) × (here : Needs I) × (slice_get p.funcs g ≡ Some callee) × asks g callee here × OthersHave here
+    for_one : (asks : ℕ → Func → Needs I → Type 0) (gs : List ℕ) (ns : Needs I) → ForEachMore asks gs ns → AreHad ns → (g : ℕ) → Contains gs g → (callee : Func) × (here : Needs I) × (slice_get p.funcs g ≡ Some callee) × asks g callee here × AreHad here
     for_one asks [] ns each had g c = absurd (none_in g c)
     for_one asks (h ∷ gs) ns (callee, here, rest, there, asked, each, is) had g c =
-        let (had_here, had_rest) = each_split has_it here rest (subst OthersHave is had) in
+        let (had_here, had_rest) = each_split has_it here rest (subst AreHad is had) in
         elim (cons_cases h gs g c) [
           | inl e ↦ (callee, here, subst (λ (i : ℕ). slice_get p.funcs i ≡ Some callee) e there, subst (λ (i : ℕ). asks i callee here) e asked, had_here)
           | inr r ↦ for_one asks gs rest each had_rest g r
         ]
 
-    pub for_each_more : (asks more : ℕ → Func → Needs I → Type 0) → ((g : ℕ) (callee : Func) (here there : Needs I) → slice_get p.funcs g ≡ Some callee → asks g callee here → more g callee there → OthersHave there → OthersHave here) → (gs hs : List ℕ) (ns ms : Needs I) → ((g : ℕ) → Contains gs g → Contains hs g) →
-        ForEachHere asks gs ns → ForEachMore more hs ms → OthersHave ms → OthersHave ns
-    for_each_more asks more grow [] hs ns ms within is each had = subst OthersHave (sym is) tt
+    pub for_each_more : (asks more : ℕ → Func → Needs I → Type 0) → ((g : ℕ) (callee : Func) (here there : Needs I) → slice_get p.funcs g ≡ Some callee → asks g callee here → more g callee there → AreHad there → AreHad here) → (gs hs : List ℕ) (ns ms : Needs I) → ((g : ℕ) → Contains gs g → Contains hs g) →
+        ForEachHere asks gs ns → ForEachMore more hs ms → AreHad ms → AreHad ns
+    for_each_more asks more grow [] hs ns ms within is each had = subst AreHad (sym is) tt
     for_each_more asks more grow (g ∷ gs) hs ns ms within (callee, here, rest, there, asked, each, is) each_more had =
         let (callee', here', there', asked', had') = for_one more hs ms each_more had g (within g (at_head g gs)) in
         let same : callee' ≡ callee = same_Some callee' callee (sym there' ∙ there) in
-        subst OthersHave (sym is)
+        subst AreHad (sym is)
         (each_append has_it here rest (grow g callee here here' there asked (subst (λ (c : Func). more g c here') same asked') had')
         (for_each_more asks more grow gs hs rest ms (λ h c. within h (behind_head g gs h c)) each each_more had))
 
@@ -110,14 +110,14 @@ module _ {I : Type 0} (d : Domain I) (k : IsKept d) (p : Program) (facts others 
         pairs = λ r j h. h;
       }
 
-      interrupted_more : (h : ℕ) (handler : Func) → OthersHave (interrupted d p others n id f point other h handler) → OthersHave (interrupted d p facts n id f point fact h handler)
+      interrupted_more : (h : ℕ) (handler : Func) → AreHad (interrupted d p others n id f point other h handler) → AreHad (interrupted d p facts n id f point fact h handler)
       interrupted_more h handler had = (
         had.0,
         (
-          part_had d k others (Levels h) (LevelSet (entry_levels d p facts n id f point fact (level_of p h))) (LevelSet (entry_levels d p others n id f point other (level_of p h))) (entry_levels_less (level_of p h)) had.1.0,
+          part_had d k holder (Levels h) (LevelSet (entry_levels d p facts n id f point fact (level_of p h))) (LevelSet (entry_levels d p others n id f point other (level_of p h))) (entry_levels_less (level_of p h)) had.1.0,
           (
             had.1.1.0,
-            flow_had d k others (entry p h) (length (registers handler)) (length (tracked p)) (at_handler d p facts n id f point fact) (at_handler d p others n id f point other) (at_handler_less (length (registers handler))) had.1.1.1,
+            flow_had d k holder (entry p h) (length (registers handler)) (length (tracked p)) (at_handler d p facts n id f point fact) (at_handler d p others n id f point other) (at_handler_less (length (registers handler))) had.1.1.1,
           ),
         ),
       )
@@ -127,12 +127,12 @@ module _ {I : Type 0} (d : Domain I) (k : IsKept d) (p : Program) (facts others 
           let (there, may) = from_filter (λ h. may_enter (levels_of facts.levels id) (level_of p h)) (handlers p) h c in
           in_filter (λ h. may_enter (levels_of others.levels id) (level_of p h)) (handlers p) h there (enters_more (levels_of facts.levels id) (levels_of others.levels id) (level_of p h) running_less may)
 
-      pub handlers_more : (on on' : Bool) (ns ms : Needs I) → (on ≡ true → on' ≡ true) → HandlersAsk d p facts n id f point fact on ns → HandlersAsk d p others n id f point other on' ms → OthersHave ms → OthersHave ns
-      handlers_more false on' ns ms h is each had = subst OthersHave (sym is) tt
+      pub handlers_more : (on on' : Bool) (ns ms : Needs I) → (on ≡ true → on' ≡ true) → HandlersAsk d p facts n id f point fact on ns → HandlersAsk d p others n id f point other on' ms → AreHad ms → AreHad ns
+      handlers_more false on' ns ms h is each had = subst AreHad (sym is) tt
       handlers_more true false ns ms h each is had = absurd (true≢false (sym (h refl)))
       handlers_more true true ns ms h each each' had =
           for_each_more (λ h handler here. here ≡ interrupted d p facts n id f point fact h handler) (λ h handler here. here ≡ interrupted d p others n id f point other h handler)
-          (λ g callee here there is asked asked' had'. subst OthersHave (sym asked) (interrupted_more g callee (subst OthersHave asked' had'))) (entering d p facts n id f point fact) (entering d p others n id f point other) ns ms enters each each' had
+          (λ g callee here there is asked asked' had'. subst AreHad (sym asked) (interrupted_more g callee (subst AreHad asked' had'))) (entering d p facts n id f point fact) (entering d p others n id f point other) ns ms enters each each' had
 
       -- ---- cells that they may write
 
@@ -149,17 +149,17 @@ module _ {I : Type 0} (d : Domain I) (k : IsKept d) (p : Program) (facts others 
 
       cell_less : (j : ℕ) → has_it (unstable_cell d p others n id f point other j) → has_it (unstable_cell d p facts n id f point fact j)
       cell_less j h =
-          part_had d k others (CellAt n j) (Values (option_and_then (slice_get facts.whole) (whole_number d p facts n id f point fact j))) (Values (option_and_then (slice_get others.whole) (whole_number d p facts n id f point fact j)))
+          part_had d k holder (CellAt n j) (Values (option_and_then (slice_get facts.whole) (whole_number d p facts n id f point fact j))) (Values (option_and_then (slice_get others.whole) (whole_number d p facts n id f point fact j)))
           (whole_less (whole_number d p facts n id f point fact j)) h
 
-      pub stability_more : (on on' : Bool) (ns ms : Needs I) → (on ≡ true → on' ≡ true) → ns ≡ (if on then unstable d p facts n id f point fact else []) → ms ≡ (if on' then unstable d p others n id f point other else []) → OthersHave ms → OthersHave ns
-      stability_more false on' ns ms h is is' had = subst OthersHave (sym is) tt
+      pub stability_more : (on on' : Bool) (ns ms : Needs I) → (on ≡ true → on' ≡ true) → ns ≡ (if on then unstable d p facts n id f point fact else []) → ms ≡ (if on' then unstable d p others n id f point other else []) → AreHad ms → AreHad ns
+      stability_more false on' ns ms h is is' had = subst AreHad (sym is) tt
       stability_more true false ns ms h is is' had = absurd (true≢false (sym (h refl)))
       stability_more true true ns ms h is is' had =
           let (had_cells, had_pairs) = each_split has_it
           (map (unstable_cell d p others n id f point other) (filter (is_unstable d p others n id f point other) (numbers 0 (length (tracked p)))))
-          (map (λ q. (Apart n q.0 q.1, Mark true)) (filter (λ (q : ℕ × ℕ). is_unstable d p others n id f point other q.1) (each_pair (length (registers f)) (length (tracked p))))) (subst OthersHave is' had) in
-          subst OthersHave (sym is)
+          (map (λ q. (Apart n q.0 q.1, Mark true)) (filter (λ (q : ℕ × ℕ). is_unstable d p others n id f point other q.1) (each_pair (length (registers f)) (length (tracked p))))) (subst AreHad is' had) in
+          subst AreHad (sym is)
           (each_append has_it
           (map (unstable_cell d p facts n id f point fact) (filter (is_unstable d p facts n id f point fact) (numbers 0 (length (tracked p)))))
           (map (λ q. (Apart n q.0 q.1, Mark true)) (filter (λ (q : ℕ × ℕ). is_unstable d p facts n id f point fact q.1) (each_pair (length (registers f)) (length (tracked p)))))
@@ -225,23 +225,23 @@ module _ {I : Type 0} (d : Domain I) (k : IsKept d) (p : Program) (facts others 
     written_as g x act ns (OfWrite a e y ks is val keys same) = subst (λ (z : Act). WrittenAs g x z ns) (sym is) (y, ks, val, keys, same)
     written_as g x act ns (OfNone other is) = written_none g x act ns other is
 
-    written_by : (act : Act) (ns ms : Needs I) → ValuesMore → PlacesMore act → WrittenAs facts fact act ns → WrittenAs others other act ms → OthersHave ms → OthersHave ns
+    written_by : (act : Act) (ns ms : Needs I) → ValuesMore → PlacesMore act → WrittenAs facts fact act ns → WrittenAs others other act ms → AreHad ms → AreHad ns
     written_by (Writes a e) ns ms values named (y, ks, val, keys, is) (y', ls, val', keys', is') had =
-        subst OthersHave (sym is)
+        subst AreHad (sym is)
         (mapped_more (λ q. (Whole q, Values (Some y))) (λ q. (Whole q, Values (Some y'))) ks ls (keys_more a named ks ls keys keys')
-        (λ q h. part_had d k others (Whole q) (Values (Some y)) (Values (Some y')) (values e y y' val val') h) (subst OthersHave is' had))
-    written_by (Sets r e) ns ms values named is l had = subst OthersHave (sym is) tt
-    written_by (Reads r a) ns ms values named is l had = subst OthersHave (sym is) tt
-    written_by (Calls r h args) ns ms values named is l had = subst OthersHave (sym is) tt
-    written_by (Saves r) ns ms values named is l had = subst OthersHave (sym is) tt
-    written_by (Turns on) ns ms values named is l had = subst OthersHave (sym is) tt
-    written_by (Restores e) ns ms values named is l had = subst OthersHave (sym is) tt
-    written_by (Tests e these those) ns ms values named is l had = subst OthersHave (sym is) tt
-    written_by (Chooses e cases) ns ms values named is l had = subst OthersHave (sym is) tt
-    written_by (Returns e) ns ms values named is l had = subst OthersHave (sym is) tt
-    written_by Passes ns ms values named is l had = subst OthersHave (sym is) tt
+        (λ q h. part_had d k holder (Whole q) (Values (Some y)) (Values (Some y')) (values e y y' val val') h) (subst AreHad is' had))
+    written_by (Sets r e) ns ms values named is l had = subst AreHad (sym is) tt
+    written_by (Reads r a) ns ms values named is l had = subst AreHad (sym is) tt
+    written_by (Calls r h args) ns ms values named is l had = subst AreHad (sym is) tt
+    written_by (Saves r) ns ms values named is l had = subst AreHad (sym is) tt
+    written_by (Turns on) ns ms values named is l had = subst AreHad (sym is) tt
+    written_by (Restores e) ns ms values named is l had = subst AreHad (sym is) tt
+    written_by (Tests e these those) ns ms values named is l had = subst AreHad (sym is) tt
+    written_by (Chooses e cases) ns ms values named is l had = subst AreHad (sym is) tt
+    written_by (Returns e) ns ms values named is l had = subst AreHad (sym is) tt
+    written_by Passes ns ms values named is l had = subst AreHad (sym is) tt
 
-    pub written_grows : (act : Act) (ns ms : Needs I) → ValuesMore → PlacesMore act → Written d p facts n id f point fact act ns → Written d p others n id f point other act ms → OthersHave ms → OthersHave ns
+    pub written_grows : (act : Act) (ns ms : Needs I) → ValuesMore → PlacesMore act → Written d p facts n id f point fact act ns → Written d p others n id f point other act ms → AreHad ms → AreHad ns
     written_grows act ns ms values named l m had = written_by act ns ms values named (written_as facts fact act ns l) (written_as others other act ms m) had
 
     -- ---- marks and levels of keys
@@ -255,26 +255,26 @@ module _ {I : Type 0} (d : Domain I) (k : IsKept d) (p : Program) (facts others 
     from_less : AreLevelsWithin (levels_of facts.from id) (levels_of others.from id)
     from_less = less (From id)
 
-    reads_more : (ks ls : List ℕ) → ((m : ℕ) → Contains ks m → Contains ls m) → OthersHave (reads_of others other ls) → OthersHave (reads_of facts fact ks)
+    reads_more : (ks ls : List ℕ) → ((m : ℕ) → Contains ks m → Contains ls m) → AreHad (reads_of others other ls) → AreHad (reads_of facts fact ks)
     reads_more ks ls within had =
         let (marks, levels) = each_split has_it (map (λ q. (HandlerReads q, Mark true)) ls) (map (λ q. (ReadLevels q, LevelSet (levels_of others.from id))) ls) had in
         each_append has_it (map (λ q. (HandlerReads q, Mark true)) ks) (map (λ q. (ReadLevels q, LevelSet (levels_of facts.from id))) ks)
         (mapped_more (λ q. (HandlerReads q, Mark true)) (λ q. (HandlerReads q, Mark true)) ks ls within (λ q h. h) marks)
         (mapped_more (λ q. (ReadLevels q, LevelSet (levels_of facts.from id))) (λ q. (ReadLevels q, LevelSet (levels_of others.from id))) ks ls within
-        (λ q h. part_had d k others (ReadLevels q) (LevelSet (levels_of facts.from id)) (LevelSet (levels_of others.from id)) from_less h) levels)
+        (λ q h. part_had d k holder (ReadLevels q) (LevelSet (levels_of facts.from id)) (LevelSet (levels_of others.from id)) from_less h) levels)
 
-    writes_more : (ks ls : List ℕ) → ((m : ℕ) → Contains ks m → Contains ls m) → OthersHave (writes_of others other ls) → OthersHave (writes_of facts fact ks)
+    writes_more : (ks ls : List ℕ) → ((m : ℕ) → Contains ks m → Contains ls m) → AreHad (writes_of others other ls) → AreHad (writes_of facts fact ks)
     writes_more ks ls within had =
         let (marks, levels) = each_split has_it (map (λ q. (HandlerWrites q, Mark true)) ls) (map (λ q. (WriteLevels q, LevelSet (levels_of others.from id))) ls) had in
         each_append has_it (map (λ q. (HandlerWrites q, Mark true)) ks) (map (λ q. (WriteLevels q, LevelSet (levels_of facts.from id))) ks)
         (mapped_more (λ q. (HandlerWrites q, Mark true)) (λ q. (HandlerWrites q, Mark true)) ks ls within (λ q h. h) marks)
         (mapped_more (λ q. (WriteLevels q, LevelSet (levels_of facts.from id))) (λ q. (WriteLevels q, LevelSet (levels_of others.from id))) ks ls within
-        (λ q h. part_had d k others (WriteLevels q) (LevelSet (levels_of facts.from id)) (LevelSet (levels_of others.from id)) from_less h) levels)
+        (λ q h. part_had d k holder (WriteLevels q) (LevelSet (levels_of facts.from id)) (LevelSet (levels_of others.from id)) from_less h) levels)
 
-    where_marked : (a b : Bool) (x y ns ms : Needs I) → (a ≡ true → b ≡ true) → (OthersHave y → OthersHave x) → ns ≡ (if a then x else []) → ms ≡ (if b then y else []) → OthersHave ms → OthersHave ns
-    where_marked false b x y ns ms h l is is' had = subst OthersHave (sym is) tt
+    where_marked : (a b : Bool) (x y ns ms : Needs I) → (a ≡ true → b ≡ true) → (AreHad y → AreHad x) → ns ≡ (if a then x else []) → ms ≡ (if b then y else []) → AreHad ms → AreHad ns
+    where_marked false b x y ns ms h l is is' had = subst AreHad (sym is) tt
     where_marked true false x y ns ms h l is is' had = absurd (true≢false (sym (h refl)))
-    where_marked true true x y ns ms h l is is' had = subst OthersHave (sym is) (l (subst OthersHave is' had))
+    where_marked true true x y ns ms h l is is' had = subst AreHad (sym is) (l (subst AreHad is' had))
 
     abbrev TouchedAs : (g : Facts I) → PointFact I → Act → Needs I → Type 0
     TouchedAs g x (Reads r a) ns = (ks : List ℕ) × AreKeys d p g n id f point x a ks × (ns ≡ (if mark_of g.by_handler id then reads_of g x ks else []))
@@ -299,33 +299,33 @@ module _ {I : Type 0} (d : Domain I) (k : IsKept d) (p : Program) (facts others 
     touched_as g x act ns (ByWrite a e ks is keys same) = subst (λ (z : Act). TouchedAs g x z ns) (sym is) (ks, keys, same)
     touched_as g x act ns (ByNone no_read no_write is) = touched_none g x act ns no_read no_write is
 
-    touched_by : (act : Act) (ns ms : Needs I) → PlacesMore act → TouchedAs facts fact act ns → TouchedAs others other act ms → OthersHave ms → OthersHave ns
+    touched_by : (act : Act) (ns ms : Needs I) → PlacesMore act → TouchedAs facts fact act ns → TouchedAs others other act ms → AreHad ms → AreHad ns
     touched_by (Reads r a) ns ms named (ks, keys, is) (ls, keys', is') had =
         where_marked (mark_of facts.by_handler id) (mark_of others.by_handler id) (reads_of facts fact ks) (reads_of others other ls) ns ms (less (ByHandler id)) (reads_more ks ls (keys_more a named ks ls keys keys')) is is' had
     touched_by (Writes a e) ns ms named (ks, keys, is) (ls, keys', is') had =
         where_marked (mark_of facts.by_handler id) (mark_of others.by_handler id) (writes_of facts fact ks) (writes_of others other ls) ns ms (less (ByHandler id)) (writes_more ks ls (keys_more a named ks ls keys keys')) is is' had
-    touched_by (Sets r e) ns ms named is l had = subst OthersHave (sym is) tt
-    touched_by (Calls r h args) ns ms named is l had = subst OthersHave (sym is) tt
-    touched_by (Saves r) ns ms named is l had = subst OthersHave (sym is) tt
-    touched_by (Turns on) ns ms named is l had = subst OthersHave (sym is) tt
-    touched_by (Restores e) ns ms named is l had = subst OthersHave (sym is) tt
-    touched_by (Tests e these those) ns ms named is l had = subst OthersHave (sym is) tt
-    touched_by (Chooses e cases) ns ms named is l had = subst OthersHave (sym is) tt
-    touched_by (Returns e) ns ms named is l had = subst OthersHave (sym is) tt
-    touched_by Passes ns ms named is l had = subst OthersHave (sym is) tt
+    touched_by (Sets r e) ns ms named is l had = subst AreHad (sym is) tt
+    touched_by (Calls r h args) ns ms named is l had = subst AreHad (sym is) tt
+    touched_by (Saves r) ns ms named is l had = subst AreHad (sym is) tt
+    touched_by (Turns on) ns ms named is l had = subst AreHad (sym is) tt
+    touched_by (Restores e) ns ms named is l had = subst AreHad (sym is) tt
+    touched_by (Tests e these those) ns ms named is l had = subst AreHad (sym is) tt
+    touched_by (Chooses e cases) ns ms named is l had = subst AreHad (sym is) tt
+    touched_by (Returns e) ns ms named is l had = subst AreHad (sym is) tt
+    touched_by Passes ns ms named is l had = subst AreHad (sym is) tt
 
-    pub touched_grows : (act : Act) (ns ms : Needs I) → PlacesMore act → Touched d p facts n id f point fact act ns → Touched d p others n id f point other act ms → OthersHave ms → OthersHave ns
+    pub touched_grows : (act : Act) (ns ms : Needs I) → PlacesMore act → Touched d p facts n id f point fact act ns → Touched d p others n id f point other act ms → AreHad ms → AreHad ns
     touched_grows act ns ms named l m had = touched_by act ns ms named (touched_as facts fact act ns l) (touched_as others other act ms m) had
 
     -- ---- what is returned
 
-    pub given_grows : (act : Act) (ns ms : Needs I) → ValuesMore → Given d p facts n id f point fact act ns → Given d p others n id f point other act ms → OthersHave ms → OthersHave ns
-    given_grows act ns ms values (OfNoValue never is) l had = subst OthersHave (sym is) tt
+    pub given_grows : (act : Act) (ns ms : Needs I) → ValuesMore → Given d p facts n id f point fact act ns → Given d p others n id f point other act ms → AreHad ms → AreHad ns
+    given_grows act ns ms values (OfNoValue never is) l had = subst AreHad (sym is) tt
     given_grows act ns ms values (OfReturn e y is val same) (OfNoValue never is') had = absurd (never e is)
     given_grows act ns ms values (OfReturn e y is val same) (OfReturn e' y' is' val' same') had =
         let same_act : Returns (Some e') ≡ Returns (Some e) = sym is' ∙ is in
         let same_e : e' ≡ e = one_returned e' e same_act in
-        subst OthersHave (sym same) (part_had d k others (Result id) (Values (Some y)) (Values (Some y')) (values e y y' val (subst (λ (i : Expr). IsValue d p others n id f point other i y') same_e val')) ((subst OthersHave same' had).0), tt)
+        subst AreHad (sym same) (part_had d k holder (Result id) (Values (Some y)) (Values (Some y')) (values e y y' val (subst (λ (i : Expr). IsValue d p others n id f point other i y') same_e val')) ((subst AreHad same' had).0), tt)
       where
         one_returned : (e g : Expr) → Returns (Some e) ≡ Returns (Some g) → e ≡ g
         one_returned e g h = cc

@@ -37,10 +37,10 @@ use Rattle.cc_state_values_grow.proofs.Images.{kind_below}
 one_result : (r s : Option ℕ) (g h : Expr) (xs ys : List Expr) → Calls r g xs ≡ Calls s h ys → (r ≡ s) × (g ≡ h) × (xs ≡ ys)
 one_result r s g h xs ys e = (cc, cc, cc)
 
-module _ {I : Type 0} (d : Domain I) (k : IsKept d) (p : Program) (facts others : Facts I) (less : IsBelow d.below facts others) (n id : ℕ) (f : Func) (point : Point) (fact other : PointFact I)
-    (below : IsFactBelow d (length (registers f)) (length (tracked p)) fact other) (values : ValuesMore d k p facts others less n id f point fact other) where
-  abbrev OthersHave : Needs I → Type 0
-  OthersHave ns = Had d k others ns
+module _ {I : Type 0} (d : Domain I) (k : IsKept d) (p : Program) (facts others holder : Facts I) (less : IsBelow d.below facts others) (n id : ℕ) (f : Func) (point : Point) (fact other : PointFact I)
+    (below : IsFactBelow d (length (registers f)) (length (tracked p)) fact other) (values : ValuesMore d k p facts others holder less n id f point fact other) where
+  abbrev AreHad : Needs I → Type 0
+  AreHad ns = Had d k holder ns
 
   -- ---- the functions that may be called, and the arguments
 
@@ -74,32 +74,32 @@ module _ {I : Type 0} (d : Domain I) (k : IsKept d) (p : Program) (facts others 
       pairs = λ r j h. h;
     }
 
-  whole_had : (number : Option ℕ) (y z : Abs I) → IsBelowAbs d.below y z → OthersHave (need_whole d p others n id f point other number z) → OthersHave (need_whole d p facts n id f point fact number y)
+  whole_had : (number : Option ℕ) (y z : Abs I) → IsBelowAbs d.below y z → AreHad (need_whole d p others n id f point other number z) → AreHad (need_whole d p facts n id f point fact number y)
   whole_had None y z h had = tt
-  whole_had (Some q) y z h had = (part_had d k others (Whole q) (Values (Some y)) (Values (Some z)) h had.0, tt)
+  whole_had (Some q) y z h had = (part_had d k holder (Whole q) (Values (Some y)) (Values (Some z)) h had.0, tt)
 
-  parameters_had : (g r : ℕ) (ys zs : List (Abs I)) → AllZip (IsBelowAbs d.below) ys zs → OthersHave (other_parameters d p others n id f point other g r zs) → OthersHave (other_parameters d p facts n id f point fact g r ys)
+  parameters_had : (g r : ℕ) (ys zs : List (Abs I)) → AllZip (IsBelowAbs d.below) ys zs → AreHad (other_parameters d p others n id f point other g r zs) → AreHad (other_parameters d p facts n id f point fact g r ys)
   parameters_had g r [] zs h had = tt
   parameters_had g r (y ∷ ys) [] h had = absurd h
   parameters_had g r (y ∷ ys) (z ∷ zs) h had =
-      let (first, rest) = each_split (Has d.below others) (need_whole d p others n id f point other (key_number p (key.Local g r)) z) (other_parameters d p others n id f point other g (suc r) zs) had in
-      each_append (Has d.below others) (need_whole d p facts n id f point fact (key_number p (key.Local g r)) y) (other_parameters d p facts n id f point fact g (suc r) ys)
+      let (first, rest) = each_split (Has d.below holder) (need_whole d p others n id f point other (key_number p (key.Local g r)) z) (other_parameters d p others n id f point other g (suc r) zs) had in
+      each_append (Has d.below holder) (need_whole d p facts n id f point fact (key_number p (key.Local g r)) y) (other_parameters d p facts n id f point fact g (suc r) ys)
       (whole_had (key_number p (key.Local g r)) y z h.0 first) (parameters_had g (suc r) ys zs h.1 rest)
 
-  entered_more : (ys zs : List (Abs I)) → AllZip (IsBelowAbs d.below) ys zs → (g : ℕ) (callee : Func) (here there : Needs I) → Entered d p facts n id f point fact ys g callee here → Entered d p others n id f point other zs g callee there → OthersHave there → OthersHave here
+  entered_more : (ys zs : List (Abs I)) → AllZip (IsBelowAbs d.below) ys zs → (g : ℕ) (callee : Func) (here there : Needs I) → Entered d p facts n id f point fact ys g callee here → Entered d p others n id f point other zs g callee there → AreHad there → AreHad here
   entered_more ys zs arguments g callee here there is is' had =
-      let had' = subst OthersHave is' had in
-      let rest = each_split (Has d.below others) (NeedsAt d p others (entry p g) callee (at_entry d p others n id f point other zs callee)) (other_parameters d p others n id f point other g 0 zs) had'.1.1.1.1 in
-      subst OthersHave (sym is) (
-        part_had d k others (ByMain g) (Mark (mark_of facts.by_main id)) (Mark (mark_of others.by_main id)) (less (ByMain id)) had'.0,
+      let had' = subst AreHad is' had in
+      let rest = each_split (Has d.below holder) (NeedsAt d p others (entry p g) callee (at_entry d p others n id f point other zs callee)) (other_parameters d p others n id f point other g 0 zs) had'.1.1.1.1 in
+      subst AreHad (sym is) (
+        part_had d k holder (ByMain g) (Mark (mark_of facts.by_main id)) (Mark (mark_of others.by_main id)) (less (ByMain id)) had'.0,
         (
-          part_had d k others (ByHandler g) (Mark (mark_of facts.by_handler id)) (Mark (mark_of others.by_handler id)) (less (ByHandler id)) had'.1.0,
+          part_had d k holder (ByHandler g) (Mark (mark_of facts.by_handler id)) (Mark (mark_of others.by_handler id)) (less (ByHandler id)) had'.1.0,
           (
-            part_had d k others (Levels g) (LevelSet (levels_of facts.levels id)) (LevelSet (levels_of others.levels id)) (less (Levels id)) had'.1.1.0,
+            part_had d k holder (Levels g) (LevelSet (levels_of facts.levels id)) (LevelSet (levels_of others.levels id)) (less (Levels id)) had'.1.1.0,
             (
-              part_had d k others (From g) (LevelSet (levels_of facts.from id)) (LevelSet (levels_of others.from id)) (less (From id)) had'.1.1.1.0,
-              each_append (Has d.below others) (NeedsAt d p facts (entry p g) callee (at_entry d p facts n id f point fact ys callee)) (other_parameters d p facts n id f point fact g 0 ys)
-                  (flow_had d k others (entry p g) (length (registers callee)) (length (tracked p)) (at_entry d p facts n id f point fact ys callee) (at_entry d p others n id f point other zs callee) (entry_less ys zs arguments callee (length (registers callee))) rest.0)
+              part_had d k holder (From g) (LevelSet (levels_of facts.from id)) (LevelSet (levels_of others.from id)) (less (From id)) had'.1.1.1.0,
+              each_append (Has d.below holder) (NeedsAt d p facts (entry p g) callee (at_entry d p facts n id f point fact ys callee)) (other_parameters d p facts n id f point fact g 0 ys)
+                  (flow_had d k holder (entry p g) (length (registers callee)) (length (tracked p)) (at_entry d p facts n id f point fact ys callee) (at_entry d p others n id f point other zs callee) (entry_less ys zs arguments callee (length (registers callee))) rest.0)
                   (parameters_had g 0 ys zs arguments rest.1),
             ),
           ),
@@ -168,31 +168,31 @@ module _ {I : Type 0} (d : Domain I) (k : IsKept d) (p : Program) (facts others 
       pairs = λ r j g. g;
     }
 
-    returned_more : (result : Option ℕ) (g : ℕ) (callee : Func) (here there : Needs I) → slice_get p.funcs g ≡ Some callee → Returned d p facts n id f point fact result g callee here → Returned d p others n id f point other result g callee there → OthersHave there → OthersHave here
-    returned_more result g callee here there is_callee (NoExit none is) l had = subst OthersHave (sym is) tt
+    returned_more : (result : Option ℕ) (g : ℕ) (callee : Func) (here there : Needs I) → slice_get p.funcs g ≡ Some callee → Returned d p facts n id f point fact result g callee here → Returned d p others n id f point other result g callee there → AreHad there → AreHad here
+    returned_more result g callee here there is_callee (NoExit none is) l had = subst AreHad (sym is) tt
     returned_more result g callee here there is_callee (FromExit exit flow at given is) (NoExit none is') had = not_reached exit (flagged g callee exit is_callee at) (flags_less (exit_of p g callee) exit None at none)
     returned_more result g callee here there is_callee (FromExit exit flow at given is) (FromExit exit' flow' at' given' is') had =
         let l = exit_less (exit_of p g callee) exit exit' flow flow' at at' (given_less result g callee flow flow' given given') in
-        subst OthersHave (sym is)
-        (each_flat (Has d.below others) (λ m. NeedsAt d p others m f (of_exit d p others n id f point other exit' flow')) (λ m. NeedsAt d p facts m f (of_exit d p facts n id f point fact exit flow)) point.next
-        (λ m h. flow_had d k others m (length (registers f)) (length (tracked p)) (of_exit d p facts n id f point fact exit flow) (of_exit d p others n id f point other exit' flow') l h) (subst OthersHave is' had))
+        subst AreHad (sym is)
+        (each_flat (Has d.below holder) (λ m. NeedsAt d p others m f (of_exit d p others n id f point other exit' flow')) (λ m. NeedsAt d p facts m f (of_exit d p facts n id f point fact exit flow)) point.next
+        (λ m h. flow_had d k holder m (length (registers f)) (length (tracked p)) (of_exit d p facts n id f point fact exit flow) (of_exit d p others n id f point other exit' flow') l h) (subst AreHad is' had))
 
     -- ---- both
 
-    pub calls_grow : (entering : Bool) (act : Act) (ns ms : Needs I) → CallAsks d p facts n id f point fact entering act ns → CallAsks d p others n id f point other entering act ms → OthersHave ms → OthersHave ns
-    calls_grow entering act ns ms (OfNoCall never is) l had = subst OthersHave (sym is) tt
+    pub calls_grow : (entering : Bool) (act : Act) (ns ms : Needs I) → CallAsks d p facts n id f point fact entering act ns → CallAsks d p others n id f point other entering act ms → AreHad ms → AreHad ns
+    calls_grow entering act ns ms (OfNoCall never is) l had = subst AreHad (sym is) tt
     calls_grow entering act ns ms (OfEntries r g args gs ys way is called vals each) (OfNoCall never is') had = absurd (never r g args is)
     calls_grow entering act ns ms (OfReturns r g args gs way is called each) (OfNoCall never is') had = absurd (never r g args is)
     calls_grow entering act ns ms (OfEntries r g args gs ys way is called vals each) (OfReturns r' g' args' gs' way' is' called' each') had = absurd (true≢false (sym way ∙ way'))
     calls_grow entering act ns ms (OfReturns r g args gs way is called each) (OfEntries r' g' args' gs' ys' way' is' called' vals' each') had = absurd (true≢false (sym way' ∙ way))
     calls_grow entering act ns ms (OfEntries r g args gs ys way is called vals each) (OfEntries r' g' args' hs zs way' is' called' vals' each') had =
         let (same_r, same_g, same_args) = one_result r' r g' g args' args (sym is' ∙ is) in
-        for_each_more d k p facts others less n id f point fact other (Entered d p facts n id f point fact ys) (Entered d p others n id f point other zs)
+        for_each_more d k p facts others holder less n id f point fact other (Entered d p facts n id f point fact ys) (Entered d p others n id f point other zs)
         (λ h callee here there is_callee asked asked' had'. entered_more ys zs (arguments_more args ys zs vals (subst (λ (l : List Expr). AreValues d p others n id f point other l zs) same_args vals')) h callee here there asked asked' had') gs hs ns ms
         (called_more g gs hs called (subst (λ (e : Expr). AreCalled d p others n id f point other e hs) same_g called')) each each' had
     calls_grow entering act ns ms (OfReturns r g args gs way is called each) (OfReturns r' g' args' hs way' is' called' each') had =
         let (same_r, same_g, same_args) = one_result r' r g' g args' args (sym is' ∙ is) in
-        for_each_more d k p facts others less n id f point fact other (Returned d p facts n id f point fact r) (Returned d p others n id f point other r)
+        for_each_more d k p facts others holder less n id f point fact other (Returned d p facts n id f point fact r) (Returned d p others n id f point other r)
         (λ h callee here there is_callee asked asked' had'. returned_more r h callee here there is_callee asked asked' had') gs hs ns ms
         (called_more g gs hs called (subst (λ (e : Expr). AreCalled d p others n id f point other e hs) same_g called')) each
         (subst (λ (s : Option ℕ). ForEach d p others n id f point other (Returned d p others n id f point other s) hs ms) same_r each') had

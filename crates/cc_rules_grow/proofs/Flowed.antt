@@ -188,23 +188,24 @@ module _ {I : Type 0} (d : Domain I) (o : IsOrdered d) (k : IsKept d) (p : Progr
 
   -- ---- what each next point is asked to have
 
-  abbrev OthersHave : Needs I → Type 0
-  OthersHave ns = Had d k others ns
+  module _ (holder : Facts I) where
+    abbrev AreHad : Needs I → Type 0
+    AreHad ns = Had d k holder ns
 
-  comes_to : (m : ℕ) (flows more_flows : List (Flowing I)) (ns more_ns : Needs I) → AreBelow d (abs_through d k) (length (registers f)) (length (tracked p)) flows more_flows →
-      ComesTo d p facts n id f point fact m flows ns → ComesTo d p others n id f point other m more_flows more_ns → OthersHave more_ns → OthersHave ns
-  comes_to m [] more_flows ns more_ns h is c had = subst OthersHave (sym is) tt
-  comes_to m (a ∷ flows) [] ns more_ns h c is had = absurd (let i : (h.0.1).0 < 0 = (h.0.1).1 in omega (arith, i))
-  comes_to m (a ∷ flows) (b ∷ more_flows) ns more_ns h (x, joined, is) (y, joined', is') had =
-      subst OthersHave (sym is) (flow_had d k others m (length (registers f)) (length (tracked p)) x y
-      (joined_below d (abs_through d k) (length (registers f)) (length (tracked p)) a flows (b ∷ more_flows) x y h joined joined') (subst OthersHave is' had))
+    comes_to : (m : ℕ) (flows more_flows : List (Flowing I)) (ns more_ns : Needs I) → AreBelow d (abs_through d k) (length (registers f)) (length (tracked p)) flows more_flows →
+        ComesTo d p facts n id f point fact m flows ns → ComesTo d p others n id f point other m more_flows more_ns → AreHad more_ns → AreHad ns
+    comes_to m [] more_flows ns more_ns h is c had = subst AreHad (sym is) tt
+    comes_to m (a ∷ flows) [] ns more_ns h c is had = absurd (let i : (h.0.1).0 < 0 = (h.0.1).1 in omega (arith, i))
+    comes_to m (a ∷ flows) (b ∷ more_flows) ns more_ns h (x, joined, is) (y, joined', is') had =
+        subst AreHad (sym is) (flow_had d k holder m (length (registers f)) (length (tracked p)) x y
+        (joined_below d (abs_through d k) (length (registers f)) (length (tracked p)) a flows (b ∷ more_flows) x y h joined joined') (subst AreHad is' had))
 
-  pub comes_to_each : (next : List ℕ) (flows more_flows : List (ℕ × Flowing I)) (ns more_ns : Needs I) → AllBelow flows more_flows →
-      ComesToEach d p facts n id f point fact next flows ns → ComesToEach d p others n id f point other next more_flows more_ns → OthersHave more_ns → OthersHave ns
-  comes_to_each [] flows more_flows ns more_ns h is is' had = subst OthersHave (sym is) tt
-  comes_to_each (m ∷ next) flows more_flows ns more_ns h (first, rest, to, each, is) (first', rest', to', each', is') had =
-      let (had_first, had_rest) = each_split (Has d.below others) first' rest' (subst OthersHave is' had) in
-      subst OthersHave (sym is)
-      (each_append (Has d.below others) first rest
-      (comes_to m (flows_to d p facts n id f point fact m flows) (flows_to d p others n id f point other m more_flows) first first' (going_below d (abs_through d k) (length (registers f)) (length (tracked p)) m flows more_flows h) to to' had_first)
-      (comes_to_each next flows more_flows rest rest' h each each' had_rest))
+    pub comes_to_each : (next : List ℕ) (flows more_flows : List (ℕ × Flowing I)) (ns more_ns : Needs I) → AllBelow flows more_flows →
+        ComesToEach d p facts n id f point fact next flows ns → ComesToEach d p others n id f point other next more_flows more_ns → AreHad more_ns → AreHad ns
+    comes_to_each [] flows more_flows ns more_ns h is is' had = subst AreHad (sym is) tt
+    comes_to_each (m ∷ next) flows more_flows ns more_ns h (first, rest, to, each, is) (first', rest', to', each', is') had =
+        let (had_first, had_rest) = each_split (Has d.below holder) first' rest' (subst AreHad is' had) in
+        subst AreHad (sym is)
+        (each_append (Has d.below holder) first rest
+        (comes_to m (flows_to d p facts n id f point fact m flows) (flows_to d p others n id f point other m more_flows) first first' (going_below d (abs_through d k) (length (registers f)) (length (tracked p)) m flows more_flows h) to to' had_first)
+        (comes_to_each next flows more_flows rest rest' h each each' had_rest))

@@ -22,20 +22,20 @@ use Rattle.cc_state_operators.specs.Domains.{Domain}
 use Rattle.cc_state_values_grow.proofs.Images.{kind_below}
 use Rattle.cc_steps.specs.State.{first_values}
 
-module _ {I : Type 0} (d : Domain I) (k : IsKept d) (p : Program) (facts others : Facts I) (less : IsBelow d.below facts others) where
-  abbrev OthersHave : Needs I → Type 0
-  OthersHave ns = Had d k others ns
+module _ {I : Type 0} (d : Domain I) (k : IsKept d) (p : Program) (facts others holder : Facts I) (less : IsBelow d.below facts others) where
+  abbrev AreHad : Needs I → Type 0
+  AreHad ns = Had d k holder ns
 
   first_less : (n : ℕ) (q : Key) (y z : Abs I) → IsFirstSet d p facts n q y → IsFirstSet d p others n q z → IsBelowAbs d.below y z
   first_less n q y z l m =
       let h : IsBelowAbs d.below l.set m.set = subst (λ (x : Option (Abs I)). AreValuesBelow d.below (Some l.set) x) m.there (subst (λ (x : Option (Abs I)). AreValuesBelow d.below x (slice_get others.whole n)) l.there (less (Whole n))) in
       l.least z (kind_through l.set m.set z (kind_below d.below l.set m.set h) m.alike) m.has
 
-  pub first_sets_grow : (n : ℕ) (keys : List Key) (ns ms : Needs I) → AreFirstSets d p facts n keys ns → AreFirstSets d p others n keys ms → OthersHave ms → OthersHave ns
-  first_sets_grow n [] ns ms is is' had = subst OthersHave (sym is) tt
+  pub first_sets_grow : (n : ℕ) (keys : List Key) (ns ms : Needs I) → AreFirstSets d p facts n keys ns → AreFirstSets d p others n keys ms → AreHad ms → AreHad ns
+  first_sets_grow n [] ns ms is is' had = subst AreHad (sym is) tt
   first_sets_grow n (q ∷ keys) ns ms (y, rest, first, more, is) (z, rest', first', more', is') had =
-      let had' = subst OthersHave is' had in
-      subst OthersHave (sym is) (part_had d k others (Whole n) (Values (Some y)) (Values (Some z)) (first_less n q y z first first') had'.0, first_sets_grow (suc n) keys rest rest' more more' had'.1)
+      let had' = subst AreHad is' had in
+      subst AreHad (sym is) (part_had d k holder (Whole n) (Values (Some y)) (Values (Some z)) (first_less n q y z first first') had'.0, first_sets_grow (suc n) keys rest rest' more more' had'.1)
 
   only_below : (v : Value) (x y : Option (Abs I)) → IsOnly d p facts v x → IsOnly d p others v y → AreValuesBelow d.below x y
   only_below v x y (a, is, has, least) (b, is', has', least') =
@@ -53,11 +53,11 @@ module _ {I : Type 0} (d : Domain I) (k : IsKept d) (p : Program) (facts others 
     pairs = λ r j h. let e : false ≡ true = sym (m.pairs r j) ∙ h in absurd (cc);
   }
 
-  pub started_grows : ((j i : ℕ) → slice_get (tracked p) j ≡ Some i → (v : Value) × (scalar_in (map (first_values p) p.objects) i 0 ≡ Some v)) → (n : ℕ) (ns ms : Needs I) → IsStarted d p facts n ns → IsStarted d p others n ms → OthersHave ms → OthersHave ns
-  started_grows first n ns ms (Elsewhere other is) l had = subst OthersHave (sym is) tt
+  pub started_grows : ((j i : ℕ) → slice_get (tracked p) j ≡ Some i → (v : Value) × (scalar_in (map (first_values p) p.objects) i 0 ≡ Some v)) → (n : ℕ) (ns ms : Needs I) → IsStarted d p facts n ns → IsStarted d p others n ms → AreHad ms → AreHad ns
+  started_grows first n ns ms (Elsewhere other is) l had = subst AreHad (sym is) tt
   started_grows first n ns ms (AtStart f a there here start is) (Elsewhere other is') had = absurd (other here)
   started_grows first n ns ms (AtStart f a there here start is) (AtStart g b there' here' start' is') had =
-      let had' = subst OthersHave is' had in
+      let had' = subst AreHad is' had in
       let same : g ≡ f = same_Some g f (sym there' ∙ there) in
-      subst OthersHave (sym is)
-      (had'.0, (had'.1.0, flow_had d k others n (length (registers f)) (length (tracked p)) a b (start_less (length (registers f)) a b first start start') (subst (λ (x : Func). OthersHave (NeedsAt d p others n x b)) same had'.1.1)))
+      subst AreHad (sym is)
+      (had'.0, (had'.1.0, flow_had d k holder n (length (registers f)) (length (tracked p)) a b (start_less (length (registers f)) a b first start start') (subst (λ (x : Func). AreHad (NeedsAt d p others n x b)) same had'.1.1)))

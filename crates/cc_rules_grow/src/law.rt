@@ -13,7 +13,20 @@ use cc_lattice::IntDomain;
 
 /// What constraints ask of facts, and of greater ones. The call does nothing.
 pub fn laws<I: IntDomain>()
-    // What a constraint asks of lesser facts, greater ones that meet it have.
+    // What has all that a constraint asks of greater facts has all that it asks of lesser ones.
+    ensures asked { (p : Program) → IsNormal p → (facts others : Facts I) → HaveShape (domain I.Has I.IsBelow I.OpGives I.OpOneGives I.ToGives I.KeepGives I.members_of) p facts →
+        HaveShape (domain I.Has I.IsBelow I.OpGives I.OpOneGives I.ToGives I.KeepGives I.members_of) p others → IsBelow I.IsBelow facts others → (c : Constraint) →
+        IsWorked (domain I.Has I.IsBelow I.OpGives I.OpOneGives I.ToGives I.KeepGives I.members_of) p facts c → (ns ms : Needs I) →
+        IsAsked (domain I.Has I.IsBelow I.OpGives I.OpOneGives I.ToGives I.KeepGives I.members_of) p facts c ns →
+        IsAsked (domain I.Has I.IsBelow I.OpGives I.OpOneGives I.ToGives I.KeepGives I.members_of) p others c ms → (h : Facts I) → HasAll I.IsBelow ms h → HasAll I.IsBelow ns h }
+
+    // So what a constraint asks of facts is determined.
+    ensures determined { (p : Program) → IsNormal p → (facts : Facts I) → HaveShape (domain I.Has I.IsBelow I.OpGives I.OpOneGives I.ToGives I.KeepGives I.members_of) p facts → (c : Constraint) →
+        IsWorked (domain I.Has I.IsBelow I.OpGives I.OpOneGives I.ToGives I.KeepGives I.members_of) p facts c → (ns ms : Needs I) →
+        IsAsked (domain I.Has I.IsBelow I.OpGives I.OpOneGives I.ToGives I.KeepGives I.members_of) p facts c ns →
+        IsAsked (domain I.Has I.IsBelow I.OpGives I.OpOneGives I.ToGives I.KeepGives I.members_of) p facts c ms → (h : Facts I) → HasAll I.IsBelow ms h → HasAll I.IsBelow ns h }
+
+    // And what is asked of lesser facts, greater ones that meet the constraint have.
     ensures grows { (p : Program) → IsNormal p → (facts others : Facts I) → HaveShape (domain I.Has I.IsBelow I.OpGives I.OpOneGives I.ToGives I.KeepGives I.members_of) p facts →
         HaveShape (domain I.Has I.IsBelow I.OpGives I.OpOneGives I.ToGives I.KeepGives I.members_of) p others → IsBelow I.IsBelow facts others → (c : Constraint) →
         IsWorked (domain I.Has I.IsBelow I.OpGives I.OpOneGives I.ToGives I.KeepGives I.members_of) p facts c → (ns : Needs I) →

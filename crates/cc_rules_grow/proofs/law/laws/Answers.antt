@@ -1,8 +1,9 @@
 -- The law, by the laws of the domain.
 use Rattle.cc_state_operators.specs.Domains.{domain}
 use Rattle.cc_rules_grow.proofs.Asked.{asked_had}
-use Rattle.cc_rules_grow.proofs.Kept.{kept_given}
+use Rattle.cc_rules_grow.proofs.Kept.{kept_given, abs_itself, abs_through}
 use Rattle.cc_rules_grow.proofs.law.laws.Goals as goal
+use Rattle.cc_rules_needs.proofs.Through.{facts_itself}
 use Rattle.cc_state_values.proofs.Same.{order_of}
 use Rattle.cc_state_values_grow.proofs.Images.{order_given}
 
@@ -15,8 +16,10 @@ returns g c =
     let order = order_given d g.I.Lattice.AreAlike i.all_alike l.below_through i.below_has in
     let kept =
     kept_given d g.I.Lattice.AreAlike g.I.IntDomain.bounds_of i.all_alike l.below_itself l.below_through i.below_has i.members_below i.keep_has i.keep_below i.keep_grows i.comparison_told i.to_kept i.least_alone i.below_explicit i.members_all i.bounds_none i.bounds_ends in
+    let had = asked_had d ordered order kept in
     record {
-      grows = λ p normal facts others shape other_shape less c worked ns asked asks. asked_had d ordered order kept p normal facts others shape other_shape less c worked ns asked asks.0 asks.1 asks.2;
-      solutions = λ p normal facts others shape other_shape less solution c listed worked ns asked.
-          (let asks = solution c listed in asked_had d ordered order kept p normal facts others shape other_shape less c worked ns asked asks.0 asks.1 asks.2);
+      asked = λ p normal facts others shape other_shape less c worked ns ms asked more h has. had p normal facts others shape other_shape less c worked ns asked ms more h has;
+      determined = λ p normal facts shape c worked ns ms asked again h has. had p normal facts facts shape shape (facts_itself d.below (abs_itself d kept) (abs_through d kept) facts) c worked ns asked ms again h has;
+      grows = λ p normal facts others shape other_shape less c worked ns asked asks. had p normal facts others shape other_shape less c worked ns asked asks.0 asks.1 others asks.2;
+      solutions = λ p normal facts others shape other_shape less solution c listed worked ns asked. (let asks = solution c listed in had p normal facts others shape other_shape less c worked ns asked asks.0 asks.1 others asks.2);
     }
