@@ -1,0 +1,13 @@
+use Rattle.std.proofs.Common.{arith, ◌≡◌, ◌<◌, ℕ, Some, None, length, ap, sym, subst, ◌∙◌}
+use Rattle.std.specs.Prelude.{slice_set}
+use Rattle.std.proofs.lemmas.Option.{same_Some}
+use Rattle.cc_slots_accesses.proofs.PutAll.{number_below}
+use Rattle.cc_slots_accesses.specs.Puts.{of_number, put_behind}
+use Rattle.cc_state_keys.specs.Keys.{key_number, keys_of}
+use Rattle.cc_slots_accesses.proofs.puts.put_one.Goals as goal
+
+pub put-requires : goal.put-requires
+put-requires c =
+    let is : key_number c.args.p.now c.args.key ≡ Some c.in-Some.number = sym (c.key_number.ensures c.args.p.now c.requires.keys) ∙ c.in-Some.is in
+    let below : c.in-Some.number < length (keys_of c.args.p.now) = number_below c.args.p.now c.args.key c.in-Some.number is in
+    omega (arith, below, c.requires.lists, ap length c.requires.keys)
