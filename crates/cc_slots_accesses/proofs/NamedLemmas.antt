@@ -11,7 +11,7 @@ use Rattle.cc_program.specs.declared.expr.Expr.TheOpen as one
 use Rattle.cc_program.specs.declared.expr.Place.{Place, out-Place, map-Place, fold_out-Place}
 use Rattle.cc_program.specs.declared.func.Func.{Func}
 use Rattle.cc_program.specs.declared.program.Program.{Program}
-use Rattle.cc_slots_accesses.proofs.Listed.{is_one, no_member, only_one, passes, same_key}
+use Rattle.cc_slots_accesses.proofs.Listed.{is_one, only_one, passes, same_key}
 use Rattle.cc_slots_accesses.proofs.Owns.{own_type}
 use Rattle.cc_slots_accesses.specs.Accesses.{NamesByForm}
 use Rattle.cc_state_facts.specs.declared.facts.Key.{Key}

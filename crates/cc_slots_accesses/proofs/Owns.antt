@@ -1,5 +1,5 @@
 -- The key that a place names by its form.
-use Rattle.std.proofs.Common.{◌≡◌, ◌∙◌, ℕ, Option, sym}
+use Rattle.std.proofs.Common.{◌≡◌, ℕ}
 use Rattle.cc_program.specs.declared.expr.Place.{Place}
 use Rattle.cc_program.specs.declared.func.Func.{Func}
 use Rattle.cc_program.specs.declared.program.Program.{Program}

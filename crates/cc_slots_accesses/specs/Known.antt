@@ -1,6 +1,5 @@
 -- What is known of an access where it stands.
 use Rattle.std.specs.Prelude.{◌≡◌, ◌↔◌, ℕ, Bool, true, false, IsTrue, Option, Some, None, is_some}
-use Rattle.std.specs.Option.{option_map_or}
 use Rattle.cc_program.specs.declared.expr.Place.{Place}
 use Rattle.cc_slots_accesses.specs.declared.access.Access.{Access}
 use Rattle.cc_slots_accesses.specs.Outside.{MayBeOutsideIn}

@@ -1,4 +1,4 @@
-use Rattle.std.proofs.Common.{arith, ◌≡◌, length, get_or, take, take_all, ap, subst, ◌∙◌, List}
+use Rattle.std.proofs.Common.{arith, length, get_or, take, take_all, ap, subst, ◌∙◌, List}
 use Rattle.std.proofs.lemmas.List.{get_or_default}
 use Rattle.cc_slots_accesses.proofs.PutAll.{ArePut, all_put, by_number, next_of, none_put}
 use Rattle.cc_state_facts.specs.declared.facts.Key.{Key}

@@ -1,8 +1,5 @@
-use Rattle.std.proofs.Common.{arith, ◌≡◌, ◌<◌, ℕ, Some, None, length, ap, sym, subst, ◌∙◌}
-use Rattle.std.specs.Prelude.{slice_set}
-use Rattle.std.proofs.lemmas.Option.{same_Some}
+use Rattle.std.proofs.Common.{arith, ◌≡◌, ◌<◌, Some, length, ap, sym, ◌∙◌}
 use Rattle.cc_slots_accesses.proofs.PutAll.{number_below}
-use Rattle.cc_slots_accesses.specs.Puts.{of_number, put_behind}
 use Rattle.cc_state_keys.specs.Keys.{key_number, keys_of}
 use Rattle.cc_slots_accesses.proofs.puts.put_one.Goals as goal
 
