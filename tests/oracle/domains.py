@@ -5,12 +5,13 @@ The answers are worked out here, from C99 and the range rules, and not by the pr
 answer is also held against every pair of members: no result that does not trap may be outside, and where the rule is as narrow
 as an interval can be, the answer has to be exactly the least and the greatest result. Over explicit sets an answer is the hull of
 all results, and the hull is found by trying every range. What stands in BY_HAND was worked out by hand. `places.py` has the cases
-of sets of addresses.
+of sets of addresses, and `codes.py` those of codes, costs and rankings.
 """
 import itertools
 import random
 import sys
 
+import codes
 import places
 
 NAMES = ["Add", "Sub", "Mul", "Div", "Rem", "And", "Or", "Xor", "Shl", "Shr", "Lt", "Le", "Gt", "Ge", "Eq", "Ne"]
@@ -672,7 +673,7 @@ CHAIN = [
 def main():
     answers = sys.argv[1:] == ["stdout"]
     count = 0
-    for title, setting, rows in [*CHAIN, *BY_HAND, *span_rows(), *set_rows(), *places.sections()]:
+    for title, setting, rows in [*CHAIN, *BY_HAND, *span_rows(), *set_rows(), *places.sections(), *codes.sections()]:
         if count:
             print()
         print(title)

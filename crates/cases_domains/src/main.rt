@@ -14,10 +14,14 @@
 //!     $ addrs    sets of addresses; `places/sets.rt` says what the cases are
 //!     $ abs vals integers or addresses, with explicit sets and ranges of numbers; `places/values.rt` says what the cases are
 //!     $ abs span the same, with intervals
+//!     $ codes    codes of values; `codes.rt` says what the cases are
+//!     $ estimate, $ rank 1,1 10,-    what codings cost, and which slots are coded; `costs.rt` says what the cases are
 //!     $ facts    a set of numbers beside a table of two sets of addresses; `places/facts.rt` says what the cases are
 #![tactic(auto)]
 
 mod chain;
+mod codes;
+mod costs;
 mod often;
 mod places;
 mod sets;
@@ -26,6 +30,7 @@ mod words;
 mod written;
 
 use cases_script::{Cases, Page, run, split};
+use cc_cost_ranking::{Budgets, Weights};
 use cc_num::Target;
 use cc_ranges::Span;
 use cc_sets::Vals;
@@ -42,6 +47,9 @@ enum Subject {
     Sets(Target),
     Often(u32, Target),
     Places(Places),
+    Codes,
+    Costs,
+    Ranking(Weights, Budgets),
 }
 
 impl Cases for Subject {
@@ -59,6 +67,12 @@ impl Cases for Subject {
             ("addrs", "") => Subject::Places(Places::Addrs),
             ("abs", "vals") => Subject::Places(Places::Vals),
             ("abs", "span") => Subject::Places(Places::Spans),
+            ("codes", "") => Subject::Codes,
+            ("estimate", "") => Subject::Costs,
+            ("rank", terms) => match costs::terms_of(terms) {
+                Some((weights, budgets)) => Subject::Ranking(weights, budgets),
+                None => Subject::Nothing,
+            },
             ("facts", "") => Subject::Places(Places::Facts),
             ("often", times) => often_of(times).unwrap_or(Subject::Nothing),
             _ => Subject::Nothing,
@@ -74,6 +88,11 @@ impl Cases for Subject {
             Subject::Often(times, target) => {
                 often::write_outcome::<Vals>(alloc, page, &target, times, case)
             }
+            Subject::Codes => codes::write_outcome(alloc, page, case),
+            Subject::Costs => costs::write_estimate_outcome(page, case),
+            Subject::Ranking(weights, budgets) => {
+                costs::write_rank_outcome(alloc, page, &weights, &budgets, case)
+            }
             Subject::Places(places) => places::write_outcome(alloc, page, places, case),
         }
     }
@@ -87,5 +106,8 @@ fn often_of(times: &str) -> Option<Subject> {
 fn main(rt: HostRuntime) -> io::Result<()> {
     cc_lattice::laws();
     cc_places::laws();
+    cc_code::laws();
+    cc_code::known_codings();
+    cc_cost_ranking::laws();
     run(&rt, Subject::Nothing)
 }

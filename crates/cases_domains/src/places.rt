@@ -12,6 +12,8 @@ use cc_ranges::Span;
 use cc_sets::Vals;
 use std::alloc::Global;
 use std::mem::size_of;
+pub use values::{abs_of, value_of};
+pub use written::{write_address, write_value};
 
 // A set of numbers stands in at most 1,100 bytes, members and all.
 const _: () = prove!(size_of::<Vals>() <= 1100);

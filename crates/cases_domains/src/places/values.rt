@@ -33,14 +33,16 @@ fn are_alike<D: IntDomain>(a: &Abs<D>, b: &Abs<D>) -> bool
     }
 }
 
-fn abs_of<D: IntDomain>(alloc: Global, word: &str) -> Option<Abs<D>> {
+/// Integers or addresses, as a word writes them.
+pub fn abs_of<D: IntDomain>(alloc: Global, word: &str) -> Option<Abs<D>> {
     match word.strip_prefix('i') {
         Some(numbers) => Some(Abs::Ints(numbers_of(alloc, numbers)?)),
         None => Some(Abs::Addrs(set_of(alloc, word.strip_prefix('p')?)?)),
     }
 }
 
-fn value_of(alloc: Global, word: &str) -> Option<Value> {
+/// The value that a word writes.
+pub fn value_of(alloc: Global, word: &str) -> Option<Value> {
     match word.strip_prefix('v') {
         Some(number) => Some(Value::Int(number.parse::<i128>().ok()?)),
         None => Some(Value::Place(address_of(alloc, word)?)),

@@ -5,7 +5,7 @@ use crate::written::{write_ends, write_members};
 use cases_script::Page;
 use cc_lattice::IntDomain;
 use cc_places::{Abs, Addrs};
-use cc_program::{Address, Part, Root};
+use cc_program::{Address, Part, Root, Value};
 
 fn write_root(page: &mut Page, object: Root) {
     match object {
@@ -29,7 +29,8 @@ fn write_part(page: &mut Page, part: Part) {
     }
 }
 
-fn write_address(page: &mut Page, a: &Address) {
+/// Writes an address.
+pub fn write_address(page: &mut Page, a: &Address) {
     match a {
         Address::Null => page.put("0"),
         Address::Func(f) => page.put_with("f", *f),
@@ -99,5 +100,13 @@ pub fn write_abs<D: IntDomain>(page: &mut Page, value: &Abs<D>) {
             page.put("p");
             write_set(page, set);
         }
+    }
+}
+
+/// Writes an integer or an address.
+pub fn write_value(page: &mut Page, value: &Value) {
+    match value {
+        Value::Int(n) => page.show(*n),
+        Value::Place(a) => write_address(page, a),
     }
 }
