@@ -1,0 +1,4 @@
+pub mod Asked
+pub mod Asks
+pub mod Handlers
+pub mod Unstable

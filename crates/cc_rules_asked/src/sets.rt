@@ -1,0 +1,15 @@
+//! Sets of values.
+
+ghost use Rattle.std.specs.Prelude.{◌≡◌, IfOk};
+
+use cc_lattice::{IntDomain, copied};
+use cc_num::NoMemory;
+use cc_places::Abs;
+use std::alloc::Global;
+
+/// A copy.
+pub fn copied_set<I: IntDomain>(alloc: Global, set: &Abs<I>) -> Result<Abs<I>, NoMemory>
+    ensures { IfOk result (λ copy. copy ≡ set.now) }
+{
+    copied(alloc, set)
+}
