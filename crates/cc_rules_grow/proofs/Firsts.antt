@@ -18,12 +18,12 @@ use Rattle.cc_syntax.specs.Values.{scalar_value}
 -- ---- the numbers of things that pass
 
 module _ {A : Type 0} (passes : ℕ → A → Bool) where
-  record IsMade (n : ℕ) (xs : List A) (number : ℕ) : Type 0 where
-    place : ℕ
-    thing : A
-    there : slice_get xs place ≡ Some thing
-    counts : number ≡ n + place
-    passes_it : passes number thing ≡ true
+  pub record IsMade (n : ℕ) (xs : List A) (number : ℕ) : Type 0 where
+    pub place : ℕ
+    pub thing : A
+    pub there : slice_get xs place ≡ Some thing
+    pub counts : number ≡ n + place
+    pub passes_it : passes number thing ≡ true
 
   made_later : (n : ℕ) (x : A) (xs : List A) (number : ℕ) → IsMade (n + 1) xs number → IsMade n (x ∷ xs) number
   made_later n x xs number h = record { place = suc h.place; thing = h.thing; there = h.there; counts = (let c = h.counts in omega (arith, c)); passes_it = h.passes_it }
@@ -36,7 +36,7 @@ module _ {A : Type 0} (passes : ℕ → A → Bool) where
   made_by n x xs number true t rest (suc k) e = made_later n x xs number (rest k e)
   made_by n x xs number false t rest k e = made_later n x xs number (rest k e)
 
-  made_of : (n : ℕ) (xs : List A) (k number : ℕ) → slice_get (made_from passes (λ m. m) n xs) k ≡ Some number → IsMade n xs number
+  pub made_of : (n : ℕ) (xs : List A) (k number : ℕ) → slice_get (made_from passes (λ m. m) n xs) k ≡ Some number → IsMade n xs number
   made_of n [] k number e = absurd (none-some number e)
   made_of n (x ∷ xs) k number e = made_by n x xs number (passes n x) refl (λ m h. made_of (n + 1) xs m number h) k e
 
@@ -46,17 +46,17 @@ get_taken (suc n) [] k x e = e
 get_taken (suc n) (y ∷ ys) zero x e = e
 get_taken (suc n) (y ∷ ys) (suc k) x e = get_taken n ys k x e
 
-first_true : (a b : Bool) → (a && b) ≡ true → a ≡ true
+pub first_true : (a b : Bool) → (a && b) ≡ true → a ≡ true
 first_true true b h = refl
 first_true false b h = h
 
-some_is : {A : Type 0} (o : Option A) → is_some o ≡ true → (x : A) × (o ≡ Some x)
+pub some_is : {A : Type 0} (o : Option A) → is_some o ≡ true → (x : A) × (o ≡ Some x)
 some_is None h = absurd (true≢false (sym h))
 some_is (Some x) h = (x, refl)
 
 -- ---- a tracked cell
 
-tracked_scalar : (p : Program) (j i : ℕ) → slice_get (tracked p) j ≡ Some i → (o : Object) × (slice_get p.objects i ≡ Some o) × (is_some (scalar_value o.ctype) ≡ true)
+pub tracked_scalar : (p : Program) (j i : ℕ) → slice_get (tracked p) j ≡ Some i → (o : Object) × (slice_get p.objects i ≡ Some o) × (is_some (scalar_value o.ctype) ≡ true)
 tracked_scalar p j i e =
     let m = made_of (may_be_tracked (taken_keys p)) 0 p.objects j i (get_taken most_tracked (numbers (may_be_tracked (taken_keys p)) p.objects) j i e) in
     let same : i ≡ m.place = (let c = m.counts in omega (arith, c)) in

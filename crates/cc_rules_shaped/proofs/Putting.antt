@@ -154,13 +154,13 @@ module _ {I : Type 0} (d : Domain I) (o : JoinsTyped d) (p : Program) where
   of_one_kind (ToObject c v to) (abs.Addrs r) (abs.Ints y) h l = absurd l
   of_one_kind (ToFunction sig) (abs.Addrs r) (abs.Ints y) h l = absurd l
 
-  one_key_type : (k : ℕ) (t u : ValueType) → IsKeyType d p k t → IsKeyType d p k u → t ≡ u
+  pub one_key_type : (k : ℕ) (t u : ValueType) → IsKeyType d p k t → IsKeyType d p k u → t ≡ u
   one_key_type k t u (key, c, at, is, cell) (key', c', at', is', cell') =
       let same_key : key' ≡ key = same_Some key' key (sym at' ∙ at) in
       let same : c' ≡ c = same_Some c' c (sym is' ∙ (ap (ctype_of p) same_key ∙ is)) in
       one_type c t u cell (subst (λ (x : CType). IsCellType x u) same cell')
 
-  one_result_type : (g : ℕ) (t u : ValueType) → IsResultType d p g t → IsResultType d p g u → t ≡ u
+  pub one_result_type : (g : ℕ) (t u : ValueType) → IsResultType d p g t → IsResultType d p g u → t ≡ u
   one_result_type g t u (f, there, is) (f', there', is') =
       let same : f' ≡ f = same_Some f' f (sym there' ∙ there) in
       same_Some t u (sym is ∙ (ap (λ (x : Func). result_value (out-Sig x.sig).result) (sym same) ∙ is'))

@@ -1,5 +1,6 @@
 -- Which parts the slots of facts of a program's shape may get: values of the slot's type, and levels of what is marked.
 use Rattle.std.specs.Prelude.{◌≡◌, ◌⊎◌, ◌<◌, ℕ, Bool, true, false, [], ◌∷◌, length, Option, Some, None}
+use Rattle.std.specs.List.{AllPairs, Contains}
 use Rattle.cc_flow.specs.declared.types.Point.{Point}
 use Rattle.cc_flow.specs.Points.{count_of}
 use Rattle.cc_places.specs.declared.abs.Abs.{Abs}
@@ -11,9 +12,10 @@ use Rattle.cc_rules_needs.specs.declared.needs.Part.TheVariants.{Mark, LevelSet,
 use Rattle.cc_rules_needs.specs.declared.needs.Slot.{Slot}
 use Rattle.cc_rules_needs.specs.declared.needs.Slot.TheVariants.{Whole, HandlerReads, HandlerWrites, ReadLevels, WriteLevels, Result, ByMain, ByHandler, Levels, From, Flag, LocalAt, CellAt, Apart}
 use Rattle.cc_rules_needs.specs.Needs.{Needs, Has}
-use Rattle.cc_state.specs.Shape.{IsSetIn, IsRegisterType, IsTrackedType, IsKeyType, IsResultType}
+use Rattle.cc_state.specs.Shape.{IsSetIn, AreRows, IsBefore, IsRegisterType, IsTrackedType, IsKeyType, IsResultType}
 use Rattle.cc_state_facts.specs.declared.facts.Facts.{Facts}
-use Rattle.cc_state_facts.specs.Facts.{mark_of}
+use Rattle.cc_state_facts.specs.declared.facts.PointFact.{PointFact}
+use Rattle.cc_state_facts.specs.Facts.{cell_of, mark_of}
 use Rattle.cc_state_keys.specs.Keys.{keys_of}
 use Rattle.cc_state_keys.specs.Tracked.{registers, tracked}
 use Rattle.cc_state_operators.specs.Domains.{Domain}
@@ -54,6 +56,15 @@ module _ {I : Type 0} (d : Domain I) (p : Program) where
   Fits (CellAt n j) (Values y) = (t : ValueType) × (n < count_of p) × IsTrackedType d p j t × AreSomeIn t y
   Fits (Apart n r j) (Mark b) = (f : Func) × IsPointIn n f × (r < length (registers f)) × (j < length (tracked p))
   Fits _ _ = ⊥
+
+  -- a point has sets of the function's registers and of the tracked cells, in rows, and its pairs are in order; nothing is said of what stands
+  -- in the sets
+  pub record IsLaidOut (f : Func) (fact : PointFact I) : Type 0 where
+    pub local_count : length fact.locals ≡ length (registers f)
+    pub rows : AreRows d p (length (tracked p)) fact.rows
+    pub cells : (j : ℕ) → j < length (tracked p) → (y : Abs I) × (cell_of fact j ≡ Some y)
+    pub pairs_in_range : (pair : ℕ × ℕ) → Contains fact.same pair → (pair.0 < length (registers f)) × (pair.1 < length (tracked p))
+    pub pairs_ascend : AllPairs (IsBefore d p) fact.same
 
   -- a function that neither main nor a handler reaches, and a key that no handler accesses, gets no levels
   abbrev pub AllowsLevels : Slot → Part I → Facts I → Type 0

@@ -1,16 +1,21 @@
-ghost use Rattle.std.specs.Prelude.{◌≡◌, ℕ, false};
+ghost use Rattle.std.specs.Prelude.{◌≡◌, ℕ, false, length};
 ghost use Rattle.cc_flow.specs.declared.types.Point.{Point};
 ghost use Rattle.cc_program.specs.declared.func.Func.{Func};
 ghost use Rattle.cc_program.specs.declared.program.Program.{Program};
+ghost use Rattle.cc_rules.specs.Constraints.{Touch, Handler, Stability, at_point};
+ghost use Rattle.cc_rules.specs.Rules.{IsAsked};
 ghost use Rattle.cc_rules_flows.specs.Nexts.{IsPoint};
 ghost use Rattle.cc_rules_needs.specs.declared.needs.Part.{Part};
 ghost use Rattle.cc_rules_needs.specs.declared.needs.Slot.{Slot};
+ghost use Rattle.cc_rules_needs.specs.Flowing.{of_fact, needs_at};
+ghost use Rattle.cc_rules_needs.specs.Needs.{Needs};
 ghost use Rattle.cc_rules_needs.specs.Points.{IsRaisedAt};
 ghost use Rattle.cc_rules_needs.specs.Raised.{MayGet, IsPut};
-ghost use Rattle.cc_rules_shaped.specs.Shaped.{is_at_point, Fits, AllowsLevels};
+ghost use Rattle.cc_rules_shaped.specs.Shaped.{is_at_point, Fits, AllowsLevels, AreFit, IsLaidOut};
 ghost use Rattle.cc_state.specs.Shape.{IsPointFact, HaveShape};
 ghost use Rattle.cc_state_facts.specs.declared.facts.Facts.{Facts};
 ghost use Rattle.cc_state_facts.specs.declared.facts.PointFact.{PointFact};
+ghost use Rattle.cc_state_keys.specs.Tracked.{registers, tracked};
 ghost use Rattle.cc_state_operators.specs.Domains.{domain};
 
 use cc_lattice::IntDomain;
@@ -26,4 +31,29 @@ pub fn laws<I: IntDomain>()
         Fits (domain I.Has I.IsBelow I.OpGives I.OpOneGives I.ToGives I.KeepGives I.members_of) p slot more →
         AllowsLevels (domain I.Has I.IsBelow I.OpGives I.OpOneGives I.ToGives I.KeepGives I.members_of) p slot more facts →
         IsPut I.IsBelow slot more facts others → HaveShape (domain I.Has I.IsBelow I.OpGives I.OpOneGives I.ToGives I.KeepGives I.members_of) p others }
+
+    // So do facts in which a point rises by what is of the shape of its function.
+    ensures raised { (p : Program) (facts others : Facts I) → HaveShape (domain I.Has I.IsBelow I.OpGives I.OpOneGives I.ToGives I.KeepGives I.members_of) p facts → (n id : ℕ) (f : Func) (point : Point) (flow : PointFact I) →
+        IsPoint p n id f point → IsPointFact (domain I.Has I.IsBelow I.OpGives I.OpOneGives I.ToGives I.KeepGives I.members_of) p f flow →
+        IsRaisedAt I.IsBelow facts n flow others → HaveShape (domain I.Has I.IsBelow I.OpGives I.OpOneGives I.ToGives I.KeepGives I.members_of) p others }
+
+    // What is known at a point is of its shape where it is laid out as the function has it and what is needed of it fits.
+    ensures laid_out { (p : Program) (n id : ℕ) (f : Func) (point : Point) (fact : PointFact I) → IsPoint p n id f point → IsLaidOut (domain I.Has I.IsBelow I.OpGives I.OpOneGives I.ToGives I.KeepGives I.members_of) p f fact →
+        AreFit (domain I.Has I.IsBelow I.OpGives I.OpOneGives I.ToGives I.KeepGives I.members_of) p (needs_at n (length (registers f)) (length (tracked p)) (of_fact fact)) →
+        IsPointFact (domain I.Has I.IsBelow I.OpGives I.OpOneGives I.ToGives I.KeepGives I.members_of) p f fact }
+
+    // What accesses of the code of handlers ask of such facts fits, each need once facts have those before it.
+    ensures touch { (p : Program) (facts : Facts I) → HaveShape (domain I.Has I.IsBelow I.OpGives I.OpOneGives I.ToGives I.KeepGives I.members_of) p facts → (n : ℕ) (ns : Needs I) →
+        IsAsked (domain I.Has I.IsBelow I.OpGives I.OpOneGives I.ToGives I.KeepGives I.members_of) p facts (at_point n Touch) ns →
+        AreFit (domain I.Has I.IsBelow I.OpGives I.OpOneGives I.ToGives I.KeepGives I.members_of) p ns }
+
+    // So does what handlers ask that may enter,
+    ensures handler { (p : Program) (facts : Facts I) → HaveShape (domain I.Has I.IsBelow I.OpGives I.OpOneGives I.ToGives I.KeepGives I.members_of) p facts → (n : ℕ) (ns : Needs I) →
+        IsAsked (domain I.Has I.IsBelow I.OpGives I.OpOneGives I.ToGives I.KeepGives I.members_of) p facts (at_point n Handler) ns →
+        AreFit (domain I.Has I.IsBelow I.OpGives I.OpOneGives I.ToGives I.KeepGives I.members_of) p ns }
+
+    // and what is asked of the tracked cells that they may write.
+    ensures stability { (p : Program) (facts : Facts I) → HaveShape (domain I.Has I.IsBelow I.OpGives I.OpOneGives I.ToGives I.KeepGives I.members_of) p facts → (n : ℕ) (ns : Needs I) →
+        IsAsked (domain I.Has I.IsBelow I.OpGives I.OpOneGives I.ToGives I.KeepGives I.members_of) p facts (at_point n Stability) ns →
+        AreFit (domain I.Has I.IsBelow I.OpGives I.OpOneGives I.ToGives I.KeepGives I.members_of) p ns }
 {}

@@ -1,6 +1,9 @@
 -- The laws, by those of the domain.
 use Rattle.cc_rules_shaped.proofs.Joining.{JoinsTyped}
 use Rattle.cc_rules_shaped.proofs.Putting.{may_get, is_put_shaped}
+use Rattle.cc_rules_shaped.proofs.Raising.{raised_shaped}
+use Rattle.cc_rules_shaped.proofs.Laid.{point_shaped}
+use Rattle.cc_rules_shaped.proofs.Rules.{touch_fit, handler_fit, unstable_cells_fit}
 use Rattle.cc_rules_shaped.proofs.law.laws.Goals as goal
 use Rattle.cc_state_operators.specs.Domains.{domain}
 
@@ -18,4 +21,9 @@ returns g c =
     record {
       may_get = λ p facts shape slot more own fits. may_get d joins p facts shape slot more own fits;
       put = λ p facts others shape slot more own fits allowed is. is_put_shaped d joins p facts shape slot more others own fits allowed is;
+      raised = λ p facts others shape n id f point flow is_point of_flow is. raised_shaped d joins p facts others shape n id f point flow is_point of_flow is;
+      laid_out = λ p n id f point fact is_point laid fit. point_shaped d p n id f point fact is_point laid fit;
+      touch = λ p facts shape n ns asked. touch_fit d joins p facts shape n ns asked;
+      handler = λ p facts shape n ns asked. handler_fit d joins p facts shape n ns asked;
+      stability = λ p facts shape n ns asked. unstable_cells_fit d joins p facts shape n ns asked;
     }
