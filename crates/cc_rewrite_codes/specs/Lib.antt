@@ -1,0 +1,9 @@
+pub mod Accesses
+pub mod FirstValues
+pub mod Guards
+pub mod Homes
+pub mod Placed
+pub mod Programs
+pub mod Relaid
+pub mod Statements
+pub mod Words

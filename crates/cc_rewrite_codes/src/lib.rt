@@ -1,0 +1,2 @@
+//! Accesses of variables that are told by codes of few bits.
+#![tactic(auto)]

@@ -1,0 +1,3 @@
+pub mod ArrayLemmas
+pub mod FieldLemmas
+pub mod OperatorLemmas
