@@ -1,5 +1,10 @@
+pub mod Cuts
 pub mod Following
 pub mod Formed
+pub mod Least
+pub mod Numbers
 pub mod Operands
 pub mod PassingValues
+pub mod Registers
+pub mod Staying
 pub mod Trials

@@ -1,7 +1,12 @@
-//! Tests of expressions, and whether the values of a set pass them: over any domain of integers, and sets of addresses.
+//! Tests of expressions: whether the values of a set pass them, and what they leave of the sets of registers. Over any domain of
+//! integers, and sets of addresses.
 #![tactic(auto)]
 
+mod compared;
+mod cut;
 mod forms;
+mod left;
+mod members;
 mod operand;
 mod passing;
 mod tested;

@@ -1,0 +1,94 @@
+//! What a test leaves of a set.
+
+ghost use Rattle.std.specs.Prelude.{◌≡◌, ◌↔◌, ℤ, IfOk, IsTrue, true};
+ghost use Rattle.cc_places.specs.Abstract.{IsBelowAbs};
+ghost use Rattle.cc_places.specs.declared.abs.Abs.TheVariants as abs;
+ghost use Rattle.cc_rules_tests.specs.Tested.{IsExplicitIn, IsLeftAlikeIn, IsLeftIn, IsOfRegisterIn, IsRangeLeftIn, IsTested, IsTrialOf, IsWorkedAt, MayHave, MayHoldAll};
+ghost use Rattle.cc_state_operators.specs.Domains.{domain};
+ghost use Rattle.cc_syntax.specs.Registers.{is_register};
+
+use crate::operand::are_of;
+use crate::tested::Tested;
+use crate::trial::Trial;
+use cc_lattice::{IntDomain, copied};
+use cc_num::{NoMemory, at};
+use cc_places::Abs;
+use cc_typed::scalar_value;
+use std::alloc::Global;
+
+impl<I: IntDomain> Tested<'_, I> {
+    /// What is left of a set of integers, with what is known to be the register's type.
+    fn of_integers(&self, alloc: Global, trial: &mut Trial<I>, r: u32, x: &I) -> Result<I, NoMemory>
+        requires tested { IsTested (domain I.Has I.IsBelow I.OpGives I.OpOneGives I.ToGives I.KeepGives I.members_of) self.now }
+        requires trial { IsTrialOf self.now.context.now trial.old }
+        requires holds { MayHoldAll (domain I.Has I.IsBelow I.OpGives I.OpOneGives I.ToGives I.KeepGives I.members_of) self.now.context.now r x.now }
+        ensures trial { IsTrialOf self.now.context.now trial.new }
+        ensures left { IfOk result (λ u. IsRangeLeftIn (domain I.Has I.IsBelow I.OpGives I.OpOneGives I.ToGives I.KeepGives I.members_of) self.now r x.now u) }
+        ensures below { IfOk result (λ u. I.IsBelow u x.now) }
+        ensures worked { IfOk result (λ u. (m : ℤ) → IsExplicitIn (domain I.Has I.IsBelow I.OpGives I.OpOneGives I.ToGives I.KeepGives I.members_of) self.now.context.now (abs.Ints x.now) m → IsWorkedAt (domain I.Has I.IsBelow I.OpGives I.OpOneGives I.ToGives I.KeepGives I.members_of) self.now r m) }
+    {
+        match x.members() {
+            Some(members) => self.of_members(alloc, trial, r, members),
+            None => self.of_range(alloc, trial, r, x),
+        }
+    }
+
+    /// What is left of a set of a register, or of a cell that equals it.
+    pub fn left_of(
+        &self,
+        alloc: Global,
+        trial: &mut Trial<I>,
+        r: u32,
+        y: &Abs<I>,
+    ) -> Result<Abs<I>, NoMemory>
+        requires tested { IsTested (domain I.Has I.IsBelow I.OpGives I.OpOneGives I.ToGives I.KeepGives I.members_of) self.now }
+        requires trial { IsTrialOf self.now.context.now trial.old }
+        requires holds { MayHave (domain I.Has I.IsBelow I.OpGives I.OpOneGives I.ToGives I.KeepGives I.members_of) self.now.context.now r y.now }
+        ensures trial { IsTrialOf self.now.context.now trial.new }
+        ensures left { IfOk result (λ z. IsLeftIn (domain I.Has I.IsBelow I.OpGives I.OpOneGives I.ToGives I.KeepGives I.members_of) self.now r y.now z) }
+        ensures below { IfOk result (λ z. IsBelowAbs I.IsBelow z y.now) }
+        ensures worked { IfOk result (λ z. (m : ℤ) → IsExplicitIn (domain I.Has I.IsBelow I.OpGives I.OpOneGives I.ToGives I.KeepGives I.members_of) self.now.context.now y.now m → IsWorkedAt (domain I.Has I.IsBelow I.OpGives I.OpOneGives I.ToGives I.KeepGives I.members_of) self.now r m) }
+    {
+        match y {
+            Abs::Addrs(_) => copied(alloc, y),
+            Abs::Ints(x) => Ok(Abs::Ints(self.of_integers(alloc, trial, r, x)?)),
+        }
+    }
+
+    /// Whether a set has only values of the type of a register.
+    fn is_of_register(&self, r: u32, y: &Abs<I>) -> bool
+        requires { is_register self.now.context.now.func.now r ≡ true }
+        ensures { IsTrue result ↔ IsOfRegisterIn (domain I.Has I.IsBelow I.OpGives I.OpOneGives I.ToGives I.KeepGives I.members_of) self.now r y.now }
+    {
+        match at(self.context.func.locals.all(), r as usize) {
+            None => false,
+            Some(local) => match scalar_value(&local.1) {
+                None => false,
+                Some(t) => are_of(y, t, &self.context.program.target),
+            },
+        }
+    }
+
+    /// What a register that equals a cell leaves of its set: all of it where that has other values than the register may have.
+    pub fn left_alike(
+        &self,
+        alloc: Global,
+        trial: &mut Trial<I>,
+        r: u32,
+        y: &Abs<I>,
+    ) -> Result<Abs<I>, NoMemory>
+        requires tested { IsTested (domain I.Has I.IsBelow I.OpGives I.OpOneGives I.ToGives I.KeepGives I.members_of) self.now }
+        requires trial { IsTrialOf self.now.context.now trial.old }
+        requires register { is_register self.now.context.now.func.now r ≡ true }
+        ensures trial { IsTrialOf self.now.context.now trial.new }
+        ensures left { IfOk result (λ z. IsLeftAlikeIn (domain I.Has I.IsBelow I.OpGives I.OpOneGives I.ToGives I.KeepGives I.members_of) self.now r y.now z) }
+        ensures below { IfOk result (λ z. IsBelowAbs I.IsBelow z y.now) }
+        ensures worked { IfOk result (λ z. IsOfRegisterIn (domain I.Has I.IsBelow I.OpGives I.OpOneGives I.ToGives I.KeepGives I.members_of) self.now r y.now → (m : ℤ) → IsExplicitIn (domain I.Has I.IsBelow I.OpGives I.OpOneGives I.ToGives I.KeepGives I.members_of) self.now.context.now y.now m → IsWorkedAt (domain I.Has I.IsBelow I.OpGives I.OpOneGives I.ToGives I.KeepGives I.members_of) self.now r m) }
+    {
+        if self.is_of_register(r, y) {
+            self.left_of(alloc, trial, r, y)
+        } else {
+            copied(alloc, y)
+        }
+    }
+}
