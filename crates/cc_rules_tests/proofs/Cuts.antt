@@ -1,16 +1,13 @@
 -- A range that is cut by labels, one after the other, and by operands of a comparison; and what is left of a set.
-use Rattle.std.proofs.Common.{◌≡◌, ◌↔◌, ◌<◌, ◌≤◌, ◌+◌, ℕ, zero, suc, ℤ, Bool, true, false, IsTrue, List, [], ◌∷◌, length, drop, get_or, Option, Some, None, refl, ap, sym, subst, ◌∙◌, add-one, arith}
+use Rattle.std.proofs.Common.{◌≡◌, ◌↔◌, ◌<◌, ◌≤◌, ◌+◌, ℕ, zero, suc, ℤ, Bool, true, false, IsTrue, List, [], ◌∷◌, length, drop, get_or, Some, None, refl, ap, sym, subst, ◌∙◌, add-one, arith}
 use Rattle.std.proofs.Math.Seq.{drop-cons}
 use Rattle.std.specs.List.{Contains}
-use Rattle.cc_lattice.specs.Domains.{is_comparison}
-use Rattle.cc_num.specs.declared.int_type.IntType.{IntType}
 use Rattle.cc_num.specs.declared.op.BinOp.{BinOp}
 use Rattle.cc_num.specs.declared.op.BinOp.TheVariants as op
 use Rattle.cc_places.specs.declared.abs.Abs.{Abs}
 use Rattle.cc_places.specs.declared.abs.Abs.TheVariants as abs
 use Rattle.cc_places.specs.declared.addrs.Addrs.{Addrs}
 use Rattle.cc_program.specs.declared.expr.Expr.{Expr, out-Expr}
-use Rattle.cc_program.specs.declared.expr.Expr.TheOpen as one
 use Rattle.cc_rules_flows.specs.Tests.{Test, Is, Equals, Differs, passing, turned, ByNone, ByFirst, ByComparison, ByLabel, ByLabels, Compares, OfMembers, OfRange, OfOther, OfAddresses, Cut, Uncut}
 use Rattle.cc_rules_tests.specs.Forms.{comparison_in}
 use Rattle.cc_rules_tests.specs.Tested.{IsCutAsIn, IsCutByIn, IsCutByOne, IsLeftIn, IsOperandIn, IsRangeLeftIn, IsValWith, StaysIn, test_of}

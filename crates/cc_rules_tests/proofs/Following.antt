@@ -1,21 +1,13 @@
 -- Numbers that follow one another in a list, and sets with a value that is not among labels.
-use Rattle.std.proofs.Common.{arith, ◌≡◌, ◌⊎◌, ◌↔◌, ◌<◌, ◌≤◌, ◌+◌, ◌-◌, ◌^◌, ℕ, zero, suc, ℤ, pos, neg_ℤ, to_z, of_z, FitsSigned, ◌+ℤ◌, ◌≤ℤ◌, ◌<ℤ◌, Bool, true, false, IsTrue, List, [], ◌∷◌, length, take, get_or, Option, Some, None, inl, inr, ⊎_elim, refl, ap, sym, subst, ◌∙◌}
+use Rattle.std.proofs.Common.{arith, ◌≡◌, ◌⊎◌, ◌<◌, ◌≤◌, ◌+◌, ◌-◌, ℕ, zero, suc, ℤ, pos, to_z, of_z, FitsSigned, ◌+ℤ◌, ◌≤ℤ◌, ◌<ℤ◌, true, List, [], ◌∷◌, length, take, get_or, inl, inr, ⊎_elim, refl, sym, subst, ◌∙◌}
 use Rattle.std.specs.List.{Contains}
 use Rattle.std.specs.Int.{w128}
 use borrow.Author.Differences.{up, down, sum_is_lem, le_out, lt_out, at_most_in, le-true}
 use lib.Signed.{le_z}
 use Rattle.std.proofs.lemmas.Int.{by_lt_z, ints}
-use Rattle.cc_lattice.specs.Domains.{AreEnds, IsInReach, IsIntValue}
-use Rattle.cc_places.specs.laws.ListLaws.{all_taken, item_in, none_in, taken_before, taken_cases, taken_now}
-use Rattle.cc_places.specs.laws.SetLaws.{has_member}
-use Rattle.cc_places.specs.declared.abs.Abs.{Abs}
-use Rattle.cc_places.specs.declared.abs.Abs.TheVariants as abs
-use Rattle.cc_places.specs.declared.addrs.Addrs.{Addrs}
-use Rattle.cc_program.specs.declared.value.Address.{Address}
-use Rattle.cc_program.specs.declared.value.Value.TheVariants.{Int, Place}
-use Rattle.cc_rules_flows.specs.Tests.{Differs, Equals}
-use Rattle.cc_rules_tests.specs.Passing.{MayPassIn, IsBehind, IsNext, HasOther, HasOtherBetween}
-use Rattle.cc_state_operators.specs.Domains.{Domain}
+use Rattle.cc_lattice.specs.Domains.{IsInReach, IsIntValue}
+use Rattle.cc_places.specs.laws.ListLaws.{all_taken, item_in, none_in, taken_cases}
+use Rattle.cc_rules_tests.specs.Passing.{IsBehind, IsNext, HasOtherBetween}
 
 -- ---- numbers as the code has them
 

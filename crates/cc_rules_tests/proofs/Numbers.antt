@@ -12,7 +12,6 @@ use Rattle.cc_places.specs.declared.abs.Abs.TheVariants as abs
 use Rattle.cc_places.specs.declared.addrs.Addrs.{Addrs}
 use Rattle.cc_places.specs.laws.ListLaws.{at_head}
 use Rattle.cc_program.specs.declared.expr.Expr.{Expr, out-Expr}
-use Rattle.cc_program.specs.declared.program.Program.{Program}
 use Rattle.cc_rules_flows.specs.Tests.{Equals, Differs, negated, passing, turned}
 use Rattle.cc_rules_tests.specs.Forms.{comparison_in}
 use Rattle.cc_rules_tests.specs.Tested.{IsCutAsIn, IsCutByOne, IsPureNumber, IsTested, IsValWith, MayHoldAll, labels_of, test_of}

@@ -1,12 +1,12 @@
 -- An operand that is a register, and a conversion that keeps its set.
-use Rattle.std.proofs.Common.{◌≡◌, ◌⊎◌, ◌↔◌, ◌&&◌, ℕ, ℤ, ◌≤ℤ◌, to_z, of_z, Bool, true, false, IsTrue, Option, Some, None, cond, inl, inr, ⊎_elim, refl, ap, sym, subst, ◌∙◌, arith}
+use Rattle.std.proofs.Common.{◌≡◌, ◌↔◌, ℕ, ℤ, ◌≤ℤ◌, to_z, of_z, Bool, true, false, IsTrue, Some, None, cond, inl, inr, ⊎_elim, refl, ap, sym, subst, ◌∙◌, arith}
 use Rattle.std.proofs.lemmas.Int.{ints}
 use Rattle.std.specs.Int.{w128}
 use Rattle.std.proofs.lemmas.Option.{same_Some}
 use Rattle.cc_lattice.specs.Domains.{AreEnds, IsInReach}
 use Rattle.cc_num.specs.declared.int_type.IntType.{IntType}
 use Rattle.cc_num.specs.declared.target.Target.{Target}
-use Rattle.cc_num.specs.Integers.{IsValueOf, is_value_of, least_of, most_of}
+use Rattle.cc_num.specs.Integers.{IsValueOf, is_value_of}
 use Rattle.cc_num.proofs.ResultLaws.{is_value_from, value_from_test}
 use Rattle.cc_program.specs.declared.expr.Expr.{Expr, out-Expr}
 use Rattle.cc_program.specs.declared.expr.Expr.TheOpen as one

@@ -1,5 +1,5 @@
 -- Which members of an explicit set stay, and the least set that has them.
-use Rattle.std.proofs.Common.{◌≡◌, ◌⊎◌, ◌↔◌, ◌<◌, ◌+◌, ◌==◌, ℕ, ℤ, Bool, true, IsTrue, List, [], length, take, get_or, Option, Some, cond, inl, inr, ⊎_elim, refl, sym, subst}
+use Rattle.std.proofs.Common.{◌≡◌, ◌↔◌, ◌<◌, ◌+◌, ℕ, ℤ, Bool, IsTrue, List, [], length, take, get_or, inl, inr, ⊎_elim, refl, sym, subst}
 use Rattle.std.specs.List.{Contains}
 use Rattle.cc_lattice.specs.Domains.{IsIntValue}
 use Rattle.cc_lattice.specs.Orders.{IsLeastUpperBound}
@@ -7,7 +7,7 @@ use Rattle.cc_lattice.proofs.IntValues.{value_is_int}
 use Rattle.cc_places.specs.declared.abs.Abs.{Abs}
 use Rattle.cc_places.specs.laws.ListLaws.{item_in, none_in, taken_before, taken_cases, taken_now}
 use Rattle.cc_rules_tests.specs.Passing.{MayPassIn}
-use Rattle.cc_rules_tests.specs.Tested.{IsTested, IsValWith, IsWorkedAt, MayHoldAll, MayHoldEach, MayHoldOne, StaysIn, test_of}
+use Rattle.cc_rules_tests.specs.Tested.{IsValWith, IsWorkedAt, MayHoldAll, MayHoldEach, MayHoldOne, StaysIn, test_of}
 use Rattle.cc_rules_tests.specs.declared.tested.Tested.{Tested}
 use Rattle.cc_rules_tests.proofs.Trials.{changed}
 use Rattle.cc_state_operators.specs.Domains.{Domain, IsHull, IsHullFrom}

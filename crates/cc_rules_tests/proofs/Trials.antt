@@ -1,5 +1,5 @@
 -- Registers where one of them has another set.
-use Rattle.std.proofs.Common.{arith, ◌≡◌, ◌⊎◌, ◌≢◌, ◌==◌, ◌+◌, ℕ, zero, suc, Bool, true, false, not, cond, eqb, List, ◌∷◌, length, Option, Some, None, option_and_then, slice_get, inl, inr, refl, ap, sym, subst, ◌∙◌}
+use Rattle.std.proofs.Common.{arith, ◌≡◌, ◌⊎◌, ◌≢◌, ◌==◌, ◌+◌, ℕ, suc, Bool, true, false, not, cond, eqb, List, ◌∷◌, length, Option, Some, None, option_and_then, slice_get, inl, inr, refl, ap, sym, subst, ◌∙◌}
 use Rattle.std.specs.Prelude.{nat_lt}
 use Rattle.std.specs.List.{position_or_len}
 use Rattle.std.proofs.lemmas.Bool.{eqb-true, lt-ltb}
@@ -7,7 +7,7 @@ use Rattle.std.proofs.lemmas.Bool.Decides.{eqb_tells, nat_tests}
 use Rattle.std.proofs.Math.Path.{fun_ext}
 use Rattle.cc_places.specs.declared.abs.Abs.{Abs}
 use Rattle.cc_places.specs.declared.abs.Abs.TheVariants as abs
-use Rattle.cc_rules_tests.specs.Tested.{IsTrialOf, MayHoldAll, IsIntRegister}
+use Rattle.cc_rules_tests.specs.Tested.{MayHoldAll}
 use Rattle.cc_state_operators.specs.Domains.{Domain}
 use Rattle.cc_state_values.specs.declared.context.Context.{Context}
 use Rattle.cc_state_values.specs.Contexts.{HaveSetsIn, set_in, set_of}

@@ -1,9 +1,9 @@
 -- The forms of expressions that tests refine by.
-use Rattle.std.specs.Prelude.{ℕ, Bool, true, false, Option, Some, None, if◌then◌else◌}
+use Rattle.std.specs.Prelude.{ℕ, Option, Some, None, if◌then◌else◌}
 use Rattle.cc_lattice.specs.Domains.{is_comparison}
 use Rattle.cc_num.specs.declared.int_type.IntType.{IntType}
 use Rattle.cc_num.specs.declared.op.BinOp.{BinOp}
-use Rattle.cc_program.specs.declared.expr.Expr.{Expr, out-Expr}
+use Rattle.cc_program.specs.declared.expr.Expr.{Expr}
 use Rattle.cc_program.specs.declared.expr.Expr.TheOpen as one
 use Rattle.cc_program.specs.declared.expr.Place.{Place, out-Place}
 use Rattle.cc_rules_tests.specs.declared.forms.Comparison.{Comparison}

@@ -1,5 +1,5 @@
 -- A test of an expression, as the code has it: what is asked of it, and what it leaves.
-use Rattle.std.specs.Prelude.{◌≡◌, ℕ, ◌==◌, ℤ, true, List, [], ◌∷◌, Option, Some, slice_get, if◌then◌else◌}
+use Rattle.std.specs.Prelude.{◌≡◌, ℕ, ◌==◌, ℤ, true, List, [], ◌∷◌, Some, slice_get, if◌then◌else◌}
 use Rattle.std.specs.List.{Contains}
 use Rattle.cc_lattice.specs.Domains.{IsIntValue}
 use Rattle.cc_num.specs.declared.int_type.IntType.{IntType}

@@ -1,5 +1,5 @@
 -- The next number goes on by one where the list has it.
-use Rattle.std.proofs.Common.{◌≡◌, ℤ, pos, ◌+◌, ◌+ℤ◌, get_or, to_z, of_z, arith, ap, sym, subst, ◌∙◌}
+use Rattle.std.proofs.Common.{pos, ◌+◌, ◌+ℤ◌, get_or, to_z, of_z, arith, ap, sym, subst, ◌∙◌}
 use Rattle.std.specs.Int.{w128}
 use mir.Facts.{of_z-to_z}
 use Rattle.cc_rules_tests.specs.Passing.{IsNext, IsBehind}

@@ -1,8 +1,8 @@
 -- The numbers that were passed are all among the others; one that no other follows on is not.
-use Rattle.std.proofs.Common.{◌≡◌, ℤ, ◌≤ℤ◌, ◌<ℤ◌, to_z, of_z, ap, refl, sym, subst, ◌∙◌}
+use Rattle.std.proofs.Common.{◌≡◌, ◌≤ℤ◌, ◌<ℤ◌, to_z, of_z, ap, refl, sym, subst, ◌∙◌}
 use Rattle.std.specs.Int.{w128}
 use mir.Facts.{of_z-to_z}
-use Rattle.cc_rules_tests.specs.Passing.{HasOtherBetween, IsNext}
+use Rattle.cc_rules_tests.specs.Passing.{IsNext}
 use Rattle.cc_rules_tests.proofs.Following.{IsPassed, apart, at_most, falls, next_same, none_passed, one_left, passed_on, reach_same}
 use Rattle.cc_rules_tests.proofs.passing.has_other_between.Goals as goal
 

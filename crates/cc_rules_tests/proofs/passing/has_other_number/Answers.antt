@@ -1,5 +1,5 @@
 -- By the members of an explicit set, and by the ends of a range.
-use Rattle.std.proofs.Common.{◌≡◌, ◌↔◌, ℤ, ◌≤ℤ◌, List, Option, Some, ap, sym, subst, ◌∙◌}
+use Rattle.std.proofs.Common.{◌↔◌, ℤ, ◌≤ℤ◌, ap, sym, subst, ◌∙◌}
 use Rattle.std.specs.List.{Contains}
 use Rattle.std.specs.Option.{IfSome, option_copied}
 use Rattle.cc_lattice.specs.Domains.{AreEnds}

@@ -1,7 +1,6 @@
 -- By the kind of the set.
-use Rattle.std.proofs.Common.{subst, sym}
 use Rattle.std.proofs.lemmas.Result.{IfOk-weaker}
-use Rattle.cc_places.specs.Abstract.{IsBelowAbs, AreOfOneKind}
+use Rattle.cc_places.specs.Abstract.{IsBelowAbs}
 use Rattle.cc_places.specs.laws.AbstractLaws.{abs_itself}
 use Rattle.cc_state_operators.specs.Domains.{domain}
 use Rattle.cc_rules_tests.proofs.Cuts.{left_addresses}

@@ -1,5 +1,5 @@
 -- Member by member.
-use Rattle.std.proofs.Common.{◌≡◌, ◌+◌, ℤ, pos, length, get_or, take, arith, ⊎_elim, subst}
+use Rattle.std.proofs.Common.{ℤ, pos, get_or, arith, ⊎_elim, subst}
 use Rattle.std.specs.List.{Contains}
 use Rattle.cc_places.specs.laws.ListLaws.{all_taken, none_in, taken_cases}
 use Rattle.cc_rules_tests.specs.Tested.{IsWorkedAt}

@@ -1,5 +1,4 @@
 -- One number and one value at it tell it.
-use Rattle.std.proofs.Common.{◌≡◌}
 use Rattle.cc_rules_tests.proofs.Staying.{one_held, one_int, stays_by, worked_by}
 use Rattle.cc_state_operators.specs.Domains.{domain}
 use Rattle.cc_rules_tests.proofs.Least.{number_read}

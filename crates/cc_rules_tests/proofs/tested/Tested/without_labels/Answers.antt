@@ -1,5 +1,5 @@
 -- Each label cuts what the labels before it have left.
-use Rattle.std.proofs.Common.{◌≡◌, ℤ, pos, length, get_or, drop, arith, sym, subst}
+use Rattle.std.proofs.Common.{◌≡◌, pos, get_or, arith, sym, subst}
 use Rattle.cc_num.specs.declared.op.BinOp.TheVariants as op
 use Rattle.cc_places.specs.laws.ListLaws.{item_in}
 use Rattle.cc_rules_tests.proofs.Cuts.{all_cut, none_cut, one_cut}

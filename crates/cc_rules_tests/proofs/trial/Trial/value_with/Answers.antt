@@ -1,5 +1,5 @@
 -- The register that comes first has the other set.
-use Rattle.std.proofs.Common.{◌≡◌, ◌∷◌, ap, sym, subst, ◌∙◌}
+use Rattle.std.proofs.Common.{ap, sym, subst, ◌∙◌}
 use Rattle.std.proofs.Math.ListN.{set}
 use Rattle.std.proofs.lemmas.Result.{IfOk-weaker}
 use Rattle.cc_places.specs.declared.abs.Abs.TheVariants as abs
