@@ -58,7 +58,7 @@ fn kind_by(values: &Abs<Vals>, bits: u32) -> Coding
 }
 
 /// The kind of coding of some values, with codes of so many bits.
-fn kind_of(values: &Abs<Vals>, bits: u32) -> Coding
+pub fn kind_of(values: &Abs<Vals>, bits: u32) -> Coding
     ensures { result ≡ kind_of_values values.now bits }
 {
     if count_of(values) == 1 && bits == 0 {

@@ -7,7 +7,7 @@ pub mod kinds;
 mod law;
 mod members;
 
-pub use choice::coding;
+pub use choice::{coding, kind_of};
 pub use code::{Decoded, decode, encode};
 pub use law::{known_codings, laws};
 pub use members::count_of;

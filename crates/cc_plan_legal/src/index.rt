@@ -14,9 +14,9 @@ use std::alloc::Global;
 
 /// The slots of a plan's fields, and for each word its fields.
 #[derive(Drop)]
-pub(crate) struct Index {
-    pub slots: List<u32>,
-    pub groups: List<Group>,
+pub struct Index {
+    pub(crate) slots: List<u32>,
+    pub(crate) groups: List<Group>,
 }
 
 /// The slots of fields.
@@ -34,7 +34,7 @@ fn slots_of(alloc: Global, fields: &[Field]) -> Result<Vec<u32>, NoMemory>
 }
 
 /// The index of a plan.
-pub(crate) fn index_of(alloc: Global, plan: &Plan) -> Result<Index, NoMemory>
+pub fn index_of(alloc: Global, plan: &Plan) -> Result<Index, NoMemory>
     ensures { IfOk result (IsIndex plan.now) }
 {
     let slots = slots_of(alloc, plan.fields.all())?;
@@ -54,7 +54,7 @@ fn search(slots: &[u32], slot: u32) -> Result<usize, usize>
 }
 
 /// Whether a slot is among ascending ones.
-pub(crate) fn is_among(slots: &[u32], slot: u32) -> bool
+pub fn is_among(slots: &[u32], slot: u32) -> bool
     requires { ascends slots.now ≡ true }
     ensures { result ≡ is_among_of slots.now slot }
 {
@@ -65,7 +65,7 @@ pub(crate) fn is_among(slots: &[u32], slot: u32) -> bool
 }
 
 /// The field of a slot.
-pub(crate) fn field_of(plan: &Plan, index: &Index, slot: u32) -> Option<Field>
+pub fn field_of(plan: &Plan, index: &Index, slot: u32) -> Option<Field>
     requires { IsIndex plan.now index.now }
     ensures { result ≡ field_of_slot plan.now.fields slot }
 {

@@ -14,6 +14,7 @@ mod rules;
 mod standing;
 
 pub use candidate::{Candidate, Form, candidate_of};
+pub use index::{Index, field_of, index_of, is_among};
 pub use law::laws;
 pub use legal::{Illegal, first_illegal};
 pub use parts::Parts;
