@@ -27,7 +27,8 @@ use Rattle.cc_eval.specs.Eval.{next_of}
 use Rattle.cc_eval.specs.Progress.{Waits}
 use Rattle.cc_steps.specs.Access.{is_open}
 use Rattle.cc_steps.specs.State.{Active, State}
-use Rattle.cc_steps.specs.Step.{worked, progress_of, cell_position}
+use Rattle.cc_steps.specs.Step.{progress_of, cell_position}
+pub use Rattle.cc_steps.specs.Step.{worked_at}
 use Rattle.cc_steps.specs.Turn.{is_going}
 use Rattle.cc_syntax.specs.Expressions.{of_one}
 use Rattle.cc_syntax.specs.Initial.{place_at}
@@ -75,11 +76,7 @@ abbrev pub AreSound : Program → Func → List Level → Type 0
 AreSound p f [] = Unit {0}
 AreSound p f (at ∷ around) = (is_sound_in p f around at.rest ≡ true) × AreSound p f around
 
--- the full expression that is worked at a level, if one is
-abbrev pub worked_at : Level → List Stmt → Option Expr
-worked_at here [] = None
-worked_at here (s ∷ rest) = worked (out-Stmt s) here.phase
-
+-- the full expression that is worked in an activation, if one is
 abbrev pub expression_of : Active → Option Expr
 expression_of a = worked_at a.here a.here.rest
 

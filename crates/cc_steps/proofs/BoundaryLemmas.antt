@@ -11,6 +11,7 @@ use Rattle.cc_eval.specs.Progress.{operands_of}
 use Rattle.cc_program.specs.declared.stmt.Stmt.{Stmt, out-Stmt}
 use Rattle.cc_steps.specs.declared.activation.Activation.{Activation}
 use Rattle.cc_steps.specs.Runs.{begins_at, begins, is_empty, running_begins}
+use Rattle.cc_steps.specs.Step.{worked, worked_at}
 use Rattle.cc_steps.specs.View.{active_of, actives_of}
 use Rattle.cc_steps.specs.Whole.{position_in}
 use Rattle.cc_steps.proofs.StackLemmas.{actives_of-last, actives_of-empty}
@@ -28,6 +29,16 @@ begins-some [] phase s h = absurd (cc)
 begins-some (t ∷ rest) phase s h = ap (λ s. begins_at (out-Stmt s) phase) (sym (some_same h))
 
 pub ruleset of_first = (begins-none, begins-some)
+
+pub worked-none : (here : LevelAs) (rest : List Stmt) → None ≡ first_of rest → None ≡ worked_at here rest
+worked-none here [] h = refl
+worked-none here (s ∷ rest) h = absurd (cc)
+
+pub worked-some : (here : LevelAs) (rest : List Stmt) (s : Stmt) → Some s ≡ first_of rest → worked (out-Stmt s) here.phase ≡ worked_at here rest
+worked-some here [] s h = absurd (cc)
+worked-some here (t ∷ rest) s h = ap (λ s. worked (out-Stmt s) here.phase) (some_same h)
+
+pub ruleset of_worked = (worked-none, worked-some)
 
 pub running-none : (xs : List Activation) → length xs ≡ 0 → running_begins (actives_of xs) ≡ false
 running-none xs h = ap running_begins (actives_of-empty xs h)

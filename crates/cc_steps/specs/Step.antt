@@ -84,6 +84,11 @@ worked (is.Return e) phase = e
 worked is.Empty phase = None
 worked (is.Block a) phase = None
 
+-- the full expression that is worked at a level, if one is
+abbrev pub worked_at : Level → List Stmt → Option Expr
+worked_at here [] = None
+worked_at here (s ∷ rest) = worked (out-Stmt s) here.phase
+
 -- the full expression of a statement which is left as soon as its value is known: the first expression of a `for`, and what that does
 -- behind its body
 abbrev pub passed_at : Phase → Option Expr → Option Expr → Option (Option Expr)

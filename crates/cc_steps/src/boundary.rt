@@ -1,21 +1,24 @@
 //! Where an activation stands, as others see it: whether at a boundary, by its path and operands, and by its marks.
 
+ghost use Rattle.std.specs.Option.{option_copied};
 ghost use Rattle.std.specs.Prelude.{◌≡◌, ◌&&◌, ◌++◌, ◌∷◌, [], IfOk};
 ghost use Rattle.cc_control.specs.Control.{path_of};
 ghost use Rattle.cc_control.specs.View.{level_of};
 ghost use Rattle.cc_eval.specs.Progress.{operands_of};
 ghost use Rattle.cc_program.specs.declared.stmt.Stmt.{out-Stmt};
 ghost use Rattle.cc_steps.specs.Runs.{begins_at as begins_at_of, begins as begins_of, is_empty, running_begins};
+ghost use Rattle.cc_steps.specs.Step.{worked_at};
 ghost use Rattle.cc_steps.specs.Turn.{is_going as is_going_of};
 ghost use Rattle.cc_steps.specs.View.{active_of, actives_of};
 
 use crate::activation::Activation;
+use crate::choices::worked;
 use crate::event::End;
 use crate::turn::is_going;
 use cc_control::{Level, Phase, first};
 use cc_eval::Mark;
 use cc_num::NoMemory;
-use cc_program::{Stmt, Value};
+use cc_program::{Expr, Stmt, Value};
 use std::alloc::Global;
 
 /// Whether a statement, or a turn of it as a loop, begins with the expression that comes in this phase.
@@ -62,6 +65,18 @@ impl<'p> Activation<'p> {
         ensures { result.now ≡ (active_of self.now).marks }
     {
         self.marks.as_slice()
+    }
+
+    /// The full expression that is worked, where one is: of the statement of the next step, or of the one that waits for the
+    /// value of a call. Of a `for` it is the one that comes in this phase.
+    #[tactic(auto, using(crate::proofs::BoundaryLemmas::of_worked))]
+    pub fn expression(&self) -> Option<&Expr>
+        ensures { option_copied result ≡ worked_at (active_of self.now).here (active_of self.now).here.rest }
+    {
+        match first(self.here.left) {
+            None => None,
+            Some(s) => worked(s, self.here.phase),
+        }
     }
 
     /// Whether nothing was done yet of a statement, of a loop's turn, or of the return at the function's end.
