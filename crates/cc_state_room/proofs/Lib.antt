@@ -1,0 +1,4 @@
+pub mod Falling
+pub mod Pairs
+pub mod Rising
+pub mod Bounds
