@@ -1,5 +1,10 @@
+pub mod AddedLemmas
 pub mod Capped
 pub mod CopyLemmas
+pub mod CopySizes
+pub mod DownLemmas
+pub mod ListLemmas
+pub mod Nowhere
 pub mod Pushed
-pub mod RamLemmas
 pub mod StandLemmas
+pub mod Through

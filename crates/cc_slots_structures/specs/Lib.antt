@@ -1,3 +1,4 @@
+pub mod Added
 pub mod Copies
 pub mod Standings
 pub mod Stands

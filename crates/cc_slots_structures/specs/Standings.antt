@@ -1,7 +1,7 @@
 -- Where the structures of a program stand, one by one.
 use Rattle.std.specs.Prelude.{◌≡◌, ℕ, List, length, slice_get, Some}
 use Rattle.cc_program.specs.declared.program.Program.{Program}
-use Rattle.cc_slots_structures.specs.declared.structures.Standing.{Standing}
+use Rattle.cc_slots_structures.specs.declared.standing.Standing.{Standing}
 use Rattle.cc_slots_structures.specs.Copies.{capped, copies_in_ram}
 use Rattle.cc_slots_structures.specs.Stands.{is_open, is_automatic}
 

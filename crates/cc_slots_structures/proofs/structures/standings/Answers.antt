@@ -1,9 +1,17 @@
-use Rattle.cc_slots_structures.specs.Standings.{IsStanding}
-use Rattle.cc_slots_structures.proofs.Pushed.{each_more, one_more}
+use Rattle.std.proofs.Common.{arith, ap, sym, subst, ℕ, length}
+use Rattle.std.proofs.lemmas.List.{with_items_is}
+use Rattle.cc_slots_structures.specs.Added.{AreNowhere}
+use Rattle.cc_slots_structures.specs.Standings.{AreStandings}
 use Rattle.cc_slots_structures.proofs.structures.standings.Goals as goal
 
-pub loop-s-preserved : goal.loop-s-preserved
-loop-s-preserved c = record {
-  count = one_more c.loop-s.list.items c.push.new.self.items c.in_ok-structure_at.field-0 c.loop-s.s c.in_ok-push.ensures.items c.loop-s.invariant.count;
-  each = each_more (IsStanding c.args.p.now) c.loop-s.list.items c.in_ok-structure_at.field-0 c.push.new.self.items c.loop-s.s c.in_ok-push.ensures.items c.loop-s.invariant.count c.loop-s.invariant.each c.in_ok-structure_at.ensures;
-}
+pub add_all-requires : goal.add_all-requires
+add_all-requires c =
+    subst (AreNowhere (length c.args.p.now.structures)) (sym c.deref_mut.ensures.value)
+    (subst (λ (n : ℕ). AreNowhere n c.in_ok-list.list.items) (ap length c.all.ensures) c.in_ok-list.ensures)
+
+pub returns : goal.returns
+returns c =
+    let count = c.add_all.ensures.count in
+    let many = c.in_ok-list.ensures.many in
+    let long = ap length c.all.ensures in
+    subst (AreStandings c.args.p.now) (sym (with_items_is c.in_ok-list.list c.add_all.new.list (omega (arith, count, many, long)))) c.add_all.ensures
