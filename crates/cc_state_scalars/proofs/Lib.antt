@@ -1,3 +1,4 @@
 pub mod Listing
+pub mod Locals
 pub mod Over
 pub mod Rows

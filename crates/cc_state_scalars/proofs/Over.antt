@@ -185,13 +185,13 @@ objects_more table objects m lists o l h at is = made_more (IsObjectList table) 
 pub objects_made : (table : List (List Key)) (objects : List Object) (m : ℕ) (lists : List (List Key)) → m ≡ length objects → AreMade (IsObjectList table) objects m lists → AreObjectKeys table objects lists
 objects_made table objects m lists e h = record { count = h.count ∙ e; there = h.there }
 
-there_is : {A B : Type 0} (xs : List A) (ys : List B) → length xs ≡ length ys → (i : ℕ) (x : A) → slice_get xs i ≡ Some x → (y : B) × (slice_get ys i ≡ Some y)
+pub there_is : {A B : Type 0} (xs : List A) (ys : List B) → length xs ≡ length ys → (i : ℕ) (x : A) → slice_get xs i ≡ Some x → (y : B) × (slice_get ys i ≡ Some y)
 there_is [] ys e i x h = absurd (none-some x h)
 there_is (x ∷ xs) [] e i z h = absurd (omega (arith, e))
 there_is (x ∷ xs) (y ∷ ys) e zero z h = (y, refl)
 there_is (x ∷ xs) (y ∷ ys) e (suc i) z h = there_is xs ys (omega (arith, e)) i z h
 
-each_passes : {A : Type 0} (test : A → Bool) (xs : List A) → list_all test xs ≡ true → (i : ℕ) (x : A) → slice_get xs i ≡ Some x → test x ≡ true
+pub each_passes : {A : Type 0} (test : A → Bool) (xs : List A) → list_all test xs ≡ true → (i : ℕ) (x : A) → slice_get xs i ≡ Some x → test x ≡ true
 each_passes test [] h i x e = absurd (none-some x e)
 each_passes test (y ∷ xs) h zero x e = ap test (sym (same_Some y x e)) ∙ (both_true (test y) (list_all test xs) h).0
 each_passes test (y ∷ xs) h (suc i) x e = each_passes test xs (both_true (test y) (list_all test xs) h).1 i x e

@@ -77,6 +77,11 @@ pub record AreObjectKeys (table : List (List Key)) (objects : List Object) (keys
   pub count : length keys ≡ length objects
   pub there : (i : ℕ) (o : Object) (l : List Key) → slice_get objects i ≡ Some o → slice_get keys i ≡ Some l → AreKeysOver table o.ctype (key.Object i) l
 
+-- a list for each local of a function
+pub record AreLocalKeysOver (table : List (List Key)) (id : ℕ) (locals : List Named) (keys : List (List Key)) : Type 0 where
+  pub count : length keys ≡ length locals
+  pub there : (r : ℕ) (local : Named) (l : List Key) → slice_get locals r ≡ Some local → slice_get keys r ≡ Some l → AreKeysOver table local.1 (key.Local id r) l
+
 -- ---- of a program
 
 module _ (p : Program) where
@@ -88,3 +93,8 @@ module _ (p : Program) where
   pub record AreStaticKeys (objects : List Object) (keys : List (List Key)) : Type 0 where
     pub count : length keys ≡ length objects
     pub there : (i : ℕ) (list : List Key) → slice_get keys i ≡ Some list → AreKeysIn (root.Static i) list
+
+  -- of each local of a function, in each of its activations
+  pub record AreLocalKeys (id : ℕ) (locals : List Named) (keys : List (List Key)) : Type 0 where
+    pub count : length keys ≡ length locals
+    pub there : (number r : ℕ) (list : List Key) → slice_get keys r ≡ Some list → AreKeysIn (root.Auto number id r) list

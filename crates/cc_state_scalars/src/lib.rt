@@ -1,6 +1,6 @@
-//! The key of each scalar of each static object of a program, in order of path.
+//! The key of each scalar of each static object of a program, and of each local of a function, in order of path.
 #![tactic(auto)]
 
 mod listed;
 
-pub use listed::static_keys;
+pub use listed::{local_keys, static_keys};

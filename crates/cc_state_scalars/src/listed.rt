@@ -1,14 +1,14 @@
 //! The keys of the scalars of types and objects, in order of path.
 
-ghost use Rattle.std.specs.Prelude.{◌≡◌, ◌<◌, ◌^◌, ◌++◌, ◌∷◌, [], length, replicate, unwrap_or, IfOk};
+ghost use Rattle.std.specs.Prelude.{◌≡◌, ◌<◌, ◌^◌, ◌++◌, ◌∷◌, [], length, replicate, unwrap_or, IfOk, Some, slice_get};
 ghost use Rattle.std.specs.List.{flat_map};
 ghost use Rattle.std.specs.Option.{option_copied};
-ghost use Rattle.cc_state_scalars.specs.Listed.{AreKeysOver, AreMemberKeysOver, IsTableOf, AreObjectKeys, AreStaticKeys};
+ghost use Rattle.cc_state_scalars.specs.Listed.{AreKeysOver, AreMemberKeysOver, IsTableOf, AreObjectKeys, AreLocalKeysOver, AreStaticKeys, AreLocalKeys};
 ghost use Rattle.cc_syntax.specs.Sound.{IsTypedProgram};
 ghost use Rattle.cc_syntax.specs.Types.{AreShort};
 
 use cc_num::{List, Name, NoMemory, at};
-use cc_program::{CType, Object, Program, Shape, Structure};
+use cc_program::{CType, Func, Object, Program, Shape, Structure};
 use cc_state_facts::Key;
 use std::alloc::Global;
 
@@ -119,6 +119,24 @@ fn object_keys(
     Ok(List::of(all))
 }
 
+/// Those of each local of a function.
+fn local_keys_over(
+    alloc: Global,
+    table: &[List<Key>],
+    id: u32,
+    locals: &[(Name, CType)],
+) -> Result<List<List<Key>>, NoMemory>
+    requires { length locals.now < 2 ^ 32 }
+    ensures { IfOk result (λ keys. AreLocalKeysOver table.now id locals.now keys) }
+{
+    let mut all = Vec::new(alloc);
+    for (r, local) in locals.iter().enumerate() {
+        let keys = keys_over(alloc, table, &local.1, Key::Local(id, r as u32))?;
+        all.push(keys)?;
+    }
+    Ok(List::of(all))
+}
+
 /// For each static object of a program the key of each of its scalars, in order of path. The only error is want of memory.
 pub fn static_keys(alloc: Global, p: &Program) -> Result<List<List<Key>>, NoMemory>
     requires { IsTypedProgram p.now }
@@ -126,4 +144,20 @@ pub fn static_keys(alloc: Global, p: &Program) -> Result<List<List<Key>>, NoMemo
 {
     let table = structure_keys(alloc, p.structures.all())?;
     object_keys(alloc, table.all(), p.objects.all())
+}
+
+/// For each local of a function of a program the key of each of its scalars, in order of path. The only error is want of
+/// memory.
+pub fn local_keys(
+    alloc: Global,
+    p: &Program,
+    id: u32,
+    f: &Func,
+) -> Result<List<List<Key>>, NoMemory>
+    requires typed { IsTypedProgram p.now }
+    requires there { slice_get p.now.funcs id ≡ Some f.now }
+    ensures { IfOk result (λ keys. AreLocalKeys p.now id f.now.locals keys) }
+{
+    let table = structure_keys(alloc, p.structures.all())?;
+    local_keys_over(alloc, table.all(), id, f.locals.all())
 }
