@@ -1,0 +1,17 @@
+ghost use Rattle.cc_program.specs.declared.program.Program.{Program};
+ghost use Rattle.cc_rules.specs.Constraints.{Constraint};
+ghost use Rattle.cc_rules.specs.Rules.{IsAsked};
+ghost use Rattle.cc_rules_needs.specs.Needs.{Needs};
+ghost use Rattle.cc_rules_reads.specs.Reads.{AreSameFor};
+ghost use Rattle.cc_state_facts.specs.declared.facts.Facts.{Facts};
+ghost use Rattle.cc_state_operators.specs.Domains.{domain};
+
+use cc_lattice::IntDomain;
+
+/// What constraints read of facts. The call does nothing.
+pub fn laws<I: IntDomain>()
+    // Facts that are the same in what a constraint reads are asked the same by it.
+    ensures asked { (p : Program) (facts others : Facts I) (c : Constraint) (ns : Needs I) → AreSameFor p facts others c →
+        IsAsked (domain I.Has I.IsBelow I.OpGives I.OpOneGives I.ToGives I.KeepGives I.members_of) p facts c ns →
+        IsAsked (domain I.Has I.IsBelow I.OpGives I.OpOneGives I.ToGives I.KeepGives I.members_of) p others c ns }
+{}
