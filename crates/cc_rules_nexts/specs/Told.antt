@@ -1,0 +1,28 @@
+-- What is asked of next points by what is told to flow there.
+use Rattle.std.specs.Prelude.{◌≡◌, ℕ, List, ◌++◌}
+use Rattle.cc_rules.specs.Rules.{ComesTo, ComesToEach}
+use Rattle.cc_rules_asked.specs.declared.asked.Asked.{Asked}
+use Rattle.cc_rules_asked.specs.declared.asked.Asked.TheVariants as asked
+use Rattle.cc_rules_asked.specs.Asked.{all_needs}
+use Rattle.cc_rules_flows.specs.declared.after.Here.{Here}
+use Rattle.cc_rules_flows.specs.Joins.{flows_to}
+use Rattle.cc_rules_needs.specs.Flowing.{Flowing}
+use Rattle.cc_rules_needs.specs.Needs.{Needs}
+use Rattle.cc_state_facts.specs.declared.facts.PointFact.{PointFact}
+use Rattle.cc_state_operators.specs.Domains.{Domain}
+
+-- of a point of a function with so many registers
+abbrev pub point_told : {I : Type 0} → ℕ → ℕ × PointFact I → Asked I
+point_told registers flow = asked.Point flow.0 registers flow.1
+
+module _ {I : Type 0} (d : Domain I) (here : Here I) where
+  abbrev pub ComesToHere : ℕ → List (Flowing I) → Needs I → Type 0
+  ComesToHere k flows ns = ComesTo d here.context.program.now here.facts.now here.number here.context.id here.context.func.now here.point.now here.fact.now k flows ns
+
+  -- what is asked of one more point, by what flows to points
+  abbrev pub AskMore : List (ℕ × Flowing I) → ℕ → List (Asked I) → List (Asked I) → Type 0
+  AskMore flows k now new = (more : List (Asked I)) × (new ≡ now ++ more) × ComesToHere k (flows_to k flows) (all_needs here.context.program.now more)
+
+  abbrev pub ComeToEachHere : List ℕ → List (ℕ × Flowing I) → List (Asked I) → Type 0
+  ComeToEachHere nexts flows list =
+      ComesToEach d here.context.program.now here.facts.now here.number here.context.id here.context.func.now here.point.now here.fact.now nexts flows (all_needs here.context.program.now list)

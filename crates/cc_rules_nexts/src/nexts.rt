@@ -1,0 +1,78 @@
+//! What is asked of the next points by what is told to flow to each: all that comes to a point, together.
+
+ghost use Rattle.std.specs.Prelude.{◌≡◌, ◌<◌, ◌^◌, ℕ, List, length, IfOk, OnOk};
+ghost use Rattle.cc_rules.specs.Constraints.{Flow as FlowRule};
+ghost use Rattle.cc_rules_asked.specs.Asks.{AsksHere};
+ghost use Rattle.cc_rules_flows.specs.Acts.{Act as ActOf};
+ghost use Rattle.cc_rules_flows.specs.Here.{IsHere, FlowsHere};
+ghost use Rattle.cc_rules_flows.specs.Joins.{AreAlikeAt};
+ghost use Rattle.cc_rules_flows.specs.Known.{AreTold};
+ghost use Rattle.cc_rules_needs.specs.Flowing.{Flowing};
+ghost use Rattle.cc_rules_nexts.specs.Told.{AskMore, ComeToEachHere};
+ghost use Rattle.cc_state_operators.specs.Domains.{domain};
+
+use cc_lattice::IntDomain;
+use cc_num::NoMemory;
+use cc_rules_asked::Asked;
+use cc_rules_flows::{Here, joined};
+use cc_state_facts::PointFact;
+use std::alloc::Global;
+
+/// Asks of a point all that is told to flow there.
+fn put_next<I: IntDomain>(
+    alloc: Global,
+    asked: &mut Vec<Asked<I>>,
+    here: &Here<'_, I>,
+    told: &[(u32, PointFact<I>)],
+    next: u32,
+) -> Result<(), NoMemory>
+    requires here { IsHere (domain I.Has I.IsBelow I.OpGives I.OpOneGives I.ToGives I.KeepGives I.members_of) here.now }
+    requires alike { (k : ℕ) → AreAlikeAt k told.now }
+    ensures { OnOk result ((flows : List (ℕ × Flowing I)) → AreTold told.now flows → AskMore (domain I.Has I.IsBelow I.OpGives I.OpOneGives I.ToGives I.KeepGives I.members_of) here.now flows next asked.old.items asked.new.items) }
+{
+    let both = joined(alloc, told, next)?;
+    match both {
+        None => Ok(()),
+        Some(flow) => {
+            let registers = here.context.registers.len() as u32;
+            asked.push(Asked::Point {
+                number: next,
+                registers,
+                flow,
+            })?;
+            Ok(())
+        }
+    }
+}
+
+/// The same of each next point.
+fn asked_of_nexts<I: IntDomain>(
+    alloc: Global,
+    here: &Here<'_, I>,
+    told: &[(u32, PointFact<I>)],
+    nexts: &[u32],
+) -> Result<Vec<Asked<I>>, NoMemory>
+    requires here { IsHere (domain I.Has I.IsBelow I.OpGives I.OpOneGives I.ToGives I.KeepGives I.members_of) here.now }
+    requires alike { (k : ℕ) → AreAlikeAt k told.now }
+    ensures { IfOk result (λ asked. (flows : List (ℕ × Flowing I)) → AreTold told.now flows → ComeToEachHere (domain I.Has I.IsBelow I.OpGives I.OpOneGives I.ToGives I.KeepGives I.members_of) here.now nexts.now flows asked.items) }
+{
+    let mut asked = Vec::new(alloc);
+    for next in nexts {
+        put_next(alloc, &mut asked, here, told, *next)?;
+    }
+    Ok(asked)
+}
+
+/// What is asked of the next points by what is told to flow to each.
+pub fn asked_of_told<I: IntDomain>(
+    alloc: Global,
+    here: &Here<'_, I>,
+    told: &[(u32, PointFact<I>)],
+) -> Result<Vec<Asked<I>>, NoMemory>
+    requires here { IsHere (domain I.Has I.IsBelow I.OpGives I.OpOneGives I.ToGives I.KeepGives I.members_of) here.now }
+    requires alike { (k : ℕ) → AreAlikeAt k told.now }
+    ensures { IfOk result (λ asked. (act : ActOf) (flows : List (ℕ × Flowing I)) → FlowsHere (domain I.Has I.IsBelow I.OpGives I.OpOneGives I.ToGives I.KeepGives I.members_of) here.now act flows → AreTold told.now flows →
+        AsksHere (domain I.Has I.IsBelow I.OpGives I.OpOneGives I.ToGives I.KeepGives I.members_of) here.now FlowRule act asked.items) }
+{
+    asked_of_nexts(alloc, here, told, here.point.next.all())
+}

@@ -1,0 +1,53 @@
+//! What is asked of the next points where nothing is tested: to each of them the same flows.
+
+ghost use Rattle.std.specs.Prelude.{◌≡◌, map, IfOk, None};
+ghost use Rattle.cc_rules.specs.Constraints.{Flow as FlowRule};
+ghost use Rattle.cc_rules_asked.specs.Asks.{AsksHere};
+ghost use Rattle.cc_rules_flows.specs.Flows.{tests_of};
+ghost use Rattle.cc_rules_flows.specs.Here.{IsHere, MayDo};
+ghost use Rattle.cc_rules_flows.specs.View.{act_view};
+ghost use Rattle.cc_rules_nexts.specs.Told.{point_told};
+ghost use Rattle.cc_state_operators.specs.Domains.{domain};
+
+use cc_lattice::IntDomain;
+use cc_num::NoMemory;
+use cc_rules_asked::Asked;
+use cc_rules_flows::{Act, Here};
+use cc_state_facts::{PointFact, copied_point};
+use std::alloc::Global;
+
+/// Asks of each point what is told to flow there.
+fn points_told<I: IntDomain>(
+    alloc: Global,
+    told: &[(u32, PointFact<I>)],
+    registers: u32,
+) -> Result<Vec<Asked<I>>, NoMemory>
+    ensures { IfOk result (λ asked. asked.items ≡ map (point_told registers) told.now) }
+{
+    let mut asked = Vec::new(alloc);
+    for flow in told {
+        let fact = copied_point(alloc, &flow.1)?;
+        asked.push(Asked::Point {
+            number: flow.0,
+            registers,
+            flow: fact,
+        })?;
+    }
+    Ok(asked)
+}
+
+/// What is asked of the next points by what flows there, where the statement tests nothing.
+pub fn asked_by_flow<I: IntDomain>(
+    alloc: Global,
+    here: &Here<'_, I>,
+    act: Act<'_>,
+) -> Result<Vec<Asked<I>>, NoMemory>
+    requires here { IsHere (domain I.Has I.IsBelow I.OpGives I.OpOneGives I.ToGives I.KeepGives I.members_of) here.now }
+    requires may { MayDo (domain I.Has I.IsBelow I.OpGives I.OpOneGives I.ToGives I.KeepGives I.members_of) here.now (act_view act) }
+    requires tests_none { tests_of here.now.number here.now.point.now.next (act_view act) ≡ None }
+    ensures { IfOk result (λ asked. AsksHere (domain I.Has I.IsBelow I.OpGives I.OpOneGives I.ToGives I.KeepGives I.members_of) here.now FlowRule (act_view act.entry) asked.items) }
+{
+    let told = here.after(alloc, act)?;
+    let registers = here.context.registers.len() as u32;
+    points_told(alloc, told.as_slice(), registers)
+}
