@@ -1,23 +1,22 @@
 -- Needs in order that fit: those of lists that are joined, and those of what flows to a point.
-use Rattle.std.proofs.Common.{arith, ◌≡◌, ◌⊎◌, inl, inr, ⊎_elim, ℕ, zero, suc, ◌+◌, ◌<◌, Bool, true, false, true≢false, List, [], ◌∷◌, ◌++◌, map, length, Option, Some, None, slice_get, refl, ap, sym, ◌∙◌, subst}
-use Rattle.std.specs.Prelude.{is_some, not, ◌&&◌, if◌then◌else◌}
+use Rattle.std.proofs.Common.{arith, ◌≡◌, ◌⊎◌, inl, inr, ℕ, zero, suc, ◌+◌, ◌<◌, Bool, true, false, List, [], ◌∷◌, ◌++◌, map, length, Option, Some, slice_get, refl, sym, subst}
+use Rattle.std.specs.Prelude.{is_some, not, if◌then◌else◌}
 use Rattle.std.specs.List.{Contains, flat_map}
-use Rattle.std.proofs.lemmas.Option.{same_Some, slice_get_within}
-use Rattle.cc_flow.proofs.Paths.{all_counted, body_counted}
-use Rattle.cc_flow.specs.Points.{total_of, body_count, body_points, count_of, flow_of}
+use Rattle.std.proofs.lemmas.Option.{slice_get_within}
+use Rattle.cc_flow.proofs.Paths.{all_counted}
+use Rattle.cc_flow.specs.Points.{count_of, flow_of}
 use Rattle.cc_flow.specs.declared.types.Point.{Point}
-use Rattle.cc_flow_sound.specs.Moves.{entry}
 use Rattle.cc_places.specs.declared.abs.Abs.{Abs}
 use Rattle.cc_places.specs.laws.ListLaws.{cons_cases, at_head, behind_head}
 use Rattle.cc_program.specs.declared.func.Func.{Func}
 use Rattle.cc_program.specs.declared.program.Program.{Program}
 use Rattle.cc_rules_flows.specs.Nexts.{IsPoint}
-use Rattle.cc_rules_grow.proofs.Elements.{Each, each_append, each_map, map_contained}
-use Rattle.cc_rules_grow.proofs.Firsts.{IsMade, made_of, first_true, some_is}
+use Rattle.cc_rules_grow.proofs.Elements.{Each, each_append, map_contained}
+use Rattle.cc_rules_grow.proofs.Firsts.{made_of, first_true, some_is}
 use Rattle.cc_rules_needs.specs.declared.needs.Part.{Part}
-use Rattle.cc_rules_needs.specs.declared.needs.Part.TheVariants.{Mark, Flags, Values}
+use Rattle.cc_rules_needs.specs.declared.needs.Part.TheVariants.{Mark}
 use Rattle.cc_rules_needs.specs.declared.needs.Slot.{Slot}
-use Rattle.cc_rules_needs.specs.declared.needs.Slot.TheVariants.{Flag, LocalAt, CellAt, Apart}
+use Rattle.cc_rules_needs.specs.declared.needs.Slot.TheVariants.{Apart}
 use Rattle.cc_rules_needs.specs.Flowing.{Flowing, of_fact, numbers, each_pair, need_apart, need_local, need_cell, needs_at}
 use Rattle.cc_rules_needs.specs.Needs.{Needs, Has}
 use Rattle.cc_rules_shaped.specs.Shaped.{AreSomeIn, IsPointIn, Fits, AllowsLevels, AreFitBehind}
@@ -25,7 +24,7 @@ use Rattle.cc_state.proofs.Lists.{no_member, from_flat}
 use Rattle.cc_state.specs.Shape.{IsSetIn, IsRegisterType, IsTrackedType, IsPointFact}
 use Rattle.cc_state_facts.specs.declared.facts.Facts.{Facts}
 use Rattle.cc_state_facts.specs.declared.facts.PointFact.{PointFact}
-use Rattle.cc_state_facts.specs.Facts.{cell_of, local_of, has_pair}
+use Rattle.cc_state_facts.specs.Facts.{cell_of, local_of}
 use Rattle.cc_state_keys.specs.Tracked.{registers, tracked}
 use Rattle.cc_state_operators.specs.Domains.{Domain}
 use Rattle.cc_syntax.specs.Registers.{may_be_register, is_register, is_addressed}

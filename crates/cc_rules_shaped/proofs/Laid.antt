@@ -1,5 +1,5 @@
 -- A point whose sets and pairs are laid out as its function has them is of its shape where what is needed of it fits.
-use Rattle.std.proofs.Common.{arith, ◌≡◌, ◌⊎◌, inl, inr, ℕ, zero, suc, ◌+◌, ◌≤◌, ◌<◌, List, [], ◌∷◌, ◌++◌, map, length, Option, Some, slice_get, ap, sym, ◌∙◌, subst}
+use Rattle.std.proofs.Common.{arith, ◌≡◌, ◌⊎◌, inl, inr, ℕ, zero, suc, ◌+◌, ◌≤◌, ◌<◌, [], ◌∷◌, ◌++◌, map, length, Option, Some, slice_get, ap, sym, ◌∙◌, subst}
 use Rattle.std.specs.List.{flat_map}
 use Rattle.std.proofs.lemmas.Option.{same_Some}
 use Rattle.cc_flow.specs.declared.types.Point.{Point}
@@ -14,8 +14,7 @@ use Rattle.cc_rules_needs.specs.Flowing.{of_fact, numbers, each_pair, need_apart
 use Rattle.cc_rules_needs.specs.Needs.{Needs, Has}
 use Rattle.cc_rules_shaped.proofs.Fit.{Known}
 use Rattle.cc_rules_shaped.specs.Shaped.{AreSomeIn, IsPointIn, Fits, AreFitBehind, AreFit, IsLaidOut}
-use Rattle.cc_state.specs.Shape.{IsSetIn, IsRegisterType, IsTrackedType, IsPointFact}
-use Rattle.cc_state_facts.specs.declared.facts.Facts.{Facts}
+use Rattle.cc_state.specs.Shape.{IsSetIn, IsRegisterType, IsPointFact}
 use Rattle.cc_state_facts.specs.declared.facts.PointFact.{PointFact}
 use Rattle.cc_state_facts.specs.Facts.{cell_of, local_of}
 use Rattle.cc_state_keys.specs.Tracked.{registers, tracked}

@@ -2,7 +2,7 @@
 use Rattle.std.proofs.Common.{◌≡◌, inl, inr, ℕ, zero, suc, ◌<◌, Bool, true, false, true≢false, List, [], ◌∷◌, length, Option, Some, None, slice_get, slice_set, refl, ap, sym, ◌∙◌, subst}
 use Rattle.std.specs.Prelude.{unwrap_or}
 use Rattle.std.specs.Int.Bits.{or_zero_r}
-use Rattle.std.proofs.lemmas.Option.{same_Some, slice_get_within}
+use Rattle.std.proofs.lemmas.Option.{slice_get_within}
 use Rattle.cc_flow.specs.Points.{count_of, flow_of}
 use Rattle.cc_flow.specs.declared.types.Point.{Point}
 use Rattle.cc_places.specs.Abstract.{AreOfOneKind}
@@ -10,8 +10,6 @@ use Rattle.cc_places.specs.declared.abs.Abs.{Abs}
 use Rattle.cc_places.specs.declared.abs.Abs.TheVariants as abs
 use Rattle.cc_program.specs.declared.func.Func.{Func}
 use Rattle.cc_program.specs.declared.program.Program.{Program}
-use Rattle.cc_program.specs.declared.types.CType.{CType}
-use Rattle.cc_program.specs.declared.types.Sig.{out-Sig}
 use Rattle.cc_rules_needs.proofs.Others.{set_at}
 use Rattle.cc_rules_needs.specs.declared.needs.Part.{Part}
 use Rattle.cc_rules_needs.specs.declared.needs.Part.TheVariants.{Mark, LevelSet, Flags, Values}
@@ -20,9 +18,9 @@ use Rattle.cc_rules_needs.specs.declared.needs.Slot.TheVariants.{Whole, HandlerR
 use Rattle.cc_rules_needs.specs.Needs.{get}
 use Rattle.cc_rules_needs.specs.Raised.{MayBePut, MayGet, put, IsLeastPart, IsPut}
 use Rattle.cc_rules_shaped.proofs.Joining.{JoinsTyped, IsLeastAbove, join_in}
+use Rattle.cc_rules_shaped.proofs.Types.{one_key_type, one_result_type}
 use Rattle.cc_rules_shaped.specs.Shaped.{is_at_point, Fits, AllowsLevels}
-use Rattle.cc_state.proofs.CellTypes.{one_type}
-use Rattle.cc_state.specs.Shape.{IsCellType, ctype_of, IsSetIn, AreSets, IsPointFact, IsKeyType, IsResultType, HaveShape}
+use Rattle.cc_state.specs.Shape.{IsSetIn, AreSets, IsPointFact, IsKeyType, IsResultType, HaveShape}
 use Rattle.cc_state_facts.proofs.LevelBits.{or_from_within}
 use Rattle.cc_state_facts.specs.declared.facts.Facts.{Facts}
 use Rattle.cc_state_facts.specs.declared.facts.PointFact.{PointFact}
@@ -30,7 +28,7 @@ use Rattle.cc_state_facts.specs.Facts.{mark_of, levels_of}
 use Rattle.cc_state_facts.specs.Levels.{AreLevelsWithin}
 use Rattle.cc_state_keys.specs.Keys.{keys_of}
 use Rattle.cc_state_operators.specs.Domains.{Domain}
-use Rattle.cc_syntax.specs.Values.{ValueType, NoValue, Integer, ToObject, ToFunction, result_value}
+use Rattle.cc_syntax.specs.Values.{ValueType, NoValue, Integer, ToObject, ToFunction}
 
 -- ---- lists in which an element is another one
 
@@ -154,17 +152,6 @@ module _ {I : Type 0} (d : Domain I) (o : JoinsTyped d) (p : Program) where
   of_one_kind (ToObject c v to) (abs.Addrs r) (abs.Ints y) h l = absurd l
   of_one_kind (ToFunction sig) (abs.Addrs r) (abs.Ints y) h l = absurd l
 
-  pub one_key_type : (k : ℕ) (t u : ValueType) → IsKeyType d p k t → IsKeyType d p k u → t ≡ u
-  one_key_type k t u (key, c, at, is, cell) (key', c', at', is', cell') =
-      let same_key : key' ≡ key = same_Some key' key (sym at' ∙ at) in
-      let same : c' ≡ c = same_Some c' c (sym is' ∙ (ap (ctype_of p) same_key ∙ is)) in
-      one_type c t u cell (subst (λ (x : CType). IsCellType x u) same cell')
-
-  pub one_result_type : (g : ℕ) (t u : ValueType) → IsResultType d p g t → IsResultType d p g u → t ≡ u
-  one_result_type g t u (f, there, is) (f', there', is') =
-      let same : f' ≡ f = same_Some f' f (sym there' ∙ there) in
-      same_Some t u (sym is ∙ (ap (λ (x : Func). result_value (out-Sig x.sig).result) (sym same) ∙ is'))
-
   -- one of the sets gets the least that has it and more of its type
   module _ (count : ℕ) (sets : List (Abs I)) (IsType : ℕ → ValueType → Type 0) (one : (n : ℕ) (t u : ValueType) → IsType n t → IsType n u → t ≡ u) (are : AreSets d p count (slice_get sets) IsType) (each : length sets ≡ count) where
     held_in : (k : ℕ) → k < count → (t : ValueType) → IsType k t → (x : Abs I) × (slice_get sets k ≡ Some x) × IsSetIn p d t x
@@ -234,9 +221,9 @@ module _ {I : Type 0} (d : Domain I) (o : JoinsTyped d) (p : Program) where
     function_there g t (f, there, is) = slice_get_within p.funcs g f there
 
     pub may_get : (slot : Slot) (more : Part I) → is_at_point slot ≡ false → Fits d p slot more → MayGet slot more facts
-    may_get (Whole k) (Values (Some y)) own (t, is, h) = may_be_put (length (keys_of p)) facts.whole (IsKeyType d p) one_key_type shape.whole shape.whole_count k (key_there k t is) t y is h
+    may_get (Whole k) (Values (Some y)) own (t, is, h) = may_be_put (length (keys_of p)) facts.whole (IsKeyType d p) (one_key_type d p) shape.whole shape.whole_count k (key_there k t is) t y is h
     may_get (Whole k) _ own h = absurd h
-    may_get (Result g) (Values (Some y)) own (t, is, h) = may_be_put (length p.funcs) facts.results (IsResultType d p) one_result_type shape.results shape.result_count g (function_there g t is) t y is h
+    may_get (Result g) (Values (Some y)) own (t, is, h) = may_be_put (length p.funcs) facts.results (IsResultType d p) (one_result_type d p) shape.results shape.result_count g (function_there g t is) t y is h
     may_get (Result g) _ own h = absurd h
     may_get (HandlerReads k) (Mark b) own l = subst (λ (c : ℕ). k < c) (sym shape.handler_reads) l
     may_get (HandlerReads k) _ own h = absurd h
@@ -267,19 +254,19 @@ module _ {I : Type 0} (d : Domain I) (o : JoinsTyped d) (p : Program) where
     put_whole : (k : ℕ) (y : Abs I) (part : Part I) (t : ValueType) → IsKeyType d p k t → IsSetIn p d t y → IsLeastHere (Whole k) (Values (Some y)) part → HaveShape d p (put (Whole k) part facts)
     put_whole k y part t is h least =
         let l = key_there k t is in
-        let (x, there, held) = held_in (length (keys_of p)) facts.whole (IsKeyType d p) one_key_type shape.whole shape.whole_count k l t is in
+        let (x, there, held) = held_in (length (keys_of p)) facts.whole (IsKeyType d p) (one_key_type d p) shape.whole shape.whole_count k l t is in
         let (z, same, above) = least_set x y part (subst (λ (q : Option (Abs I)). IsLeastPart d.below (Values q) (Values (Some y)) part) there least) in
         subst (λ (q : Part I). HaveShape d p (put (Whole k) q facts)) (sym same)
-        (made (put (Whole k) (Values (Some z)) facts) shape.keys (set_length facts.whole k z ∙ shape.whole_count, sets_with (length (keys_of p)) facts.whole (IsKeyType d p) one_key_type shape.whole shape.whole_count k l t z is (join_in d o p t x y z held h above))
+        (made (put (Whole k) (Values (Some z)) facts) shape.keys (set_length facts.whole k z ∙ shape.whole_count, sets_with (length (keys_of p)) facts.whole (IsKeyType d p) (one_key_type d p) shape.whole shape.whole_count k l t z is (join_in d o p t x y z held h above))
         results functions of_keys points)
 
     put_result : (g : ℕ) (y : Abs I) (part : Part I) (t : ValueType) → IsResultType d p g t → IsSetIn p d t y → IsLeastHere (Result g) (Values (Some y)) part → HaveShape d p (put (Result g) part facts)
     put_result g y part t is h least =
         let l = function_there g t is in
-        let (x, there, held) = held_in (length p.funcs) facts.results (IsResultType d p) one_result_type shape.results shape.result_count g l t is in
+        let (x, there, held) = held_in (length p.funcs) facts.results (IsResultType d p) (one_result_type d p) shape.results shape.result_count g l t is in
         let (z, same, above) = least_set x y part (subst (λ (q : Option (Abs I)). IsLeastPart d.below (Values q) (Values (Some y)) part) there least) in
         subst (λ (q : Part I). HaveShape d p (put (Result g) q facts)) (sym same)
-        (made (put (Result g) (Values (Some z)) facts) shape.keys whole (set_length facts.results g z ∙ shape.result_count, sets_with (length p.funcs) facts.results (IsResultType d p) one_result_type shape.results shape.result_count g l t z is (join_in d o p t x y z held h above))
+        (made (put (Result g) (Values (Some z)) facts) shape.keys whole (set_length facts.results g z ∙ shape.result_count, sets_with (length p.funcs) facts.results (IsResultType d p) (one_result_type d p) shape.results shape.result_count g l t z is (join_in d o p t x y z held h above))
         functions of_keys points)
 
     pub put_shaped : (slot : Slot) (more part : Part I) → is_at_point slot ≡ false → Fits d p slot more → AllowsLevels d p slot more facts → IsLeastHere slot more part → HaveShape d p (put slot part facts)

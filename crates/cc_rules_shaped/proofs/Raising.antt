@@ -1,23 +1,21 @@
 -- Facts in which a point rises by what is of the shape of its function keep the shape.
-use Rattle.std.proofs.Common.{arith, ◌≡◌, ◌⊎◌, inl, inr, ⊎_elim, ℕ, zero, suc, ◌+◌, ◌/◌, ◌%◌, ◌<◌, Bool, true, false, ◌||◌, List, [], ◌∷◌, ◌++◌, length, length-append, Option, Some, None, slice_get, slice_set, refl, ap, sym, ◌∙◌, subst}
+use Rattle.std.proofs.Common.{◌≡◌, ◌⊎◌, inl, inr, ℕ, zero, suc, ◌+◌, ◌/◌, ◌%◌, ◌<◌, Bool, true, false, ◌||◌, List, [], ◌∷◌, length, length-append, Option, Some, None, slice_get, slice_set, refl, ap, sym, ◌∙◌, subst}
 use Rattle.std.specs.Prelude.{option_and_then}
-use Rattle.std.specs.List.{AllPairs, Contains, filter, flat_map}
+use Rattle.std.specs.List.{AllPairs, Contains, flat_map}
 use Rattle.std.proofs.lemmas.List.Kept.{AllPairs-filter}
 use Rattle.std.proofs.lemmas.Option.{same_Some, none-some}
-use Rattle.cc_flow.specs.Points.{count_of, flow_of}
+use Rattle.cc_flow.specs.Points.{flow_of}
 use Rattle.cc_flow.specs.declared.types.Point.{Point}
-use Rattle.cc_lattice.specs.Orders.{IsLeastUpperBound}
 use Rattle.cc_lattice.specs.Tables.{AreJoins}
-use Rattle.cc_places.specs.Abstract.{AreOfOneKind, IsBelowAbs}
 use Rattle.cc_places.specs.declared.abs.Abs.{Abs}
 use Rattle.cc_program.specs.declared.func.Func.{Func}
-use Rattle.cc_program.specs.declared.object.Object.{Object}
 use Rattle.cc_program.specs.declared.program.Program.{Program}
 use Rattle.cc_rules_flows.specs.Nexts.{IsPoint}
 use Rattle.cc_rules_needs.proofs.Puts.{below_alike}
 use Rattle.cc_rules_needs.specs.Points.{is_same, IsJoin, IsRowJoin, IsPointJoin, IsWithFlow, IsRaisedAt}
 use Rattle.cc_rules_shaped.proofs.Joining.{JoinsTyped, IsLeastAbove, join_in}
-use Rattle.cc_rules_shaped.proofs.Putting.{set_length, ArePoints, with_points}
+use Rattle.cc_rules_shaped.proofs.Types.{one_register_type, one_tracked_type}
+use Rattle.cc_rules_shaped.proofs.Putting.{set_length, with_points}
 use Rattle.cc_state.proofs.Lists.{from_filter}
 use Rattle.cc_state.specs.Shape.{IsSetIn, AreSets, AreRows, IsBefore, IsRegisterType, IsTrackedType, IsPointFact, HaveShape}
 use Rattle.cc_state_facts.specs.declared.facts.Facts.{Facts}
@@ -26,8 +24,7 @@ use Rattle.cc_state_facts.specs.declared.facts.Row.{Row}
 use Rattle.cc_state_facts.specs.Facts.{row_length, fact_at, cell_of, local_of}
 use Rattle.cc_state_keys.specs.Tracked.{registers, tracked}
 use Rattle.cc_state_operators.specs.Domains.{Domain}
-use Rattle.cc_syntax.specs.Types.{Named}
-use Rattle.cc_syntax.specs.Values.{ValueType, scalar_value}
+use Rattle.cc_syntax.specs.Values.{ValueType}
 
 -- ---- lists
 
@@ -72,18 +69,6 @@ module _ {I : Type 0} (d : Domain I) (o : JoinsTyped d) (p : Program) where
 
   least_of : (x y z : Abs I) → SetJoin x y z → IsLeastAbove d o p x y z
   least_of x y z h = record { left = h.left; right = h.right; least = λ u a b. h.least u (below_alike d.below x u a) (below_alike d.below y u b) a b }
-
-  one_register_type : (f : Func) (n : ℕ) (t u : ValueType) → IsRegisterType d p f n t → IsRegisterType d p f n u → t ≡ u
-  one_register_type f n t u (r, l, at, is, scalar) (r', l', at', is', scalar') =
-      let same : r' ≡ r = same_Some r' r (sym at' ∙ at) in
-      let one : l' ≡ l = same_Some l' l (sym is' ∙ (ap (slice_get f.locals) same ∙ is)) in
-      same_Some t u (sym scalar ∙ (ap (λ (x : Named). scalar_value x.1) (sym one) ∙ scalar'))
-
-  one_tracked_type : (n : ℕ) (t u : ValueType) → IsTrackedType d p n t → IsTrackedType d p n u → t ≡ u
-  one_tracked_type n t u (i, x, at, is, scalar) (i', x', at', is', scalar') =
-      let same : i' ≡ i = same_Some i' i (sym at' ∙ at) in
-      let one : x' ≡ x = same_Some x' x (sym is' ∙ (ap (slice_get p.objects) same ∙ is)) in
-      same_Some t u (sym scalar ∙ (ap (λ (q : Object). scalar_value q.ctype) (sym one) ∙ scalar'))
 
   -- ---- rows
 
@@ -158,9 +143,9 @@ module _ {I : Type 0} (d : Domain I) (o : JoinsTyped d) (p : Program) where
   joined_shaped f fact flow both h l j = record {
     flag = elim (either_way fact.off fact.on flow.off flow.on h.flag) [ inl e ↦ inl (j.off ∙ e) | inr e ↦ inr (j.on ∙ e) ];
     local_count = joins_length SetJoin fact.locals flow.locals both.locals j.locals ∙ h.local_count;
-    locals = sets_joined (length (registers f)) (local_of fact) (local_of flow) (local_of both) (IsRegisterType d p f) (one_register_type f) (λ n x e. joins_at SetJoin fact.locals flow.locals both.locals j.locals n x e) h.locals l.locals;
+    locals = sets_joined (length (registers f)) (local_of fact) (local_of flow) (local_of both) (IsRegisterType d p f) (one_register_type d p f) (λ n x e. joins_at SetJoin fact.locals flow.locals both.locals j.locals n x e) h.locals l.locals;
     rows = rows_joined (length (tracked p)) fact.rows flow.rows both.rows j.rows h.rows;
-    cells = sets_joined (length (tracked p)) (cell_of fact) (cell_of flow) (cell_of both) (IsTrackedType d p) one_tracked_type (λ n x e. cell_joined fact flow both j.rows n x e) h.cells l.cells;
+    cells = sets_joined (length (tracked p)) (cell_of fact) (cell_of flow) (cell_of both) (IsTrackedType d p) (one_tracked_type d p) (λ n x e. cell_joined fact flow both j.rows n x e) h.cells l.cells;
     pairs_in_range = λ pair c. h.pairs_in_range pair (from_filter (is_same flow) fact.same pair (subst (λ (s : List (ℕ × ℕ)). Contains s pair) j.same c)).0;
     pairs_ascend = subst (AllPairs (IsBefore d p)) (sym j.same) (AllPairs-filter (IsBefore d p) (is_same flow) fact.same h.pairs_ascend);
   }

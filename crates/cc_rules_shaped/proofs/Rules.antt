@@ -1,5 +1,5 @@
 -- What constraints on accesses of handlers' code, on handlers that may enter, and on cells that they may write ask fits.
-use Rattle.std.proofs.Common.{arith, ◌≡◌, ◌⊎◌, inl, inr, ℕ, ◌+◌, ◌<◌, Bool, true, false, true≢false, List, [], ◌∷◌, ◌++◌, map, length, Option, Some, None, slice_get, refl, ap, sym, ◌∙◌, subst}
+use Rattle.std.proofs.Common.{arith, ◌≡◌, inl, inr, ℕ, ◌+◌, ◌<◌, Bool, true, false, true≢false, List, [], ◌∷◌, map, length, Option, Some, None, slice_get, refl, ap, sym, ◌∙◌, subst}
 use Rattle.std.specs.Prelude.{option_and_then, if◌then◌else◌}
 use Rattle.std.specs.List.{Contains, filter}
 use Rattle.std.proofs.lemmas.List.Elements.{All-contains}
@@ -13,29 +13,27 @@ use Rattle.cc_flow_sound.proofs.Numbered.{point_of}
 use Rattle.cc_flow_sound.specs.Moves.{entry}
 use Rattle.cc_places.specs.declared.abs.Abs.{Abs}
 use Rattle.cc_places.specs.laws.ListLaws.{cons_cases, none_in}
-use Rattle.cc_program.specs.declared.expr.Expr.{Expr}
-use Rattle.cc_program.specs.declared.expr.Place.{Place}
 use Rattle.cc_program.specs.declared.func.Func.{Func}
 use Rattle.cc_program.specs.declared.program.Program.{Program}
 use Rattle.cc_rules.specs.Constraints.{Rule, Touch, Handler, Stability}
-use Rattle.cc_rules.specs.Rules.{act_at, AreNumbers, AreKeys, reads, writes, Touched, ByRead, ByWrite, ByNone, ForEach, entry_levels, at_handler, interrupted, entering, whole_number, is_unstable, unstable_cell, unstable, HandlersAsk, AskedHere, AskedIn}
+use Rattle.cc_rules.specs.Rules.{act_at, AreNumbers, reads, writes, Touched, ByRead, ByWrite, ByNone, ForEach, entry_levels, at_handler, interrupted, entering, whole_number, is_unstable, unstable_cell, unstable, HandlersAsk, AskedHere, AskedIn}
 use Rattle.cc_rules_flows.specs.Acts.{Act}
 use Rattle.cc_rules_flows.specs.Nexts.{IsPoint, statement_of}
-use Rattle.cc_rules_grow.proofs.Elements.{Each, each_append, each_map, each_at, in_map, some_within}
+use Rattle.cc_rules_grow.proofs.Elements.{each_append, each_map, each_at, in_map, some_within}
 use Rattle.cc_rules_needs.specs.declared.needs.Part.{Part}
-use Rattle.cc_rules_needs.specs.declared.needs.Part.TheVariants.{Mark, LevelSet, Values}
+use Rattle.cc_rules_needs.specs.declared.needs.Part.TheVariants.{Mark, LevelSet}
 use Rattle.cc_rules_needs.specs.declared.needs.Slot.{Slot}
 use Rattle.cc_rules_needs.specs.declared.needs.Slot.TheVariants.{HandlerReads, HandlerWrites, ReadLevels, WriteLevels, ByHandler, Levels, From, Apart}
 use Rattle.cc_rules_needs.specs.Flowing.{numbers, each_pair}
 use Rattle.cc_rules_needs.specs.Needs.{Needs, Has}
 use Rattle.cc_rules_shaped.proofs.Fit.{number_below, pair_below, point_counted, register_typed, Known, HaveThem, fit_append, FitsAlone, fit_each, FlowFits, flow_fits, some_in, cells_fit}
 use Rattle.cc_rules_shaped.proofs.Joining.{JoinsTyped}
-use Rattle.cc_rules_shaped.proofs.Putting.{one_key_type}
-use Rattle.cc_rules_shaped.specs.Shaped.{AreSomeIn, IsPointIn, Fits, AreFitBehind, AreFit}
+use Rattle.cc_rules_shaped.proofs.Types.{one_key_type}
+use Rattle.cc_rules_shaped.specs.Shaped.{AreSomeIn, IsPointIn, AreFitBehind, AreFit}
 use Rattle.cc_state.proofs.Lists.{contains_at, from_filter}
 use Rattle.cc_state.proofs.Numbered.{key_at}
 use Rattle.cc_state.proofs.Sets.{its_shape}
-use Rattle.cc_state.specs.Shape.{OfScalar, object_ctype, IsSetIn, IsTrackedType, IsKeyType, IsPointFact, HaveShape}
+use Rattle.cc_state.specs.Shape.{OfScalar, object_ctype, IsSetIn, IsKeyType, IsPointFact, HaveShape}
 use Rattle.cc_state_facts.specs.declared.facts.Facts.{Facts}
 use Rattle.cc_state_facts.specs.declared.facts.Key.{Key}
 use Rattle.cc_state_facts.specs.declared.facts.Key.TheVariants as key
@@ -98,7 +96,7 @@ module _ {I : Type 0} (d : Domain I) (joins : JoinsTyped d) (p : Program) (facts
         ),
       )
 
-  handlers_fit : (on : Bool) (ns : Needs I) → HandlersAsk d p facts n id f point fact on ns → AreFit d p ns
+  pub handlers_fit : (on : Bool) (ns : Needs I) → HandlersAsk d p facts n id f point fact on ns → AreFit d p ns
   handlers_fit false ns is = subst (AreFit d p) (sym is) tt
   handlers_fit true ns each =
       for_each_fit (λ h handler here. here ≡ interrupted d p facts n id f point fact h handler)
@@ -114,7 +112,7 @@ module _ {I : Type 0} (d : Domain I) (joins : JoinsTyped d) (p : Program) (facts
   key_set i t own (Some k) e =
       let at = key_at p (key.Object i) k e in
       let w = shape.whole.there k (slice_get_within (keys_of p) k (key.Object i) at) in
-      some_in d p t w.1 (slice_get facts.whole k) w.2.1 (subst (λ (u : ValueType). IsSetIn p d u w.1) (one_key_type d joins p k w.0 t w.2.0 (own k e)) w.2.2)
+      some_in d p t w.1 (slice_get facts.whole k) w.2.1 (subst (λ (u : ValueType). IsSetIn p d u w.1) (one_key_type d p k w.0 t w.2.0 (own k e)) w.2.2)
 
   cell_fits : (j : ℕ) → j < length (tracked p) → FitsAlone d p (λ q. Unit {0}) (unstable_cell d p facts n id f point fact j)
   cell_fits j l =
@@ -135,7 +133,7 @@ module _ {I : Type 0} (d : Domain I) (joins : JoinsTyped d) (p : Program) (facts
       (let l = pair_below (length (registers f)) (length (tracked p)) q (from_filter (λ (q : ℕ × ℕ). is_unstable d p facts n id f point fact q.1) (each_pair (length (registers f)) (length (tracked p))) q c).0 in
       ((f, (id, point, is_point), l.0, l.1), λ g k. tt)))))
 
-  stability_fit : (on : Bool) (ns : Needs I) → ns ≡ (if on then unstable d p facts n id f point fact else []) → AreFit d p ns
+  pub stability_fit : (on : Bool) (ns : Needs I) → ns ≡ (if on then unstable d p facts n id f point fact else []) → AreFit d p ns
   stability_fit true ns is = subst (AreFit d p) (sym is) unstable_fit
   stability_fit false ns is = subst (AreFit d p) (sym is) tt
 
@@ -180,7 +178,7 @@ module _ {I : Type 0} (d : Domain I) (joins : JoinsTyped d) (p : Program) (facts
   where_marked true x ns h is = subst (AreFit d p) (sym is) h
   where_marked false x ns h is = subst (AreFit d p) (sym is) tt
 
-  touched_fit : (act : Act) (ns : Needs I) → Touched d p facts n id f point fact act ns → AreFit d p ns
+  pub touched_fit : (act : Act) (ns : Needs I) → Touched d p facts n id f point fact act ns → AreFit d p ns
   touched_fit act ns (ByRead r a ks is (keys, named, number) same) = where_marked (mark_of facts.by_handler id) (reads d p facts n id f point fact ks) ns (reads_fit ks (keys_there keys ks number)) same
   touched_fit act ns (ByWrite a e ks is (keys, named, number) same) = where_marked (mark_of facts.by_handler id) (writes d p facts n id f point fact ks) ns (writes_fit ks (keys_there keys ks number)) same
   touched_fit act ns (ByNone no_read no_write is) = subst (AreFit d p) (sym is) tt

@@ -2,7 +2,7 @@ ghost use Rattle.std.specs.Prelude.{◌≡◌, ℕ, false, length};
 ghost use Rattle.cc_flow.specs.declared.types.Point.{Point};
 ghost use Rattle.cc_program.specs.declared.func.Func.{Func};
 ghost use Rattle.cc_program.specs.declared.program.Program.{Program};
-ghost use Rattle.cc_rules.specs.Constraints.{Touch, Handler, Stability, at_point};
+ghost use Rattle.cc_rules.specs.Constraints.{Constraint, Touch, Handler, Stability, at_point};
 ghost use Rattle.cc_rules.specs.Rules.{IsAsked};
 ghost use Rattle.cc_rules_flows.specs.Nexts.{IsPoint};
 ghost use Rattle.cc_rules_needs.specs.declared.needs.Part.{Part};
@@ -17,6 +17,8 @@ ghost use Rattle.cc_state_facts.specs.declared.facts.Facts.{Facts};
 ghost use Rattle.cc_state_facts.specs.declared.facts.PointFact.{PointFact};
 ghost use Rattle.cc_state_keys.specs.Tracked.{registers, tracked};
 ghost use Rattle.cc_state_operators.specs.Domains.{domain};
+ghost use Rattle.cc_state_values_fit.specs.Fit.{HasWholes};
+ghost use Rattle.cc_syntax.specs.Normal.{IsNormal};
 
 use cc_lattice::IntDomain;
 
@@ -55,5 +57,11 @@ pub fn laws<I: IntDomain>()
     // and what is asked of the tracked cells that they may write.
     ensures stability { (p : Program) (facts : Facts I) → HaveShape (domain I.Has I.IsBelow I.OpGives I.OpOneGives I.ToGives I.KeepGives I.members_of) p facts → (n : ℕ) (ns : Needs I) →
         IsAsked (domain I.Has I.IsBelow I.OpGives I.OpOneGives I.ToGives I.KeepGives I.members_of) p facts (at_point n Stability) ns →
+        AreFit (domain I.Has I.IsBelow I.OpGives I.OpOneGives I.ToGives I.KeepGives I.members_of) p ns }
+
+    // In a program in normal form so does what each constraint asks, where the domain has the set of all values of each type.
+    ensures asked { (p : Program) → IsNormal p → HasWholes (domain I.Has I.IsBelow I.OpGives I.OpOneGives I.ToGives I.KeepGives I.members_of) p.target → (facts : Facts I) →
+        HaveShape (domain I.Has I.IsBelow I.OpGives I.OpOneGives I.ToGives I.KeepGives I.members_of) p facts → (c : Constraint) (ns : Needs I) →
+        IsAsked (domain I.Has I.IsBelow I.OpGives I.OpOneGives I.ToGives I.KeepGives I.members_of) p facts c ns →
         AreFit (domain I.Has I.IsBelow I.OpGives I.OpOneGives I.ToGives I.KeepGives I.members_of) p ns }
 {}
