@@ -1,0 +1,5 @@
+pub mod CellLemmas
+pub mod Emptied
+pub mod LocalLemmas
+pub mod RowLemmas
+pub mod Unique
