@@ -17,14 +17,14 @@ use Rattle.cc_rules_needs.specs.declared.needs.Part.{Part}
 use Rattle.cc_rules_needs.specs.declared.needs.Part.TheVariants.{Mark}
 use Rattle.cc_rules_needs.specs.declared.needs.Slot.{Slot}
 use Rattle.cc_rules_needs.specs.declared.needs.Slot.TheVariants.{Apart}
-use Rattle.cc_rules_needs.specs.Flowing.{Flowing, of_fact, numbers, each_pair, need_apart, need_local, need_cell, needs_at}
+use Rattle.cc_rules_needs.specs.Flowing.{Flowing, numbers, each_pair, need_apart, need_local, need_cell, needs_at}
 use Rattle.cc_rules_needs.specs.Needs.{Needs, Has}
 use Rattle.cc_rules_shaped.specs.Shaped.{AreSomeIn, IsPointIn, Fits, AllowsLevels, AreFitBehind}
 use Rattle.cc_state.proofs.Lists.{no_member, from_flat}
 use Rattle.cc_state.specs.Shape.{IsSetIn, IsRegisterType, IsTrackedType, IsPointFact}
 use Rattle.cc_state_facts.specs.declared.facts.Facts.{Facts}
 use Rattle.cc_state_facts.specs.declared.facts.PointFact.{PointFact}
-use Rattle.cc_state_facts.specs.Facts.{cell_of, local_of}
+use Rattle.cc_state_facts.specs.Facts.{cell_of}
 use Rattle.cc_state_keys.specs.Tracked.{registers, tracked}
 use Rattle.cc_state_operators.specs.Domains.{Domain}
 use Rattle.cc_syntax.specs.Registers.{may_be_register, is_register, is_addressed}
@@ -148,11 +148,3 @@ module _ {I : Type 0} (d : Domain I) (p : Program) where
 
   pub cells_fit : (f : Func) (fact : PointFact I) → IsPointFact d p f fact → (j : ℕ) → j < length (tracked p) → (t : ValueType) × IsTrackedType d p j t × AreSomeIn d p t (cell_of fact j)
   cells_fit f fact h j l = let w = h.cells.there j l in (w.0, w.2.0, some_in w.0 w.1 (cell_of fact j) w.2.1 w.2.2)
-
-  pub fact_fits : (k : ℕ) (f : Func) (fact : PointFact I) → IsPointIn d p k f → IsPointFact d p f fact → FlowFits k f (of_fact fact)
-  fact_fits k f fact point h = record {
-    point = point;
-    flag = h.flag;
-    locals = λ r l. (let w = h.locals.there r l in (w.0, w.2.0, some_in w.0 w.1 (local_of fact r) w.2.1 w.2.2));
-    cells = cells_fit f fact h;
-  }

@@ -28,7 +28,7 @@ use Rattle.cc_rules_needs.specs.Flowing.{Flowing, of_fact, with_local, with_pair
 use Rattle.cc_rules_needs.specs.Needs.{Needs}
 use Rattle.cc_rules_shaped.proofs.Acting.{AreTaken}
 use Rattle.cc_rules_shaped.proofs.Classes.{tracked_type, read_in}
-use Rattle.cc_rules_shaped.proofs.Fit.{register_typed, Known, HaveThem, fit_append, FlowFits, flow_fits, some_in}
+use Rattle.cc_rules_shaped.proofs.Fit.{register_typed, Known, HaveThem, fit_append, FlowFits, flow_fits, some_in, cells_fit}
 use Rattle.cc_rules_shaped.proofs.Here.{its_fact, its_points, value_in, register_typed as typed_at}
 use Rattle.cc_rules_shaped.proofs.Points.{next_there}
 use Rattle.cc_rules_shaped.proofs.Types.{one_register_type, one_tracked_type}
@@ -38,7 +38,7 @@ use Rattle.cc_state.proofs.Sets.{scalar_at}
 use Rattle.cc_state.specs.Shape.{IsSetIn, IsRegisterType, IsTrackedType, IsPointFact, HaveShape}
 use Rattle.cc_state_facts.specs.declared.facts.Facts.{Facts}
 use Rattle.cc_state_facts.specs.declared.facts.PointFact.{PointFact}
-use Rattle.cc_state_facts.specs.Facts.{fact_at, cell_of, local_of}
+use Rattle.cc_state_facts.specs.Facts.{fact_at, local_of}
 use Rattle.cc_state_keys.specs.Tracked.{registers, tracked}
 use Rattle.cc_state_operators.specs.Domains.{Domain}
 use Rattle.cc_state_reads.specs.Reads.{registers_at, tracked_in}
@@ -91,7 +91,7 @@ module _ {I : Type 0} (d : Domain I) (p : Program) (f : Func) where
   fact_typed fact h = record {
     flag = h.flag;
     locals = λ r l. (let w = h.locals.there r l in (w.0, w.2.0, some_in d p w.0 w.1 (local_of fact r) w.2.1 w.2.2));
-    cells = λ j l. (let w = h.cells.there j l in (w.0, w.2.0, some_in d p w.0 w.1 (cell_of fact j) w.2.1 w.2.2));
+    cells = cells_fit d p f fact h;
   }
 
   -- ---- with another set, pair or flag

@@ -1,8 +1,7 @@
 -- The addresses of members and elements of a place: they name what a pointer to that may point to, and their cells have the key of the place,
 -- or that of the member.
-use Rattle.std.proofs.Common.{arith, ◌≡◌, ℕ, zero, suc, ℤ, Bool, true, false, not, nat_le, nat_lt, List, [], ◌∷◌, ◌++◌, Option, Some, None, refl, ap, sym, ◌∙◌, subst, slice_get}
+use Rattle.std.proofs.Common.{◌≡◌, ℕ, zero, suc, ℤ, Bool, true, false, not, nat_lt, List, [], ◌∷◌, ◌++◌, Option, Some, None, refl, ap, sym, ◌∙◌, subst, slice_get}
 use Rattle.std.specs.Prelude.{is_some, option_map, option_and_then, if◌then◌else◌}
-use Rattle.std.proofs.lemmas.Bool.{ltb-true, le-leb}
 use Rattle.std.proofs.lemmas.Option.{same_Some}
 use Rattle.cc_eval.specs.Context.{object_type, has_elements, path_to, named_by, element_in as spot_in}
 use Rattle.cc_eval.specs.declared.spots.Spot.TheVariants as spot
@@ -38,9 +37,6 @@ use Rattle.cc_syntax.specs.Initial.{bound_shape, bound_of, step_into, place_at, 
 use Rattle.cc_syntax.specs.Lists.{is_count}
 use Rattle.cc_syntax.specs.Values.{ValueType, NoValue, Integer, ToObject, ToFunction, PlaceType, DevicePlace, ObjectPlace, FunctionPlace, scalar_shape, read_from, address_of, pointed_to, element_of, member_shape, member_of, is_void}
 use Rattle.cc_values.specs.Values.{index_in}
-
-le_of_lt : (i n : ℕ) → nat_lt i n ≡ true → nat_le i n ≡ true
-le_of_lt i n h = let k = ltb-true i n h in le-leb i n (omega arith)
 
 only_if : {A : Type 0} (b : Bool) (x : Option A) (y : A) → (if b then x else None) ≡ Some y → (b ≡ true) × (x ≡ Some y)
 only_if true x y h = (refl, h)
