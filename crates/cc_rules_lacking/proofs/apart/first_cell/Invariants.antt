@@ -1,0 +1,9 @@
+use Rattle.cc_rules_needs.specs.Flowing.{numbers}
+use Rattle.cc_rules_needs.specs.Needs.{HasAll}
+use Rattle.cc_rules_lacking.proofs.Firsts.{apart_from}
+use Rattle.cc_rules_lacking.proofs.apart.first_cell.Given as goal
+use Rattle.cc_state_facts.specs.Facts.{has_pair}
+use Rattle.std.specs.List.{flat_map}
+
+abbrev pub invariant-loop-cell : goal.invariant-loop-cell
+invariant-loop-cell g l = HasAll g.I.Lattice.IsBelow (flat_map (apart_from g.I.Lattice.IsBelow l.facts l.point (has_pair l.flow) l.register) (numbers 0 l.cell)) l.facts

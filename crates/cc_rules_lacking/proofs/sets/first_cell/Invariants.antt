@@ -1,0 +1,7 @@
+use Rattle.std.proofs.Common.{map}
+use Rattle.cc_rules_needs.specs.Flowing.{of_fact, need_cell, numbers}
+use Rattle.cc_rules_needs.specs.Needs.{HasAll}
+use Rattle.cc_rules_lacking.proofs.sets.first_cell.Given as goal
+
+abbrev pub invariant-loop-cell : goal.invariant-loop-cell
+invariant-loop-cell g l = HasAll g.I.Lattice.IsBelow (map (need_cell l.point (of_fact l.flow)) (numbers 0 l.cell)) l.facts

@@ -1,0 +1,7 @@
+use Rattle.std.proofs.Common.{map}
+use Rattle.cc_rules_needs.specs.Flowing.{of_fact, need_local, numbers}
+use Rattle.cc_rules_needs.specs.Needs.{HasAll}
+use Rattle.cc_rules_lacking.proofs.sets.first_local.Given as goal
+
+abbrev pub invariant-loop-register : goal.invariant-loop-register
+invariant-loop-register g l = HasAll g.I.Lattice.IsBelow (map (need_local l.point (of_fact l.flow)) (numbers 0 l.register)) l.facts
