@@ -1,0 +1,2 @@
+pub mod HereAt
+pub mod Marks
