@@ -1,3 +1,12 @@
+pub mod AccessLemmas
 pub mod CodeLemmas
+pub mod CountLemmas
+pub mod FindingLemmas
 pub mod FirstLemmas
+pub mod Formed
+pub mod LevelLemmas
+pub mod Listed
+pub mod MarkLemmas
 pub mod SizeLemmas
+pub mod SlotKeys
+pub mod SlotLemmas

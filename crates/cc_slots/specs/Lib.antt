@@ -1,7 +1,11 @@
 pub mod Codes
 pub mod Counts
+pub mod Domain
+pub mod Findings
 pub mod First
 pub mod Judged
 pub mod Keys
+pub mod Made
+pub mod Marks
 pub mod Reasons
 pub mod Slots

@@ -8,6 +8,7 @@ use Rattle.cc_slots.specs.Reasons.{AreBits, IsReason}
 use Rattle.cc_slots_accesses.specs.Accesses.{AreAccesses, IsClass}
 use Rattle.cc_slots_types.specs.declared.slot.Slot.{Slot}
 use Rattle.cc_state_facts.specs.declared.facts.Facts.{Facts}
+use Rattle.cc_state_facts.specs.declared.facts.Key.{Key}
 use Rattle.cc_state_operators.specs.Domains.{Domain}
 use Rattle.cc_state_reads.specs.Reads.{whole_of}
 
@@ -23,7 +24,11 @@ module _ (p : Program) (d : Domain Vals) (facts : Facts Vals) where
     pub writes : AreAccesses p d facts true slot.key slot.writes
     pub reason : IsReason p d facts slot.key slot.class slot.values slot.count slot.bytes slot.bits slot.reason
 
-  -- the slots in their order
-  pub record AreSlots (slots : List Slot) : Type 0 where
-    pub keys : map (λ (s : Slot). s.key) slots ≡ slot_keys p
+  -- those of some keys, in their order
+  pub record AreSlotsOf (these : List Key) (slots : List Slot) : Type 0 where
+    pub keys : map (λ (s : Slot). s.key) slots ≡ these
     pub each : All IsSlotOf slots
+
+  -- all slots
+  abbrev pub AreSlots : List Slot → Type 0
+  AreSlots slots = AreSlotsOf (slot_keys p) slots
