@@ -1,0 +1,14 @@
+pub mod BackLemmas
+pub mod CallActs
+pub mod CalledLemmas
+pub mod Callees
+pub mod EntryLemmas
+pub mod Far
+pub mod Flowing
+pub mod InRange
+pub mod Listed
+pub mod Parameters
+pub mod Premises
+pub mod ResultLemmas
+pub mod Results
+pub mod Risen

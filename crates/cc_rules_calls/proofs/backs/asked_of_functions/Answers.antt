@@ -1,0 +1,23 @@
+use Rattle.std.proofs.Common.{arith, subst}
+use Rattle.std.proofs.lemmas.List.{take_all}
+use Rattle.cc_rules_calls.specs.Backs.{EachReturns}
+use Rattle.cc_rules_calls.proofs.BackLemmas.{each_on}
+use Rattle.cc_state_operators.specs.Domains.{domain}
+use Rattle.cc_rules_calls.proofs.backs.asked_of_functions.Goals as goal
+
+pub put_called_back-requires : goal.put_called_back-requires
+put_called_back-requires g c = record {
+  here = c.requires.here;
+  functions = c.requires.functions;
+  gets = c.requires.gets;
+  there = c.requires.there c.loop-id.id-index 0 c.loop-id-test.true;
+}
+
+pub loop-id-preserved : goal.loop-id-preserved
+loop-id-preserved g c =
+    each_on (domain g.I.Concrete.Has g.I.Lattice.IsBelow g.I.IntDomain.OpGives g.I.IntDomain.OpOneGives g.I.IntDomain.ToGives g.I.IntDomain.KeepGives g.I.IntDomain.members_of) c.args.here.now c.args.register c.args.ids.now c.loop-id.id-index 0 c.args.functions.now c.loop-id.asked.items c.put_called_back.new.asked.items c.requires.functions c.loop-id-test.true c.loop-id.invariant
+    c.in_ok-put_called_back.ensures
+
+pub returns : goal.returns
+returns g c =
+    subst (λ ids. EachReturns (domain g.I.Concrete.Has g.I.Lattice.IsBelow g.I.IntDomain.OpGives g.I.IntDomain.OpOneGives g.I.IntDomain.ToGives g.I.IntDomain.KeepGives g.I.IntDomain.members_of) c.args.here.now c.args.register ids c.loop-id.asked.items) (take_all c.loop-id.id-index c.args.ids.now (omega arith)) c.loop-id.invariant
