@@ -1,25 +1,24 @@
 -- What the tests on all accesses of a key say of it: its class, its reads and writes, and the reasons.
-use Rattle.std.proofs.Common.{arith, ◌≡◌, ◌≢◌, ◌<◌, ℕ, Bool, true, false, true≢false, not, nat_lt, ◌&&◌, List, [], ◌∷◌, map, Option, Some, None, refl, ap, sym, subst, ◌∙◌, inl, inr}
-use Rattle.std.specs.Prelude.{◌⊎◌, ◌↔◌, IsTrue, is_some, slice_get}
+use Rattle.std.proofs.Common.{arith, ◌≡◌, ◌≢◌, ◌<◌, ℕ, Bool, true, false, true≢false, not, nat_lt, ◌&&◌, List, Option, Some, None, refl, ap, sym, subst, ◌∙◌, inl, inr}
+use Rattle.std.specs.Prelude.{is_some}
 use Rattle.std.specs.List.{AllPairs, Contains, filter, list_any}
 use Rattle.std.proofs.lemmas.List.Kept.{AllPairs-filter}
-use Rattle.cc_program.specs.declared.expr.Expr.{Expr}
 use Rattle.cc_program.specs.declared.expr.Place.{Place}
 use Rattle.cc_program.specs.declared.func.Func.{Func}
 use Rattle.cc_program.specs.declared.program.Program.{Program}
 use Rattle.cc_sets.specs.declared.vals.Vals.{Vals}
 use Rattle.cc_slots.proofs.Formed.{formed, own_element}
-use Rattle.cc_slots.proofs.LevelLemmas.{Enters, entered, enters_from}
+use Rattle.cc_slots.proofs.LevelLemmas.{entered, enters_from}
 use Rattle.cc_slots.proofs.Listed.{in_map, inside, kept, of_map, pairs_map}
 use Rattle.cc_slots.specs.Judged.{class_by, class_of, is_entered, is_lone, is_reached_read, is_reached_write, is_torn, is_unbounded, is_volatile_somewhere, levels_from, points_of, reads_in_handler, writes_in_handler}
-use Rattle.cc_slots.specs.Reasons.{IsTorn, IsUnbounded, IsVolatile, IsDeclaredVolatile, IsAccessedVolatile}
+use Rattle.cc_slots.specs.Reasons.{IsTorn, IsUnbounded, IsVolatile, IsAccessedVolatile}
 use Rattle.cc_slots_accesses.proofs.Listed.{passes}
 use Rattle.cc_slots_accesses.proofs.NamedLemmas.{own_named}
 use Rattle.cc_slots_accesses.specs.declared.access.Access.{Access}
 use Rattle.cc_slots_accesses.specs.Accesses.{AccessesAt, AreAccesses, IsAccess, IsClass, IsHandlerAccess, MayName, NamesByForm}
 use Rattle.cc_slots_accesses.specs.Known.{is_volatile_in, may_be_on}
 use Rattle.cc_slots_accesses.specs.Outside.{MayBeOutside}
-use Rattle.cc_slots_points.proofs.Acting.{AreSame, one_access, same_func, same_id}
+use Rattle.cc_slots_points.proofs.Acting.{one_access, same_func, same_id}
 use Rattle.cc_slots_points.proofs.Tests.{here, there}
 use Rattle.cc_slots_points.specs.Lists.{AreAccessesOf, IsAccessAt, Names}
 use Rattle.cc_slots_types.specs.declared.class.Class.{Class}

@@ -1,6 +1,6 @@
 -- A slot has no more scalars in RAM than that has bytes.
-use Rattle.std.proofs.Common.{arith, ◌≡◌, ◌≤◌, ◌<◌, ◌+◌, ◌*◌, ◌||◌, ℕ, zero, suc, Bool, true, false, true≢false, nat_eq, IsTrue, List, [], ◌∷◌, length, map, fold, Option, Some, None, unwrap_or, slice_get, refl, ap, sym, subst, ◌∙◌, inl, inr, if◌then◌else◌}
-use Rattle.std.specs.Prelude.{◌⊎◌, is_some}
+use Rattle.std.proofs.Common.{arith, ◌≡◌, ◌≤◌, ◌+◌, ◌*◌, ◌||◌, ℕ, zero, suc, Bool, true, false, true≢false, nat_eq, IsTrue, List, [], ◌∷◌, map, fold, Option, Some, None, unwrap_or, slice_get, refl, ap, sym, subst, ◌∙◌, if◌then◌else◌}
+use Rattle.std.specs.Prelude.{is_some}
 use Rattle.std.specs.Option.{option_map_or}
 use Rattle.std.proofs.Math.Nat.{mul-le-mul_left}
 use Rattle.std.proofs.lemmas.Option.{none-some, same_Some}
@@ -21,11 +21,11 @@ use Rattle.cc_program.proofs.Each.{Each}
 use Rattle.cc_slots.specs.Counts.{scalar_count, scalars_of}
 use Rattle.cc_slots_accesses.specs.Arrays.{length_of, length_shape}
 use Rattle.cc_slots_structures.proofs.CopySizes.{IsLarge, copies_less, ram_copies}
-use Rattle.cc_state.specs.Shape.{IsSlot, ctype_of, declared_type, member_ctype, object_ctype, is_row_shape, is_scalar_type, is_slot_type}
+use Rattle.cc_state.specs.Shape.{IsSlot, declared_type, member_ctype, object_ctype, is_row_shape, is_scalar_type, is_slot_type}
 use Rattle.cc_state_facts.specs.declared.facts.Key.{Key}
 use Rattle.cc_state_facts.specs.declared.facts.Key.TheVariants as key
 use Rattle.cc_syntax.specs.declared.sizes.Layout.{Layout}
-use Rattle.cc_syntax.specs.Layout.{aligned, end_behind, end_of, greatest_align, layouts, next_layout, shape_layout, structure, type_layout}
+use Rattle.cc_syntax.specs.Layout.{end_behind, end_of, greatest_align, layouts, next_layout, shape_layout, structure, type_layout}
 use Rattle.cc_syntax.specs.Types.{Named}
 use Rattle.cc_syntax.specs.Values.{scalar_shape}
 use Rattle.cc_syntax.proofs.Alignment.{aligned_low}

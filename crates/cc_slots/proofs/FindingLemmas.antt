@@ -1,8 +1,7 @@
 -- The first reason by the tests is the reason.
-use Rattle.std.proofs.Common.{arith, ◌≡◌, ◌≤◌, ◌<◌, ◌*◌, ℕ, Bool, true, false, true≢false, not, ◌&&◌, ◌||◌, nat_le, nat_lt, List, Option, Some, None, refl, ap, sym, subst, ◌∙◌, inl, inr}
+use Rattle.std.proofs.Common.{arith, ◌≡◌, ◌≤◌, ◌<◌, ◌*◌, ℕ, Bool, true, false, true≢false, not, ◌&&◌, ◌||◌, nat_le, nat_lt, List, Option, Some, None, refl, ap, sym, ◌∙◌, inl, inr}
 use Rattle.std.specs.Prelude.{◌⊎◌, ◌↔◌, IsTrue}
 use Rattle.std.specs.Option.{option_map_or}
-use Rattle.std.proofs.lemmas.Option.{same_Some}
 use Rattle.cc_code.specs.Members.{has_coding}
 use Rattle.cc_places.specs.declared.abs.Abs.{Abs}
 use Rattle.cc_plan_legal.specs.Short.{packed_bytes}
@@ -15,12 +14,12 @@ use Rattle.cc_slots.proofs.FirstLemmas.{first_is}
 use Rattle.cc_slots.specs.Codes.{is_wide_by}
 use Rattle.cc_slots.specs.Findings.{findings_of, is_automatic_key, is_closed_key}
 use Rattle.cc_slots.specs.First.{found, first_reason}
-use Rattle.cc_slots.specs.Judged.{is_torn, is_unbounded, is_volatile_somewhere}
+use Rattle.cc_slots.specs.Judged.{is_volatile_somewhere}
 use Rattle.cc_slots.specs.Reasons.{Holds, IsReason, IsAutomatic, IsConst, IsDeclaredConst, IsConstEverywhere, IsVolatile, IsDeclaredVolatile, IsAccessedVolatile, IsWide, HasNoCode, IsNotShorter, IsLong, SavesNothing}
 use Rattle.cc_slots_accesses.specs.declared.access.Access.{Access}
 use Rattle.cc_slots_accesses.specs.Arrays.{is_array}
 use Rattle.cc_slots_points.specs.Lists.{AreAccessesOf}
-use Rattle.cc_slots_structures.specs.Stands.{is_automatic, is_open}
+use Rattle.cc_slots_structures.specs.Stands.{is_open}
 use Rattle.cc_slots_types.specs.declared.class.Class.{Class}
 use Rattle.cc_slots_types.specs.declared.reason.Reason.{Reason}
 use Rattle.cc_slots_types.specs.declared.reason.Reason.TheVariants as reason

@@ -3,7 +3,7 @@ use Rattle.std.proofs.Common.{arith, ◌≡◌, ◌<◌, ◌≤◌, ◌+◌, ℕ
 use Rattle.std.specs.Prelude.{◌↔◌, ◌⊎◌, IsTrue, if◌then◌else◌}
 use Rattle.std.proofs.lemmas.Bool.{cases_lt}
 use Rattle.cc_slots.specs.declared.first.Findings.{Findings}
-use Rattle.cc_slots.specs.First.{IsFirst, IsReasonOf, first_reason, found}
+use Rattle.cc_slots.specs.First.{IsReasonOf, first_reason, found}
 use Rattle.cc_slots_types.specs.declared.reason.Reason.{Reason}
 use Rattle.cc_slots_types.specs.declared.reason.Reason.TheVariants as reason
 use Rattle.cc_slots_types.specs.Slots.{reason_number}

@@ -1,6 +1,6 @@
 -- A place that names a key of the program by its form may name it wherever its point is reached.
-use Rattle.std.proofs.Common.{◌≡◌, ◌<◌, ℕ, Bool, true, false, ◌||◌, List, [], ◌∷◌, length, get_or, Option, Some, None, refl, ap, sym, subst, ◌∙◌}
-use Rattle.std.specs.Prelude.{option_map, option_and_then, is_some}
+use Rattle.std.proofs.Common.{◌≡◌, ℕ, Bool, true, false, ◌||◌, List, [], ◌∷◌, get_or, Option, Some, refl, ap, sym, subst, ◌∙◌}
+use Rattle.std.specs.Prelude.{is_some}
 use Rattle.std.specs.List.{Contains, filter}
 use Rattle.std.proofs.lemmas.List.Quantifiers.{position-Some}
 use Rattle.std.proofs.lemmas.Option.{none-some, slice_get-get_or}
@@ -10,7 +10,7 @@ use Rattle.cc_program.specs.declared.expr.Expr.TheOpen as one
 use Rattle.cc_program.specs.declared.expr.Place.{Place, out-Place, roll-Place, out-roll-Place, map-Place, fold_out-Place}
 use Rattle.cc_program.specs.declared.func.Func.{Func}
 use Rattle.cc_program.specs.declared.program.Program.{Program}
-use Rattle.cc_program.proofs.ExprInduction.{Parts, PlaceParts, by_place}
+use Rattle.cc_program.proofs.ExprInduction.{PlaceParts, by_place}
 use Rattle.cc_slots.proofs.Listed.{kept}
 use Rattle.cc_slots_accesses.proofs.Listed.{contains_at, same_key}
 use Rattle.cc_slots_accesses.proofs.NamedLemmas.{own_classes}

@@ -1,13 +1,13 @@
 -- A handler may enter that is of the levels of some accesses where it is of those of one of them.
-use Rattle.std.proofs.Common.{arith, ◌≡◌, ◌<◌, ℕ, zero, suc, Bool, true, false, true≢false, ◌&&◌, List, [], ◌∷◌, fold, Some, slice_get, refl, ap, sym, subst, ◌∙◌, inl, inr}
+use Rattle.std.proofs.Common.{arith, ◌≡◌, ℕ, zero, suc, Bool, true, false, true≢false, ◌&&◌, List, [], ◌∷◌, fold, Some, slice_get, refl, ap, sym, subst, ◌∙◌, inl, inr}
 use Rattle.std.specs.Prelude.{◌⊎◌, bit_or, max, nat_eq, if◌then◌else◌}
 use Rattle.std.specs.Int.{bit_at}
-use Rattle.std.specs.List.{Contains, list_any}
+use Rattle.std.specs.List.{Contains}
 use Rattle.std.proofs.lemmas.Nat.Bits.{bit_at_or}
 use Rattle.std.proofs.lemmas.Option.{none-some, same_Some, slice_get-get_or}
 use Rattle.cc_slots.specs.Judged.{levels_from, with_levels}
 use Rattle.cc_slots_accesses.specs.declared.access.Access.{Access}
-use Rattle.cc_slots_accesses.proofs.Listed.{contains_at, no_member}
+use Rattle.cc_slots_accesses.proofs.Listed.{contains_at}
 use Rattle.cc_slots_points.proofs.Tests.{here, there}
 use Rattle.cc_state_facts.specs.Levels.{AreLevelsWithin, all_levels, has_level, may_enter, one_may_enter}
 use Rattle.cc_state_facts.proofs.LevelBits.{or_left, or_right}

@@ -1,18 +1,13 @@
 -- The sizes of scalar types.
-use Rattle.std.proofs.Common.{arith, ◌≡◌, ◌≤◌, ◌||◌, ℕ, Bool, true, false, nat_eq, List, ap, ◌∙◌}
+use Rattle.std.proofs.Common.{◌≡◌, List, ap}
 use Rattle.cc_num.specs.declared.int_type.IntType.{IntType}
 use Rattle.cc_num.specs.declared.target.Target.{Target}
 use Rattle.cc_num.specs.Integers.{bytes_of}
 use Rattle.cc_program.specs.declared.types.CType.{CType}
-use Rattle.cc_program.specs.declared.types.Shape.{Shape, Void, Int, Pointer, Array, Struct, Func, out-Shape}
-use Rattle.cc_program.specs.declared.types.Shape.TheVariants.{outs-Void, outs-Array, outs-Struct, outs-Func}
-use Rattle.cc_program.specs.declared.types.Sig.{Sig}
+use Rattle.cc_program.specs.declared.types.Shape.{Int, Pointer}
 use Rattle.cc_program.specs.declared.types.Structure.{Structure}
-use Rattle.cc_state.specs.Shape.{is_scalar_type}
 use Rattle.cc_syntax.specs.Layout.{size_of}
-use Rattle.cc_syntax.specs.Values.{scalar_shape}
 use Rattle.cc_syntax.proofs.Shapes.{layout-Int, layout-Pointer}
-use Rattle.std.specs.Prelude.{is_some}
 
 module _ (t : CType) (structures : List Structure) (target : Target) where
   pub size-Int : (i : IntType) → t.shape ≡ Int i → size_of t structures target ≡ bytes_of i target

@@ -1,7 +1,6 @@
 -- What is made of the accesses of a key, and of its values, is its slot.
-use Rattle.std.proofs.Common.{arith, ◌≡◌, ◌≤◌, ℕ, Bool, true, false, List, [], ◌∷◌, ◌++◌, length, map, Option, Some, refl, ap, sym, subst, ◌∙◌}
+use Rattle.std.proofs.Common.{arith, ◌≡◌, ◌≤◌, ℕ, Bool, true, false, List, [], ◌∷◌, ◌++◌, Some, refl, ap, sym, subst, ◌∙◌}
 use Rattle.std.specs.Prelude.{◌↔◌, IsTrue, option_and_then, slice_get}
-use Rattle.std.specs.List.{All}
 use Rattle.std.proofs.lemmas.List.{map-append}
 use Rattle.std.proofs.lemmas.List.Elements.{All-nil, All-push}
 use Rattle.cc_code.specs.Members.{has_coding}
@@ -13,8 +12,6 @@ use Rattle.cc_slots.proofs.AccessLemmas.{are_reads, are_writes, is_class}
 use Rattle.cc_slots.proofs.CountLemmas.{count_low}
 use Rattle.cc_slots.proofs.FindingLemmas.{is_reason}
 use Rattle.cc_slots.specs.Counts.{scalar_bytes, scalar_count, slot_name}
-use Rattle.cc_slots.specs.Findings.{findings_of}
-use Rattle.cc_slots.specs.First.{first_reason}
 use Rattle.cc_slots.specs.Made.{IsMadeSlot}
 use Rattle.cc_slots.specs.Reasons.{AreBits, IsReason}
 use Rattle.cc_slots.specs.Slots.{AreSlotsOf, IsSlotOf}

@@ -1,5 +1,5 @@
 -- What the text and the accesses of a key say of each reason, as tests.
-use Rattle.std.specs.Prelude.{◌≡◌, ℕ, Bool, false, not, ◌||◌, List, Some}
+use Rattle.std.specs.Prelude.{ℕ, Bool, false, not, ◌||◌, List}
 use Rattle.std.specs.Option.{option_map_or}
 use Rattle.cc_program.specs.Qualifiers.{is_const, is_volatile}
 use Rattle.cc_program.specs.declared.program.Program.{Program}

@@ -1,5 +1,5 @@
 -- Why a slot is not coded: each reason, by what the text and the facts say of its key.
-use Rattle.std.specs.Prelude.{◌≡◌, ◌≢◌, ◌⊎◌, ◌<◌, ◌≤◌, ◌*◌, ℕ, Bool, true, false, List, Option, Some, None}
+use Rattle.std.specs.Prelude.{◌≡◌, ◌≢◌, ◌⊎◌, ◌<◌, ◌≤◌, ◌*◌, ℕ, Bool, true, false, Option, Some}
 use Rattle.cc_code.specs.declared.kinds.Coding.{Coding}
 use Rattle.cc_code.specs.Codings.{IsCodingOf}
 use Rattle.cc_code.specs.Members.{has_coding}

@@ -1,5 +1,5 @@
 -- First no key is marked, and then each of those that are taken.
-use Rattle.std.proofs.Common.{arith, ◌≡◌, ap, subst, sym, ◌∙◌, length, List, Bool, false, replicate}
+use Rattle.std.proofs.Common.{arith, ap, subst, sym, ◌∙◌, length, List, false}
 use Rattle.std.proofs.lemmas.List.{length-replicate, with_items_is}
 use Rattle.cc_slots.specs.Marks.{AreMarks}
 use Rattle.cc_slots.proofs.MarkLemmas.{no_marks}

@@ -1,12 +1,11 @@
 -- The key of a slot is one of the program, and what is made of its accesses and values is its slot.
-use Rattle.std.proofs.Common.{arith, ◌≡◌, ◌<◌, ap, sym, subst, ◌∙◌, length}
+use Rattle.std.proofs.Common.{arith, sym, subst, ◌∙◌}
 use Rattle.std.proofs.lemmas.Result.{IfOk-weaker}
 use Rattle.cc_slots.specs.Domain.{vals_domain}
 use Rattle.cc_slots.proofs.SlotKeys.{slot_key}
 use Rattle.cc_slots.proofs.SlotLemmas.{slot_is}
 use Rattle.cc_slots_accesses.proofs.PutAll.{number_below}
 use Rattle.cc_slots_points.specs.Lists.{AreAccessesOf}
-use Rattle.cc_slots_accesses.specs.declared.access.Access.{Access}
 use Rattle.cc_slots.proofs.list.slot_of.Goals as goal
 
 pub number_of-number-requires-clause-keys : goal.number_of-number-requires-clause-keys

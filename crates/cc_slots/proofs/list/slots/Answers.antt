@@ -1,12 +1,9 @@
 -- What is made once of a program, and all keys of its slots.
-use Rattle.std.proofs.Common.{ap, sym, subst, ◌∙◌, List, Bool}
+use Rattle.std.proofs.Common.{sym, subst, ◌∙◌, List}
 use Rattle.std.proofs.lemmas.Result.{IfOk-weaker}
-use Rattle.cc_program.specs.declared.program.Program.{Program}
 use Rattle.cc_slots.specs.Domain.{vals_domain}
-use Rattle.cc_slots.specs.Keys.{slot_keys}
 use Rattle.cc_slots.specs.Marks.{AreMarks}
 use Rattle.cc_slots.specs.Slots.{AreSlotsOf}
-use Rattle.cc_slots_accesses.specs.declared.access.Access.{Access}
 use Rattle.cc_slots_points.specs.Lists.{AreLists}
 use Rattle.cc_slots_structures.specs.Standings.{AreStandings}
 use Rattle.cc_state_facts.specs.declared.facts.Key.{Key}

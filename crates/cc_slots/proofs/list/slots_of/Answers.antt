@@ -1,4 +1,4 @@
-use Rattle.std.proofs.Common.{arith, length, get_or, take, take_all, ap, subst, sym, List}
+use Rattle.std.proofs.Common.{arith, get_or, take, take_all, subst, sym, List}
 use Rattle.std.specs.List.{Contains}
 use Rattle.std.proofs.lemmas.List.{get_or_default}
 use Rattle.cc_slots.specs.Domain.{vals_domain}
