@@ -1,0 +1,5 @@
+pub mod Rows
+pub mod Functions
+pub mod Alike
+pub mod KeyKinds
+pub mod Lowering
