@@ -1,0 +1,9 @@
+pub mod Alike
+pub mod Asking
+pub mod Counting
+pub mod Kept
+pub mod Listing
+pub mod Lists
+pub mod Naming
+pub mod Picked
+pub mod Unraised
