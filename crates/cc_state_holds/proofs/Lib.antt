@@ -1,5 +1,16 @@
+pub mod Activity
+pub mod Counted
+pub mod Devices
 pub mod Eaches
 pub mod Held
+pub mod LocalKeys
+pub mod Pairs
+pub mod Placed
+pub mod PointSets
+pub mod Positions
+pub mod Readings
+pub mod Results
+pub mod Right
 pub mod Splits
 pub mod Stacks
 pub mod Statics

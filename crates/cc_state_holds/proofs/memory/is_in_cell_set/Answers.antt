@@ -1,0 +1,20 @@
+-- By the object's position among the tracked cells.
+use Rattle.std.proofs.Common.{ap, sym, ◌∙◌, subst}
+use Rattle.std.specs.Prelude.{◌↔◌, ◌==◌, IsTrue, position}
+use Rattle.cc_state_facts.specs.Facts.{cell_of}
+use Rattle.cc_state_holds.proofs.Held.{there_some, there_none}
+use Rattle.cc_state_holds.proofs.memory.is_in_cell_set.Goals as goal
+use Rattle.cc_state_holds.specs.Parts.{HasIn}
+use Rattle.cc_state_keys.specs.Tracked.{tracked_number}
+use Rattle.cc_state_operators.specs.Domains.{domain}
+
+pub returns-in-None : goal.returns-in-None
+returns-in-None g c =
+    let d = domain g.I.Concrete.Has g.I.Lattice.IsBelow g.I.IntDomain.OpGives g.I.IntDomain.OpOneGives g.I.IntDomain.ToGives g.I.IntDomain.KeepGives g.I.IntDomain.members_of in
+    there_none (λ number. HasIn d (cell_of c.args.fact.now number) c.args.value.now) (tracked_number c.args.b.now.program.now c.args.i) (ap (position (λ n. n == c.args.i)) (sym c.requires) ∙ sym c.in-None.ensures)
+
+pub returns-in-Some : goal.returns-in-Some
+returns-in-Some g c =
+    let d = domain g.I.Concrete.Has g.I.Lattice.IsBelow g.I.IntDomain.OpGives g.I.IntDomain.OpOneGives g.I.IntDomain.ToGives g.I.IntDomain.KeepGives g.I.IntDomain.members_of in
+    there_some (λ number. HasIn d (cell_of c.args.fact.now number) c.args.value.now) (tracked_number c.args.b.now.program.now c.args.i) c.in-Some.number c.has.result (ap (position (λ n. n == c.args.i)) (sym c.requires) ∙ sym c.in-Some.ensures)
+    (subst (λ y. IsTrue c.has.result ↔ HasIn d y c.args.value.now) c.cell.ensures c.has.ensures)
