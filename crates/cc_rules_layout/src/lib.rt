@@ -1,0 +1,2 @@
+//! How what is asked of facts has to be laid out, so that facts can be raised by it.
+#![tactic(auto)]
