@@ -122,7 +122,8 @@ pub fn asked_by_handlers<I: IntDomain>(
 ) -> Result<Vec<Asked<I>>, NoMemory>
     requires here { IsHere (domain I.Has I.IsBelow I.OpGives I.OpOneGives I.ToGives I.KeepGives I.members_of) here.now }
     requires handlers { AreHandlersOf here.now.context.program.now handlers.now }
-    ensures { IfOk result (λ asked. (act : ActOf) → AsksHere (domain I.Has I.IsBelow I.OpGives I.OpOneGives I.ToGives I.KeepGives I.members_of) here.now HandlerRule act asked.items) }
+    ensures is { IfOk result (λ asked. asked.items ≡ (if here.now.fact.now.on then asked_of_all here.now handlers.now else [])) }
+    ensures asked { IfOk result (λ asked. (act : ActOf) → AsksHere (domain I.Has I.IsBelow I.OpGives I.OpOneGives I.ToGives I.KeepGives I.members_of) here.now HandlerRule act asked.items) }
 {
     asked_if_on(alloc, here, handlers)
 }
