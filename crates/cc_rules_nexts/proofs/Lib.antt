@@ -1,3 +1,4 @@
 pub mod Copies
 pub mod NextLemmas
+pub mod Onward
 pub mod PassingLemmas

@@ -1,11 +1,13 @@
 -- What is asked of the next points where the same flows to all of them.
-use Rattle.std.proofs.Common.{◌≡◌, ◌⊎◌, inl, inr, ◌==◌, ◌<◌, ◌+◌, ℕ, Bool, true, false, not, ◌||◌, cond, List, [], ◌∷◌, ◌++◌, map, length, take, get_or, None, refl, ap, sym, subst, ◌∙◌}
+use Rattle.std.proofs.Common.{◌≡◌, ◌⊎◌, inl, inr, ◌==◌, ◌<◌, ◌+◌, ℕ, Bool, true, false, not, ◌||◌, cond, List, [], ◌∷◌, ◌++◌, map, length, take, get_or, All, Contains, None, refl, ap, sym, subst, ◌∙◌}
 use Rattle.std.specs.List.{filter}
 use Rattle.std.proofs.lemmas.Bool.{eq-eqb}
 use Rattle.std.proofs.lemmas.List.{map-append, take_more}
+use Rattle.std.proofs.lemmas.List.Elements.{All-nil, All-cons, All-head, All-tail, All-same}
 use Rattle.cc_places.specs.declared.abs.Abs.{Abs}
 use Rattle.cc_places.specs.declared.abs.Abs.TheVariants as abs
 use Rattle.cc_places.specs.Abstract.{AreOfOneKind, IsBelowAbs}
+use Rattle.cc_places.specs.laws.ListLaws.{at_head, behind_head}
 use Rattle.cc_program.specs.declared.expr.Place.{out-Place}
 use Rattle.cc_rules.specs.Constraints.{Flow}
 use Rattle.cc_rules.specs.Rules.{ComesToEach}
@@ -15,12 +17,12 @@ use Rattle.cc_rules_asked.specs.Asks.{AsksHere}
 use Rattle.cc_rules_flows.specs.declared.after.Here.{Here}
 use Rattle.cc_rules_flows.specs.Acts.{Act}
 use Rattle.cc_rules_flows.specs.Flows.{tests_of, OfSets, OfReads, OfWrites, OfTurns, OfSaves, OfSavesAlone, OfRestores, OfTests, OfReturns, OfPasses, OfCalls}
-use Rattle.cc_rules_flows.specs.Here.{FlowsHere, DoesFlow}
+use Rattle.cc_rules_flows.specs.Here.{FlowsHere, DoesFlow, KeepsShapeHere}
 use Rattle.cc_rules_flows.specs.Joins.{flows_to}
 use Rattle.cc_rules_flows.specs.Known.{Tells, AreTold}
 use Rattle.cc_rules_needs.specs.Flowing.{Flowing, needs_at, of_fact, with_local, with_pair, with_cell, with_flags}
 use Rattle.cc_rules_needs.specs.Needs.{Needs}
-use Rattle.cc_rules_nexts.specs.Told.{point_told, ComesToHere}
+use Rattle.cc_rules_nexts.specs.Told.{point_told, ComesToHere, IsOnward}
 use Rattle.cc_rules_nexts.proofs.Copies.{Same, joined_same}
 use Rattle.cc_state_facts.specs.declared.facts.PointFact.{PointFact}
 use Rattle.cc_state_keys.specs.Tracked.{registers, tracked}
@@ -96,6 +98,32 @@ module _ {I : Type 0} (d : Domain I) (here : Here I) where
   flow_alike act flows (OfReturns e k l) t = inl (of_fact here.fact.now, l)
   flow_alike act flows (OfPasses k l) t = inl (of_fact here.fact.now, l)
   flow_alike act flows (OfCalls result g args k l) t = inr l
+
+  -- ---- each is of a next point, and laid out as what is known here
+
+  abbrev IsKept : ℕ × PointFact I → Type 0
+  IsKept flow = KeepsShapeHere d here flow.1
+
+  onward_told : (flow : Flowing I) (n : ℕ) (ks : List ℕ) (told : List (ℕ × PointFact I)) → n ≡ length here.context.registers.now → ((k : ℕ) → Contains ks k → Contains here.point.now.next k) → AreTold told (all_to flow ks) → All IsKept told →
+      All (IsOnward d here) (map (point_told n) told)
+  onward_told flow n [] [] e within z k = All-nil (IsOnward d here)
+  onward_told flow n [] (t ∷ told) e within z k = absurd z
+  onward_told flow n (j ∷ ks) [] e within z k = absurd z
+  onward_told flow n (j ∷ ks) (t ∷ told) e within z k =
+      All-cons (IsOnward d here) (point_told n t) (map (point_told n) told) (subst (Contains here.point.now.next) (sym z.0.0) (within j (at_head j ks)), e, All-head IsKept t told k)
+      (onward_told flow n ks told e (λ i c. within i (behind_head j ks i c)) z.1 (All-tail IsKept t told k))
+
+  none_onward : (n : ℕ) (told : List (ℕ × PointFact I)) → AreTold {I = I} told [] → All (IsOnward d here) (map (point_told n) told)
+  none_onward n [] z = All-nil (IsOnward d here)
+  none_onward n (t ∷ told) z = absurd z
+
+  flows_onward : (n : ℕ) (told : List (ℕ × PointFact I)) (flows : List (ℕ × Flowing I)) → FlowsAlike flows → AreTold told flows → n ≡ length here.context.registers.now → All IsKept told → All (IsOnward d here) (map (point_told n) told)
+  flows_onward n told flows (inl f) z e k = onward_told f.0 n here.point.now.next told e (λ i c. c) (subst (AreTold told) f.1 z) k
+  flows_onward n told flows (inr f) z e k = none_onward n told (subst (AreTold told) f z)
+
+  pub passing_onward : (act : Act) (n : ℕ) (told : List (ℕ × PointFact I)) (list : List (Asked I)) → DoesFlow d here act told → tests_of here.number here.point.now.next act ≡ None → n ≡ length here.context.registers.now → All IsKept told →
+      list ≡ map (point_told n) told → All (IsOnward d here) list
+  passing_onward act n told list f t e k l = All-same (IsOnward d here) list (map (point_told n) told) l (flows_onward n told f.0 (flow_alike act f.0 f.1 t) f.2 e k)
 
   abbrev Each : List ℕ → List (ℕ × Flowing I) → Needs I → Type 0
   Each ks flows ns = ComesToEach d here.context.program.now here.facts.now here.number here.context.id here.context.func.now here.point.now here.fact.now ks flows ns

@@ -1,10 +1,12 @@
 -- What is asked of next points by what is told to flow there.
-use Rattle.std.specs.Prelude.{◌≡◌, ℕ, List, ◌++◌}
+use Rattle.std.specs.Prelude.{◌≡◌, ℕ, List, ◌++◌, length}
+use Rattle.std.specs.List.{Contains}
 use Rattle.cc_rules.specs.Rules.{ComesTo, ComesToEach}
 use Rattle.cc_rules_asked.specs.declared.asked.Asked.{Asked}
 use Rattle.cc_rules_asked.specs.declared.asked.Asked.TheVariants as asked
 use Rattle.cc_rules_asked.specs.Asked.{all_needs}
 use Rattle.cc_rules_flows.specs.declared.after.Here.{Here}
+use Rattle.cc_rules_flows.specs.Here.{KeepsShapeHere}
 use Rattle.cc_rules_flows.specs.Joins.{flows_to}
 use Rattle.cc_rules_needs.specs.Flowing.{Flowing}
 use Rattle.cc_rules_needs.specs.Needs.{Needs}
@@ -26,3 +28,8 @@ module _ {I : Type 0} (d : Domain I) (here : Here I) where
   abbrev pub ComeToEachHere : List ℕ → List (ℕ × Flowing I) → List (Asked I) → Type 0
   ComeToEachHere nexts flows list =
       ComesToEach d here.context.program.now here.facts.now here.number here.context.id here.context.func.now here.point.now here.fact.now nexts flows (all_needs here.context.program.now list)
+
+  -- all of a next point, with so many registers as the point's function has, and laid out as what is known at the point
+  abbrev pub IsOnward : Asked I → Type 0
+  IsOnward (asked.Part slot part) = ⊥
+  IsOnward (asked.Point number registers flow) = Contains here.point.now.next number × (registers ≡ length here.context.registers.now) × KeepsShapeHere d here flow

@@ -1,14 +1,16 @@
 //! What is asked of the next points by what is told to flow to each: all that comes to a point, together.
 
-ghost use Rattle.std.specs.Prelude.{◌≡◌, ◌<◌, ◌^◌, ℕ, List, length, IfOk, OnOk};
+ghost use Rattle.std.specs.Prelude.{◌≡◌, ◌<◌, ◌^◌, ℕ, List, All, length, IfOk, OnOk};
+ghost use Rattle.std.specs.List.{Contains};
 ghost use Rattle.cc_rules.specs.Constraints.{Flow as FlowRule};
 ghost use Rattle.cc_rules_asked.specs.Asks.{AsksHere};
 ghost use Rattle.cc_rules_flows.specs.Acts.{Act as ActOf};
-ghost use Rattle.cc_rules_flows.specs.Here.{IsHere, FlowsHere};
+ghost use Rattle.cc_rules_flows.specs.Here.{IsHere, FlowsHere, KeepsShapeHere};
 ghost use Rattle.cc_rules_flows.specs.Joins.{AreAlikeAt};
 ghost use Rattle.cc_rules_flows.specs.Known.{AreTold};
 ghost use Rattle.cc_rules_needs.specs.Flowing.{Flowing};
-ghost use Rattle.cc_rules_nexts.specs.Told.{AskMore, ComeToEachHere};
+ghost use Rattle.cc_rules_nexts.specs.Told.{AskMore, ComeToEachHere, IsOnward};
+ghost use Rattle.cc_state_facts.specs.declared.facts.PointFact.{PointFact as PointFactOf};
 ghost use Rattle.cc_state_operators.specs.Domains.{domain};
 
 use cc_lattice::IntDomain;
@@ -28,7 +30,8 @@ fn put_next<I: IntDomain>(
 ) -> Result<(), NoMemory>
     requires here { IsHere (domain I.Has I.IsBelow I.OpGives I.OpOneGives I.ToGives I.KeepGives I.members_of) here.now }
     requires alike { (k : ℕ) → AreAlikeAt k told.now }
-    ensures { OnOk result ((flows : List (ℕ × Flowing I)) → AreTold told.now flows → AskMore (domain I.Has I.IsBelow I.OpGives I.OpOneGives I.ToGives I.KeepGives I.members_of) here.now flows next asked.old.items asked.new.items) }
+    ensures asked { OnOk result ((flows : List (ℕ × Flowing I)) → AreTold told.now flows → AskMore (domain I.Has I.IsBelow I.OpGives I.OpOneGives I.ToGives I.KeepGives I.members_of) here.now flows next asked.old.items asked.new.items) }
+    ensures onward { OnOk result (All (λ (flow : ℕ × PointFactOf I). KeepsShapeHere (domain I.Has I.IsBelow I.OpGives I.OpOneGives I.ToGives I.KeepGives I.members_of) here.now flow.1) told.now → Contains here.now.point.now.next next → All (IsOnward (domain I.Has I.IsBelow I.OpGives I.OpOneGives I.ToGives I.KeepGives I.members_of) here.now) asked.old.items → All (IsOnward (domain I.Has I.IsBelow I.OpGives I.OpOneGives I.ToGives I.KeepGives I.members_of) here.now) asked.new.items) }
 {
     let both = joined(alloc, told, next)?;
     match both {
@@ -54,7 +57,8 @@ fn asked_of_nexts<I: IntDomain>(
 ) -> Result<Vec<Asked<I>>, NoMemory>
     requires here { IsHere (domain I.Has I.IsBelow I.OpGives I.OpOneGives I.ToGives I.KeepGives I.members_of) here.now }
     requires alike { (k : ℕ) → AreAlikeAt k told.now }
-    ensures { IfOk result (λ asked. (flows : List (ℕ × Flowing I)) → AreTold told.now flows → ComeToEachHere (domain I.Has I.IsBelow I.OpGives I.OpOneGives I.ToGives I.KeepGives I.members_of) here.now nexts.now flows asked.items) }
+    ensures asked { IfOk result (λ asked. (flows : List (ℕ × Flowing I)) → AreTold told.now flows → ComeToEachHere (domain I.Has I.IsBelow I.OpGives I.OpOneGives I.ToGives I.KeepGives I.members_of) here.now nexts.now flows asked.items) }
+    ensures onward { IfOk result (λ asked. All (λ (flow : ℕ × PointFactOf I). KeepsShapeHere (domain I.Has I.IsBelow I.OpGives I.OpOneGives I.ToGives I.KeepGives I.members_of) here.now flow.1) told.now → ((k : ℕ) → Contains nexts.now k → Contains here.now.point.now.next k) → All (IsOnward (domain I.Has I.IsBelow I.OpGives I.OpOneGives I.ToGives I.KeepGives I.members_of) here.now) asked.items) }
 {
     let mut asked = Vec::new(alloc);
     for next in nexts {
@@ -71,8 +75,11 @@ pub fn asked_of_told<I: IntDomain>(
 ) -> Result<Vec<Asked<I>>, NoMemory>
     requires here { IsHere (domain I.Has I.IsBelow I.OpGives I.OpOneGives I.ToGives I.KeepGives I.members_of) here.now }
     requires alike { (k : ℕ) → AreAlikeAt k told.now }
-    ensures { IfOk result (λ asked. (act : ActOf) (flows : List (ℕ × Flowing I)) → FlowsHere (domain I.Has I.IsBelow I.OpGives I.OpOneGives I.ToGives I.KeepGives I.members_of) here.now act flows → AreTold told.now flows →
+    ensures asked { IfOk result (λ asked. (act : ActOf) (flows : List (ℕ × Flowing I)) → FlowsHere (domain I.Has I.IsBelow I.OpGives I.OpOneGives I.ToGives I.KeepGives I.members_of) here.now act flows → AreTold told.now flows →
         AsksHere (domain I.Has I.IsBelow I.OpGives I.OpOneGives I.ToGives I.KeepGives I.members_of) here.now FlowRule act asked.items) }
+
+    // Each is of a next point, and laid out as what is known here, where what is told is.
+    ensures onward { IfOk result (λ asked. All (λ (flow : ℕ × PointFactOf I). KeepsShapeHere (domain I.Has I.IsBelow I.OpGives I.OpOneGives I.ToGives I.KeepGives I.members_of) here.now flow.1) told.now → All (IsOnward (domain I.Has I.IsBelow I.OpGives I.OpOneGives I.ToGives I.KeepGives I.members_of) here.now) asked.items) }
 {
     asked_of_nexts(alloc, here, told, here.point.next.all())
 }

@@ -1,12 +1,12 @@
 //! What is asked of the next points where nothing is tested: to each of them the same flows.
 
-ghost use Rattle.std.specs.Prelude.{◌≡◌, map, IfOk, None};
+ghost use Rattle.std.specs.Prelude.{◌≡◌, map, All, IfOk, None};
 ghost use Rattle.cc_rules.specs.Constraints.{Flow as FlowRule};
 ghost use Rattle.cc_rules_asked.specs.Asks.{AsksHere};
 ghost use Rattle.cc_rules_flows.specs.Flows.{tests_of};
 ghost use Rattle.cc_rules_flows.specs.Here.{IsHere, MayDo};
 ghost use Rattle.cc_rules_flows.specs.View.{act_view};
-ghost use Rattle.cc_rules_nexts.specs.Told.{point_told};
+ghost use Rattle.cc_rules_nexts.specs.Told.{point_told, IsOnward};
 ghost use Rattle.cc_state_operators.specs.Domains.{domain};
 
 use cc_lattice::IntDomain;
@@ -45,7 +45,8 @@ pub fn asked_by_flow<I: IntDomain>(
     requires here { IsHere (domain I.Has I.IsBelow I.OpGives I.OpOneGives I.ToGives I.KeepGives I.members_of) here.now }
     requires may { MayDo (domain I.Has I.IsBelow I.OpGives I.OpOneGives I.ToGives I.KeepGives I.members_of) here.now (act_view act) }
     requires tests_none { tests_of here.now.number here.now.point.now.next (act_view act) ≡ None }
-    ensures { IfOk result (λ asked. AsksHere (domain I.Has I.IsBelow I.OpGives I.OpOneGives I.ToGives I.KeepGives I.members_of) here.now FlowRule (act_view act.entry) asked.items) }
+    ensures asked { IfOk result (λ asked. AsksHere (domain I.Has I.IsBelow I.OpGives I.OpOneGives I.ToGives I.KeepGives I.members_of) here.now FlowRule (act_view act.entry) asked.items) }
+    ensures onward { IfOk result (λ asked. All (IsOnward (domain I.Has I.IsBelow I.OpGives I.OpOneGives I.ToGives I.KeepGives I.members_of) here.now) asked.items) }
 {
     let told = here.after(alloc, act)?;
     let registers = here.context.registers.len() as u32;
