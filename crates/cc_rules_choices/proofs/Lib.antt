@@ -1,0 +1,9 @@
+pub mod Assembled
+pub mod ChoiceLemmas
+pub mod Flowing
+pub mod Held
+pub mod Kept
+pub mod Labels
+pub mod Numbered
+pub mod StartLemmas
+pub mod Told
