@@ -1,0 +1,9 @@
+pub mod Among
+pub mod Asking
+pub mod ByKey
+pub mod FirstValues
+pub mod Least
+pub mod Listed
+pub mod RowLemmas
+pub mod Starts
+pub mod Typed
