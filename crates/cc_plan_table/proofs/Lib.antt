@@ -1,0 +1,4 @@
+pub mod Lines
+pub mod Sums
+pub mod Tables
+pub mod Told
