@@ -1,0 +1,9 @@
+pub mod Candidates
+pub mod Counting
+pub mod Doing
+pub mod Exits
+pub mod Grouping
+pub mod Merging
+pub mod Numbers
+pub mod Rules
+pub mod Unstable

@@ -1,0 +1,169 @@
+//! The constraints of tracked cells that handlers which may enter may write.
+
+ghost use Rattle.std.specs.List.{list_any};
+ghost use Rattle.std.specs.Prelude.{◌≡◌, ◌≤◌, ◌++◌, ◌&&◌, [], true, map, slice_get, option_and_then, IfOk, OnOk, if◌then◌else◌};
+ghost use Rattle.cc_rules.specs.Constraints.{Stability};
+ghost use Rattle.cc_rules_again.specs.Again.{ids, number_at, at_each, is_unstable as is_unstable_of, touch_readers};
+ghost use Rattle.cc_rules_again.specs.Named.{concerns as concerns_of};
+ghost use Rattle.cc_rules_asked.specs.Unstable.{key_at as key_at_of};
+ghost use Rattle.cc_rules_made.specs.Rules.{AreOf};
+ghost use Rattle.cc_rules_readers.specs.Index.{IsIndexOf};
+ghost use Rattle.cc_rules_readers.specs.Points.{is_entered_by, concern_any, few_functions};
+ghost use Rattle.cc_rules_readers.specs.View.{named_view};
+ghost use Rattle.cc_state_facts.specs.declared.facts.Key.{Key as KeyOf};
+
+use crate::index::Index;
+use crate::lists::put_rule;
+use crate::naming::Named;
+use crate::picked::{Test, picked};
+use cc_num::{NoMemory, at};
+use cc_rules_asked::levels;
+use cc_rules_made::Rules;
+use cc_rules_numbered::Rule;
+use cc_state_facts::{Facts, Key, one_may_enter};
+use std::alloc::Global;
+
+/// Whether handlers that may enter over a function may write a key, by its number.
+fn is_entered<I>(facts: &Facts<I>, func: u32, key: Option<u32>) -> bool
+    ensures { result ≡ is_entered_by facts.now func key }
+{
+    match key {
+        None => false,
+        Some(key) => one_may_enter(
+            levels(facts.levels.all(), func as usize),
+            levels(facts.write_levels.all(), key as usize),
+        ),
+    }
+}
+
+/// Whether they may write a static object whose key is among some.
+fn is_unstable_object<I>(
+    facts: &Facts<I>,
+    keys: Named,
+    func: u32,
+    object: u32,
+    number: Option<u32>,
+) -> bool
+    ensures { result ≡ (concerns_of (named_view keys) (Key.Object object) && is_entered_by facts.now func number) }
+{
+    keys.concerns(Key::Object(object)) && is_entered(facts, func, number)
+}
+
+/// The number of the key of a tracked cell.
+fn key_at(keys: &[Option<u32>], cell: usize) -> Option<u32>
+    ensures { result ≡ key_at_of keys.now cell }
+{
+    match at(keys, cell) {
+        None => None,
+        Some(key) => *key,
+    }
+}
+
+/// Whether they may write a tracked cell whose key is among some.
+fn is_unstable<I>(rules: &Rules<'_>, facts: &Facts<I>, keys: Named, func: u32) -> bool
+    requires { AreOf rules.now.program.now rules.now }
+    ensures { result ≡ is_unstable_of rules.now.program.now facts.now (named_view keys) func }
+{
+    let objects = rules.tracked.all();
+    let numbers = rules.cell_keys.all();
+    for (cell, object) in objects.iter().enumerate() {
+        let number = key_at(numbers, cell);
+        if is_unstable_object(facts, keys, func, *object, number) {
+            return true;
+        }
+    }
+    false
+}
+
+/// Of each function whether they may.
+fn unstable_functions<I>(
+    alloc: Global,
+    rules: &Rules<'_>,
+    facts: &Facts<I>,
+    keys: Named,
+) -> Result<Vec<bool>, NoMemory>
+    requires rules { AreOf rules.now.program.now rules.now }
+    requires few { few_functions rules.now }
+    ensures { IfOk result (λ unstable. unstable.items ≡ map (is_unstable_of rules.now.program.now facts.now (named_view keys)) (ids rules.now.program.now)) }
+{
+    let functions = rules.functions.all();
+    let mut unstable = Vec::new(alloc);
+    for func in 0..functions.len() as u32 {
+        unstable.push(is_unstable(rules, facts, keys, func))?;
+    }
+    Ok(unstable)
+}
+
+/// Whether the key of a tracked cell is among some.
+fn has_tracked(tracked: &[u32], keys: Named) -> bool
+    ensures { result ≡ concern_any (named_view keys) tracked.now }
+{
+    for object in tracked {
+        if keys.concerns(Key::Object(*object)) {
+            return true;
+        }
+    }
+    false
+}
+
+/// Puts those of the functions over which handlers that may enter may write a tracked cell among some keys.
+fn put_unstable<I>(
+    alloc: Global,
+    list: &mut Vec<u32>,
+    rules: &Rules<'_>,
+    index: &Index,
+    facts: &Facts<I>,
+    keys: Named,
+) -> Result<(), NoMemory>
+    requires rules { AreOf rules.now.program.now rules.now }
+    requires index { IsIndexOf rules.now.program.now index.now }
+    ensures { OnOk result (list.new.items ≡ list.old.items ++ at_each rules.now.program.now Stability (λ id act. is_unstable_of rules.now.program.now facts.now (named_view keys) id)) }
+{
+    let deeds = index.deeds.all();
+    let unstable = unstable_functions(alloc, rules, facts, keys)?;
+    let points = picked(alloc, deeds, Test::StandsIn(&unstable))?;
+    put_rule(list, Rule::Stability, &points)
+}
+
+/// The same, where a tracked cell is among the keys.
+pub(crate) fn put_stability_readers<I>(
+    alloc: Global,
+    list: &mut Vec<u32>,
+    rules: &Rules<'_>,
+    index: &Index,
+    facts: &Facts<I>,
+    keys: Named,
+) -> Result<(), NoMemory>
+    requires rules { AreOf rules.now.program.now rules.now }
+    requires index { IsIndexOf rules.now.program.now index.now }
+    ensures { OnOk result (list.new.items ≡ list.old.items ++ at_each rules.now.program.now Stability (λ id act. is_unstable_of rules.now.program.now facts.now (named_view keys) id)) }
+{
+    let objects = rules.tracked.all();
+    if has_tracked(objects, keys) {
+        put_unstable(alloc, list, rules, index, facts, keys)
+    } else {
+        Ok(())
+    }
+}
+
+/// Puts those that read how handlers access some keys.
+pub(crate) fn put_touch_readers(
+    alloc: Global,
+    list: &mut Vec<u32>,
+    rules: &Rules<'_>,
+    index: &Index,
+    keys: Named,
+) -> Result<(), NoMemory>
+    requires rules { AreOf rules.now.program.now rules.now }
+    requires index { IsIndexOf rules.now.program.now index.now }
+    ensures { OnOk result (list.new.items ≡ list.old.items ++ touch_readers rules.now.program.now (named_view keys)) }
+{
+    let objects = rules.tracked.all();
+    let deeds = index.deeds.all();
+    if has_tracked(objects, keys) {
+        let points = picked(alloc, deeds, Test::IsThere)?;
+        put_rule(list, Rule::Stability, &points)
+    } else {
+        Ok(())
+    }
+}
