@@ -1,19 +1,21 @@
 -- What is asked behind a call.
-use Rattle.std.proofs.Common.{◌≡◌, ◌<◌, ◌+◌, ℕ, List, [], ◌∷◌, ◌++◌, length, take, get_or, append-nil, append_assoc, Option, Some, None, slice_get, refl, ap, sym, subst, ◌∙◌}
+use Rattle.std.proofs.Common.{◌≡◌, ◌<◌, ◌+◌, ℕ, List, [], ◌∷◌, ◌++◌, length, take, get_or, append-nil, append_assoc, All, Contains, Option, Some, None, slice_get, refl, ap, sym, subst, ◌∙◌}
 use Rattle.std.specs.List.{flat_map}
 use Rattle.std.specs.Prelude.{IfSome}
 use Rattle.std.proofs.lemmas.List.{take_more}
+use Rattle.std.proofs.lemmas.List.Elements.{All-append, All-contains_itself, All-map, All-nil, All-same, All-weaker}
 use Rattle.cc_places.specs.declared.abs.Abs.{Abs}
 use Rattle.cc_program.specs.declared.expr.Expr.{Expr}
 use Rattle.cc_program.specs.declared.func.Func.{Func}
 use Rattle.cc_rules.specs.Constraints.{Back}
 use Rattle.cc_rules.specs.Rules.{ForEach, Returned, IsGiven, of_exit, ToRegister, ToNone, FromExit, NoExit, OfReturns}
 use Rattle.cc_rules_asked.specs.declared.asked.Asked.{Asked}
+use Rattle.cc_rules_asked.specs.declared.asked.Asked.TheVariants as asked
 use Rattle.cc_rules_asked.specs.Asked.{all_needs}
 use Rattle.cc_rules_asked.specs.Asks.{AsksHere}
 use Rattle.cc_rules_asked.proofs.Listed.{parts_behind}
 use Rattle.cc_rules_functions.specs.declared.functions.Function.{Function}
-use Rattle.cc_rules_calls.specs.Backs.{with_given, fact_behind, points_behind, IsGivenHere, ReturnsHere, AskMore, AskMoreOf, EachReturns}
+use Rattle.cc_rules_calls.specs.Backs.{with_given, fact_behind, points_behind, IsGivenHere, ReturnsHere, IsBehind, AskMore, AskMoreOf, EachReturns}
 use Rattle.cc_rules_functions.specs.Functions.{IsFunctionOf, AreFunctionsOf}
 use Rattle.cc_rules_calls.specs.Here.{AreFunctionsIn}
 use Rattle.cc_rules_calls.proofs.CalledLemmas.{called_by}
@@ -82,10 +84,12 @@ module _ {I : Type 0} (d : Domain I) (here : Here I) where
     FromExit exit (given_to given) (ap (fact_at here.facts.now) (sym is.exit) ∙ at) (is_given result g f.func.now given gives)
         (points here.point.now.next count flow (λ k. needs_at k (length (registers here.context.func.now)) (length (tracked here.context.program.now)) (exited exit given))
         (λ k. ap (λ flow. told count flow k) e ∙ behind_is exit given count k (is_within result g f.func.now given (length here.fact.now.locals) h.each gives) (c ∙ ap length h.registers))),
+    All-map (IsBehind d here) (λ k. asked.Point k count flow) here.point.now.next
+        (All-weaker (Contains here.point.now.next) (λ k. IsBehind d here (asked.Point k count flow)) (λ k there. record { id = g; function = f; exit = exit; given = given; is_function = is; exited = at; next = there; all_registers = c; is = e }) here.point.now.next (All-contains_itself here.point.now.next)),
   )
 
   pub none_asked : (result : Option ℕ) (g : ℕ) (f : Function) (now : List (Asked I)) → IsFunctionOf here.context.program.now g f → fact_at here.facts.now f.exit ≡ None → AskMore d here result g f now now
-  none_asked result g f now is at = ([], sym (append-nil now), NoExit (ap (fact_at here.facts.now) (sym is.exit) ∙ at) refl)
+  none_asked result g f now is at = ([], sym (append-nil now), NoExit (ap (fact_at here.facts.now) (sym is.exit) ∙ at) refl, All-nil (IsBehind d here))
 
   -- ---- all of them
 
@@ -117,6 +121,10 @@ module _ {I : Type 0} (d : Domain I) (here : Here I) where
       AskMoreOf d here result (get_or ids i x) (slice_get functions (get_or ids i x)) now new → EachReturns d here result (take (i + 1) ids) new
   each_on result ids i x functions now new are l e a =
       subst (λ ids. EachReturns d here result ids new) (sym (take_more ids i x l)) (one_behind result (take i ids) (get_or ids i x) functions (slice_get functions (get_or ids i x)) now new are refl e a)
+
+  pub behind_on : (result : Option ℕ) (h : ℕ) (o : Option Function) (now new : List (Asked I)) → All (IsBehind d here) now → AskMoreOf d here result h o now new → All (IsBehind d here) new
+  behind_on result h None now new all a = absurd a
+  behind_on result h (Some f) now new all a = All-same (IsBehind d here) new (now ++ a.0) a.1 (All-append (IsBehind d here) now a.0 all a.3)
 
   pub backs_asked : (result : Option ℕ) (g : Expr) (args : List Expr) (ids : List ℕ) (list : List (Asked I)) → IsHere d here → AreFunctionsIn d here g ids → EachReturns d here result ids list → AsksHere d here Back (Calls result g args) list
   backs_asked result g args ids list h v e = OfReturns result g args ids refl refl (called_by d here g ids h v) e

@@ -1,5 +1,6 @@
 -- What is asked behind a call, as the code has it.
-use Rattle.std.specs.Prelude.{◌≡◌, ◌<◌, ℕ, pos, true, List, ◌++◌, map, length, Option, Some, None, is_some, slice_get, slice_set}
+use Rattle.std.specs.Prelude.{◌≡◌, ◌<◌, ℕ, pos, true, List, All, ◌++◌, map, length, Option, Some, None, is_some, slice_get, slice_set}
+use Rattle.std.specs.List.{Contains}
 use Rattle.cc_places.specs.declared.abs.Abs.{Abs}
 use Rattle.cc_places.specs.declared.abs.Abs.TheVariants as abs
 use Rattle.cc_places.specs.Abstract.{AreOfOneKind, IsBelowAbs}
@@ -9,11 +10,13 @@ use Rattle.cc_rules_asked.specs.declared.asked.Asked.{Asked}
 use Rattle.cc_rules_asked.specs.declared.asked.Asked.TheVariants as asked
 use Rattle.cc_rules_asked.specs.Asked.{all_needs}
 use Rattle.cc_rules_functions.specs.declared.functions.Function.{Function}
+use Rattle.cc_rules_functions.specs.Functions.{IsFunctionOf}
 use Rattle.cc_rules_calls.specs.Here.{fact_with}
 use Rattle.cc_rules_flows.specs.declared.after.Here.{Here}
 use Rattle.cc_rules_flows.specs.Acts.{Act, Sets, Reads, Writes, Calls, Saves, Turns, Restores, Tests, Chooses, Returns, Passes}
 use Rattle.cc_rules_needs.specs.Needs.{Needs}
 use Rattle.cc_state_facts.specs.declared.facts.PointFact.{PointFact}
+use Rattle.cc_state_facts.specs.Facts.{fact_at}
 use Rattle.cc_state_keys.specs.Tracked.{register_number}
 use Rattle.cc_state_operators.specs.Domains.{Domain}
 
@@ -66,9 +69,26 @@ module _ {I : Type 0} (d : Domain I) (here : Here I) where
   abbrev pub ReturnsHere : Option ℕ → ℕ → Func → Needs I → Type 0
   ReturnsHere result g callee ns = Returned d here.context.program.now here.facts.now here.number here.context.id here.context.func.now here.point.now here.fact.now result g callee ns
 
+  -- what is known behind a call by what is known at the exit of some function of the program, for a next point
+  pub record IsBehindAt (number registers : ℕ) (flow : PointFact I) : Type 0 where
+    pub id : ℕ
+    pub function : Function
+    pub exit : PointFact I
+    pub given : Option (ℕ × Abs I)
+    pub is_function : IsFunctionOf here.context.program.now id function
+    pub exited : fact_at here.facts.now function.exit ≡ Some exit
+    pub next : Contains here.point.now.next number
+    pub all_registers : registers ≡ length here.context.registers.now
+    pub is : flow ≡ fact_behind here.fact.now exit given
+
+  -- no part alone
+  abbrev pub IsBehind : Asked I → Type 0
+  IsBehind (asked.Part slot part) = ⊥
+  IsBehind (asked.Point number registers flow) = IsBehindAt number registers flow
+
   -- what is asked of one more function
   abbrev pub AskMore : Option ℕ → ℕ → Function → List (Asked I) → List (Asked I) → Type 0
-  AskMore result g f now new = (more : List (Asked I)) × (new ≡ now ++ more) × ReturnsHere result g f.func.now (all_needs here.context.program.now more)
+  AskMore result g f now new = (more : List (Asked I)) × (new ≡ now ++ more) × ReturnsHere result g f.func.now (all_needs here.context.program.now more) × All IsBehind more
 
   abbrev pub AskMoreOf : Option ℕ → ℕ → Option Function → List (Asked I) → List (Asked I) → Type 0
   AskMoreOf result g None now new = ⊥

@@ -70,6 +70,10 @@ module _ {I : Type 0} (here : Here I) where
   abbrev pub asked_of_all : List Function → List ℕ → List (Abs I) → List (Asked I)
   asked_of_all functions ids ys = flat_map (λ g. asked_of_one g (slice_get functions g) ys) ids
 
+  -- this is asked of some functions that are called with some sets
+  abbrev pub AreEntries : List Function → List (Asked I) → Type 0
+  AreEntries functions list = (ids : List ℕ) × (ys : List (Abs I)) × (list ≡ asked_of_all functions ids ys)
+
 module _ {I : Type 0} (d : Domain I) (here : Here I) where
   abbrev pub AreCalledHere : Expr → List ℕ → Type 0
   AreCalledHere g gs = AreCalled d here.context.program.now here.facts.now here.number here.context.id here.context.func.now here.point.now here.fact.now g gs

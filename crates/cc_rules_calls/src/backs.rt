@@ -7,7 +7,7 @@ ghost use Rattle.cc_places.specs.declared.abs.Abs.{Abs};
 ghost use Rattle.cc_places.specs.Abstract.{AreOfOneKind};
 ghost use Rattle.cc_rules.specs.Constraints.{Back as BackRule};
 ghost use Rattle.cc_rules_asked.specs.Asks.{AsksHere, ArePureHere};
-ghost use Rattle.cc_rules_calls.specs.Backs.{with_given, fact_behind, points_behind, IsWithZero, gets, IsResultHere, IsGivenHere, AskMore, AskMoreOf, EachReturns, MayGetHere};
+ghost use Rattle.cc_rules_calls.specs.Backs.{with_given, fact_behind, points_behind, IsWithZero, gets, IsResultHere, IsGivenHere, IsBehind, AskMore, AskMoreOf, EachReturns, MayGetHere};
 ghost use Rattle.cc_rules_functions.specs.Functions.{IsFunctionOf, AreFunctionsOf};
 ghost use Rattle.cc_rules_calls.specs.Here.{MayCallHere};
 ghost use Rattle.cc_rules_flows.specs.Acts.{Calls};
@@ -250,7 +250,8 @@ fn asked_of_functions<I: IntDomain>(
     requires functions { AreFunctionsOf here.now.context.program.now functions.now }
     requires gets { (h : ℕ) (f : FunctionOf) → slice_get functions.now h ≡ Some f → MayGetHere (domain I.Has I.IsBelow I.OpGives I.OpOneGives I.ToGives I.KeepGives I.members_of) here.now register h f }
     requires there { All (λ h. is_some (slice_get functions.now h) ≡ true) ids.now }
-    ensures { IfOk result (λ asked. EachReturns (domain I.Has I.IsBelow I.OpGives I.OpOneGives I.ToGives I.KeepGives I.members_of) here.now register ids.now asked.items) }
+    ensures each { IfOk result (λ asked. EachReturns (domain I.Has I.IsBelow I.OpGives I.OpOneGives I.ToGives I.KeepGives I.members_of) here.now register ids.now asked.items) }
+    ensures behind { IfOk result (λ asked. All (IsBehind (domain I.Has I.IsBelow I.OpGives I.OpOneGives I.ToGives I.KeepGives I.members_of) here.now) asked.items) }
 {
     let mut asked = Vec::new(alloc);
     for id in ids {
@@ -271,7 +272,8 @@ fn asked_of_call<I: IntDomain>(
     requires pure { ArePureHere (domain I.Has I.IsBelow I.OpGives I.OpOneGives I.ToGives I.KeepGives I.members_of) here.now (Calls call.result call.function.now call.args.now) }
     requires calls { MayCallHere (domain I.Has I.IsBelow I.OpGives I.OpOneGives I.ToGives I.KeepGives I.members_of) here.now (Calls call.result call.function.now call.args.now) }
     requires gets { (h : ℕ) (f : FunctionOf) → slice_get functions.now h ≡ Some f → MayGetHere (domain I.Has I.IsBelow I.OpGives I.OpOneGives I.ToGives I.KeepGives I.members_of) here.now call.result h f }
-    ensures { IfOk result (λ asked. AsksHere (domain I.Has I.IsBelow I.OpGives I.OpOneGives I.ToGives I.KeepGives I.members_of) here.now BackRule (Calls call.entry.result call.entry.function.now call.entry.args.now) asked.items) }
+    ensures asked { IfOk result (λ asked. AsksHere (domain I.Has I.IsBelow I.OpGives I.OpOneGives I.ToGives I.KeepGives I.members_of) here.now BackRule (Calls call.entry.result call.entry.function.now call.entry.args.now) asked.items) }
+    ensures behind { IfOk result (λ asked. All (IsBehind (domain I.Has I.IsBelow I.OpGives I.OpOneGives I.ToGives I.KeepGives I.members_of) here.now) asked.items) }
 {
     let found = called_here(alloc, here, call.function)?;
     asked_of_functions(alloc, here, functions, call.result, found.as_slice())
@@ -289,7 +291,8 @@ pub fn asked_by_back<I: IntDomain>(
     requires pure { ArePureHere (domain I.Has I.IsBelow I.OpGives I.OpOneGives I.ToGives I.KeepGives I.members_of) here.now (act_view act) }
     requires calls { MayCallHere (domain I.Has I.IsBelow I.OpGives I.OpOneGives I.ToGives I.KeepGives I.members_of) here.now (act_view act) }
     requires gets { (h : ℕ) (f : FunctionOf) → slice_get functions.now h ≡ Some f → MayGetHere (domain I.Has I.IsBelow I.OpGives I.OpOneGives I.ToGives I.KeepGives I.members_of) here.now (gets (act_view act)) h f }
-    ensures { IfOk result (λ asked. AsksHere (domain I.Has I.IsBelow I.OpGives I.OpOneGives I.ToGives I.KeepGives I.members_of) here.now BackRule (act_view act.entry) asked.items) }
+    ensures asked { IfOk result (λ asked. AsksHere (domain I.Has I.IsBelow I.OpGives I.OpOneGives I.ToGives I.KeepGives I.members_of) here.now BackRule (act_view act.entry) asked.items) }
+    ensures behind { IfOk result (λ asked. All (IsBehind (domain I.Has I.IsBelow I.OpGives I.OpOneGives I.ToGives I.KeepGives I.members_of) here.now) asked.items) }
 {
     match called(act) {
         None => Ok(Vec::new(alloc)),

@@ -7,7 +7,7 @@ ghost use Rattle.cc_rules.specs.Constraints.{Call as CallRule};
 ghost use Rattle.cc_rules_asked.specs.Asks.{AsksHere, ArePureHere};
 ghost use Rattle.cc_rules_calls.specs.Called.{sets_of as sets_of_of};
 ghost use Rattle.cc_rules_functions.specs.Functions.{AreFunctionsOf};
-ghost use Rattle.cc_rules_calls.specs.Here.{MayCallHere, part_whole, parts_whole, fact_with, marks_called, asked_entered, asked_of_one, asked_of_all};
+ghost use Rattle.cc_rules_calls.specs.Here.{MayCallHere, part_whole, parts_whole, fact_with, marks_called, asked_entered, asked_of_one, asked_of_all, AreEntries};
 ghost use Rattle.cc_rules_flows.specs.Acts.{Calls};
 ghost use Rattle.cc_rules_flows.specs.Here.{IsHere};
 ghost use Rattle.cc_rules_flows.specs.View.{act_view};
@@ -248,7 +248,8 @@ fn asked_of_call<I: IntDomain>(
     requires calls { MayCallHere (domain I.Has I.IsBelow I.OpGives I.OpOneGives I.ToGives I.KeepGives I.members_of) here.now (Calls call.result call.function.now call.args.now) }
     requires few_keys { length here.now.facts.now.keys < 2 ^ 32 }
     requires few_locals { All (λ f. length f.locals < 2 ^ 32) here.now.context.program.now.funcs }
-    ensures { IfOk result (λ asked. AsksHere (domain I.Has I.IsBelow I.OpGives I.OpOneGives I.ToGives I.KeepGives I.members_of) here.now CallRule (Calls call.entry.result call.entry.function.now call.entry.args.now) asked.items) }
+    ensures asked { IfOk result (λ asked. AsksHere (domain I.Has I.IsBelow I.OpGives I.OpOneGives I.ToGives I.KeepGives I.members_of) here.now CallRule (Calls call.entry.result call.entry.function.now call.entry.args.now) asked.items) }
+    ensures entries { IfOk result (λ asked. AreEntries here.now functions.now asked.items) }
 {
     let found = called_here(alloc, here, call.function)?;
     let given = values_here(alloc, here, call.args)?;
@@ -270,7 +271,8 @@ pub fn asked_by_call<I: IntDomain>(
     requires calls { MayCallHere (domain I.Has I.IsBelow I.OpGives I.OpOneGives I.ToGives I.KeepGives I.members_of) here.now (act_view act) }
     requires few_keys { length here.now.facts.now.keys < 2 ^ 32 }
     requires few_locals { All (λ f. length f.locals < 2 ^ 32) here.now.context.program.now.funcs }
-    ensures { IfOk result (λ asked. AsksHere (domain I.Has I.IsBelow I.OpGives I.OpOneGives I.ToGives I.KeepGives I.members_of) here.now CallRule (act_view act.entry) asked.items) }
+    ensures asked { IfOk result (λ asked. AsksHere (domain I.Has I.IsBelow I.OpGives I.OpOneGives I.ToGives I.KeepGives I.members_of) here.now CallRule (act_view act.entry) asked.items) }
+    ensures entries { IfOk result (λ asked. AreEntries here.now functions.now asked.items) }
 {
     match called(act) {
         None => Ok(Vec::new(alloc)),

@@ -1,8 +1,9 @@
-use Rattle.std.proofs.Common.{false, sym, subst, ap}
+use Rattle.std.proofs.Common.{false, [], sym, subst, ap}
+use Rattle.std.proofs.lemmas.List.Elements.{All-nil, All-same}
 use Rattle.std.proofs.lemmas.Result.{IfOk-weaker}
 use Rattle.cc_rules.specs.Constraints.{Back}
 use Rattle.cc_rules_asked.specs.Asks.{AsksHere, ArePureHere}
-use Rattle.cc_rules_calls.specs.Backs.{gets, MayGetHere}
+use Rattle.cc_rules_calls.specs.Backs.{gets, MayGetHere, IsBehind}
 use Rattle.cc_rules_calls.specs.Here.{MayCallHere}
 use Rattle.cc_rules_calls.proofs.CallActs.{as_call}
 use Rattle.cc_rules_calls.proofs.EntryLemmas.{no_call}
@@ -23,12 +24,18 @@ asked_of_call-requires g c =
     }
 
 pub returns-in-None : goal.returns-in-None
-returns-in-None g c =
-    subst (AsksHere (domain g.I.Concrete.Has g.I.Lattice.IsBelow g.I.IntDomain.OpGives g.I.IntDomain.OpOneGives g.I.IntDomain.ToGives g.I.IntDomain.KeepGives g.I.IntDomain.members_of) c.args.here.now Back (act_view c.args.act)) (sym c.new.ensures.items) (no_call (domain g.I.Concrete.Has g.I.Lattice.IsBelow g.I.IntDomain.OpGives g.I.IntDomain.OpOneGives g.I.IntDomain.ToGives g.I.IntDomain.KeepGives g.I.IntDomain.members_of) c.args.here.now false (act_view c.args.act) (sym c.in-None.ensures))
+returns-in-None g c = record {
+  asked = subst (AsksHere (domain g.I.Concrete.Has g.I.Lattice.IsBelow g.I.IntDomain.OpGives g.I.IntDomain.OpOneGives g.I.IntDomain.ToGives g.I.IntDomain.KeepGives g.I.IntDomain.members_of) c.args.here.now Back (act_view c.args.act)) (sym c.new.ensures.items) (no_call (domain g.I.Concrete.Has g.I.Lattice.IsBelow g.I.IntDomain.OpGives g.I.IntDomain.OpOneGives g.I.IntDomain.ToGives g.I.IntDomain.KeepGives g.I.IntDomain.members_of) c.args.here.now false (act_view c.args.act) (sym c.in-None.ensures));
+  behind = All-same (IsBehind (domain g.I.Concrete.Has g.I.Lattice.IsBelow g.I.IntDomain.OpGives g.I.IntDomain.OpOneGives g.I.IntDomain.ToGives g.I.IntDomain.KeepGives g.I.IntDomain.members_of) c.args.here.now) c.new.result.items [] c.new.ensures.items (All-nil (IsBehind (domain g.I.Concrete.Has g.I.Lattice.IsBelow g.I.IntDomain.OpGives g.I.IntDomain.OpOneGives g.I.IntDomain.ToGives g.I.IntDomain.KeepGives g.I.IntDomain.members_of) c.args.here.now));
+}
 
 pub returns-in-Some : goal.returns-in-Some
 returns-in-Some g c =
     let is = as_call (act_view c.args.act) c.in-Some.call.result c.in-Some.call.function.now c.in-Some.call.args.now (sym c.in-Some.ensures) in
-    IfOk-weaker c.asked_of_call.result (λ list. AsksHere (domain g.I.Concrete.Has g.I.Lattice.IsBelow g.I.IntDomain.OpGives g.I.IntDomain.OpOneGives g.I.IntDomain.ToGives g.I.IntDomain.KeepGives g.I.IntDomain.members_of) c.args.here.now Back (Calls c.in-Some.call.result c.in-Some.call.function.now c.in-Some.call.args.now) list.items) _
-    (λ list k. subst (λ (act : Act). AsksHere (domain g.I.Concrete.Has g.I.Lattice.IsBelow g.I.IntDomain.OpGives g.I.IntDomain.OpOneGives g.I.IntDomain.ToGives g.I.IntDomain.KeepGives g.I.IntDomain.members_of) c.args.here.now Back act list.items) (sym is) k)
-    c.asked_of_call.ensures
+    record {
+      asked =
+          IfOk-weaker c.asked_of_call.result (λ list. AsksHere (domain g.I.Concrete.Has g.I.Lattice.IsBelow g.I.IntDomain.OpGives g.I.IntDomain.OpOneGives g.I.IntDomain.ToGives g.I.IntDomain.KeepGives g.I.IntDomain.members_of) c.args.here.now Back (Calls c.in-Some.call.result c.in-Some.call.function.now c.in-Some.call.args.now) list.items) _
+          (λ list k. subst (λ (act : Act). AsksHere (domain g.I.Concrete.Has g.I.Lattice.IsBelow g.I.IntDomain.OpGives g.I.IntDomain.OpOneGives g.I.IntDomain.ToGives g.I.IntDomain.KeepGives g.I.IntDomain.members_of) c.args.here.now Back act list.items) (sym is) k)
+          c.asked_of_call.ensures.asked;
+      behind = c.asked_of_call.ensures.behind;
+    }

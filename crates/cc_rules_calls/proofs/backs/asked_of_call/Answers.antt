@@ -23,6 +23,10 @@ asked_of_functions-requires g c =
 pub returns : goal.returns
 returns g c =
     let found = subst (AreFunctionsIn (domain g.I.Concrete.Has g.I.Lattice.IsBelow g.I.IntDomain.OpGives g.I.IntDomain.OpOneGives g.I.IntDomain.ToGives g.I.IntDomain.KeepGives g.I.IntDomain.members_of) c.args.here.now c.args.call.function.now) (sym c.as_slice.ensures.value) c.in_ok-found.ensures in
-    IfOk-weaker c.asked_of_functions.result (λ list. EachReturns (domain g.I.Concrete.Has g.I.Lattice.IsBelow g.I.IntDomain.OpGives g.I.IntDomain.OpOneGives g.I.IntDomain.ToGives g.I.IntDomain.KeepGives g.I.IntDomain.members_of) c.args.here.now c.args.call.result c.as_slice.result.now list.items) _
-    (λ list e. backs_asked (domain g.I.Concrete.Has g.I.Lattice.IsBelow g.I.IntDomain.OpGives g.I.IntDomain.OpOneGives g.I.IntDomain.ToGives g.I.IntDomain.KeepGives g.I.IntDomain.members_of) c.args.here.now c.args.call.result c.args.call.function.now c.args.call.args.now c.as_slice.result.now list.items c.requires.here found e)
-    c.asked_of_functions.ensures
+    record {
+      asked =
+          IfOk-weaker c.asked_of_functions.result (λ list. EachReturns (domain g.I.Concrete.Has g.I.Lattice.IsBelow g.I.IntDomain.OpGives g.I.IntDomain.OpOneGives g.I.IntDomain.ToGives g.I.IntDomain.KeepGives g.I.IntDomain.members_of) c.args.here.now c.args.call.result c.as_slice.result.now list.items) _
+          (λ list e. backs_asked (domain g.I.Concrete.Has g.I.Lattice.IsBelow g.I.IntDomain.OpGives g.I.IntDomain.OpOneGives g.I.IntDomain.ToGives g.I.IntDomain.KeepGives g.I.IntDomain.members_of) c.args.here.now c.args.call.result c.args.call.function.now c.args.call.args.now c.as_slice.result.now list.items c.requires.here found e)
+          c.asked_of_functions.ensures.each;
+      behind = c.asked_of_functions.ensures.behind;
+    }

@@ -30,6 +30,12 @@ returns g c =
     let found = subst (AreFunctionsIn (domain g.I.Concrete.Has g.I.Lattice.IsBelow g.I.IntDomain.OpGives g.I.IntDomain.OpOneGives g.I.IntDomain.ToGives g.I.IntDomain.KeepGives g.I.IntDomain.members_of) c.args.here.now c.args.call.function.now) (sym c.as_slice-ids.ensures.value) c.in_ok-found.ensures in
     let given = subst (AllZip (IsValIn (domain g.I.Concrete.Has g.I.Lattice.IsBelow g.I.IntDomain.OpGives g.I.IntDomain.OpOneGives g.I.IntDomain.ToGives g.I.IntDomain.KeepGives g.I.IntDomain.members_of) c.args.here.now.context) c.args.call.args.now) (sym c.as_slice-sets.ensures.value) c.in_ok-given.ensures in
     let there = functions_there (domain g.I.Concrete.Has g.I.Lattice.IsBelow g.I.IntDomain.OpGives g.I.IntDomain.OpOneGives g.I.IntDomain.ToGives g.I.IntDomain.KeepGives g.I.IntDomain.members_of) c.args.here.now c.args.call.function.now c.as_slice-ids.result.now c.args.functions.now found c.requires.functions c.requires.calls in
-    IfOk-weaker c.asked_of_functions.result (λ list. list.items ≡ asked_of_all c.args.here.now c.args.functions.now c.as_slice-ids.result.now c.as_slice-sets.result.now) _
-    (λ list e. entries_asked (domain g.I.Concrete.Has g.I.Lattice.IsBelow g.I.IntDomain.OpGives g.I.IntDomain.OpOneGives g.I.IntDomain.ToGives g.I.IntDomain.KeepGives g.I.IntDomain.members_of) c.args.here.now c.args.call.result c.args.call.function.now c.args.call.args.now c.args.functions.now c.as_slice-ids.result.now c.as_slice-sets.result.now list.items c.requires.here c.requires.functions found there given e)
-    c.asked_of_functions.ensures
+    record {
+      asked =
+          IfOk-weaker c.asked_of_functions.result (λ list. list.items ≡ asked_of_all c.args.here.now c.args.functions.now c.as_slice-ids.result.now c.as_slice-sets.result.now) _
+          (λ list e. entries_asked (domain g.I.Concrete.Has g.I.Lattice.IsBelow g.I.IntDomain.OpGives g.I.IntDomain.OpOneGives g.I.IntDomain.ToGives g.I.IntDomain.KeepGives g.I.IntDomain.members_of) c.args.here.now c.args.call.result c.args.call.function.now c.args.call.args.now c.args.functions.now c.as_slice-ids.result.now c.as_slice-sets.result.now list.items c.requires.here c.requires.functions found there given e)
+          c.asked_of_functions.ensures;
+      entries =
+          IfOk-weaker c.asked_of_functions.result (λ list. list.items ≡ asked_of_all c.args.here.now c.args.functions.now c.as_slice-ids.result.now c.as_slice-sets.result.now) _
+          (λ list e. (c.as_slice-ids.result.now, c.as_slice-sets.result.now, e)) c.asked_of_functions.ensures;
+    }
