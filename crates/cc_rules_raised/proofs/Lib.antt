@@ -1,0 +1,11 @@
+pub mod NeedsAt
+pub mod Change
+pub mod Completing
+pub mod Fitting
+pub mod KindsAt
+pub mod Memory
+pub mod Outcomes
+pub mod SlotSteps
+pub mod SlotParts
+pub mod Stepping
+pub mod Told

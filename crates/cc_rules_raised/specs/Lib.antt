@@ -1,0 +1,4 @@
+pub mod Completed
+pub mod OfAddresses
+pub mod Slots
+pub mod Steps
