@@ -1,5 +1,5 @@
 -- Points that read some keys without a pointer are among the candidates; and callers are those by address and those through pointers.
-use Rattle.std.proofs.Common.{arith, ◌≡◌, ◌≤◌, ◌<◌, ℕ, Bool, true, false, true≢false, ◌&&◌, ◌||◌, List, [], ◌∷◌, map, length, All, Option, Some, None, slice_get, refl, sym, ap, subst, ◌∙◌}
+use Rattle.std.proofs.Common.{arith, ◌≡◌, ◌≤◌, ◌<◌, ℕ, Bool, true, false, true≢false, ◌&&◌, ◌||◌, List, length, All, Option, Some, None, slice_get, refl, sym, ap, subst, ◌∙◌}
 use Rattle.std.specs.Prelude.{◌==◌}
 use Rattle.std.specs.List.{filter}
 use Rattle.std.proofs.lemmas.List.Elements.{filter_agree}
@@ -8,7 +8,6 @@ use Rattle.cc_rules_needs.specs.Flowing.{numbers}
 use Rattle.cc_rules_readers.specs.declared.deeds.Called.{Called}
 use Rattle.cc_rules_readers.specs.declared.deeds.Called.TheVariants as called
 use Rattle.cc_rules_readers.specs.declared.deeds.Deed.{Deed}
-use Rattle.cc_rules_readers.specs.declared.groups.By.{By}
 use Rattle.cc_rules_readers.specs.declared.groups.By.TheVariants as by
 use Rattle.cc_rules_readers.specs.declared.index.Index.{Index}
 use Rattle.cc_rules_readers.specs.declared.naming.Named.{Named}
@@ -21,7 +20,6 @@ use Rattle.cc_rules_readers.proofs.Merging.{merged_parts}
 use Rattle.cc_rules_readers.proofs.Numbers.{either_way, none_passes, not_passed, filter_within, small_from}
 use Rattle.cc_state_facts.specs.declared.facts.Key.{Key}
 use Rattle.cc_state_facts.specs.declared.facts.Key.TheVariants as key
-use Rattle.cc_state_keys.specs.Keys.{is_key}
 
 -- ---- bounds
 

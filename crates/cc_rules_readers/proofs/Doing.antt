@@ -1,6 +1,6 @@
 -- What statements do, point by point; and constraints at points whose statements do something.
-use Rattle.std.proofs.Common.{arith, ◌≡◌, ◌≤◌, ◌<◌, ℕ, zero, suc, Bool, true, false, ◌&&◌, ◌||◌, List, [], ◌∷◌, ◌++◌, map, length, take, get_or, All, Option, Some, None, is_some, slice_get, refl, sym, ap, subst, ◌∙◌}
-use Rattle.std.specs.Prelude.{◌==◌, is_none, if◌then◌else◌}
+use Rattle.std.proofs.Common.{arith, ◌≡◌, ◌≤◌, ℕ, zero, suc, Bool, true, List, [], ◌∷◌, ◌++◌, map, length, Some, None, is_some, slice_get, refl, sym, ap, subst, ◌∙◌}
+use Rattle.std.specs.Prelude.{◌==◌}
 use Rattle.std.specs.List.{AllZip, filter, flat_map}
 use Rattle.std.proofs.lemmas.List.Elements.{filter_agree}
 use Rattle.std.proofs.lemmas.Option.{same_Some, none-some}
@@ -9,29 +9,25 @@ use Rattle.cc_flow.specs.declared.types.Point.{Point}
 use Rattle.cc_flow.specs.Points.{count_of, flow_of}
 use Rattle.cc_program.specs.declared.expr.Expr.{Expr, out-Expr}
 use Rattle.cc_program.specs.declared.expr.Expr.TheOpen as one
-use Rattle.cc_program.specs.declared.expr.Place.{Place, out-Place}
+use Rattle.cc_program.specs.declared.expr.Place.{Place}
 use Rattle.cc_program.specs.declared.func.Func.{Func}
 use Rattle.cc_program.specs.declared.program.Program.{Program}
 use Rattle.cc_registers.specs.Kept.{AreKept}
 use Rattle.cc_rules.specs.Constraints.{Rule, Touch, Call, Back, Handler, Stability}
 use Rattle.cc_rules.specs.Rules.{act_at}
 use Rattle.cc_rules_again.specs.Again.{number_at, at_each, does, does_in, is_callee, may_call, is_call, read, result_readers, reach_readers}
-use Rattle.cc_rules_again.specs.Named as is
-use Rattle.cc_rules_flows.specs.Acts.{Act, Sets, Reads, Writes, Calls, Saves, Turns, Restores, Tests, Chooses, Returns, Passes}
+use Rattle.cc_rules_flows.specs.Acts.{Act, Reads, Calls}
 use Rattle.cc_rules_flows.specs.Nexts.{statement_of}
 use Rattle.cc_rules_functions.specs.declared.functions.Function.{Function}
 use Rattle.cc_rules_functions.specs.Functions.{AreFunctionsOf}
-use Rattle.cc_rules_here.proofs.Marked.{marks_there, marks_kept}
+use Rattle.cc_rules_here.proofs.Marked.{marks_there}
 use Rattle.cc_rules_here.proofs.Owned.{owned, within_some}
 use Rattle.cc_rules_needs.specs.Flowing.{numbers}
-use Rattle.cc_rules_readers.specs.declared.deeds.Called.{Called}
-use Rattle.cc_rules_readers.specs.declared.deeds.Called.TheVariants as called
 use Rattle.cc_rules_readers.specs.declared.deeds.Deed.{Deed}
 use Rattle.cc_rules_readers.specs.Points.{on, points_that, is_of, may_call_in, reach_numbers}
 use Rattle.cc_rules_readers.specs.View.{named_view, calls_it, is_some_call, callee_of, called_of, read_in, IsDeedBy, IsDeedAt, AreDeeds}
 use Rattle.cc_rules_readers.proofs.Numbers.{either_way}
 use Rattle.cc_state_keys.specs.Tracked.{tracked}
-use Rattle.cc_state_reads.specs.Reads.{tracked_in}
 
 -- ---- the function of a point, and its marks
 

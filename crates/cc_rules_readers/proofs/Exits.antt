@@ -1,5 +1,5 @@
 -- Which functions a point is the exit of: at most its own.
-use Rattle.std.proofs.Common.{arith, ◌≡◌, ◌⊎◌, ◌+◌, ◌<◌, ◌≤◌, ℕ, zero, suc, Bool, true, false, true≢false, cond, List, [], ◌∷◌, ◌++◌, map, length, append-nil, Option, Some, None, slice_get, refl, sym, ap, subst, ◌∙◌}
+use Rattle.std.proofs.Common.{arith, ◌≡◌, ◌+◌, ◌<◌, ℕ, zero, suc, Bool, true, false, true≢false, cond, List, [], ◌∷◌, ◌++◌, map, length, append-nil, Option, Some, None, slice_get, refl, sym, ap, ◌∙◌}
 use Rattle.std.specs.Prelude.{◌==◌, nat_lt}
 use Rattle.std.specs.List.{filter, flat_map}
 use Rattle.std.proofs.lemmas.Option.{same_Some, none-some, slice_get_within}
@@ -21,7 +21,7 @@ use Rattle.cc_rules_here.proofs.Owned.{owned, all_there}
 use Rattle.cc_rules_readers.specs.declared.deeds.Deed.{Deed}
 use Rattle.cc_rules_readers.specs.Points.{points_that, may_call_in, own_numbers, ends_at}
 use Rattle.cc_rules_readers.specs.View.{IsDeedAt, AreDeeds}
-use Rattle.cc_rules_readers.proofs.Doing.{no_point, at_point, as_long, callers_are}
+use Rattle.cc_rules_readers.proofs.Doing.{no_point, at_point, callers_are}
 use Rattle.cc_rules_readers.proofs.Numbers.{are_equal, none_passes, one_passes, not_passed}
 
 some_there : {A : Type 0} (xs : List A) (n : ℕ) → n < length xs → (x : A) × (slice_get xs n ≡ Some x)

@@ -1,5 +1,5 @@
 -- Lists of points by numbers, one after the other.
-use Rattle.std.proofs.Common.{arith, ◌≡◌, ℕ, zero, suc, ◌+◌, ◌<◌, ◌≤◌, Bool, true, false, cond, List, [], ◌∷◌, ◌++◌, length, set, get_or, append-nil, Option, Some, None, slice_get, refl, sym, ap, ◌∙◌}
+use Rattle.std.proofs.Common.{arith, ◌≡◌, ℕ, zero, suc, ◌+◌, ◌<◌, Bool, true, false, cond, List, [], ◌∷◌, ◌++◌, length, set, get_or, append-nil, Option, Some, None, slice_get, refl, sym, ap, ◌∙◌}
 use Rattle.std.specs.Prelude.{◌==◌, option_and_then, Vec}
 use Rattle.std.specs.declared.alloc.Global.{Global}
 use Rattle.std.specs.List.{filter}
@@ -8,7 +8,7 @@ use Rattle.cc_rules_asked.proofs.StabilityLemmas.{numbers_put}
 use Rattle.cc_rules_needs.specs.Flowing.{numbers}
 use Rattle.cc_rules_readers.specs.declared.deeds.Deed.{Deed}
 use Rattle.cc_rules_readers.specs.declared.groups.By.{By}
-use Rattle.cc_rules_readers.specs.Points.{on, group_of, is_that, points_in, list_at}
+use Rattle.cc_rules_readers.specs.Points.{on, group_of, is_that, list_at}
 use Rattle.cc_state_keys.specs.Lists.{only_if}
 
 -- an empty list more

@@ -1,6 +1,6 @@
 -- Who reads what each rule raises at a point, by what its statement does; who is called, and which handlers there are.
-use Rattle.std.proofs.Common.{arith, ◌≡◌, ◌≤◌, ◌<◌, ◌+◌, ℕ, zero, suc, Bool, true, false, cond, List, [], ◌∷◌, ◌++◌, map, length, take, get_or, append-nil, append_assoc, Option, Some, None, slice_get, refl, sym, ap, subst, ◌∙◌}
-use Rattle.std.specs.Prelude.{◌==◌, if◌then◌else◌}
+use Rattle.std.proofs.Common.{arith, ◌≡◌, ◌≤◌, ◌<◌, ◌+◌, ℕ, zero, suc, cond, List, [], ◌∷◌, ◌++◌, map, length, take, get_or, append-nil, append_assoc, Option, Some, None, slice_get, refl, sym, ap, ◌∙◌}
+use Rattle.std.specs.Prelude.{◌==◌}
 use Rattle.std.specs.List.{AllZip, filter, flat_map}
 use Rattle.std.proofs.lemmas.List.{take_all, take_more, flat_map_more}
 use Rattle.std.proofs.lemmas.List.Elements.{filter_agree}
@@ -8,11 +8,10 @@ use Rattle.std.proofs.lemmas.Option.{none-some, slice_get_within}
 use Rattle.cc_flow.specs.declared.types.Point.{Point}
 use Rattle.cc_flow.specs.Points.{flow_of}
 use Rattle.cc_flow_sound.specs.Moves.{entry}
-use Rattle.cc_program.specs.declared.func.Func.{Func}
 use Rattle.cc_program.specs.declared.program.Program.{Program}
 use Rattle.cc_rules.specs.Constraints.{Initial, Start, Flow, Write, Touch, Call, Back, Return, Handler, Stability, at_point}
 use Rattle.cc_rules.specs.Rules.{act_at, handlers}
-use Rattle.cc_rules_again.specs.Again.{number_at, ids, may_call, point_readers, entry_readers, touch_readers, whole_readers, call_readers, result_readers, again_here, again_in, again_at, again_of}
+use Rattle.cc_rules_again.specs.Again.{number_at, ids, may_call, point_readers, entry_readers, touch_readers, whole_readers, call_readers, result_readers, again_in, again_at, again_of}
 use Rattle.cc_rules_again.specs.Named.{EachKey}
 use Rattle.cc_rules_asked.specs.declared.handlers.Handler.{Handler as HandlerAs}
 use Rattle.cc_rules_asked.specs.Handlers.{IsHandlerOf, AreHandlersOf}
@@ -20,7 +19,6 @@ use Rattle.cc_rules_flows.specs.Acts.{Act}
 use Rattle.cc_rules_flows.specs.Nexts.{statement_of}
 use Rattle.cc_rules_functions.specs.declared.functions.Function.{Function}
 use Rattle.cc_rules_functions.specs.Functions.{AreFunctionsOf}
-use Rattle.cc_rules_needs.specs.Flowing.{numbers}
 use Rattle.cc_rules_numbered.specs.declared.constraints.Rule.{Rule}
 use Rattle.cc_rules_numbered.specs.declared.constraints.Rule.TheVariants as rule
 use Rattle.cc_rules_numbered.specs.Numbered.{rule_view}

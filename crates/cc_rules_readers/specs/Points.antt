@@ -1,5 +1,5 @@
 -- Lists of points by what their statements do, all ascending, and of constraints there by their numbers.
-use Rattle.std.specs.Prelude.{◌≡◌, ℕ, ◌<◌, ◌^◌, suc, ◌==◌, nat_lt, Bool, true, false, ◌||◌, List, [], ◌∷◌, ◌++◌, map, length, take, drop, Option, Some, None, option_and_then, slice_get, if◌then◌else◌, Vec}
+use Rattle.std.specs.Prelude.{ℕ, ◌<◌, ◌^◌, suc, ◌==◌, nat_lt, Bool, true, false, List, [], ◌∷◌, ◌++◌, map, length, take, drop, Option, Some, None, slice_get, if◌then◌else◌, Vec}
 use Rattle.std.specs.declared.alloc.Global.{Global}
 use Rattle.std.specs.List.{filter, flat_map, list_any}
 use Rattle.cc_rules.specs.Constraints.{Flow, Write, Touch, Call, Back, Return, Handler, Stability}

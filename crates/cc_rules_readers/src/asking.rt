@@ -171,7 +171,7 @@ fn put_readers<I>(
 }
 
 /// Appends the numbers of the constraints that read, by the facts, a thing that a constraint raises: exactly these. After want of memory,
-/// which is the only error, the list is as it was.
+/// which is the only error, the list begins with the old one.
 pub fn again<I>(
     alloc: Global,
     rules: &Rules<'_>,

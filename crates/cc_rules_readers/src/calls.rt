@@ -1,7 +1,7 @@
 //! The constraints that read what calls and handlers that enter raise.
 
 ghost use Rattle.std.specs.List.{filter, flat_map};
-ghost use Rattle.std.specs.Prelude.{◌≡◌, ◌≤◌, ◌++◌, Some, slice_get, OnOk};
+ghost use Rattle.std.specs.Prelude.{◌≡◌, ◌++◌, Some, slice_get, OnOk};
 ghost use Rattle.cc_rules.specs.Rules.{handlers as handlers_of};
 ghost use Rattle.cc_rules_again.specs.Again.{ids, call_readers, entry_readers};
 ghost use Rattle.cc_rules_made.specs.Rules.{AreOf};

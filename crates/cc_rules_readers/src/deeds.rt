@@ -1,6 +1,5 @@
 //! What the statement at each point does, as far as that decides which constraints are asked again.
 
-ghost use Rattle.std.specs.List.{AllZip};
 ghost use Rattle.std.specs.Prelude.{◌≡◌, ℕ, is_some, is_none, true, Some, slice_get, IfOk, if◌then◌else◌};
 ghost use Rattle.cc_flow.specs.Points.{flow_of};
 ghost use Rattle.cc_program.specs.declared.expr.Expr.{out-Expr};

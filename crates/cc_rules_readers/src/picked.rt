@@ -2,7 +2,6 @@
 
 ghost use Rattle.std.specs.Prelude.{◌≡◌, ◌≤◌, length, slice_get, IfOk};
 ghost use Rattle.cc_rules_readers.specs.Points.{on, is_each_call, passes_in, points_that};
-ghost use Rattle.cc_state_facts.specs.Facts.{mark_of};
 
 use crate::deeds::{Called, Deed};
 use crate::naming::Named;

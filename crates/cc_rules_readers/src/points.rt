@@ -1,13 +1,11 @@
 //! The constraints that read what is known at points, and how functions are reached.
 
 ghost use Rattle.std.specs.List.{flat_map};
-ghost use Rattle.std.specs.Prelude.{◌≡◌, ◌≤◌, ◌++◌, [], map, slice_get, OnOk, if◌then◌else◌};
+ghost use Rattle.std.specs.Prelude.{◌≡◌, ◌++◌, [], map, slice_get, OnOk, if◌then◌else◌};
 ghost use Rattle.cc_flow_sound.specs.Moves.{entry as entry_of};
 ghost use Rattle.cc_rules.specs.Constraints.{Back};
 ghost use Rattle.cc_rules_again.specs.Again.{number_at, point_readers, entry_readers};
-ghost use Rattle.cc_rules_functions.specs.Functions.{AreFunctionsOf};
 ghost use Rattle.cc_rules_made.specs.Rules.{AreOf};
-ghost use Rattle.cc_rules_numbered.specs.Numbered.{rule_view};
 ghost use Rattle.cc_rules_readers.specs.Index.{IsIndexed, IsIndexOf};
 ghost use Rattle.cc_rules_readers.specs.Points.{points_that, is_of, may_call_in, ends_at, reach_numbers};
 

@@ -1,16 +1,14 @@
 //! The constraints of tracked cells that handlers which may enter may write.
 
-ghost use Rattle.std.specs.List.{list_any};
-ghost use Rattle.std.specs.Prelude.{◌≡◌, ◌≤◌, ◌++◌, ◌&&◌, [], true, map, slice_get, option_and_then, IfOk, OnOk, if◌then◌else◌};
+ghost use Rattle.std.specs.Prelude.{◌≡◌, ◌++◌, ◌&&◌, true, map, IfOk, OnOk};
 ghost use Rattle.cc_rules.specs.Constraints.{Stability};
-ghost use Rattle.cc_rules_again.specs.Again.{ids, number_at, at_each, is_unstable as is_unstable_of, touch_readers};
+ghost use Rattle.cc_rules_again.specs.Again.{ids, at_each, is_unstable as is_unstable_of, touch_readers};
 ghost use Rattle.cc_rules_again.specs.Named.{concerns as concerns_of};
 ghost use Rattle.cc_rules_asked.specs.Unstable.{key_at as key_at_of};
 ghost use Rattle.cc_rules_made.specs.Rules.{AreOf};
 ghost use Rattle.cc_rules_readers.specs.Index.{IsIndexOf};
 ghost use Rattle.cc_rules_readers.specs.Points.{is_entered_by, concern_any, few_functions};
 ghost use Rattle.cc_rules_readers.specs.View.{named_view};
-ghost use Rattle.cc_state_facts.specs.declared.facts.Key.{Key as KeyOf};
 
 use crate::index::Index;
 use crate::lists::put_rule;

@@ -1,6 +1,6 @@
 //! The constraints that read what keys have in the whole run.
 
-ghost use Rattle.std.specs.Prelude.{◌≡◌, ◌≤◌, ◌++◌, map, OnOk};
+ghost use Rattle.std.specs.Prelude.{◌≡◌, ◌++◌, map, OnOk};
 ghost use Rattle.cc_rules.specs.Constraints.{Flow};
 ghost use Rattle.cc_rules_again.specs.Again.{number_at, whole_readers};
 ghost use Rattle.cc_rules_made.specs.Rules.{AreOf};

@@ -1,8 +1,8 @@
-use Rattle.std.proofs.Common.{◌≡◌, ◌++◌, ℕ, List, slice_get, sym, ap, ◌∙◌}
+use Rattle.std.proofs.Common.{◌++◌, ℕ, List, slice_get, sym, ap, ◌∙◌}
 use Rattle.cc_flow.specs.Points.{flow_of}
-use Rattle.cc_rules_again.specs.Again.{whole_readers, again_at, again_of}
+use Rattle.cc_rules_again.specs.Again.{whole_readers, again_at}
 use Rattle.cc_rules_again.specs.Named.{EachKey}
-use Rattle.cc_rules_numbered.specs.Numbered.{rule_view, constraint_view}
+use Rattle.cc_rules_numbered.specs.Numbered.{rule_view}
 use Rattle.cc_rules_readers.specs.View.{by_rule, start_readers}
 use Rattle.cc_rules_readers.proofs.Rules.{again_by}
 use Rattle.cc_rules_readers.proofs.asking.again.Goals as goal

@@ -1,6 +1,5 @@
-use Rattle.std.proofs.Common.{◌≡◌, ◌++◌, ℕ, List, [], cond, append-nil, sym, ap, ◌∙◌}
+use Rattle.std.proofs.Common.{◌++◌, [], cond, append-nil, sym, ap, ◌∙◌}
 use Rattle.std.specs.List.{flat_map}
-use Rattle.std.proofs.lemmas.Result.{on_ok_weaker}
 use Rattle.cc_rules_again.specs.Again.{point_readers}
 use Rattle.cc_rules_readers.specs.declared.deeds.Called.{Called}
 use Rattle.cc_rules_readers.specs.View.{is_some_call}

@@ -1,4 +1,4 @@
-use Rattle.std.proofs.Common.{◌≡◌, ◌++◌, ℕ, List, slice_get, sym, ap, ◌∙◌}
+use Rattle.std.proofs.Common.{◌++◌, slice_get, sym, ap, ◌∙◌}
 use Rattle.std.proofs.lemmas.Result.{on_ok_weaker}
 use Rattle.cc_flow.specs.Points.{flow_of}
 use Rattle.cc_rules_again.specs.Again.{whole_readers, again_at}

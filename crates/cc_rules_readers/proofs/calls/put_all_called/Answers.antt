@@ -1,4 +1,4 @@
-use Rattle.std.proofs.Common.{arith, ◌≡◌, ◌<◌, ◌++◌, ℕ, List, [], ◌∷◌, append-nil, length, slice_get, ap, ◌∙◌}
+use Rattle.std.proofs.Common.{arith, ◌≡◌, ◌<◌, ◌++◌, ℕ, List, append-nil, length, ap, ◌∙◌}
 use Rattle.std.specs.List.{flat_map}
 use Rattle.cc_rules_again.specs.Again.{call_readers}
 use Rattle.cc_rules_asked.proofs.StabilityLemmas.{put_on}

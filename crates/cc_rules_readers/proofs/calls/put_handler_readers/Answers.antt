@@ -1,8 +1,6 @@
 use Rattle.std.proofs.Common.{◌++◌, ℕ, List, ap, sym, subst, ◌∙◌}
 use Rattle.std.specs.List.{flat_map}
-use Rattle.cc_rules.specs.Rules.{handlers}
 use Rattle.cc_rules_again.specs.Again.{entry_readers}
-use Rattle.cc_rules_asked.specs.declared.handlers.Handler.{Handler}
 use Rattle.cc_rules_asked.specs.Handlers.{AreHandlersOf}
 use Rattle.cc_rules_readers.proofs.Rules.{handler_entry, handlers_on, handlers_all}
 use Rattle.cc_rules_readers.proofs.calls.put_handler_readers.Goals as goal

@@ -1,4 +1,4 @@
-use Rattle.std.proofs.Common.{List, ap, sym, subst, ◌∙◌, take_all, arith}
+use Rattle.std.proofs.Common.{List, ap, subst, ◌∙◌, take_all, arith}
 use Rattle.std.specs.List.{AllZip}
 use Rattle.cc_flow.specs.declared.types.Flow.{Flow}
 use Rattle.cc_flow.specs.declared.types.Point.{Point}

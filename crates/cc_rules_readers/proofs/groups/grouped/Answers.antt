@@ -1,4 +1,4 @@
-use Rattle.std.proofs.Common.{arith, ◌≡◌, ℕ, List, length, slice_get, ap, ◌∙◌}
+use Rattle.std.proofs.Common.{arith, ◌≡◌, ℕ, length, slice_get, ap, ◌∙◌}
 use Rattle.std.specs.List.{filter}
 use Rattle.cc_rules_needs.specs.Flowing.{numbers}
 use Rattle.cc_rules_readers.specs.Points.{on, group_of, is_that, list_at}

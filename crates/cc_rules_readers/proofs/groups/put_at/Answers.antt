@@ -1,4 +1,4 @@
-use Rattle.std.proofs.Common.{rules, ◌<◌, length}
+use Rattle.std.proofs.Common.{rules}
 use Rattle.cc_rules_readers.proofs.Grouping.{one_longer}
 use Rattle.cc_rules_readers.proofs.groups.put_at.Goals as goal
 

@@ -1,5 +1,5 @@
-use Rattle.std.proofs.Common.{arith, sym}
-use Rattle.cc_rules_readers.proofs.Counting.{counted_on, counted_here, counted_all, counted_within}
+use Rattle.std.proofs.Common.{arith}
+use Rattle.cc_rules_readers.proofs.Counting.{counted_on}
 use Rattle.cc_rules_readers.proofs.lists.count_before.Goals as goal
 
 pub loop-i-preserved : goal.loop-i-preserved

@@ -1,4 +1,4 @@
-use Rattle.std.proofs.Common.{ℕ, Bool, ◌++◌, ◌∷◌, [], get_or, slice_get, ap, sym, ◌∙◌}
+use Rattle.std.proofs.Common.{ℕ, Bool, ◌++◌, ◌∷◌, [], slice_get, ap, sym, ◌∙◌}
 use Rattle.cc_rules.specs.Constraints.{Flow}
 use Rattle.cc_rules_again.specs.Again.{number_at}
 use Rattle.cc_rules_readers.specs.Points.{on, reads_in}

@@ -1,4 +1,4 @@
-use Rattle.std.proofs.Common.{◌≡◌, ℕ, Bool, slice_get, ap, sym, ◌∙◌}
+use Rattle.std.proofs.Common.{ℕ, Bool, slice_get, ap, sym, ◌∙◌}
 use Rattle.cc_rules_asked.proofs.StabilityLemmas.{kept_on, left_on}
 use Rattle.cc_rules_readers.specs.Points.{on, passes_in}
 use Rattle.cc_rules_readers.proofs.picked.picked.Goals as goal

@@ -1,4 +1,4 @@
-use Rattle.std.proofs.Common.{◌++◌, ℕ, List, refl, sym, ap, ◌∙◌}
+use Rattle.std.proofs.Common.{◌++◌, ℕ, refl, sym, ap, ◌∙◌}
 use Rattle.std.proofs.lemmas.Result.{on_ok_weaker}
 use Rattle.cc_flow_sound.specs.Moves.{entry}
 use Rattle.cc_rules_again.specs.Again.{point_readers, reach_readers, entry_readers}

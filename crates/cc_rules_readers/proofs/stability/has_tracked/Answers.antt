@@ -1,4 +1,4 @@
-use Rattle.std.proofs.Common.{ℕ, Bool, sym}
+use Rattle.std.proofs.Common.{ℕ, sym}
 use Rattle.cc_rules_again.specs.Named.{concerns}
 use Rattle.cc_rules_readers.specs.Points.{concern_any}
 use Rattle.cc_rules_readers.specs.View.{named_view}

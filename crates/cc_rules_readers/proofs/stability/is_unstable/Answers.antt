@@ -1,9 +1,8 @@
-use Rattle.std.proofs.Common.{◌≡◌, ◌&&◌, ℕ, Bool, true, false, List, Option, get_or, ap, sym, ◌∙◌}
+use Rattle.std.proofs.Common.{◌&&◌, ℕ, Bool, List, Option, ap, sym, ◌∙◌}
 use Rattle.std.specs.List.{list_any}
 use Rattle.cc_rules_again.specs.Again.{is_entered, is_unstable}
 use Rattle.cc_rules_again.specs.Named.{concerns}
 use Rattle.cc_rules_asked.specs.Unstable.{key_at}
-use Rattle.cc_rules_readers.specs.Points.{is_entered_by}
 use Rattle.cc_rules_readers.specs.View.{named_view}
 use Rattle.cc_rules_readers.proofs.Unstable.{any_on, any_here, any_none, unstable_cell}
 use Rattle.cc_rules_readers.proofs.stability.is_unstable.Goals as goal

@@ -1,5 +1,4 @@
 use Rattle.std.proofs.Common.{arith, ◌≡◌, ◌++◌, ◌∷◌, [], ℕ, Bool, map, length, ap, ◌∙◌}
-use Rattle.cc_program.specs.declared.func.Func.{Func}
 use Rattle.cc_rules_again.specs.Again.{is_unstable}
 use Rattle.cc_rules_needs.specs.Flowing.{numbers}
 use Rattle.cc_rules_readers.specs.View.{named_view}
