@@ -4,7 +4,8 @@ ghost use Rattle.std.specs.Prelude.{◌≡◌, ◌↔◌, ◌<◌, false, length
 ghost use Rattle.cases_domains.specs.ChainLaws.{truth_itself, truth_through, truth_same, chains_alike, before_counts, chain_lists};
 ghost use Rattle.cases_domains.specs.Chain.{IsBelowTruth, IsChain, turned, IsAsked, AsksYes, before, is_no, numbers};
 
-use cc_lattice::{Lattice, System, Table};
+use cc_fix::System;
+use cc_lattice::{Lattice, Table};
 use cc_num::{List, NoMemory, at};
 use std::alloc::Global;
 use std::cell::Cell;
@@ -77,6 +78,8 @@ impl Chain {
 impl System for Chain {
     type Facts = Table<u32, Truth>;
 
+    ghost IsReady = { λ _. Unit {0} };
+
     ghost IsFitting = { λ _ f. IsChain f };
 
     ghost count_of = { λ _. 1000 };
@@ -144,6 +147,10 @@ impl System for Chain {
             .iter()
             .filter(|truth| truth.is_no())
             .count() as u128
+    }
+
+    fn waits(&self, _index: u32) -> bool {
+        false
     }
 
     ghost fitting_alike = { λ _ f g h k. chains_alike f g h k };

@@ -5,8 +5,8 @@ ghost use Rattle.cases_domains.specs.Chain.{IsChain};
 
 use crate::chain::{Chain, Truth};
 use cases_script::Page;
-use cc_fix::least;
-use cc_lattice::{Lattice, System, Table, copied};
+use cc_fix::{System, least};
+use cc_lattice::{Lattice, Table, copied};
 use cc_num::NoMemory;
 use std::alloc::Global;
 use std::cell::Cell;
@@ -47,6 +47,7 @@ fn is_met<S: System>(
     index: u32,
     facts: &S::Facts,
 ) -> Result<bool, NoMemory>
+    requires ready { S.IsReady system.now }
     requires fitting { S.IsFitting system.now facts.now }
     requires index { index < S.count_of system.now }
 {
@@ -55,7 +56,8 @@ fn is_met<S: System>(
 
 /// How far facts of any system may rise.
 fn room_of<S: System>(system: &S, facts: &S::Facts) -> u128
-    requires { S.IsFitting system.now facts.now }
+    requires ready { S.IsReady system.now }
+    requires fitting { S.IsFitting system.now facts.now }
 {
     system.room(facts)
 }

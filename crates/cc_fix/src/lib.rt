@@ -2,5 +2,8 @@
 #![tactic(auto)]
 
 mod solve;
+mod system;
+mod work;
 
 pub use solve::least;
+pub use system::System;
