@@ -1,0 +1,26 @@
+-- What is asked of a program, for its own rules.
+use Rattle.std.proofs.Common.{arith, ◌<◌, ◌≤◌, ◌^◌, length, sym, subst}
+use Rattle.cc_flow.specs.Points.{count_of}
+use Rattle.cc_program.specs.declared.program.Program.{Program}
+use Rattle.cc_rules_made.specs.declared.rules.Rules.{Rules}
+use Rattle.cc_rules_made.specs.Rules.{AreOf}
+use Rattle.cc_state.specs.Covered.{IsInLimits}
+use Rattle.cc_state.specs.Shape.{HaveShape}
+use Rattle.cc_state_facts.specs.declared.facts.Facts.{Facts}
+use Rattle.cc_state_keys.specs.Keys.{keys_of}
+use Rattle.cc_state_operators.specs.Domains.{Domain}
+use Rattle.cc_syntax.specs.Normal.{IsNormal}
+
+pub few_keys : {I : Type 0} (d : Domain I) (p : Program) (facts : Facts I) → IsInLimits d p facts → length (keys_of p) < 2 ^ 32
+few_keys d p facts limits = let few = limits.few_facts in omega (arith, few)
+
+pub record AreReady {I : Type 0} (d : Domain I) (rules : Rules) (facts : Facts I) (q : Program) : Type 0 where
+  pub normal : IsNormal q
+  pub own : AreOf q rules
+  pub shape : HaveShape d q facts
+  pub few : count_of q ≤ 65536
+  pub few_keys : length (keys_of q) < 2 ^ 32
+
+pub ready : {I : Type 0} (d : Domain I) (p : Program) (rules : Rules) (facts : Facts I) → IsInLimits d p facts → HaveShape d p facts → AreOf p rules → AreReady d rules facts rules.program.now
+ready d p rules facts limits shape of =
+    subst (AreReady d rules facts) (sym of.program) (record { normal = limits.normal; own = of; shape = shape; few = limits.few_points; few_keys = few_keys d p facts limits })
