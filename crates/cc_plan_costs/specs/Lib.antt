@@ -1,0 +1,4 @@
+pub mod Costs
+pub mod Counts
+pub mod Guards
+pub mod Sites
