@@ -13,7 +13,7 @@
 
 ghost use Rattle.std.specs.Prelude.{◌≡◌, ◌≤◌, ◌^◌, ◌==◌, IfOk, IfSome, IsTrue, sum_by};
 ghost use Rattle.std.specs.List.{list_any};
-ghost use Rattle.cc_cost_ranking.specs.Ranking.{AreApart};
+ghost use Rattle.cc_cost_ranking.specs.Ranking.{AreApart, AreWeights};
 
 use cases_script::{Page, split};
 use cc_code::kinds::Coding;
@@ -193,6 +193,29 @@ fn time_of(list: &[Costed]) -> u128
     sum
 }
 
+/// Writes the slots that are coded.
+fn write_ranked(
+    alloc: Global,
+    page: &mut Page,
+    weights: &Weights,
+    budgets: &Budgets,
+    list: &[Costed],
+)
+    requires apart { AreApart list.now }
+    requires weights { AreWeights weights.now }
+    requires gains { sum_by (λ c. c.gain) list.now ≤ 2 ^ 32 }
+{
+    match rank(alloc, list, weights, budgets) {
+        Ok(slots) => {
+            page.put("slots");
+            for slot in &slots {
+                page.put_with(" ", *slot);
+            }
+        }
+        Err(_) => page.put("no memory"),
+    }
+}
+
 /// Writes the slots that are coded, where weights are such as a profile may have, and sums are not too large.
 fn write_slots(
     alloc: Global,
@@ -211,15 +234,7 @@ fn write_slots(
         page.put("too much");
         return;
     }
-    match rank(alloc, list, weights, budgets) {
-        Ok(slots) => {
-            page.put("slots");
-            for slot in &slots {
-                page.put_with(" ", *slot);
-            }
-        }
-        Err(_) => page.put("no memory"),
-    }
+    write_ranked(alloc, page, weights, budgets, list);
 }
 
 /// Writes which slots are coded.

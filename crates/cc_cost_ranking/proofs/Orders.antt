@@ -1,6 +1,6 @@
 -- The rank order is total: cross products compare quotients, since no price is nothing. Slots that are sorted by known prices
 -- are sorted by rank.
-use Rattle.std.proofs.Common.{◌≡◌, ◌≤◌, ◌<◌, ◌+◌, ◌*◌, ◌^◌, ℕ, zero, suc, Bool, List, [], ◌∷◌, length, get_or, map, sum_by, refl, ap, sym, ◌∙◌, subst, ⊎_elim, arith, All, IsPermutation, IsSorted, Ordering}
+use Rattle.std.proofs.Common.{◌≡◌, ◌≤◌, ◌<◌, ◌+◌, ◌*◌, ℕ, zero, suc, Bool, List, [], ◌∷◌, length, get_or, map, refl, ap, sym, ◌∙◌, subst, ⊎_elim, arith, All, IsPermutation, IsSorted, Ordering}
 use Rattle.std.proofs.Math.Nat.{mul-lt-mul_of_pos_right, mul-le-mul_right}
 use Rattle.std.specs.declared.cmp.Ordering.TheVariants.{Less, Equal, Greater}
 use Rattle.std.specs.Cmp.{IsTotalOrder, IsStrictWeakOrder, then_total, on_total, nat_cmp_total}
@@ -8,9 +8,8 @@ use Rattle.std.specs.Ordering.{is_lt, nat_cmp, ordering_then}
 use Rattle.std.proofs.lemmas.Bool.{cases_lt}
 use Rattle.std.proofs.lemmas.Bool.Decides.{nat_tests}
 use Rattle.std.proofs.lemmas.List.{length-map}
-use Rattle.std.proofs.lemmas.List.Elements.{All-from_get_or, All-get_or}
-use Rattle.std.proofs.lemmas.List.Sorted.{ranks_by, All-permutation, IsPermutation-map, sum_by-IsPermutation}
-use Rattle.std.proofs.lemmas.List.Sums.{get_or-le-sum_by}
+use Rattle.std.proofs.lemmas.List.Elements.{All-get_or}
+use Rattle.std.proofs.lemmas.List.Sorted.{ranks_by, All-permutation, IsPermutation-map}
 use Rattle.cc_cost_ranking.specs.declared.priced.Priced.{Priced}
 use Rattle.cc_cost_ranking.specs.declared.types.Costed.{Costed}
 use Rattle.cc_cost_ranking.specs.declared.types.Weights.{Weights}
@@ -139,14 +138,3 @@ ranked weights list order ps qs slots prices moved up e =
     let permuted : IsPermutation list (map f qs) = subst (λ (xs : List Costed). IsPermutation xs (map f qs)) slots (IsPermutation-map f ps qs moved) in
     let sorted : IsSorted (rank_order weights) (map f qs) = sorted_by_rank weights qs (All-permutation (HasPrice weights) ps qs moved prices) up in
     (subst (IsPermutation list) (sym e) permuted, subst (IsSorted (rank_order weights)) (sym e) sorted)
-
--- ---- sums
-
-abbrev no_slot : Costed
-no_slot = record { slot = 0; gain = 0; code = 0; time = 0 }
-
-pub each_gain : (list : List Costed) → sum_by (λ (c : Costed). c.gain) list ≤ 2 ^ 32 → All (λ (c : Costed). c.gain ≤ 2 ^ 32) list
-each_gain list h = All-from_get_or (λ (c : Costed). c.gain ≤ 2 ^ 32) list no_slot (λ i l. let one = get_or-le-sum_by (λ (c : Costed). c.gain) list i no_slot l in omega (arith, one, h))
-
-pub same_sum : (f : Costed → ℕ) (list order slice : List Costed) (most : ℕ) → IsPermutation list order → slice ≡ order → sum_by f list ≤ most → sum_by f slice ≤ most
-same_sum f list order slice most p e h = let same = sum_by-IsPermutation f list order p in rw e (omega (arith, same, h))

@@ -42,7 +42,7 @@ fn without_prices(alloc: Global, all: &[Priced]) -> Result<Vec<Costed>, NoMemory
 /// Slots in rank order.
 pub fn in_order(alloc: Global, weights: &Weights, list: &[Costed]) -> Result<Vec<Costed>, NoMemory>
     requires weights { AreWeights weights.now }
-    requires gains { All (λ c. c.gain ≤ 2 ^ 32) list.now }
+    requires gains { All (λ c. c.gain ≤ 2 ^ 40) list.now }
     ensures permuted { IfOk result (λ order. IsPermutation list.now order.items) }
     ensures sorted { IfOk result (λ order. IsSorted (rank_order weights.now) order.items) }
 {

@@ -12,7 +12,7 @@ use std::alloc::Global;
 pub struct Priced {
     pub costed: Costed,
     pub price: u128,
-    pub ghost gain: { costed.gain ≤ 2 ^ 32 },
+    pub ghost gain: { costed.gain ≤ 2 ^ 40 },
     pub ghost some: { 1 ≤ price },
     pub ghost most: { price ≤ 2 ^ 80 },
 }
@@ -33,7 +33,7 @@ pub fn all_priced(
     list: &[Costed],
 ) -> Result<Vec<Priced>, NoMemory>
     requires weights { AreWeights weights.now }
-    requires gains { All (λ c. c.gain ≤ 2 ^ 32) list.now }
+    requires gains { All (λ c. c.gain ≤ 2 ^ 40) list.now }
     ensures slots { IfOk result (λ all. map (λ p. p.costed) all.items ≡ list.now) }
     ensures prices { IfOk result (λ all. All (λ p. p.price ≡ price_of weights.now p.costed) all.items) }
 {

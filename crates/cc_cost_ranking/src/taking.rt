@@ -1,6 +1,6 @@
 //! Which slots are taken.
 
-ghost use Rattle.std.specs.Prelude.{◌≡◌, ◌≤◌, ◌^◌, IfOk, sum_by};
+ghost use Rattle.std.specs.Prelude.{◌≡◌, ◌≤◌, ◌+◌, ◌^◌, ◌&&◌, All, IfOk};
 ghost use Rattle.cc_cost_ranking.specs.Ranking.{is_within as is_within_budget, taken_of, AreApart, AreWeights, IsRanking};
 
 use crate::order::in_order;
@@ -9,28 +9,42 @@ use cc_num::NoMemory;
 use std::alloc::Global;
 
 /// Whether a sum is within a budget.
-fn is_within(budget: Option<u64>, sum: u64) -> bool
+fn is_within(budget: Option<u64>, sum: u128) -> bool
     ensures { result ≡ is_within_budget budget sum }
 {
     match budget {
         None => true,
-        Some(most) => sum <= most,
+        Some(most) => sum <= u128::from(most),
     }
+}
+
+/// Whether two sums are within both budgets.
+fn are_within(budgets: &Budgets, code: u128, time: u128) -> bool
+    ensures { result ≡ (is_within_budget budgets.now.code code && is_within_budget budgets.now.time time) }
+{
+    is_within(budgets.code, code) && is_within(budgets.time, time)
+}
+
+/// A sum with one cost more.
+fn with_cost(sum: u128, cost: u64) -> u128
+    requires { sum + 2 ^ 64 ≤ 2 ^ 128 }
+    ensures value { result ≡ sum + cost }
+    ensures most { result ≤ sum + 2 ^ 64 }
+{
+    sum + u128::from(cost)
 }
 
 /// What is taken of slots in rank order.
 fn take(alloc: Global, budgets: &Budgets, order: &[Costed]) -> Result<Vec<u32>, NoMemory>
-    requires codes { sum_by (λ c. c.code) order.now ≤ 2 ^ 60 }
-    requires times { sum_by (λ c. c.time) order.now ≤ 2 ^ 60 }
     ensures { IfOk result (λ slots. slots.items ≡ (taken_of budgets.now order.now).slots) }
 {
     let mut slots = Vec::new(alloc);
-    let mut code: u64 = 0;
-    let mut time: u64 = 0;
+    let mut code: u128 = 0;
+    let mut time: u128 = 0;
     for costed in order {
-        let code_with = code + costed.code;
-        let time_with = time + costed.time;
-        if is_within(budgets.code, code_with) && is_within(budgets.time, time_with) {
+        let code_with = with_cost(code, costed.code);
+        let time_with = with_cost(time, costed.time);
+        if are_within(budgets, code_with, time_with) {
             slots.push(costed.slot)?;
             code = code_with;
             time = time_with;
@@ -50,9 +64,7 @@ pub fn rank(
 ) -> Result<Vec<u32>, NoMemory>
     requires weights { AreWeights weights.now }
     requires slots { AreApart list.now }
-    requires gains { sum_by (λ c. c.gain) list.now ≤ 2 ^ 32 }
-    requires codes { sum_by (λ c. c.code) list.now ≤ 2 ^ 60 }
-    requires times { sum_by (λ c. c.time) list.now ≤ 2 ^ 60 }
+    requires gains { All (λ c. c.gain ≤ 2 ^ 40) list.now }
     ensures { IfOk result (λ slots. IsRanking weights.now budgets.now list.now slots.items) }
 {
     let order = in_order(alloc, weights, list)?;

@@ -1,6 +1,6 @@
 //! The choice.
 
-ghost use Rattle.std.specs.Prelude.{◌≡◌, ◌≤◌, ◌^◌, None as NoneOf, IfOk, IsPermutation, IsSorted, length, sum_by, true};
+ghost use Rattle.std.specs.Prelude.{◌≡◌, ◌≤◌, ◌^◌, None as NoneOf, All, IfOk, IsPermutation, IsSorted, length, true};
 ghost use Rattle.std.specs.Ordering.{nat_cmp};
 ghost use Rattle.cc_cost_ranking.specs.Ranking.{AreWeights};
 ghost use Rattle.cc_plan_choice.specs.declared.fate.Fate.TheVariants as fate;
@@ -66,9 +66,7 @@ pub fn choose(
     requires weights { AreWeights weights.now }
     requires short { AreShort slots.now }
     requires offered { AreOffers slots.now offers.now }
-    requires gains { sum_by (λ o. o.gain) offers.now ≤ 2 ^ 32 }
-    requires codes { sum_by (λ o. o.code) offers.now ≤ 2 ^ 60 }
-    requires times { sum_by (λ o. o.time) offers.now ≤ 2 ^ 60 }
+    requires gains { All (λ o. o.gain ≤ 2 ^ 40) offers.now }
     ensures choice { IfOk result (IsChoice slots.now offers.now weights.now budgets.now) }
     ensures legal { IfOk result (λ plan. first_illegal slots.now plan ≡ NoneOf) }
 {

@@ -1,11 +1,10 @@
--- What is offered are the slots without a reason, each once, and what they gain and cost together.
-use Rattle.std.proofs.Common.{◌≡◌, ◌≢◌, ◌≤◌, ◌<◌, ◌+◌, ◌*◌, ◌-◌, ◌^◌, ◌∙◌, ◌==◌, ◌||◌, ℕ, zero, suc, Bool, true, false, if◌then◌else◌, List, [], ◌∷◌, length, get_or, Contains, ◌++◌, drop, drop-cons, mul_assoc, mul_comm, sum_by, All, Option, Some, None, slice_get, refl, ap, subst, arith}
+-- What is offered are the slots without a reason, each once, and what they gain.
+use Rattle.std.proofs.Common.{◌≡◌, ◌≢◌, ◌≤◌, ◌+◌, ◌*◌, ◌-◌, ◌^◌, ◌∙◌, ◌==◌, ◌||◌, ℕ, zero, suc, Bool, true, false, if◌then◌else◌, List, [], ◌∷◌, length, get_or, Contains, ◌++◌, mul_assoc, mul_comm, All, Option, Some, None, slice_get, refl, ap, subst, arith}
 use Rattle.std.specs.Option.{is_none}
 use Rattle.std.proofs.lemmas.Bool.{or_right}
 use Rattle.std.proofs.lemmas.Bool.Decides.{nat_tests}
-use Rattle.std.proofs.lemmas.List.Elements.{All-nil, All-cons, All-contains, All-weaker, Contains-append_right}
+use Rattle.std.proofs.lemmas.List.Elements.{All-nil, All-cons, All-contains, All-head, All-tail, All-weaker, Contains-append_right}
 use Rattle.std.proofs.lemmas.List.Kept.{AllPairs-cons}
-use Rattle.std.proofs.lemmas.List.Sums.{sum_by-cons, get_or-le-sum_by}
 use Rattle.std.proofs.lemmas.Nat.{mul-le}
 use Rattle.cc_cost_ranking.specs.declared.costs.Cost.{Cost}
 use Rattle.cc_cost_ranking.specs.declared.types.Costed.{Costed}
@@ -100,34 +99,6 @@ module _ (costs : List Cost) where
     complete = λ n c s e. let z : 0 + n ≡ n = omega arith in subst (λ (m : ℕ). is_offered (offers_from costs 0 slots) m ≡ true) z (offered_from 0 slots n c s (is_no_value c.reason e));
   }
 
-  -- ---- what they gain together
-
-  gains_step : (n : ℕ) (c : Candidate) (rest : List Costed) (b : Bool) → sum_by (λ (o : Costed). o.gain) (if b then offer_of n c (cost_at costs n) ∷ rest else rest) ≤ gain_of c + sum_by (λ (o : Costed). o.gain) rest
-  gains_step n c rest true = let a = sum_by-cons (λ (o : Costed). o.gain) (offer_of n c (cost_at costs n)) rest in omega (arith, a)
-  gains_step n c rest false = omega arith
-
-  -- ---- what they cost together, in code or in time
-
-  module _ (f : Costed → ℕ) (g : Cost → ℕ) (same : (n : ℕ) (c : Candidate) (cost : Cost) → f (offer_of n c cost) ≡ g cost) where
-    costs_step : (n : ℕ) (c : Candidate) (rest : List Costed) (b : Bool) → sum_by f (if b then offer_of n c (cost_at costs n) ∷ rest else rest) ≤ g (cost_at costs n) + sum_by f rest
-    costs_step n c rest true = let a = sum_by-cons f (offer_of n c (cost_at costs n)) rest in let b = same n c (cost_at costs n) in omega (arith, a, b)
-    costs_step n c rest false = omega arith
-
-    costs_from : (n : ℕ) (cs : List Candidate) → n + length cs ≤ length costs → sum_by f (offers_from costs n cs) ≤ sum_by g (drop n costs)
-    costs_from n [] l = omega arith
-    costs_from n (c ∷ cs) l =
-        let more = costs_from (n + 1) cs (omega (arith, l)) in
-        let here = costs_step n c (offers_from costs (n + 1) cs) (is_none c.reason) in
-        let m : n < length costs = omega (arith, l) in
-        let split = ap (sum_by g) (drop-cons costs n (record { code = 0; time = 0 }) m) in
-        let e : suc n ≡ n + 1 = omega arith in
-        let next = ap (λ (k : ℕ). sum_by g (drop k costs)) e in
-        let sum = sum_by-cons g (cost_at costs n) (drop (suc n) costs) in
-        omega (arith, more, here, split, next, sum)
-
-    pub costs_within : (slots : List Candidate) → length slots ≡ length costs → sum_by f (offers_from costs 0 slots) ≤ sum_by g costs
-    costs_within slots l = costs_from 0 slots (omega (arith, l))
-
 -- ---- gains
 
 pub gain_within : (saved bytes count : ℕ) → saved ≤ 8 * bytes → saved * count ≤ 8 * (count * bytes)
@@ -139,27 +110,23 @@ gain_within saved bytes count l =
 gain_small : (c : Candidate) → gain_of c ≤ 8 * (c.count * c.bytes)
 gain_small c = gain_within (8 * c.bytes - bits_by c.form c.bits) c.bytes c.count (omega arith)
 
-gains_from : (costs : List Cost) (n : ℕ) (cs : List Candidate) → sum_by (λ (o : Costed). o.gain) (offers_from costs n cs) ≤ 8 * sum_by (λ (c : Candidate). c.count * c.bytes) cs
-gains_from costs n [] = omega arith
-gains_from costs n (c ∷ cs) =
-    let more = gains_from costs (n + 1) cs in
-    let here = gains_step costs n c (offers_from costs (n + 1) cs) (is_none c.reason) in
-    let small = gain_small c in
-    let sum = sum_by-cons (λ (c : Candidate). c.count * c.bytes) c cs in
-    omega (arith, more, here, small, sum)
+small_step : (costs : List Cost) (n : ℕ) (c : Candidate) (rest : List Costed) → c.count * c.bytes ≤ 2 ^ 35 → All (λ (o : Costed). o.gain ≤ 2 ^ 40) rest → (b : Bool)
+    → All (λ (o : Costed). o.gain ≤ 2 ^ 40) (if b then offer_of n c (cost_at costs n) ∷ rest else rest)
+small_step costs n c rest l h true = let small = gain_small c in All-cons (λ (o : Costed). o.gain ≤ 2 ^ 40) (offer_of n c (cost_at costs n)) rest (omega (arith, small, l)) h
+small_step costs n c rest l h false = h
 
-pub gains_within : (costs : List Cost) (slots : List Candidate) → sum_by (λ (c : Candidate). c.count * c.bytes) slots ≤ 2 ^ 29 → sum_by (λ (o : Costed). o.gain) (offers_from costs 0 slots) ≤ 2 ^ 32
-gains_within costs slots l = let a = gains_from costs 0 slots in omega (arith, a, l)
-
-pub each_within : (costs : List Cost) (slots : List Candidate) → sum_by (λ (c : Candidate). c.count * c.bytes) slots ≤ 2 ^ 29 → All (λ (o : Costed). o.gain ≤ 2 ^ 32) (offers_from costs 0 slots)
-each_within costs slots l = λ i d k. let a = get_or-le-sum_by (λ (o : Costed). o.gain) (offers_from costs 0 slots) i d k in let b = gains_within costs slots l in omega (arith, a, b)
+pub each_within : (costs : List Cost) (n : ℕ) (cs : List Candidate) → All (λ (c : Candidate). c.count * c.bytes ≤ 2 ^ 35) cs → All (λ (o : Costed). o.gain ≤ 2 ^ 40) (offers_from costs n cs)
+each_within costs n [] h = All-nil (λ (o : Costed). o.gain ≤ 2 ^ 40)
+each_within costs n (c ∷ cs) h =
+    small_step costs n c (offers_from costs (n + 1) cs) (All-head (λ (x : Candidate). x.count * x.bytes ≤ 2 ^ 35) c cs h)
+    (each_within costs (n + 1) cs (All-tail (λ (x : Candidate). x.count * x.bytes ≤ 2 ^ 35) c cs h)) (is_none c.reason)
 
 -- the next slot that is offered gains little where all do
 pub next_fits : (costs : List Cost) (n : ℕ) (cs : List Candidate) (d : Candidate) → 1 ≤ length cs → is_none (get_or cs 0 d).reason ≡ true → (done all : List Costed) → done ++ offers_from costs n cs ≡ all
-    → All (λ (o : Costed). o.gain ≤ 2 ^ 32) all → gain_of (get_or cs 0 d) ≤ 2 ^ 32
+    → All (λ (o : Costed). o.gain ≤ 2 ^ 40) all → gain_of (get_or cs 0 d) ≤ 2 ^ 40
 next_fits costs n [] d l t done all e h = absurd (omega (arith, l))
 next_fits costs n (c ∷ cs) d l t done all e h =
-    All-contains (λ (o : Costed). o.gain ≤ 2 ^ 32) all (offer_of n c (cost_at costs n)) h
+    All-contains (λ (o : Costed). o.gain ≤ 2 ^ 40) all (offer_of n c (cost_at costs n)) h
     (subst (λ (xs : List Costed). Contains xs (offer_of n c (cost_at costs n))) e (Contains-append_right done (offers_from costs n (c ∷ cs)) (offer_of n c (cost_at costs n)) (here (offers_from costs (n + 1) cs) (is_none c.reason) t)))
   where
     here : (rest : List Costed) (b : Bool) → b ≡ true → Contains (if b then offer_of n c (cost_at costs n) ∷ rest else rest) (offer_of n c (cost_at costs n))

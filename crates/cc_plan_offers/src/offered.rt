@@ -42,14 +42,14 @@ fn saved_bits(candidate: &Candidate) -> u64
 
 /// The bits of RAM that coding a slot gains.
 fn gain(candidate: &Candidate) -> u64
-    requires { gain_of candidate.now ≤ 2 ^ 32 }
+    requires { gain_of candidate.now ≤ 2 ^ 40 }
     ensures { result ≡ gain_of candidate.now }
 {
     saved_bits(candidate) * u64::from(candidate.count)
 }
 
 fn offer(slot: u32, candidate: &Candidate, cost: &Cost) -> Costed
-    requires { gain_of candidate.now ≤ 2 ^ 32 }
+    requires { gain_of candidate.now ≤ 2 ^ 40 }
     ensures { result ≡ offer_of slot candidate.now cost.now }
 {
     Costed {
@@ -64,7 +64,7 @@ fn offer(slot: u32, candidate: &Candidate, cost: &Cost) -> Costed
 pub fn offers(alloc: Global, slots: &[Candidate], costs: &[Cost]) -> Result<Vec<Costed>, NoMemory>
     requires few { length slots.now ≤ 2 ^ 32 }
     requires costs { length slots.now ≡ length costs.now }
-    requires gains { All (λ o. o.gain ≤ 2 ^ 32) (offers_from costs.now 0 slots.now) }
+    requires gains { All (λ o. o.gain ≤ 2 ^ 40) (offers_from costs.now 0 slots.now) }
     ensures { IfOk result (λ offers. offers.items ≡ offers_from costs.now 0 slots.now) }
 {
     let mut offers = Vec::new(alloc);

@@ -1,6 +1,6 @@
 //! The plan.
 
-ghost use Rattle.std.specs.Prelude.{◌≡◌, ◌≤◌, ◌*◌, ◌^◌, None as NoneOf, IfOk, length, sum_by};
+ghost use Rattle.std.specs.Prelude.{◌≡◌, ◌≤◌, ◌*◌, ◌^◌, None as NoneOf, All, IfOk, length};
 ghost use Rattle.cc_cost_ranking.specs.Ranking.{AreWeights};
 ghost use Rattle.cc_plan_choice.specs.Choice.{IsChoice};
 ghost use Rattle.cc_plan_legal.specs.Legality.{first_illegal};
@@ -28,9 +28,7 @@ pub fn plan(
     requires costs { length slots.now ≡ length costs.now }
     requires weights { AreWeights weights.now }
     requires short { AreShort slots.now }
-    requires bytes { sum_by (λ c. c.count * c.bytes) slots.now ≤ 2 ^ 29 }
-    requires codes { sum_by (λ c. c.code) costs.now ≤ 2 ^ 60 }
-    requires times { sum_by (λ c. c.time) costs.now ≤ 2 ^ 60 }
+    requires bytes { All (λ c. c.count * c.bytes ≤ 2 ^ 35) slots.now }
     ensures choice { IfOk result (IsChoice slots.now (offers_from costs.now 0 slots.now) weights.now budgets.now) }
     ensures legal { IfOk result (λ plan. first_illegal slots.now plan ≡ NoneOf) }
 {

@@ -1,4 +1,4 @@
-use Rattle.std.proofs.Common.{◌*◌, ◌≤◌, ◌^◌, arith}
+use Rattle.std.proofs.Common.{◌^◌, arith}
 use Rattle.std.proofs.lemmas.Nat.{mul-le}
 use Rattle.cc_cost_ranking.proofs.costs.times.Goals as goal
 
