@@ -5,6 +5,7 @@ ghost use Rattle.cc_flow.specs.Points.{count_of, flow_of};
 ghost use Rattle.cc_rules.specs.Rules.{IsSolution};
 ghost use Rattle.cc_rules_system.specs.declared.least.LeastEnd.TheVariants as LeastEndOf;
 ghost use Rattle.cc_rules_system.specs.System.{IsReady};
+ghost use Rattle.cc_state.specs.Covered.{Covers};
 ghost use Rattle.cc_state.specs.Shape.{HaveShape};
 ghost use Rattle.cc_state_facts.specs.declared.facts.Facts.{Facts as FactsOf};
 ghost use Rattle.cc_state_facts.specs.Orders.{IsBelow};
@@ -19,6 +20,7 @@ use cc_flow::Flow;
 use cc_lattice::IntDomain;
 use cc_num::NoMemory;
 use cc_program::Program;
+use cc_proof_rules::solutions;
 use cc_rules_made::rules_of;
 use cc_rules_readers::index_of;
 use cc_state_facts::Facts;
@@ -91,10 +93,12 @@ pub fn least_facts<I: IntDomain>(
     ensures shape { IfOk result (λ facts. HaveShape (domain I.Has I.IsBelow I.OpGives I.OpOneGives I.ToGives I.KeepGives I.members_of) p.now facts) }
     ensures few { IfOk result (λ _. fact_count p.now ≤ 4194304) }
     ensures solution { IfOk result (λ facts. IsSolution (domain I.Has I.IsBelow I.OpGives I.OpOneGives I.ToGives I.KeepGives I.members_of) p.now facts) }
+    ensures covers { IfOk result (λ facts. Covers (domain I.Has I.IsBelow I.OpGives I.OpOneGives I.ToGives I.KeepGives I.members_of) p.now facts) }
     ensures least { IfOk result (λ facts. (others : FactsOf I) → HaveShape (domain I.Has I.IsBelow I.OpGives I.OpOneGives I.ToGives I.KeepGives I.members_of) p.now others → AreHeld others → IsSolution (domain I.Has I.IsBelow I.OpGives I.OpOneGives I.ToGives I.KeepGives I.members_of) p.now others → IsBelow I.IsBelow facts others) }
     ensures limit { (count : ℕ) → result ≡ Err (LeastEndOf.Limit count) → (4194304 < fact_count p.now) × (count ≡ min (fact_count p.now) (2 ^ 64 - 1)) }
     ensures above { 4194304 < fact_count p.now → (result ≡ Err (LeastEndOf.Limit (min (fact_count p.now) (2 ^ 64 - 1)))) ⊎ (result ≡ Err LeastEndOf.NoMemory) }
 {
+    solutions::<I>();
     let Ok(count) = count_facts(alloc, p, flow) else {
         return Err(LeastEnd::NoMemory);
     };
