@@ -4,6 +4,7 @@ ghost use Rattle.cc_lattice.specs.Domains.{Ascends, IsInReach};
 ghost use Rattle.cc_explicit.specs.Sets.{most_members, AreInReach, list_ends};
 
 use crate::search::search;
+use crate::within::are_within;
 use smallvec::SmallVec;
 use std::alloc::Global;
 
@@ -65,12 +66,17 @@ impl Explicit {
     pub fn is_within(&self, other: &Explicit) -> bool
         ensures { IsTrue result ↔ ((v : ℤ) → Contains self.now.items.items v → Contains other.now.items.items v) }
     {
-        for v in self.items.as_slice() {
-            if !other.has(*v) {
-                return false;
-            }
+        are_within(self.items.as_slice(), other.items.as_slice())
+    }
+
+    /// A copy.
+    pub fn copy(&self) -> Explicit
+        ensures { result.items.items ≡ self.now.items.items }
+    {
+        match SmallVec::from_slice(*self.items.allocator(), self.items.as_slice()) {
+            Ok(items) => Explicit { items },
+            Err(_) => unreachable!(),
         }
-        true
     }
 
     /// Adds a number, and says whether it is a member now: a full set takes no further one.

@@ -3,5 +3,6 @@
 
 mod explicit;
 mod search;
+mod within;
 
 pub use explicit::{Explicit, MOST_MEMBERS};

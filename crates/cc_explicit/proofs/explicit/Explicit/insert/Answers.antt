@@ -1,6 +1,5 @@
 -- A number that is put in at its place.
-use Rattle.std.proofs.Common.{rules, ◌≡◌, ◌⊎◌, ◌∙◌, ℕ, ◌+◌, ◌<◌, ◌≤◌, ℤ, Bool, true, false, true≢false, List, length, sym, Result, Ok, Err, ap, subst, inl, inr, ⊎_elim, arith, to_z, of_z, to_z-of_z}
-use Rattle.std.specs.Int.{w128}
+use Rattle.std.proofs.Common.{◌≡◌, ◌⊎◌, ◌∙◌, ℕ, ◌+◌, ◌<◌, ◌≤◌, ℤ, true≢false, List, length, sym, Result, Ok, Err, ap, subst, inl, inr, ⊎_elim, arith, to_z-of_z}
 use Rattle.std.specs.Result.{IsOk, OnOk}
 use Rattle.std.specs.List.{Contains, insert}
 use Rattle.std.proofs.lemmas.Bool.{cases_lt}
