@@ -1,4 +1,4 @@
-ghost use Rattle.std.specs.Prelude.{◌≡◌, ◌-◌, ◌≤ℤ◌, ◌<ℤ◌, ℤ, pos, length, Some, None, IsTrue, IfSome};
+ghost use Rattle.std.specs.Prelude.{◌≡◌, ◌↔◌, ◌-◌, ◌≤ℤ◌, ◌<ℤ◌, ℤ, pos, length, Some, None, IsTrue, IfSome};
 ghost use Rattle.std.specs.Int.{int_max, int_min};
 ghost use Rattle.std.specs.List.{Contains, slice_index_or};
 ghost use Rattle.cc_ranges.specs.Ends.{EndsHave};
@@ -23,6 +23,22 @@ impl Gathered {
         Gathered {
             members: Explicit::none(alloc),
             spread: None,
+        }
+    }
+
+    /// The numbers of a set.
+    pub(crate) fn of(set: &Vals) -> Gathered
+        ensures { (x : Set) → Holds x result ↔ ValsBelow set.now x }
+    {
+        match set {
+            Vals::Few(few) => Gathered {
+                members: few.copy(),
+                spread: None,
+            },
+            Vals::Many(range) => Gathered {
+                members: Explicit::none(range.alloc),
+                spread: Some(spread_of(range)),
+            },
         }
     }
 

@@ -26,6 +26,16 @@ impl Vals {
         }
     }
 
+    /// A copy.
+    pub(crate) fn copy(&self) -> Vals
+        ensures { result ≡ self.now }
+    {
+        match self {
+            Vals::Few(few) => Vals::Few(few.copy()),
+            Vals::Many(range) => Vals::Many(*range),
+        }
+    }
+
     /// The least and the greatest member.
     pub(crate) fn ends(&self) -> Option<(i128, i128)>
         ensures { result ≡ vals_ends self.now }

@@ -6,6 +6,7 @@ ghost use Rattle.cc_sets.specs.Rungs.{ValsHas, IsHull};
 use crate::gathered::Gathered;
 use crate::{Range, Vals};
 use cc_explicit::Explicit;
+use cc_lattice::Lattice;
 use cc_num::{IntType, Target};
 use std::alloc::Global;
 
@@ -47,8 +48,20 @@ fn truths(alloc: Global) -> Vals
 pub(crate) fn joined(a: &Vals, b: &Vals) -> Vals
     ensures { IsHull (λ v. ValsHas a.now v ⊎ ValsHas b.now v) result }
 {
-    let mut gathered = Gathered::nothing(a.allocator());
-    gathered.add_all(a);
+    if b.below(a) {
+        a.copy()
+    } else if a.below(b) {
+        b.copy()
+    } else {
+        merged(a, b)
+    }
+}
+
+/// The hull of the members of both, gathered.
+fn merged(a: &Vals, b: &Vals) -> Vals
+    ensures { IsHull (λ v. ValsHas a.now v ⊎ ValsHas b.now v) result }
+{
+    let mut gathered = Gathered::of(a);
     gathered.add_all(b);
     gathered.hull()
 }

@@ -1,11 +1,19 @@
--- The hull of the members of both.
-use Rattle.std.proofs.Common.{◌⊎◌, inl, inr}
-use Rattle.cc_sets.specs.Rungs.{ValsHas}
-use Rattle.cc_sets.proofs.Adding.{adds_in_turn, hull_of_added}
+-- A set that the other is below is the hull of both.
+use Rattle.std.proofs.Common.{◌≡◌, ◌⊎◌, sym, subst, inl, inr, ⊎_elim}
+use Rattle.cc_sets.specs.declared.vals.Vals.{Vals}
+use Rattle.cc_sets.specs.Rungs.{ValsHas, ValsBelow, IsHull}
 use Rattle.cc_sets.proofs.make.joined.Goals as goal
 
-pub returns : goal.returns
-returns c = hull_of_added c.nothing-gathered.result c.add_all-2.new.self (λ v. ValsHas c.args.a.now v ⊎ ValsHas c.args.b.now v) c.hull.result c.nothing-gathered.ensures
-    (adds_in_turn c.nothing-gathered.result c.add_all.new.self c.add_all-2.new.self (ValsHas c.args.a.now) (ValsHas c.args.b.now) (λ v. ValsHas c.args.a.now v ⊎ ValsHas c.args.b.now v) c.add_all.ensures c.add_all-2.ensures
-    (λ v h. inl h) (λ v h. inr h) (λ v h. h))
-    c.hull.ensures.covers c.hull.ensures.least
+left_hull : (a b r : Vals) → r ≡ a → ValsBelow b a → IsHull (λ v. ValsHas a v ⊎ ValsHas b v) r
+left_hull a b r e h = subst (λ (x : Vals). IsHull (λ v. ValsHas a v ⊎ ValsHas b v) x) (sym e)
+    (record { covers = λ v. ⊎_elim (λ k. k) (λ k. h v k); least = λ x c v k. c v (inl k) })
+
+right_hull : (a b r : Vals) → r ≡ b → ValsBelow a b → IsHull (λ v. ValsHas a v ⊎ ValsHas b v) r
+right_hull a b r e h = subst (λ (x : Vals). IsHull (λ v. ValsHas a v ⊎ ValsHas b v) x) (sym e)
+    (record { covers = λ v. ⊎_elim (λ k. h v k) (λ k. k); least = λ x c v k. c v (inr k) })
+
+pub returns-then-below : goal.returns-then-below
+returns-then-below c = left_hull c.args.a.now c.args.b.now c.copy.result c.copy.ensures (c.below.ensures.0 c.if-below.true)
+
+pub returns-then-below-2 : goal.returns-then-below-2
+returns-then-below-2 c = right_hull c.args.a.now c.args.b.now c.copy-then-below-2.result c.copy-then-below-2.ensures (c.below-else-below.ensures.0 c.if-below-2.true)
