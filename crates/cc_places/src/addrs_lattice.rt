@@ -7,7 +7,7 @@ ghost use Rattle.cc_places.specs.Sets.{HasAddress, IsWithin};
 ghost use Rattle.cc_places.specs.laws.SetLaws.{within_itself, within_through, sets_same};
 
 use crate::addrs::Addrs;
-use crate::grow::union;
+use crate::grow::{copy, union};
 use cc_lattice::Lattice;
 use cc_num::NoMemory;
 use cc_program::Address;
@@ -23,7 +23,11 @@ impl Lattice for Addrs {
     }
 
     fn join(&self, alloc: Global, other: &Addrs) -> Result<Addrs, NoMemory> {
-        if self.is_exact {
+        if other.below(self) {
+            copy(alloc, self)
+        } else if self.below(other) {
+            copy(alloc, other)
+        } else if self.is_exact {
             union(alloc, other, self)
         } else {
             union(alloc, self, other)

@@ -84,7 +84,7 @@ fn places(alloc: Global, members: &[Address]) -> Result<Vec<Address>, NoMemory>
 }
 
 /// A copy of a set.
-fn copy(alloc: Global, set: &Addrs) -> Result<Addrs, NoMemory>
+pub(crate) fn copy(alloc: Global, set: &Addrs) -> Result<Addrs, NoMemory>
     ensures { IfOk result (λ r. r ≡ set.now) }
 {
     let members = copied(alloc, set.members.all())?;
