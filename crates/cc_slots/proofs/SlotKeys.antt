@@ -40,7 +40,7 @@ of_scalar (shape.Array of n) h = absurd (true≢false (sym h))
 of_scalar (shape.Struct s) h = absurd (true≢false (sym h))
 of_scalar (shape.Func sig) h = absurd (true≢false (sym h))
 
-scalar_scalars : (t : CType) → is_scalar_type t ≡ true → are_scalars t ≡ true
+pub scalar_scalars : (t : CType) → is_scalar_type t ≡ true → are_scalars t ≡ true
 scalar_scalars t h = scalars_open t ∙ of_scalar (out-Shape t.shape) h
 
 of_row : (x : shape.Shape-F Shape CType Sig) → is_row_shape x ≡ true → parts_scalars x ≡ true
@@ -55,7 +55,7 @@ either : (a b : Bool) → (a || b) ≡ true → (a ≡ true) ⊎ (b ≡ true)
 either true b h = inl refl
 either false b h = inr h
 
-object_scalars : (i : ℕ) (t : CType) → is_slot_type (key.Object i) t ≡ true → are_scalars t ≡ true
+pub object_scalars : (i : ℕ) (t : CType) → is_slot_type (key.Object i) t ≡ true → are_scalars t ≡ true
 object_scalars i t h = elim (either (is_scalar_type t) (is_row_shape (out-Shape t.shape)) h) [
   | inl e ↦ scalar_scalars t e
   | inr e ↦ scalars_open t ∙ of_row (out-Shape t.shape) e

@@ -1,6 +1,6 @@
 -- What is said of a context in which expressions are worked, said of the program, the function and the sets of its registers.
-use Rattle.std.proofs.Common.{◌≡◌, ℕ, Bool, true, List, Option, Some, None, refl, ap, sym, subst, ◌∙◌, inl, inr}
-use Rattle.std.specs.Prelude.{◌⊎◌, ◌↔◌, IsTrue, is_some, slice_get}
+use Rattle.std.proofs.Common.{◌≡◌, ℕ, Bool, true, List, Option, Some, ap, sym, subst, inl, inr}
+use Rattle.std.specs.Prelude.{◌↔◌, IsTrue, is_some}
 use Rattle.std.specs.List.{Contains}
 use Rattle.cc_flow.specs.declared.types.Point.{Point}
 use Rattle.cc_places.specs.declared.abs.Abs.{Abs}
@@ -23,7 +23,6 @@ use Rattle.cc_state.specs.Shape.{HaveShape}
 use Rattle.cc_state.proofs.Sets.{known, sets_at}
 use Rattle.cc_state_facts.specs.declared.facts.Facts.{Facts}
 use Rattle.cc_state_facts.specs.declared.facts.Key.{Key}
-use Rattle.cc_state_facts.specs.declared.facts.PointFact.{PointFact}
 use Rattle.cc_state_facts.specs.Facts.{fact_at, levels_of, mark_of}
 use Rattle.cc_state_operators.specs.Domains.{Domain}
 use Rattle.cc_state_points.proofs.Acting.{operands_at}

@@ -1,25 +1,24 @@
 -- One more point: the accesses of a key at the first points, and then at one more.
 use Rattle.std.proofs.Common.{arith, ◌≡◌, ◌<◌, ◌≤◌, ◌+◌, ◌-◌, ℕ, zero, suc, Bool, true, false, true≢false, nat_eq, List, [], ◌∷◌, ◌++◌, length, get_or, Option, Some, None, refl, ap, sym, subst, ◌∙◌, inl, inr}
 use Rattle.std.specs.Prelude.{◌⊎◌, slice_get, if◌then◌else◌}
-use Rattle.std.specs.List.{AllPairs, Contains, list_any}
+use Rattle.std.specs.List.{Contains, list_any}
 use Rattle.std.specs.Option.{option_map_or}
 use Rattle.std.proofs.lemmas.Bool.{cases_lt}
 use Rattle.std.proofs.lemmas.List.Elements.{Contains-append_cases, Contains-append_left, Contains-append_right}
 use Rattle.std.proofs.lemmas.List.Quantifiers.{all_pairs_push}
 use Rattle.std.proofs.lemmas.Option.{slice_get-get_or, slice_get_within}
-use Rattle.cc_flow.specs.Points.{count_of, flow_of}
-use Rattle.cc_flow.proofs.Paths.{all_counted}
+use Rattle.cc_flow.specs.Points.{flow_of}
 use Rattle.cc_program.specs.declared.expr.Place.{Place}
 use Rattle.cc_program.specs.declared.func.Func.{Func}
 use Rattle.cc_program.specs.declared.program.Program.{Program}
 use Rattle.cc_slots_accesses.specs.declared.access.Access.{Access}
 use Rattle.cc_slots_accesses.specs.Accesses.{AccessesAt}
-use Rattle.cc_slots_accesses.specs.Puts.{ends_at, of_number, put_behind, IsPut}
+use Rattle.cc_slots_accesses.specs.Puts.{ends_at, of_number, put_behind}
 use Rattle.cc_slots_accesses.proofs.Listed.{contains_at, is_one, no_member, only_one, same_key}
-use Rattle.cc_slots_points.proofs.Acting.{AreSame, one_access, same_func, same_id}
+use Rattle.cc_slots_points.proofs.Acting.{one_access, same_func, same_id}
 use Rattle.cc_slots_points.proofs.ContextLemmas.{IsSeen, is_seen}
 use Rattle.cc_slots_points.proofs.Tests.{here, own_key, there, unequal}
-use Rattle.cc_slots_points.specs.Lists.{AreAccessesBelow, AreAccessesOf, AreLists, AreListsBelow, IsAccessAt, IsListed, Names}
+use Rattle.cc_slots_points.specs.Lists.{AreAccessesBelow, AreLists, AreListsBelow, IsAccessAt, IsListed, Names}
 use Rattle.cc_slots_points.specs.Points.{IsPassed, Quiet, Visited}
 use Rattle.cc_state_facts.specs.declared.facts.Facts.{Facts}
 use Rattle.cc_state_facts.specs.declared.facts.Key.{Key}

@@ -1,6 +1,5 @@
-use Rattle.std.proofs.Common.{arith, ap, sym, ◌∙◌, slice_get, get_or, Some}
+use Rattle.std.proofs.Common.{ap, sym, ◌∙◌, Some}
 use Rattle.std.proofs.lemmas.Option.{slice_get-get_or}
-use Rattle.cc_program.specs.declared.func.Func.{Func}
 use Rattle.cc_slots_points.proofs.FrameLemmas.{all_frames, none_first, one_first}
 use Rattle.cc_slots_points.proofs.frames.frames.Goals as goal
 

@@ -4,9 +4,8 @@ use Rattle.std.proofs.lemmas.List.{with_items_is}
 use Rattle.cc_program.specs.declared.func.Func.{Func}
 use Rattle.cc_slots_accesses.specs.declared.access.Access.{Access}
 use Rattle.cc_slots_accesses.specs.Puts.{of_number}
-use Rattle.cc_slots_points.specs.declared.frames.Frame.{Frame}
 use Rattle.cc_slots_points.specs.Frames.{AreFrames, HaveFewLocals}
-use Rattle.cc_slots_points.specs.Lists.{AreLists, AreListsBelow}
+use Rattle.cc_slots_points.specs.Lists.{AreLists}
 use Rattle.cc_slots_points.proofs.Steps.{first_lists}
 use Rattle.cc_state.proofs.Sets.{function_few}
 use Rattle.cc_state_operators.specs.Domains.{domain}

@@ -1,7 +1,7 @@
 -- The points are few, and each is passed.
-use Rattle.std.proofs.Common.{arith, ◌≡◌, ◌≤◌, ap, sym, ◌∙◌, length}
+use Rattle.std.proofs.Common.{arith, ◌≡◌, ap, sym, ◌∙◌, length}
 use Rattle.cc_flow.specs.declared.types.Flow.{Flow}
-use Rattle.cc_flow.specs.Points.{count_of, flow_of}
+use Rattle.cc_flow.specs.Points.{flow_of}
 use Rattle.cc_flow.proofs.Paths.{all_counted}
 use Rattle.cc_slots_points.proofs.Steps.{all_lists, next_lists}
 use Rattle.cc_state_operators.specs.Domains.{domain}

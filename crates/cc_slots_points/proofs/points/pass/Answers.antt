@@ -1,5 +1,5 @@
 -- Where no point or no function is nothing is accessed.
-use Rattle.std.proofs.Common.{◌≡◌, None, Some, refl, ap, sym, ◌∙◌, slice_get}
+use Rattle.std.proofs.Common.{◌≡◌, Some, refl, ap, sym, ◌∙◌, slice_get}
 use Rattle.cc_flow.specs.declared.types.Flow.{Flow}
 use Rattle.cc_flow.specs.Points.{flow_of}
 use Rattle.cc_slots_points.specs.Points.{Quiet}

@@ -1,5 +1,5 @@
 -- Where no statement stands nothing is accessed.
-use Rattle.std.proofs.Common.{◌≡◌, None, Some, refl, ap, sym, ◌∙◌}
+use Rattle.std.proofs.Common.{◌≡◌, None, refl, ap, sym, ◌∙◌}
 use Rattle.cc_flow_sound.specs.Statements.{statement_at}
 use Rattle.cc_rules_flows.specs.Nexts.{statement_of}
 use Rattle.cc_slots_points.specs.Points.{Quiet}

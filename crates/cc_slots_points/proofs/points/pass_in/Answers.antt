@@ -1,18 +1,17 @@
 -- The context is that of the point, and its sets are those of its registers.
 use Rattle.std.proofs.Common.{refl, ap, sym, ◌∙◌, subst, Option, List, Bool}
-use Rattle.std.specs.Prelude.{is_some, ◌≡◌, true}
+use Rattle.std.specs.Prelude.{is_some}
 use Rattle.std.specs.Option.{option_copied}
 use Rattle.cc_program.specs.declared.func.Func.{Func}
 use Rattle.cc_program.specs.declared.program.Program.{Program}
 use Rattle.cc_registers.specs.Kept.{AreKept}
 use Rattle.cc_rules_flows.specs.Acts.{act_of}
-use Rattle.cc_slots_points.specs.Points.{HasPurePlace, IsContextOf, IsDone}
+use Rattle.cc_slots_points.specs.Points.{HasPurePlace, IsDone}
 use Rattle.cc_slots_points.proofs.Acting.{is_passed}
 use Rattle.cc_slots_points.proofs.Tests.{on_ok}
 use Rattle.cc_slots_points.proofs.ContextLemmas.{have_sets, of_operands, to_context}
 use Rattle.cc_state.proofs.Sets.{normal_sized}
 use Rattle.cc_state_facts.specs.declared.facts.PointFact.{PointFact}
-use Rattle.cc_state_facts.specs.Facts.{fact_at}
 use Rattle.cc_state_keys.specs.Keys.{keys_of}
 use Rattle.cc_state_operators.specs.Domains.{domain}
 use Rattle.cc_syntax.specs.Sizes.{AreSized}
