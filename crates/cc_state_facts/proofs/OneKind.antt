@@ -1,4 +1,4 @@
--- Values of one kind, and what is their join where one is below the other.
+-- What is the join of values of one kind, where one is below the other.
 use Rattle.std.proofs.Common.{List, [], ◌∷◌}
 use Rattle.std.specs.List.{AllZip}
 use Rattle.cc_lattice.specs.Orders.{IsLeastUpperBound}
@@ -8,19 +8,15 @@ use Rattle.cc_places.specs.Abstract.{AreOfOneKind, IsBelowAbs}
 use Rattle.cc_places.specs.laws.AbstractLaws.{kind_back}
 use Rattle.cc_state_facts.specs.Orders.{AreRowsAlike, AreRowsBelow, IsRowJoin}
 use Rattle.cc_state_facts.specs.laws.OrderLaws.{kind_itself}
-use Rattle.cc_state_facts.specs.laws.Places.{zip_itself}
 use Rattle.cc_state_facts.specs.declared.facts.Row.{Row}
-
-pub sets_itself : {I : Type 0} (xs : List (Abs I)) → AllZip AreOfOneKind xs xs
-sets_itself xs = zip_itself AreOfOneKind kind_itself xs
 
 -- where the one is below the other, the other is their join
 
 module _ {A : Type 0} (alike below : A → A → Type 0) (itself : (x y : A) → alike x y → alike x x) (back : (x y : A) → alike x y → alike y x) (below_itself : (x : A) → alike x x → below x x) where
-  join_left : (x y : A) → alike x y → below y x → IsLeastUpperBound alike below x y x
+  pub join_left : (x y : A) → alike x y → below y x → IsLeastUpperBound alike below x y x
   join_left x y k h = record { left_alike = itself x y k; right_alike = back x y k; left = below_itself x (itself x y k); right = h; least = λ u a b c d. c }
 
-  join_right : (x y : A) → alike x y → below x y → IsLeastUpperBound alike below x y y
+  pub join_right : (x y : A) → alike x y → below x y → IsLeastUpperBound alike below x y y
   join_right x y k h = record { left_alike = k; right_alike = itself y x (back x y k); left = h; right = below_itself y (itself y x (back x y k)); least = λ u a b c d. d }
 
   pub joins_left : (xs ys : List A) → AllZip alike xs ys → AllZip below ys xs → AreJoins (IsLeastUpperBound alike below) xs ys xs

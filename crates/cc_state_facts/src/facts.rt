@@ -4,9 +4,9 @@ ghost use Rattle.std.specs.Prelude.{◌≡◌};
 ghost use Rattle.std.specs.Option.{option_copied};
 ghost use Rattle.cc_state_facts.specs.Facts.{cell_at, local_at, cell_of, fact_at};
 
-use crate::shared::Shared;
 use cc_num::{List, at};
 use cc_places::Abs;
+use cc_state_shared::Shared;
 
 /// How many tracked cells a row has, where it is not the last.
 const ROW_LENGTH: usize = 16;
@@ -22,10 +22,10 @@ pub enum Key {
     Member(u32, u32),
 }
 
-/// Some neighbouring tracked cells: from a multiple of 16 on 16 of them, or those that are left.
+/// Some neighbouring tracked cells: from a multiple of 16 on 16 of them, or those that are left. Rows share sets.
 #[derive(Drop)]
 pub struct Row<I> {
-    pub cells: List<Abs<I>>,
+    pub cells: List<Shared<Abs<I>>>,
 }
 
 /// What is known wherever a run is at a point.
@@ -35,8 +35,8 @@ pub struct PointFact<I> {
     pub off: bool,
     /// Whether the flag may be on.
     pub on: bool,
-    /// The sets of the function's registers, in order.
-    pub locals: List<Abs<I>>,
+    /// The sets of the function's registers, in order. Points share sets.
+    pub locals: List<Shared<Abs<I>>>,
     /// The sets of the tracked cells, row by row. Points share rows.
     pub rows: List<Shared<Row<I>>>,
     /// The registers that still equal a tracked cell, with that cell, both by their position.
@@ -78,7 +78,8 @@ impl<I> PointFact<I> {
         ensures { option_copied result ≡ cell_of self.now cell }
     {
         let row = at(self.rows.all(), cell as usize / ROW_LENGTH)?;
-        at(row.get().cells.all(), cell as usize % ROW_LENGTH)
+        let set = at(row.get().cells.all(), cell as usize % ROW_LENGTH)?;
+        Some(set.get())
     }
 }
 
@@ -101,6 +102,7 @@ impl<I> Facts<I> {
     pub fn local(&self, point: u32, local: u32) -> Option<&Abs<I>>
         ensures { option_copied result ≡ local_at self.now point local }
     {
-        at(self.fact(point)?.locals.all(), local as usize)
+        let set = at(self.fact(point)?.locals.all(), local as usize)?;
+        Some(set.get())
     }
 }

@@ -7,10 +7,11 @@ ghost use Rattle.cc_state_facts.specs.Orders.{ArePointsAlike, AreKnownAlike, IsP
 
 use crate::facts::PointFact;
 use crate::pairs::{are_pairs, common_pairs};
-use crate::rows::{are_rows_below, joined_rows, shared_rows};
-use crate::sets::{are_below, copies, joins};
+use crate::rows::{are_rows_below, joined_rows};
+use crate::shared_sets::{are_shared_below, shared_joins};
 use cc_lattice::IntDomain;
 use cc_num::{List, NoMemory};
+use cc_state_shared::share_all;
 use std::alloc::Global;
 
 /// Whether what is known at a point is below something else.
@@ -21,7 +22,7 @@ pub fn is_point_below<I: IntDomain>(fact: &PointFact<I>, other: &PointFact<I>) -
     (!fact.off || other.off)
         && (!fact.on || other.on)
         && are_pairs(fact, other.same.all())
-        && are_below(fact.locals.all(), other.locals.all())
+        && are_shared_below(fact.locals.all(), other.locals.all())
         && are_rows_below(fact.rows.all(), other.rows.all())
 }
 
@@ -34,7 +35,7 @@ pub fn joined_point<I: IntDomain>(
     requires { ArePointsAlike fact.now other.now }
     ensures { IfOk result (λ both. IsPointJoin I.IsBelow fact.now other.now both) }
 {
-    let locals = joins(alloc, fact.locals.all(), other.locals.all())?;
+    let locals = shared_joins(alloc, fact.locals.all(), other.locals.all())?;
     let rows = joined_rows(alloc, fact.rows.all(), other.rows.all())?;
     let same = common_pairs(alloc, fact.same.all(), other)?;
     Ok(PointFact {
@@ -46,15 +47,15 @@ pub fn joined_point<I: IntDomain>(
     })
 }
 
-/// A copy, which shares the rows.
+/// A copy, which shares sets and rows.
 pub fn copied_point<I: IntDomain>(
     alloc: Global,
     fact: &PointFact<I>,
 ) -> Result<PointFact<I>, NoMemory>
     ensures { IfOk result (λ copy. copy ≡ fact.now) }
 {
-    let locals = copies(alloc, fact.locals.all())?;
-    let rows = shared_rows(alloc, fact.rows.all())?;
+    let locals = share_all(alloc, fact.locals.all())?;
+    let rows = share_all(alloc, fact.rows.all())?;
     let same = Vec::from_slice(alloc, fact.same.all())?;
     Ok(PointFact {
         off: fact.off,

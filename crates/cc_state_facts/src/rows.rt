@@ -6,10 +6,10 @@ ghost use Rattle.cc_lattice.specs.Tables.{AreJoins};
 ghost use Rattle.cc_state_facts.specs.Orders.{AreRowsAlike, AreRowsBelow, IsRowJoin};
 
 use crate::facts::Row;
-use crate::sets::{are_below, joins};
-use crate::shared::Shared;
+use crate::shared_sets::{are_shared_below, shared_joins};
 use cc_lattice::IntDomain;
 use cc_num::{List, NoMemory};
+use cc_state_shared::Shared;
 use std::alloc::Global;
 
 /// Whether each set of a row is below the other row's.
@@ -17,7 +17,7 @@ fn is_row_below<I: IntDomain>(row: &Shared<Row<I>>, other: &Shared<Row<I>>) -> b
     requires { AreRowsAlike row.now other.now }
     ensures { IsTrue result ↔ AreRowsBelow I.IsBelow row.now other.now }
 {
-    are_below(row.get().cells.all(), other.get().cells.all())
+    are_shared_below(row.get().cells.all(), other.get().cells.all())
 }
 
 /// Whether each row is below the other one at its place.
@@ -51,7 +51,7 @@ fn joined_row<I: IntDomain>(
     if is_row_below(row, other) {
         return other.share();
     }
-    let both = joins(alloc, row.get().cells.all(), other.get().cells.all())?;
+    let both = shared_joins(alloc, row.get().cells.all(), other.get().cells.all())?;
     Shared::new(
         alloc,
         Row {
@@ -74,18 +74,4 @@ pub(crate) fn joined_rows<I: IntDomain>(
         both.push(joined_row(alloc, row, &others[at])?)?;
     }
     Ok(both)
-}
-
-/// The same rows, with one more owner each.
-pub(crate) fn shared_rows<I: Drop>(
-    alloc: Global,
-    rows: &[Shared<Row<I>>],
-) -> Result<Vec<Shared<Row<I>>>, NoMemory>
-    ensures { IfOk result (λ shared. shared.items ≡ rows.now) }
-{
-    let mut shared = Vec::new(alloc);
-    for row in rows {
-        shared.push(row.share()?)?;
-    }
-    Ok(shared)
 }

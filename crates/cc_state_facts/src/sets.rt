@@ -5,7 +5,7 @@ ghost use Rattle.std.specs.List.{AllZip};
 ghost use Rattle.cc_lattice.specs.Orders.{IsLeastUpperBound};
 ghost use Rattle.cc_lattice.specs.Tables.{AreJoins};
 
-use cc_lattice::{Lattice, copied};
+use cc_lattice::Lattice;
 use cc_num::NoMemory;
 use std::alloc::Global;
 
@@ -32,16 +32,4 @@ pub(crate) fn joins<L: Lattice>(alloc: Global, sets: &[L], others: &[L]) -> Resu
         both.push(set.join(alloc, &others[at])?)?;
     }
     Ok(both)
-}
-
-/// A copy of each set.
-pub(crate) fn copies<L: Lattice>(alloc: Global, sets: &[L]) -> Result<Vec<L>, NoMemory>
-    requires { AllZip L.AreAlike sets.now sets.now }
-    ensures { IfOk result (λ copies. copies.items ≡ sets.now) }
-{
-    let mut copies = Vec::new(alloc);
-    for set in sets {
-        copies.push(copied(alloc, set)?)?;
-    }
-    Ok(copies)
 }

@@ -7,7 +7,7 @@ use std::alloc::Global;
 use std::marker::Model;
 use std::rc::Rc;
 
-/// An `Rc` that contracts see as its value, so that facts that share rows are equal to facts that share none.
+/// An `Rc` that contracts see as its value, so that facts that share sets are equal to facts that share none.
 #[derive(Drop)]
 pub struct Shared<T> {
     inner: Rc<T>,
@@ -48,4 +48,15 @@ impl<T: Drop> Shared<T> {
             inner: self.inner.clone()?,
         })
     }
+}
+
+/// The same values, with one more owner each.
+pub fn share_all<T: Drop>(alloc: Global, values: &[Shared<T>]) -> Result<Vec<Shared<T>>, NoMemory>
+    ensures { IfOk result (λ shared. shared.items ≡ values.now) }
+{
+    let mut shared = Vec::new(alloc);
+    for value in values {
+        shared.push(value.share()?)?;
+    }
+    Ok(shared)
 }
