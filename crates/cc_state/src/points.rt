@@ -18,7 +18,7 @@ use cc_lattice::IntDomain;
 use cc_num::{List, NoMemory, at};
 use cc_places::Abs;
 use cc_program::{Expr, Func, Place, Program};
-use cc_state_facts::{Facts, Key};
+use cc_state_facts::{Facts, Key, Shared};
 use cc_state_keys::{registers, tracked};
 use cc_state_reads::keys_named;
 use cc_state_values::Context;
@@ -40,7 +40,7 @@ fn func_at<'p>(p: &'p Program, flow: &Flow, point: u32) -> &'p Func
 }
 
 /// The sets of the registers of a point's function.
-fn sets_at<I>(facts: &Facts<I>, point: u32) -> &[Abs<I>]
+fn sets_at<I>(facts: &Facts<I>, point: u32) -> &[Shared<Abs<I>>]
     requires { is_some (fact_at facts.now point) ≡ true }
     ensures { (fact : PointFactOf I) × (fact_at facts.now point ≡ Some fact) × (result.now ≡ fact.locals) }
 {

@@ -29,12 +29,21 @@ fn held_sets<I>(sets: &[Abs<I>])
     }
 }
 
+/// So is each of some that points share.
+fn held_shared<I>(sets: &[Shared<Abs<I>>])
+    ensures { All IsHeldSet sets.now }
+{
+    for set in sets {
+        held_set(set.get());
+    }
+}
+
 /// Each row is.
 fn held_rows<I>(rows: &[Shared<Row<I>>])
     ensures { All IsHeldRow rows.now }
 {
     for row in rows {
-        held_sets(row.get().cells.all());
+        held_shared(row.get().cells.all());
     }
 }
 
@@ -42,7 +51,7 @@ fn held_rows<I>(rows: &[Shared<Row<I>>])
 fn held_fact<I>(fact: &PointFact<I>)
     ensures { IsHeldPoint fact.now }
 {
-    held_sets(fact.locals.all());
+    held_shared(fact.locals.all());
     held_rows(fact.rows.all());
 }
 

@@ -5,7 +5,7 @@ ghost use Rattle.cc_state_room.specs.Room.{room_of_point, room_of_known, room_of
 ghost use Rattle.cc_state_room.specs.Small.{IsSmallPoint, IsSmallKnown};
 
 use crate::marks::room_of_mark;
-use crate::sets::{room_of_rows, room_of_sets};
+use crate::sets::{room_of_rows, room_of_shared_sets};
 use cc_lattice::IntDomain;
 use cc_state_facts::PointFact;
 
@@ -19,7 +19,7 @@ fn room_of_point<I: IntDomain>(fact: &PointFact<I>, most: u64) -> u128
     ensures bound { result < 2 ^ 100 }
 {
     let flags = room_of_mark(fact.off) + room_of_mark(fact.on);
-    let locals = room_of_sets(fact.locals.all(), most);
+    let locals = room_of_shared_sets(fact.locals.all(), most);
     let cells = room_of_rows(fact.rows.all(), most);
     flags + locals + cells + fact.same.all().len() as u128
 }

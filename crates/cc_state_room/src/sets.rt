@@ -34,13 +34,27 @@ pub(crate) fn room_of_sets<I: IntDomain>(sets: &[Abs<I>], most: u64) -> u128
     total
 }
 
+/// How often sets that points share can, all together.
+pub(crate) fn room_of_shared_sets<I: IntDomain>(sets: &[Shared<Abs<I>>], most: u64) -> u128
+    requires few { length sets.now ≤ 2 ^ 32 }
+    requires sets { All (HasFew most) sets.now }
+    ensures value { result ≡ room_of_sets most I.room_of sets.now }
+    ensures bound { result ≤ 2 ^ 70 * length sets.now }
+{
+    let mut total: u128 = 0;
+    for set in sets {
+        total += room_of_set(set.get(), most);
+    }
+    total
+}
+
 /// How often a row of sets can.
 fn room_of_row<I: IntDomain>(row: &Shared<Row<I>>, most: u64) -> u128
     requires { IsSmallRow most row.now }
     ensures value { result ≡ room_of_row most I.room_of row.now }
     ensures bound { result ≤ 2 ^ 74 }
 {
-    room_of_sets(row.get().cells.all(), most)
+    room_of_shared_sets(row.get().cells.all(), most)
 }
 
 /// How often rows of sets can.

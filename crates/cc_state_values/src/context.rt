@@ -8,6 +8,7 @@ ghost use Rattle.cc_state_values.specs.Contexts.{set_of, set_at};
 use cc_num::at;
 use cc_places::Abs;
 use cc_program::{Func, Place, Program};
+use cc_state_shared::Shared;
 
 /// A function of a program, and what its registers may hold.
 pub struct Context<'p, I> {
@@ -18,7 +19,7 @@ pub struct Context<'p, I> {
     /// The registers of the function.
     pub registers: &'p [u32],
     /// Their sets, in the same order.
-    pub sets: &'p [Abs<I>],
+    pub sets: &'p [Shared<Abs<I>>],
 }
 
 /// Where a local stands in a list of registers.
@@ -29,10 +30,11 @@ fn number_in(registers: &[u32], r: u32) -> Option<usize>
 }
 
 /// The set that stands where a local does in a list of registers.
-fn set_of<'p, I>(registers: &[u32], sets: &'p [Abs<I>], r: u32) -> Option<&'p Abs<I>>
+fn set_of<'p, I>(registers: &[u32], sets: &'p [Shared<Abs<I>>], r: u32) -> Option<&'p Abs<I>>
     ensures { option_copied result ≡ set_of registers.now sets.now r }
 {
-    at(sets, number_in(registers, r)?)
+    let set = at(sets, number_in(registers, r)?)?;
+    Some(set.get())
 }
 
 /// The set of a place that is a register.
