@@ -26,8 +26,9 @@ use cc_places::Abs;
 use cc_rules_asked::{Asked, copied_set};
 use cc_rules_flows::{Act, Here};
 use cc_rules_functions::Function;
-use cc_state_facts::{Facts, PointFact, copied_point};
+use cc_state_facts::{Facts, PointFact, Shared, copied_point};
 use cc_state_keys::number_in;
+use cc_state_shared::share_all;
 use std::alloc::Global;
 
 /// A set with 0 too.
@@ -100,31 +101,21 @@ fn given_by<I: IntDomain>(
     }
 }
 
-/// A copy of each set.
-fn copies<I: IntDomain>(alloc: Global, sets: &[Abs<I>]) -> Result<Vec<Abs<I>>, NoMemory>
-    ensures { IfOk result (λ copies. copies.items ≡ sets.now) }
-{
-    let mut copies = Vec::new(alloc);
-    for set in sets {
-        copies.push(copied_set(alloc, set)?)?;
-    }
-    Ok(copies)
-}
-
-/// The sets of registers, where one may get another.
+/// The sets of registers, where one may get another. The others are shared.
 fn locals_behind<I: IntDomain>(
     alloc: Global,
-    sets: &[Abs<I>],
+    sets: &[Shared<Abs<I>>],
     given: Option<(u32, Abs<I>)>,
-) -> Result<Vec<Abs<I>>, NoMemory>
+) -> Result<Vec<Shared<Abs<I>>>, NoMemory>
     requires { IfSome given (λ g. g.0 < length sets.now) }
     ensures { IfOk result (λ locals. locals.items ≡ with_given given sets.now) }
 {
-    let mut locals = copies(alloc, sets)?;
+    let mut locals = share_all(alloc, sets)?;
     match given {
         None => Ok(locals),
         Some((register, set)) => {
-            locals[register as usize] = set;
+            let local = Shared::new(alloc, set)?;
+            locals[register as usize] = local;
             Ok(locals)
         }
     }

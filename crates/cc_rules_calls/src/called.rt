@@ -13,6 +13,7 @@ use cc_num::NoMemory;
 use cc_places::Abs;
 use cc_program::{Address, Expr};
 use cc_rules_flows::Here;
+use cc_state_facts::Shared;
 use cc_state_values::value_of;
 use std::alloc::Global;
 
@@ -63,12 +64,12 @@ pub(crate) fn called_here<I: IntDomain>(
     functions_in(alloc, &set)
 }
 
-/// What each of some expressions may give.
+/// What each of some expressions may give. The entries of the functions that are called share these sets.
 pub(crate) fn values_here<I: IntDomain>(
     alloc: Global,
     here: &Here<'_, I>,
     args: &[Expr],
-) -> Result<Vec<Abs<I>>, NoMemory>
+) -> Result<Vec<Shared<Abs<I>>>, NoMemory>
     requires sized { AreSized here.now.context.program.now.structures here.now.context.program.now.target }
     requires sets { HaveSetsIn (domain I.Has I.IsBelow I.OpGives I.OpOneGives I.ToGives I.KeepGives I.members_of) here.now.context }
     requires pure { All (IsPureIn (domain I.Has I.IsBelow I.OpGives I.OpOneGives I.ToGives I.KeepGives I.members_of) here.now.context) args.now }
@@ -76,7 +77,9 @@ pub(crate) fn values_here<I: IntDomain>(
 {
     let mut sets = Vec::new(alloc);
     for e in args {
-        sets.push(value_of(alloc, &here.context, e)?)?;
+        let value = value_of(alloc, &here.context, e)?;
+        let set = Shared::new(alloc, value)?;
+        sets.push(set)?;
     }
     Ok(sets)
 }

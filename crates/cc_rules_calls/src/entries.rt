@@ -24,35 +24,34 @@ use cc_rules_asked::{Asked, copied_set, levels, mark};
 use cc_rules_flows::{Act, Here};
 use cc_rules_functions::Function;
 use cc_rules_needs::{Part, Slot};
-use cc_state_facts::{Key, PointFact, copied_point};
+use cc_state_facts::{Key, PointFact, Shared, copied_point};
 use cc_state_keys::key_number;
 use std::alloc::Global;
 
-/// Puts a copy of a set behind others, where there is one.
+/// Puts a set behind others, with one more owner, where there is one.
 fn put_set<I: IntDomain>(
-    alloc: Global,
-    sets: &mut Vec<Abs<I>>,
-    set: Option<&Abs<I>>,
+    sets: &mut Vec<Shared<Abs<I>>>,
+    set: Option<&Shared<Abs<I>>>,
 ) -> Result<(), NoMemory>
     ensures { OnOk result (sets.new.items ≡ sets.old.items ++ option_to_list (option_copied set.entry)) }
 {
     match set {
         None => Ok(()),
-        Some(set) => Ok(sets.push(copied_set(alloc, set)?)?),
+        Some(set) => Ok(sets.push(set.share()?)?),
     }
 }
 
 /// The sets of the arguments, of those registers that are parameters.
 fn sets_of<I: IntDomain>(
     alloc: Global,
-    sets: &[Abs<I>],
+    sets: &[Shared<Abs<I>>],
     registers: &[u32],
-) -> Result<Vec<Abs<I>>, NoMemory>
+) -> Result<Vec<Shared<Abs<I>>>, NoMemory>
     ensures { IfOk result (λ locals. locals.items ≡ sets_of_of sets.now registers.now) }
 {
     let mut locals = Vec::new(alloc);
     for register in registers {
-        put_set(alloc, &mut locals, at(sets, *register as usize))?;
+        put_set(&mut locals, at(sets, *register as usize))?;
     }
     Ok(locals)
 }
@@ -61,7 +60,7 @@ fn sets_of<I: IntDomain>(
 fn entered<I: IntDomain>(
     alloc: Global,
     fact: &PointFact<I>,
-    locals: Vec<Abs<I>>,
+    locals: Vec<Shared<Abs<I>>>,
 ) -> Result<PointFact<I>, NoMemory>
     ensures { IfOk result (λ made. made ≡ fact_with fact.now locals.items) }
 {
@@ -121,7 +120,7 @@ fn put_parameters<I: IntDomain>(
     p: &Program,
     keys: &[Key],
     function: u32,
-    sets: &[Abs<I>],
+    sets: &[Shared<Abs<I>>],
 ) -> Result<(), NoMemory>
     requires keys { keys.now ≡ keys_of p.now }
     requires few { length keys.now < 2 ^ 32 }
@@ -130,7 +129,7 @@ fn put_parameters<I: IntDomain>(
 {
     for (r, set) in sets.iter().enumerate() {
         let number = parameter_key(p, keys, function, r);
-        put_whole(alloc, asked, number, set)?;
+        put_whole(alloc, asked, number, set.get())?;
     }
     Ok(())
 }
@@ -163,7 +162,7 @@ fn put_entered<I: IntDomain>(
     here: &Here<'_, I>,
     id: u32,
     function: &Function<'_>,
-    sets: &[Abs<I>],
+    sets: &[Shared<Abs<I>>],
 ) -> Result<(), NoMemory>
     requires keys { here.now.facts.now.keys ≡ keys_of here.now.context.program.now }
     requires few_keys { length here.now.facts.now.keys < 2 ^ 32 }
@@ -198,7 +197,7 @@ fn put_called<I: IntDomain>(
     here: &Here<'_, I>,
     functions: &[Function<'_>],
     id: u32,
-    sets: &[Abs<I>],
+    sets: &[Shared<Abs<I>>],
 ) -> Result<(), NoMemory>
     requires keys { here.now.facts.now.keys ≡ keys_of here.now.context.program.now }
     requires few_keys { length here.now.facts.now.keys < 2 ^ 32 }
@@ -219,7 +218,7 @@ fn asked_of_functions<I: IntDomain>(
     here: &Here<'_, I>,
     functions: &[Function<'_>],
     ids: &[u32],
-    sets: &[Abs<I>],
+    sets: &[Shared<Abs<I>>],
 ) -> Result<Vec<Asked<I>>, NoMemory>
     requires keys { here.now.facts.now.keys ≡ keys_of here.now.context.program.now }
     requires few_keys { length here.now.facts.now.keys < 2 ^ 32 }

@@ -65,7 +65,7 @@ fn sets_from<I: IntDomain>(
     values: &[List<Value>],
     objects: &[u32],
     first: usize,
-) -> Result<Vec<Abs<I>>, NoMemory>
+) -> Result<Vec<Shared<Abs<I>>>, NoMemory>
     requires values { HaveFirsts values.now objects.now }
     requires within { first ≤ length objects.now }
     ensures cells { IfOk result (λ sets. IsRowFrom I.Has I.IsBelow values.now objects.now first sets.items) }
@@ -75,7 +75,8 @@ fn sets_from<I: IntDomain>(
     let end = end_of(first, objects.len());
     for cell in first..end {
         let set = first_of(alloc, values, objects[cell])?;
-        sets.push(set)?;
+        let shared = Shared::new(alloc, set)?;
+        sets.push(shared)?;
     }
     Ok(sets)
 }

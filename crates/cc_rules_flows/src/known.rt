@@ -7,10 +7,11 @@ ghost use Rattle.cc_rules_flows.specs.Known.{Tells, is_of_other_register, is_of_
 ghost use Rattle.cc_rules_needs.specs.Flowing.{Flowing, with_local, with_pair, with_cell, with_flags};
 ghost use Rattle.cc_state_facts.specs.Facts.{cell_of, row_length};
 
-use cc_lattice::{IntDomain, copied};
+use cc_lattice::IntDomain;
 use cc_num::{List, NoMemory, at};
 use cc_places::Abs;
 use cc_state_facts::{PointFact, Row, Shared};
+use cc_state_shared::share_all;
 use std::alloc::Global;
 use std::mem;
 
@@ -141,9 +142,10 @@ pub(crate) fn set_local<I: IntDomain>(
     ensures tells { OnOk result ((flow : Flowing I) → Tells fact.old flow → Tells fact.new (with_local register set flow)) }
     ensures kept { OnOk result ((registers cells : ℕ) → KeepsShape registers cells fact.old fact.new) }
 {
+    let local = Shared::new(alloc, set)?;
     let same = without_register(alloc, fact.same.all(), register)?;
     fact.same = List::of(same);
-    put(alloc, &mut fact.locals, register as usize, set);
+    put(alloc, &mut fact.locals, register as usize, local);
     Ok(())
 }
 
@@ -156,18 +158,7 @@ pub(crate) fn set_flags<I: IntDomain>(fact: &mut PointFact<I>, off: bool, on: bo
     fact.on = on;
 }
 
-/// A copy of each set.
-fn copies<I: IntDomain>(alloc: Global, sets: &[Abs<I>]) -> Result<Vec<Abs<I>>, NoMemory>
-    ensures { IfOk result (λ copies. copies.items ≡ sets.now) }
-{
-    let mut copies = Vec::new(alloc);
-    for set in sets {
-        copies.push(copied(alloc, set)?)?;
-    }
-    Ok(copies)
-}
-
-/// A row with another set at a place.
+/// A row with another set at a place. The other sets stay shared.
 fn with_set<I: IntDomain>(
     alloc: Global,
     row: &Row<I>,
@@ -177,8 +168,9 @@ fn with_set<I: IntDomain>(
     requires { at < length row.now.cells }
     ensures { IfOk result (λ made. made.cells ≡ slice_set row.now.cells at set) }
 {
-    let mut cells = List::of(copies(alloc, row.cells.all())?);
-    put(alloc, &mut cells, at, set);
+    let cell = Shared::new(alloc, set)?;
+    let mut cells = List::of(share_all(alloc, row.cells.all())?);
+    put(alloc, &mut cells, at, cell);
     Ok(Row { cells })
 }
 

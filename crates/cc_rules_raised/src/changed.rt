@@ -8,8 +8,8 @@ ghost use Rattle.cc_state_facts.specs.Facts.{row_length, cell_of};
 use cc_lattice::IntDomain;
 use cc_num::{List, NoMemory, at};
 use cc_places::Abs;
-use cc_rules_asked::copied_set;
 use cc_state_facts::{PointFact, Row, Shared, copied_point};
+use cc_state_shared::share_all;
 use std::alloc::Global;
 use std::mem;
 
@@ -26,18 +26,7 @@ fn put<T: Drop>(alloc: Global, list: &mut List<T>, at: usize, value: T)
     *list = List::of(items);
 }
 
-/// A copy of each set.
-fn copies<I: IntDomain>(alloc: Global, sets: &[Abs<I>]) -> Result<Vec<Abs<I>>, NoMemory>
-    ensures { IfOk result (λ copies. copies.items ≡ sets.now) }
-{
-    let mut copies = Vec::new(alloc);
-    for set in sets {
-        copies.push(copied_set(alloc, set)?)?;
-    }
-    Ok(copies)
-}
-
-/// A row with another set at a place.
+/// A row with another set at a place. The other sets are shared.
 fn changed_row<I: IntDomain>(
     alloc: Global,
     row: &Row<I>,
@@ -47,8 +36,9 @@ fn changed_row<I: IntDomain>(
     requires { at < length row.now.cells }
     ensures { IfOk result (λ made. made ≡ row_with row.now at set) }
 {
-    let mut cells = List::of(copies(alloc, row.cells.all())?);
-    put(alloc, &mut cells, at, set);
+    let cell = Shared::new(alloc, set)?;
+    let mut cells = List::of(share_all(alloc, row.cells.all())?);
+    put(alloc, &mut cells, at, cell);
     Ok(Row { cells })
 }
 

@@ -22,7 +22,7 @@ use cc_lattice::IntDomain;
 use cc_num::{List, NoMemory, at};
 use cc_places::Abs;
 use cc_program::{Func, Program};
-use cc_state_facts::{Facts, PointFact, copied_point};
+use cc_state_facts::{Facts, PointFact, Shared, copied_point};
 use cc_state_keys::registers;
 use cc_state_shape::{holds_addresses, none_of};
 use std::alloc::Global;
@@ -43,12 +43,12 @@ fn is_of_addresses<I>(set: &Abs<I>) -> bool
 }
 
 /// Of each set, whether it is one.
-fn kinds_of_sets<I>(alloc: Global, sets: &[Abs<I>]) -> Result<Vec<bool>, NoMemory>
+fn kinds_of_sets<I>(alloc: Global, sets: &[Shared<Abs<I>>]) -> Result<Vec<bool>, NoMemory>
     ensures { IfOk result (λ kinds. kinds.items ≡ map is_set_of_addresses sets.now) }
 {
     let mut kinds = Vec::new(alloc);
     for set in sets {
-        kinds.push(is_of_addresses(set))?;
+        kinds.push(is_of_addresses(set.get()))?;
     }
     Ok(kinds)
 }
@@ -126,13 +126,14 @@ fn kinds_at<I: IntDomain>(
 /// Puts the empty set of each kind behind some sets.
 fn put_nones<I: IntDomain>(
     alloc: Global,
-    sets: &mut Vec<Abs<I>>,
+    sets: &mut Vec<Shared<Abs<I>>>,
     kinds: &[bool],
 ) -> Result<(), NoMemory>
     ensures { OnOk result ((nones : ListOf (AbsOf I)) × (sets.new.items ≡ sets.old.items ++ nones) × AllZip (IsNone I.Has) kinds.now nones) }
 {
     for kind in kinds {
-        sets.push(none_of(alloc, *kind))?;
+        let none = Shared::new(alloc, none_of(alloc, *kind))?;
+        sets.push(none)?;
     }
     Ok(())
 }

@@ -7,7 +7,7 @@ ghost use Rattle.cc_state_facts.specs.Facts.{row_length};
 ghost use Rattle.cc_state_operators.specs.Domains.{domain};
 ghost use Rattle.cc_syntax.specs.Registers.{is_register};
 
-use cc_lattice::{IntDomain, copied};
+use cc_lattice::IntDomain;
 use cc_num::{List, NoMemory};
 use cc_places::Abs;
 use cc_rules_tests::{Tested, Trial};
@@ -24,8 +24,8 @@ fn left_more<I: IntDomain>(
     trial: &mut Trial<I>,
     is_equal: bool,
     r: u32,
-    set: Abs<I>,
-) -> Result<Abs<I>, NoMemory>
+    set: Shared<Abs<I>>,
+) -> Result<Shared<Abs<I>>, NoMemory>
     requires tested { IsTested (domain I.Has I.IsBelow I.OpGives I.OpOneGives I.ToGives I.KeepGives I.members_of) tested.now }
     requires trial { IsTrialOf tested.now.context.now trial.old }
     requires register { is_register tested.now.context.now.func.now r ≡ true }
@@ -46,8 +46,8 @@ fn left_cell<I: IntDomain>(
     trial: &mut Trial<I>,
     fact: &PointFact<I>,
     cell: u32,
-    set: &Abs<I>,
-) -> Result<Abs<I>, NoMemory>
+    set: &Shared<Abs<I>>,
+) -> Result<Shared<Abs<I>>, NoMemory>
     requires tested { IsTested (domain I.Has I.IsBelow I.OpGives I.OpOneGives I.ToGives I.KeepGives I.members_of) tested.now }
     requires trial { IsTrialOf tested.now.context.now trial.old }
     requires registers { AreRegisters tested.now.context.now }
@@ -56,7 +56,7 @@ fn left_cell<I: IntDomain>(
     ensures left { IfOk result (λ z. IsCellLeft (domain I.Has I.IsBelow I.OpGives I.OpOneGives I.ToGives I.KeepGives I.members_of) tested.now (equal_from fact.now cell 0 tested.now.context.now.registers.now) set.now z) }
 {
     let registers = tested.context.registers;
-    let mut left = copied(alloc, set)?;
+    let mut left = set.share()?;
     for number in 0..registers.len() {
         let is_equal = is_pair(fact, number as u32, cell);
         left = left_more(alloc, tested, trial, is_equal, registers[number], left)?;
@@ -79,8 +79,8 @@ fn left_cells<I: IntDomain>(
     trial: &mut Trial<I>,
     fact: &PointFact<I>,
     row: usize,
-    sets: &[Abs<I>],
-) -> Result<Vec<Abs<I>>, NoMemory>
+    sets: &[Shared<Abs<I>>],
+) -> Result<Vec<Shared<Abs<I>>>, NoMemory>
     requires tested { IsTested (domain I.Has I.IsBelow I.OpGives I.OpOneGives I.ToGives I.KeepGives I.members_of) tested.now }
     requires trial { IsTrialOf tested.now.context.now trial.old }
     requires registers { AreRegisters tested.now.context.now }

@@ -9,6 +9,7 @@ use cc_lattice::IntDomain;
 use cc_num::NoMemory;
 use cc_places::Abs;
 use cc_rules_tests::{Tested, Trial};
+use cc_state_facts::Shared;
 use std::alloc::Global;
 
 /// The sets of registers, each as the test leaves it.
@@ -17,8 +18,8 @@ pub fn left_locals<I: IntDomain>(
     tested: &Tested<'_, I>,
     trial: &mut Trial<I>,
     registers: &[u32],
-    sets: &[Abs<I>],
-) -> Result<Vec<Abs<I>>, NoMemory>
+    sets: &[Shared<Abs<I>>],
+) -> Result<Vec<Shared<Abs<I>>>, NoMemory>
     requires tested { IsTested (domain I.Has I.IsBelow I.OpGives I.OpOneGives I.ToGives I.KeepGives I.members_of) tested.now }
     requires trial { IsTrialOf tested.now.context.now trial.old }
     requires each { length sets.now ≡ length registers.now }
@@ -63,13 +64,15 @@ fn is_emptied<I: IntDomain>(set: &Abs<I>, left: &Abs<I>) -> bool
 }
 
 /// Whether one of some sets that has a value has none left.
-pub fn is_one_emptied<I: IntDomain>(sets: &[Abs<I>], left: &[Abs<I>]) -> bool
+pub fn is_one_emptied<I: IntDomain>(sets: &[Shared<Abs<I>>], left: &[Shared<Abs<I>>]) -> bool
     requires each { length sets.now ≡ length left.now }
     requires kinds { AllKeepAddresses sets.now left.now }
     ensures { IsTrue result ↔ IsOneEmptied (domain I.Has I.IsBelow I.OpGives I.OpOneGives I.ToGives I.KeepGives I.members_of) sets.now left.now }
 {
     for number in 0..sets.len() {
-        if is_emptied(&sets[number], &left[number]) {
+        let set = sets[number].get();
+        let rest = left[number].get();
+        if is_emptied(set, rest) {
             return true;
         }
     }

@@ -12,7 +12,7 @@ use crate::frames::Frame;
 use cc_num::at;
 use cc_places::Abs;
 use cc_program::{Func, Program};
-use cc_state_facts::{Facts, PointFact};
+use cc_state_facts::{Facts, PointFact, Shared};
 use cc_state_values::Context;
 
 /// What is known at a point.
@@ -23,7 +23,7 @@ pub(crate) fn fact_at<I>(facts: &Facts<I>, point: u32) -> Option<&PointFact<I>>
 }
 
 /// The sets of the registers, where anything is known.
-fn sets_of<I>(fact: Option<&PointFact<I>>) -> &[Abs<I>]
+fn sets_of<I>(fact: Option<&PointFact<I>>) -> &[Shared<Abs<I>>]
     ensures { (known : PointFactOf I) → option_copied fact.entry ≡ Some known → result.now ≡ known.locals }
 {
     match fact {

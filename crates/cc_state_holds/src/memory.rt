@@ -32,7 +32,8 @@ pub fn cell<I>(fact: &PointFact<I>, number: usize) -> Option<&Abs<I>>
     ensures { option_copied result ≡ cell_of fact.now number }
 {
     let row = at(fact.rows.all(), number / ROW_LENGTH)?;
-    at(row.get().cells.all(), number % ROW_LENGTH)
+    let set = at(row.get().cells.all(), number % ROW_LENGTH)?;
+    Some(set.get())
 }
 
 /// Whether a value is in the set of a tracked object.

@@ -4,6 +4,7 @@ ghost use Rattle.std.specs.Prelude.{◌≡◌, ◌↔◌, IsTrue};
 ghost use Rattle.std.specs.Option.{option_copied};
 ghost use Rattle.cc_program.specs.declared.func.Func.{Func as FuncOf};
 ghost use Rattle.cc_proof_covers.specs.Pending.{value_in as value_in_of};
+ghost use Rattle.cc_state_facts.specs.Facts.{local_of};
 ghost use Rattle.cc_state_holds.specs.Parts.{IsInRegisterSet, IsRegisterHeld, AreRegistersHeld};
 ghost use Rattle.cc_state_keys.specs.Tracked.{registers as registers_of};
 ghost use Rattle.cc_state_operators.specs.Domains.{domain};
@@ -15,6 +16,7 @@ use crate::sets::has;
 use cc_lattice::IntDomain;
 use cc_meaning::Activation;
 use cc_num::at;
+use cc_places::Abs;
 use cc_program::Value;
 use cc_state_facts::PointFact;
 use cc_state_keys::number_in;
@@ -24,6 +26,14 @@ pub fn is_register_among(registers: &[u32], r: u32) -> bool
     ensures { (f : FuncOf) → registers.now ≡ registers_of f → result ≡ is_register f r }
 {
     number_in(registers, r).is_some()
+}
+
+/// The set of a register at a point.
+fn local<I>(fact: &PointFact<I>, number: usize) -> Option<&Abs<I>>
+    ensures { option_copied result ≡ local_of fact.now number }
+{
+    let set = at(fact.locals.all(), number)?;
+    Some(set.get())
 }
 
 /// Whether a value is in the set of a register, by its position among the registers of a point's function.
@@ -37,7 +47,7 @@ pub fn is_in_register_set<I: IntDomain>(
 {
     match number_in(registers, r) {
         None => false,
-        Some(number) => has(at(fact.locals.all(), number), value),
+        Some(number) => has(local(fact, number), value),
     }
 }
 

@@ -16,7 +16,8 @@ value_of-requires g c = record {
 pub loop-e-preserved : goal.loop-e-preserved
 loop-e-preserved g c =
     subst (AllZip (IsValIn (domain g.I.Concrete.Has g.I.Lattice.IsBelow g.I.IntDomain.OpGives g.I.IntDomain.OpOneGives g.I.IntDomain.ToGives g.I.IntDomain.KeepGives g.I.IntDomain.members_of) c.args.here.now.context) _) (sym c.in_ok-push.ensures.items)
-    (zip_on (IsValIn (domain g.I.Concrete.Has g.I.Lattice.IsBelow g.I.IntDomain.OpGives g.I.IntDomain.OpOneGives g.I.IntDomain.ToGives g.I.IntDomain.KeepGives g.I.IntDomain.members_of) c.args.here.now.context) c.args.args.now c.loop-e.sets.items c.loop-e.e-index c.e-item.result _ c.loop-e-test.true c.e-item.is c.loop-e.invariant c.in_ok-value_of.ensures.value)
+    (zip_on (IsValIn (domain g.I.Concrete.Has g.I.Lattice.IsBelow g.I.IntDomain.OpGives g.I.IntDomain.OpOneGives g.I.IntDomain.ToGives g.I.IntDomain.KeepGives g.I.IntDomain.members_of) c.args.here.now.context) c.args.args.now c.loop-e.sets.items c.loop-e.e-index c.e-item.result _ c.loop-e-test.true c.e-item.is c.loop-e.invariant
+    (subst (IsValIn (domain g.I.Concrete.Has g.I.Lattice.IsBelow g.I.IntDomain.OpGives g.I.IntDomain.OpOneGives g.I.IntDomain.ToGives g.I.IntDomain.KeepGives g.I.IntDomain.members_of) c.args.here.now.context c.e-item.result) (sym c.in_ok-set.ensures) c.in_ok-value.ensures.value))
 
 pub returns : goal.returns
 returns g c =

@@ -13,10 +13,10 @@ loop-kind-init g c = ([], sym (append-nil c.args.sets.now.items), tt)
 pub loop-kind-preserved : goal.loop-kind-preserved
 loop-kind-preserved g c =
     let so_far = c.loop-kind.invariant in
-    let y = c.none_of.result in (
+    let y = c.in_ok-none.none in (
       so_far.0 ++ y ∷ [],
       c.in_ok-push.ensures.items ∙ (ap (λ (ls : List (Abs g.row.I.Denot)). ls ++ y ∷ []) so_far.1 ∙ append_assoc c.args.sets.now.items so_far.0 (y ∷ [])),
-      zip_more (IsNone g.I.Concrete.Has) c.args.kinds.now so_far.0 c.loop-kind.kind-index _ y c.loop-kind-test.true so_far.2 c.none_of.ensures,
+      zip_more (IsNone g.I.Concrete.Has) c.args.kinds.now so_far.0 c.loop-kind.kind-index _ y c.loop-kind-test.true so_far.2 (subst (IsNone g.I.Concrete.Has _) (sym c.in_ok-none.ensures) c.none_of.ensures),
     )
 
 pub returns : goal.returns

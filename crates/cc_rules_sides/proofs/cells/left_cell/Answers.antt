@@ -3,13 +3,9 @@ use Rattle.std.proofs.Common.{arith, get_or}
 use Rattle.std.proofs.lemmas.Option.{slice_get-get_or}
 use Rattle.cc_rules_sides.proofs.CellLemmas.{all_on, none_left, one_on}
 use Rattle.cc_rules_tests.proofs.Following.{itself_at}
-use Rattle.cc_rules_tests.proofs.Registers.{kind_same}
 use Rattle.cc_state_operators.specs.Domains.{domain}
 use Rattle.cc_state_values.proofs.Same.{order_of}
 use Rattle.cc_rules_sides.proofs.cells.left_cell.Goals as goal
-
-pub copied-requires : goal.copied-requires
-copied-requires g c = kind_same c.args.set.now
 
 pub loop-number-init : goal.loop-number-init
 loop-number-init g c =
