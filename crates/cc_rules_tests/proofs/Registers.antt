@@ -3,7 +3,7 @@ use Rattle.std.proofs.Common.{◌≡◌, ◌↔◌, ℕ, ℤ, Bool, true, false,
 use Rattle.std.specs.List.{Contains}
 use Rattle.std.specs.Prelude.{slice_get}
 use Rattle.std.proofs.lemmas.Option.{same_Some}
-use Rattle.cc_places.specs.Abstract.{AreOfOneKind, IsBelowAbs}
+use Rattle.cc_places.specs.Abstract.{IsBelowAbs}
 use Rattle.cc_places.specs.declared.abs.Abs.{Abs}
 use Rattle.cc_places.specs.declared.abs.Abs.TheVariants as abs
 use Rattle.cc_places.specs.declared.addrs.Addrs.{Addrs}
@@ -120,10 +120,6 @@ module _ {I : Type 0} (d : Domain I) (t : Tested I) (r : ℕ) where
 
   pub left_same_type : (y z : Abs I) → IsOfRegisterIn d t r y → IsLeftIn d t r y z → IsLeftAlikeIn d t r y z
   left_same_type y z h k = Alike h k
-
-pub kind_same : {I : Type 0} (y : Abs I) → AreOfOneKind y y
-kind_same (abs.Ints x) = tt
-kind_same (abs.Addrs s) = tt
 
 -- a copy is below what it copies
 pub copy_below : {A : Type 0} (below : A → A → Type 0) (x z : A) → below x x → z ≡ x → below z x

@@ -10,9 +10,10 @@ ghost use Rattle.cc_syntax.specs.Registers.{is_register};
 use crate::operand::are_of;
 use crate::tested::Tested;
 use crate::trial::Trial;
-use cc_lattice::{IntDomain, copied};
+use cc_lattice::IntDomain;
 use cc_num::{NoMemory, at};
 use cc_places::Abs;
+use cc_state_shared::Shared;
 use cc_typed::scalar_value;
 use std::alloc::Global;
 
@@ -39,8 +40,8 @@ impl<I: IntDomain> Tested<'_, I> {
         alloc: Global,
         trial: &mut Trial<I>,
         r: u32,
-        y: &Abs<I>,
-    ) -> Result<Abs<I>, NoMemory>
+        y: &Shared<Abs<I>>,
+    ) -> Result<Shared<Abs<I>>, NoMemory>
         requires tested { IsTested (domain I.Has I.IsBelow I.OpGives I.OpOneGives I.ToGives I.KeepGives I.members_of) self.now }
         requires trial { IsTrialOf self.now.context.now trial.old }
         requires holds { MayHave (domain I.Has I.IsBelow I.OpGives I.OpOneGives I.ToGives I.KeepGives I.members_of) self.now.context.now r y.now }
@@ -49,9 +50,12 @@ impl<I: IntDomain> Tested<'_, I> {
         ensures below { IfOk result (λ z. IsBelowAbs I.IsBelow z y.now) }
         ensures worked { IfOk result (λ z. (m : ℤ) → IsExplicitIn (domain I.Has I.IsBelow I.OpGives I.OpOneGives I.ToGives I.KeepGives I.members_of) self.now.context.now y.now m → IsWorkedAt (domain I.Has I.IsBelow I.OpGives I.OpOneGives I.ToGives I.KeepGives I.members_of) self.now r m) }
     {
-        match y {
-            Abs::Addrs(_) => copied(alloc, y),
-            Abs::Ints(x) => Ok(Abs::Ints(self.of_integers(alloc, trial, r, x)?)),
+        match y.get() {
+            Abs::Addrs(_) => y.share(),
+            Abs::Ints(x) => {
+                let left = self.of_integers(alloc, trial, r, x)?;
+                Shared::new(alloc, Abs::Ints(left))
+            }
         }
     }
 
@@ -75,8 +79,8 @@ impl<I: IntDomain> Tested<'_, I> {
         alloc: Global,
         trial: &mut Trial<I>,
         r: u32,
-        y: &Abs<I>,
-    ) -> Result<Abs<I>, NoMemory>
+        y: &Shared<Abs<I>>,
+    ) -> Result<Shared<Abs<I>>, NoMemory>
         requires tested { IsTested (domain I.Has I.IsBelow I.OpGives I.OpOneGives I.ToGives I.KeepGives I.members_of) self.now }
         requires trial { IsTrialOf self.now.context.now trial.old }
         requires register { is_register self.now.context.now.func.now r ≡ true }
@@ -85,10 +89,10 @@ impl<I: IntDomain> Tested<'_, I> {
         ensures below { IfOk result (λ z. IsBelowAbs I.IsBelow z y.now) }
         ensures worked { IfOk result (λ z. IsOfRegisterIn (domain I.Has I.IsBelow I.OpGives I.OpOneGives I.ToGives I.KeepGives I.members_of) self.now r y.now → (m : ℤ) → IsExplicitIn (domain I.Has I.IsBelow I.OpGives I.OpOneGives I.ToGives I.KeepGives I.members_of) self.now.context.now y.now m → IsWorkedAt (domain I.Has I.IsBelow I.OpGives I.OpOneGives I.ToGives I.KeepGives I.members_of) self.now r m) }
     {
-        if self.is_of_register(r, y) {
+        if self.is_of_register(r, y.get()) {
             self.left_of(alloc, trial, r, y)
         } else {
-            copied(alloc, y)
+            y.share()
         }
     }
 }

@@ -10,10 +10,11 @@ ghost use Rattle.cc_syntax.specs.Programs.{type_of};
 ghost use Rattle.cc_syntax.specs.Sizes.{AreSized};
 ghost use Rattle.cc_syntax.specs.Values.{ValueType};
 
-use cc_lattice::{IntDomain, copied};
+use cc_lattice::IntDomain;
 use cc_num::NoMemory;
 use cc_places::Abs;
 use cc_program::Expr;
+use cc_state_shared::Shared;
 use cc_state_values::{Context, value_of};
 use std::alloc::Global;
 
@@ -21,19 +22,18 @@ use std::alloc::Global;
 #[derive(Drop)]
 pub struct Trial<I> {
     registers: Vec<u32>,
-    sets: Vec<Abs<I>>,
+    sets: Vec<Shared<Abs<I>>>,
 }
 
-/// Puts a copy of each set behind others.
-fn put_copies<I: IntDomain>(
-    alloc: Global,
-    all: &mut Vec<Abs<I>>,
-    sets: &[Abs<I>],
+/// Puts each set behind others, with one more owner.
+fn put_shared<I: Drop>(
+    all: &mut Vec<Shared<Abs<I>>>,
+    sets: &[Shared<Abs<I>>],
 ) -> Result<(), NoMemory>
     ensures { OnOk result (all.new.items ≡ all.old.items ++ sets.now) }
 {
     for set in sets {
-        all.push(copied(alloc, set)?)?;
+        all.push(set.share()?)?;
     }
     Ok(())
 }
@@ -55,8 +55,9 @@ impl<I: IntDomain> Trial<I> {
     {
         let registers = behind_one(alloc, c.registers)?;
         let mut sets = Vec::new(alloc);
-        sets.push(Abs::Ints(I::none(alloc)))?;
-        put_copies(alloc, &mut sets, c.sets)?;
+        let first = Shared::new(alloc, Abs::Ints(I::none(alloc)))?;
+        sets.push(first)?;
+        put_shared(&mut sets, c.sets)?;
         Ok(Trial { registers, sets })
     }
 
@@ -78,8 +79,9 @@ impl<I: IntDomain> Trial<I> {
         ensures value { IfOk result (λ y. IsValWith (domain I.Has I.IsBelow I.OpGives I.OpOneGives I.ToGives I.KeepGives I.members_of) c.now r set e.now y) }
         ensures typed { IfOk result (λ y. (t : ValueType) → type_of c.now.program.now c.now.func.now.locals e.now ≡ Some t → AreOf (domain I.Has I.IsBelow I.OpGives I.OpOneGives I.ToGives I.KeepGives I.members_of) c.now.program.now.target t y) }
     {
+        let other = Shared::new(alloc, Abs::Ints(set))?;
         self.registers[0] = r;
-        self.sets[0] = Abs::Ints(set);
+        self.sets[0] = other;
         let there = Context {
             program: c.program,
             id: c.id,

@@ -3,7 +3,7 @@ use Rattle.std.proofs.lemmas.Result.{IfOk-weaker}
 use Rattle.cc_places.specs.Abstract.{IsBelowAbs}
 use Rattle.cc_places.specs.laws.AbstractLaws.{abs_itself}
 use Rattle.cc_state_operators.specs.Domains.{domain}
-use Rattle.cc_rules_tests.proofs.Registers.{copy_below, kind_same, left_same_type, left_unlike, may_have, worked_unlike}
+use Rattle.cc_rules_tests.proofs.Registers.{copy_below, left_same_type, left_unlike, may_have, worked_unlike}
 use Rattle.cc_rules_tests.proofs.tested.Tested.left_alike.Goals as goal
 
 pub is_of_register-requires : goal.is_of_register-requires
@@ -28,16 +28,13 @@ returns-then-is_of_register g c =
       worked = IfOk-weaker c.left_of.result _ _ (λ z h k. h) c.left_of.ensures.worked;
     }
 
-pub copied-requires : goal.copied-requires
-copied-requires g c = kind_same c.args.y.now
-
 pub returns-else-is_of_register : goal.returns-else-is_of_register
 returns-else-is_of_register g c =
     let t = c.args.self.now in
     let y = c.args.y.now in
     record {
       trial = c.requires.trial;
-      left = IfOk-weaker c.copied.result _ _ (λ z e. left_unlike (domain g.I.Concrete.Has g.I.Lattice.IsBelow g.I.IntDomain.OpGives g.I.IntDomain.OpOneGives g.I.IntDomain.ToGives g.I.IntDomain.KeepGives g.I.IntDomain.members_of) t c.args.r y z c.is_of_register.result c.is_of_register.ensures c.if-is_of_register.false e) c.copied.ensures;
-      below = IfOk-weaker c.copied.result _ _ (λ z e. copy_below (IsBelowAbs g.I.Lattice.IsBelow) y z (abs_itself g.I.Lattice.AreAlike g.I.Lattice.IsBelow g.met.I.Lattice.below_itself g.met.I.IntDomain.all_alike y) e) c.copied.ensures;
-      worked = IfOk-weaker c.copied.result _ _ (λ z e. worked_unlike (domain g.I.Concrete.Has g.I.Lattice.IsBelow g.I.IntDomain.OpGives g.I.IntDomain.OpOneGives g.I.IntDomain.ToGives g.I.IntDomain.KeepGives g.I.IntDomain.members_of) t c.args.r y c.is_of_register.result c.is_of_register.ensures c.if-is_of_register.false) c.copied.ensures;
+      left = IfOk-weaker c.share.result _ _ (λ z e. left_unlike (domain g.I.Concrete.Has g.I.Lattice.IsBelow g.I.IntDomain.OpGives g.I.IntDomain.OpOneGives g.I.IntDomain.ToGives g.I.IntDomain.KeepGives g.I.IntDomain.members_of) t c.args.r y z c.is_of_register.result c.is_of_register.ensures c.if-is_of_register.false e) c.share.ensures;
+      below = IfOk-weaker c.share.result _ _ (λ z e. copy_below (IsBelowAbs g.I.Lattice.IsBelow) y z (abs_itself g.I.Lattice.AreAlike g.I.Lattice.IsBelow g.met.I.Lattice.below_itself g.met.I.IntDomain.all_alike y) e) c.share.ensures;
+      worked = IfOk-weaker c.share.result _ _ (λ z e. worked_unlike (domain g.I.Concrete.Has g.I.Lattice.IsBelow g.I.IntDomain.OpGives g.I.IntDomain.OpOneGives g.I.IntDomain.ToGives g.I.IntDomain.KeepGives g.I.IntDomain.members_of) t c.args.r y c.is_of_register.result c.is_of_register.ensures c.if-is_of_register.false) c.share.ensures;
     }

@@ -8,5 +8,5 @@ returns g c = (
   0,
   abs.Ints c.none.result,
   c.in_ok-registers.ensures,
-  c.in_ok-put_copies.ensures ∙ ap (λ xs. xs ++ c.args.c.now.sets.now) (c.in_ok-push.ensures.items ∙ ap (λ xs. xs ++ abs.Ints c.none.result ∷ []) c.new-sets.ensures.items),
+  c.in_ok-put_shared.ensures ∙ ap (λ xs. xs ++ c.args.c.now.sets.now) (c.in_ok-push.ensures.items ∙ (ap (λ xs. xs ++ c.in_ok-first.first ∷ []) c.new-sets.ensures.items ∙ ap (λ s. s ∷ []) c.in_ok-first.ensures)),
 )
