@@ -22,7 +22,8 @@ const ROW_LENGTH: usize = 16;
 fn local_of<I>(flow: &PointFact<I>, register: u32) -> Option<&Abs<I>>
     ensures { option_copied result ≡ local_of_fact flow.now register }
 {
-    at(flow.locals.all(), register as usize)
+    let set = at(flow.locals.all(), register as usize)?;
+    Some(set.get())
 }
 
 /// The set of a tracked cell.
@@ -30,7 +31,8 @@ fn cell_of<I>(flow: &PointFact<I>, cell: u32) -> Option<&Abs<I>>
     ensures { option_copied result ≡ cell_of_fact flow.now cell }
 {
     let row = at(flow.rows.all(), cell as usize / ROW_LENGTH)?;
-    at(row.get().cells.all(), cell as usize % ROW_LENGTH)
+    let set = at(row.get().cells.all(), cell as usize % ROW_LENGTH)?;
+    Some(set.get())
 }
 
 /// Whether a point has what flows to it of a register.

@@ -66,7 +66,14 @@ fn names_whole(to: ValueType, path: &[Part], index: u32, count: u32, a: PlaceTyp
     !leads_to_element(path) && count == 1 && index <= 1 && is_assignable_some(Some(to), a.address())
 }
 
-fn names(to: ValueType, path: &[Part], index: u32, count: u32, a: Option<PlaceType>) -> bool
+/// Whether an address with this path, index and count, which leads to a place, may stand in a pointer of a type.
+pub fn names_place(
+    to: ValueType,
+    path: &[Part],
+    index: u32,
+    count: u32,
+    a: Option<PlaceType>,
+) -> bool
     ensures { result ≡ names_of (value_view to.entry) path.now index count (option_map place_view a.entry) }
 {
     match a {
@@ -110,7 +117,7 @@ fn is_address(p: &Program, to: ValueType, a: &Address) -> bool
             index,
             count,
         } => {
-            names(
+            names_place(
                 to,
                 path.all(),
                 *index,

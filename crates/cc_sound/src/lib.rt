@@ -6,4 +6,5 @@ mod names;
 mod program;
 mod statements;
 
+pub use initial::names_place;
 pub use program::{is_numbered, is_sound};

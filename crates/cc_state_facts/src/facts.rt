@@ -73,8 +73,8 @@ pub struct Facts<I> {
 }
 
 impl<I> PointFact<I> {
-    /// The set of a tracked cell.
-    fn cell(&self, cell: u32) -> Option<&Abs<I>>
+    /// The set of a tracked cell, by its position among these.
+    pub fn cell(&self, cell: u32) -> Option<&Abs<I>>
         ensures { option_copied result ≡ cell_of self.now cell }
     {
         let row = at(self.rows.all(), cell as usize / ROW_LENGTH)?;
