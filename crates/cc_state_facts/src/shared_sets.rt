@@ -10,13 +10,21 @@ use cc_num::NoMemory;
 use cc_state_shared::Shared;
 use std::alloc::Global;
 
+/// Whether a set is below another one.
+fn is_shared_below<L: Lattice>(set: &Shared<L>, other: &Shared<L>) -> bool
+    requires { L.AreAlike set.now other.now }
+    ensures { IsTrue result ↔ L.IsBelow set.now other.now }
+{
+    set.get().below(other.get())
+}
+
 /// Whether each set is below the other one at its place.
 pub(crate) fn are_shared_below<L: Lattice>(sets: &[Shared<L>], others: &[Shared<L>]) -> bool
     requires { AllZip L.AreAlike sets.now others.now }
     ensures { IsTrue result ↔ AllZip L.IsBelow sets.now others.now }
 {
     for (at, set) in sets.iter().enumerate() {
-        if !set.get().below(others[at].get()) {
+        if !is_shared_below(set, &others[at]) {
             return false;
         }
     }
@@ -32,10 +40,10 @@ fn shared_join<L: Lattice>(
     requires { L.AreAlike set.now other.now }
     ensures { IfOk result (λ both. IsLeastUpperBound L.AreAlike L.IsBelow set.now other.now both) }
 {
-    if other.get().below(set.get()) {
+    if is_shared_below(other, set) {
         return set.share();
     }
-    if set.get().below(other.get()) {
+    if is_shared_below(set, other) {
         return other.share();
     }
     Shared::new(alloc, set.get().join(alloc, other.get())?)

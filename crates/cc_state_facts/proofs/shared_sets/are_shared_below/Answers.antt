@@ -9,8 +9,8 @@ bounds-others-at g c =
     let same = length_all_zip g.L.Lattice.AreAlike c.args.sets.now c.args.others.now c.requires in
     omega (arith, c.loop-at-test.true)
 
-pub below-requires : goal.below-requires
-below-requires g c =
+pub is_shared_below-requires : goal.is_shared_below-requires
+is_shared_below-requires g c =
     let m = g.L.Lattice in
     let xs = c.args.sets.now in
     let ys = c.args.others.now in
@@ -25,15 +25,15 @@ loop-at-preserved g c =
     let same = length_all_zip m.AreAlike xs ys c.requires in
     let lx : c.loop-at.at < length xs = omega (arith, c.loop-at-test.true) in
     let ly : c.loop-at.at < length ys = omega arith in
-    zip_more m.IsBelow xs ys c.loop-at.at c.index-sets-at.result c.index-others-at.result lx ly c.index-sets-at.is c.index-others-at.is c.loop-at.invariant (c.if-not-below.ensures.0 refl)
+    zip_more m.IsBelow xs ys c.loop-at.at c.index-sets-at.result c.index-others-at.result lx ly c.index-sets-at.is c.index-others-at.is c.loop-at.invariant (c.if-not-is_shared_below.ensures.0 refl)
 
-pub returns-then-not-below : goal.returns-then-not-below
-returns-then-not-below g c =
+pub returns-then-not-is_shared_below : goal.returns-then-not-is_shared_below
+returns-then-not-is_shared_below g c =
     let m = g.L.Lattice in
     let xs = c.args.sets.now in
     let ys = c.args.others.now in
     let lx : c.loop-at.at < length xs = omega (arith, c.loop-at-test.true) in
-    ((λ e. cc), (λ h. c.if-not-below.ensures.1 (zip_at m.IsBelow xs ys c.loop-at.at c.index-sets-at.result c.index-others-at.result h lx c.index-sets-at.is c.index-others-at.is)))
+    ((λ e. cc), (λ h. c.if-not-is_shared_below.ensures.1 (zip_at m.IsBelow xs ys c.loop-at.at c.index-sets-at.result c.index-others-at.result h lx c.index-sets-at.is c.index-others-at.is)))
 
 pub returns : goal.returns
 returns g c =

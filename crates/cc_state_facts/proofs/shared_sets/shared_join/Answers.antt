@@ -5,23 +5,23 @@ use Rattle.cc_lattice.specs.Orders.{IsLeastUpperBound}
 use Rattle.cc_state_facts.proofs.OneKind.{join_left, join_right}
 use Rattle.cc_state_facts.proofs.shared_sets.shared_join.Goals as goal
 
-pub below-requires : goal.below-requires
-below-requires g c = g.met.L.Lattice.alike_back c.args.set.now c.args.other.now c.requires
+pub is_shared_below-requires : goal.is_shared_below-requires
+is_shared_below-requires g c = g.met.L.Lattice.alike_back c.args.set.now c.args.other.now c.requires
 
-pub returns-then-below : goal.returns-then-below
-returns-then-below g c =
+pub returns-then-is_shared_below : goal.returns-then-is_shared_below
+returns-then-is_shared_below g c =
     let m = g.L.Lattice in
     let x = c.args.set.now in
     let y = c.args.other.now in
     IfOk-weaker c.share.result (λ s. s ≡ x) (λ s. IsLeastUpperBound m.AreAlike m.IsBelow x y s)
-    (λ s e. subst (IsLeastUpperBound m.AreAlike m.IsBelow x y) (sym e) (join_left m.AreAlike m.IsBelow g.met.L.Lattice.alike_itself g.met.L.Lattice.alike_back g.met.L.Lattice.below_itself x y c.requires (c.if-below.ensures.0 refl)))
+    (λ s e. subst (IsLeastUpperBound m.AreAlike m.IsBelow x y) (sym e) (join_left m.AreAlike m.IsBelow g.met.L.Lattice.alike_itself g.met.L.Lattice.alike_back g.met.L.Lattice.below_itself x y c.requires (c.if-is_shared_below.ensures.0 refl)))
     c.share.ensures
 
-pub returns-then-below-2 : goal.returns-then-below-2
-returns-then-below-2 g c =
+pub returns-then-is_shared_below-2 : goal.returns-then-is_shared_below-2
+returns-then-is_shared_below-2 g c =
     let m = g.L.Lattice in
     let x = c.args.set.now in
     let y = c.args.other.now in
-    IfOk-weaker c.share-then-below-2.result (λ s. s ≡ y) (λ s. IsLeastUpperBound m.AreAlike m.IsBelow x y s)
-    (λ s e. subst (IsLeastUpperBound m.AreAlike m.IsBelow x y) (sym e) (join_right m.AreAlike m.IsBelow g.met.L.Lattice.alike_itself g.met.L.Lattice.alike_back g.met.L.Lattice.below_itself x y c.requires (c.if-below-2.ensures.0 refl)))
-    c.share-then-below-2.ensures
+    IfOk-weaker c.share-then-is_shared_below-2.result (λ s. s ≡ y) (λ s. IsLeastUpperBound m.AreAlike m.IsBelow x y s)
+    (λ s e. subst (IsLeastUpperBound m.AreAlike m.IsBelow x y) (sym e) (join_right m.AreAlike m.IsBelow g.met.L.Lattice.alike_itself g.met.L.Lattice.alike_back g.met.L.Lattice.below_itself x y c.requires (c.if-is_shared_below-2.ensures.0 refl)))
+    c.share-then-is_shared_below-2.ensures
