@@ -15,7 +15,8 @@ use cc_lattice::IntDomain;
 use cc_num::{List, NoMemory};
 use cc_rules_flows::Here;
 use cc_rules_needs::{Part, Slot};
-use cc_state_facts::{PointFact, copied_point, may_enter};
+use cc_state_facts::{PointFact, may_enter};
+use cc_state_shared::share_all;
 use std::alloc::Global;
 
 /// A function that is a handler.
@@ -31,16 +32,18 @@ pub struct Handler {
     pub registers: u32,
 }
 
-/// What is known where a handler is entered from a point.
+/// What is known where a handler is entered from a point. The rows are shared.
 fn entered<I: IntDomain>(alloc: Global, fact: &PointFact<I>) -> Result<PointFact<I>, NoMemory>
     ensures { IfOk result (λ made. made ≡ fact_entered fact.now) }
 {
-    let mut made = copied_point(alloc, fact)?;
-    made.off = true;
-    made.on = false;
-    made.locals = List::of(Vec::new(alloc));
-    made.same = List::of(Vec::new(alloc));
-    Ok(made)
+    let rows = share_all(alloc, fact.rows.all())?;
+    Ok(PointFact {
+        off: true,
+        on: false,
+        locals: List::of(Vec::new(alloc)),
+        rows: List::of(rows),
+        same: List::of(Vec::new(alloc)),
+    })
 }
 
 /// The levels at which it runs: its own, or at level 0 those of the function.

@@ -20,8 +20,9 @@ ghost use Rattle.cc_state_operators.specs.Domains.{domain};
 
 use crate::call::{Call, called};
 use crate::called::called_here;
+use crate::known::with_locals;
 use cc_lattice::{IntDomain, Lattice};
-use cc_num::{List, NoMemory, at};
+use cc_num::{NoMemory, at};
 use cc_places::Abs;
 use cc_rules_asked::{Asked, copied_set};
 use cc_rules_flows::{Act, Here};
@@ -131,10 +132,8 @@ fn behind<I: IntDomain>(
     requires { IfSome given (λ g. g.0 < length fact.now.locals) }
     ensures { IfOk result (λ made. made ≡ fact_behind fact.now exit.now given) }
 {
-    let mut made = copied_point(alloc, exit)?;
-    made.locals = List::of(locals_behind(alloc, fact.locals.all(), given)?);
-    made.same = List::of(Vec::new(alloc));
-    Ok(made)
+    let locals = locals_behind(alloc, fact.locals.all(), given)?;
+    with_locals(alloc, exit, locals)
 }
 
 /// The same of each next point.

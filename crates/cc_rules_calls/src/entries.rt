@@ -7,7 +7,7 @@ ghost use Rattle.cc_rules.specs.Constraints.{Call as CallRule};
 ghost use Rattle.cc_rules_asked.specs.Asks.{AsksHere, ArePureHere};
 ghost use Rattle.cc_rules_calls.specs.Called.{sets_of as sets_of_of};
 ghost use Rattle.cc_rules_functions.specs.Functions.{AreFunctionsOf};
-ghost use Rattle.cc_rules_calls.specs.Here.{MayCallHere, part_whole, parts_whole, fact_with, marks_called, asked_entered, asked_of_one, asked_of_all, AreEntries};
+ghost use Rattle.cc_rules_calls.specs.Here.{MayCallHere, part_whole, parts_whole, marks_called, asked_entered, asked_of_one, asked_of_all, AreEntries};
 ghost use Rattle.cc_rules_flows.specs.Acts.{Calls};
 ghost use Rattle.cc_rules_flows.specs.Here.{IsHere};
 ghost use Rattle.cc_rules_flows.specs.View.{act_view};
@@ -16,15 +16,16 @@ ghost use Rattle.cc_state_operators.specs.Domains.{domain};
 
 use crate::call::{Call, called};
 use crate::called::{called_here, values_here};
+use crate::known::with_locals;
 use cc_lattice::IntDomain;
-use cc_num::{List, NoMemory, at};
+use cc_num::{NoMemory, at};
 use cc_places::Abs;
 use cc_program::Program;
 use cc_rules_asked::{Asked, copied_set, levels, mark};
 use cc_rules_flows::{Act, Here};
 use cc_rules_functions::Function;
 use cc_rules_needs::{Part, Slot};
-use cc_state_facts::{Key, PointFact, Shared, copied_point};
+use cc_state_facts::{Key, Shared};
 use cc_state_keys::key_number;
 use std::alloc::Global;
 
@@ -54,20 +55,6 @@ fn sets_of<I: IntDomain>(
         put_set(&mut locals, at(sets, *register as usize))?;
     }
     Ok(locals)
-}
-
-/// What is known where a function is entered from a point.
-fn entered<I: IntDomain>(
-    alloc: Global,
-    fact: &PointFact<I>,
-    locals: Vec<Shared<Abs<I>>>,
-) -> Result<PointFact<I>, NoMemory>
-    ensures { IfOk result (λ made. made ≡ fact_with fact.now locals.items) }
-{
-    let mut made = copied_point(alloc, fact)?;
-    made.locals = List::of(locals);
-    made.same = List::of(Vec::new(alloc));
-    Ok(made)
 }
 
 /// The number of a key of a program, where it is one.
@@ -173,7 +160,7 @@ fn put_entered<I: IntDomain>(
     put_marks(asked, here, id)?;
     let registers = function.registers.all();
     let locals = sets_of(alloc, sets, registers)?;
-    let flow = entered(alloc, here.fact, locals)?;
+    let flow = with_locals(alloc, here.fact, locals)?;
     asked.push(Asked::Point {
         number: function.entry,
         registers: registers.len() as u32,

@@ -5,6 +5,7 @@ mod backs;
 mod call;
 mod called;
 mod entries;
+mod known;
 mod law;
 
 pub use backs::asked_by_back;

@@ -1,4 +1,4 @@
-ghost use Rattle.std.specs.Prelude.{◌≡◌, ◌<◌, ℕ, map, length, All, IfOk, Some, None};
+ghost use Rattle.std.specs.Prelude.{◌≡◌, ◌<◌, ◌++◌, ℕ, map, length, All, IfOk, OnOk, Some, None};
 ghost use Rattle.cc_program.specs.declared.expr.Place.{out-Place};
 ghost use Rattle.cc_rules_flows.specs.Acts.{Sets, Reads, Writes, Saves, Turns, Restores};
 ghost use Rattle.cc_rules_flows.specs.Flows.{tests_of};
@@ -40,19 +40,38 @@ pub struct Here<'a, I> {
     pub fact: &'a PointFact<I>,
 }
 
-/// The same to each of some points.
-fn to_all<I: IntDomain>(
+/// Puts a copy for each of some points.
+fn put_copies<I: IntDomain>(
     alloc: Global,
+    all: &mut Vec<(u32, PointFact<I>)>,
     next: &[u32],
     fact: &PointFact<I>,
-) -> Result<Vec<(u32, PointFact<I>)>, NoMemory>
-    ensures { IfOk result (λ all. all.items ≡ map (λ k. (k, fact.now)) next.now) }
+) -> Result<(), NoMemory>
+    ensures { OnOk result (all.new.items ≡ all.old.items ++ map (λ k. (k, fact.now)) next.now) }
 {
-    let mut all = Vec::new(alloc);
     for k in next {
         all.push((*k, copied_point(alloc, fact)?))?;
     }
-    Ok(all)
+    Ok(())
+}
+
+/// The same to each of some points. Only those before the last get copies.
+fn to_all<I: IntDomain>(
+    alloc: Global,
+    next: &[u32],
+    fact: PointFact<I>,
+) -> Result<Vec<(u32, PointFact<I>)>, NoMemory>
+    ensures { IfOk result (λ all. all.items ≡ map (λ k. (k, fact)) next.now) }
+{
+    let mut all = Vec::new(alloc);
+    match next {
+        [] => Ok(all),
+        [before @ .., last] => {
+            put_copies(alloc, &mut all, before, &fact)?;
+            all.push((*last, fact))?;
+            Ok(all)
+        }
+    }
 }
 
 impl<'a, I: IntDomain> Here<'a, I> {
@@ -227,7 +246,7 @@ impl<'a, I: IntDomain> Here<'a, I> {
         let known = self.fact_after(alloc, act)?;
         match known {
             None => Ok(Vec::new(alloc)),
-            Some(fact) => to_all(alloc, self.point.next.all(), &fact),
+            Some(fact) => to_all(alloc, self.point.next.all(), fact),
         }
     }
 }

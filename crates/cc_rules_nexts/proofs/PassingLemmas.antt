@@ -1,8 +1,7 @@
 -- What is asked of the next points where the same flows to all of them.
-use Rattle.std.proofs.Common.{◌≡◌, ◌⊎◌, inl, inr, ◌==◌, ◌<◌, ◌+◌, ℕ, Bool, true, false, not, ◌||◌, cond, List, [], ◌∷◌, ◌++◌, map, length, take, get_or, All, Contains, None, refl, ap, sym, subst, ◌∙◌}
+use Rattle.std.proofs.Common.{◌≡◌, ◌⊎◌, inl, inr, ◌==◌, ◌<◌, ◌+◌, ℕ, Bool, true, false, not, ◌||◌, cond, List, [], ◌∷◌, ◌++◌, map, length, All, Contains, None, refl, ap, sym, subst, ◌∙◌}
 use Rattle.std.specs.List.{filter}
 use Rattle.std.proofs.lemmas.Bool.{eq-eqb}
-use Rattle.std.proofs.lemmas.List.{map-append, take_more}
 use Rattle.std.proofs.lemmas.List.Elements.{All-nil, All-cons, All-head, All-tail, All-same}
 use Rattle.cc_places.specs.declared.abs.Abs.{Abs}
 use Rattle.cc_places.specs.declared.abs.Abs.TheVariants as abs
@@ -28,13 +27,6 @@ use Rattle.cc_state_facts.specs.declared.facts.PointFact.{PointFact}
 use Rattle.cc_state_keys.specs.Tracked.{registers, tracked}
 use Rattle.cc_state_operators.specs.Domains.{Domain}
 use Rattle.cc_state_reads.specs.Reads.{tracked_in}
-
--- ---- what is asked of points that are told
-
--- one more of a list that a function makes
-pub mapped_more : {A B : Type 0} (f : A → B) (xs : List A) (i : ℕ) (x : A) (y : B) (made : List B) → i < length xs → x ≡ get_or xs i x → y ≡ f x → made ≡ map f (take i xs) → made ++ y ∷ [] ≡ map f (take (i + 1) xs)
-mapped_more f xs i x y made l is e m =
-    ap (λ ys. ys ++ y ∷ []) m ∙ (ap (λ z. map f (take i xs) ++ z ∷ []) (e ∙ ap f is) ∙ (sym (map-append f (take i xs) (get_or xs i x ∷ [])) ∙ ap (map f) (sym (take_more xs i x l))))
 
 -- ---- one flow to many points
 

@@ -13,24 +13,23 @@ use cc_lattice::IntDomain;
 use cc_num::NoMemory;
 use cc_rules_asked::Asked;
 use cc_rules_flows::{Act, Here};
-use cc_state_facts::{PointFact, copied_point};
+use cc_state_facts::PointFact;
 use std::alloc::Global;
 
 /// Asks of each point what is told to flow there.
 fn points_told<I: IntDomain>(
     alloc: Global,
-    told: &[(u32, PointFact<I>)],
+    told: Vec<(u32, PointFact<I>)>,
     registers: u32,
 ) -> Result<Vec<Asked<I>>, NoMemory>
-    ensures { IfOk result (λ asked. asked.items ≡ map (point_told registers) told.now) }
+    ensures { IfOk result (λ asked. asked.items ≡ map (point_told registers) told.items) }
 {
     let mut asked = Vec::new(alloc);
-    for flow in told {
-        let fact = copied_point(alloc, &flow.1)?;
+    for (number, flow) in told {
         asked.push(Asked::Point {
-            number: flow.0,
+            number,
             registers,
-            flow: fact,
+            flow,
         })?;
     }
     Ok(asked)
@@ -50,5 +49,5 @@ pub fn asked_by_flow<I: IntDomain>(
 {
     let told = here.after(alloc, act)?;
     let registers = here.context.registers.len() as u32;
-    points_told(alloc, told.as_slice(), registers)
+    points_told(alloc, told, registers)
 }

@@ -1,4 +1,4 @@
-use Rattle.std.proofs.Common.{◌≡◌, map, length, refl, ap, ◌∙◌}
+use Rattle.std.proofs.Common.{◌≡◌, map, length, refl, ap}
 use Rattle.std.proofs.lemmas.Result.{IfOk-weaker}
 use Rattle.cc_places.specs.laws.AbstractLaws.{abs_itself}
 use Rattle.cc_rules_flows.specs.View.{act_view}
@@ -16,11 +16,11 @@ returns g c =
     let count = length c.args.here.now.context.registers.now in
     record {
       asked =
-          IfOk-weaker c.points_told.result (λ list. list.items ≡ map (point_told count) c.as_slice.result.now) _
+          IfOk-weaker c.points_told.result (λ list. list.items ≡ map (point_told count) c.in_ok-told.told.items) _
           (λ list e. passing_asked (domain g.I.Concrete.Has g.I.Lattice.IsBelow g.I.IntDomain.OpGives g.I.IntDomain.OpOneGives g.I.IntDomain.ToGives g.I.IntDomain.KeepGives g.I.IntDomain.members_of) c.args.here.now kind_of itself (act_view c.args.act) count c.in_ok-told.told.items list.items c.in_ok-told.ensures.flows c.requires.tests_none
-          (ap length c.requires.here.registers) (e ∙ ap (map (point_told count)) c.as_slice.ensures.value)) c.points_told.ensures;
+          (ap length c.requires.here.registers) e) c.points_told.ensures;
       onward =
-          IfOk-weaker c.points_told.result (λ list. list.items ≡ map (point_told count) c.as_slice.result.now) _
+          IfOk-weaker c.points_told.result (λ list. list.items ≡ map (point_told count) c.in_ok-told.told.items) _
           (λ list e. passing_onward (domain g.I.Concrete.Has g.I.Lattice.IsBelow g.I.IntDomain.OpGives g.I.IntDomain.OpOneGives g.I.IntDomain.ToGives g.I.IntDomain.KeepGives g.I.IntDomain.members_of) c.args.here.now (act_view c.args.act) count c.in_ok-told.told.items list.items c.in_ok-told.ensures.flows c.requires.tests_none
-          refl c.in_ok-told.ensures.kept (e ∙ ap (map (point_told count)) c.as_slice.ensures.value)) c.points_told.ensures;
+          refl c.in_ok-told.ensures.kept e) c.points_told.ensures;
     }
