@@ -89,13 +89,7 @@ impl<'p> Body<'p> {
         Ok(constant_or(unary_type(op, t), constant, e))
     }
 
-    pub fn folded_bin(
-        self,
-        op: BinOp,
-        t: IntType,
-        a: Expr,
-        b: Expr,
-    ) -> Result<Expr, NoMemory>
+    pub fn folded_bin(self, op: BinOp, t: IntType, a: Expr, b: Expr) -> Result<Expr, NoMemory>
         ensures { IfOk result (λ e. e ≡ folded_bin_of self.entry.program.now self.entry.func.now declared_type_of is_same_type_of op t a b) }
     {
         let constant = constant_in(&a).binary(op, t, constant_in(&b), self.target());
