@@ -10,7 +10,7 @@ use Rattle.cc_program.specs.declared.expr.Expr.TheOpen as one
 use Rattle.cc_program.specs.declared.expr.Place.{Place, out-Place, roll-Place, roll-out-Place, map-Place, fold-roll-Place}
 use Rattle.cc_program.specs.declared.func.Func.{Func}
 use Rattle.cc_program.specs.declared.program.Program.{Program}
-use Rattle.cc_rules_flows.specs.Tests.{Is, Equals, Differs, passing, turned}
+use Rattle.cc_rules_flows.specs.Tests.{Is, passing, turned}
 use Rattle.cc_rules_tests.specs.Forms.{comparison_in}
 use Rattle.cc_rules_tests.specs.Reads.{PlaceReads, place_read_step, place_reads, read_step, reads}
 use Rattle.cc_rules_tests.specs.Tested.{IsLeftIn, IsOperandIn, ReadsLocal, test_of}

@@ -1,5 +1,5 @@
 -- What was kept, or what is worked now.
-use Rattle.std.proofs.Common.{All, subst}
+use Rattle.std.proofs.Common.{subst}
 use Rattle.std.specs.List.{Contains}
 use Rattle.std.specs.Option.{IfSome}
 use Rattle.std.proofs.lemmas.List.Elements.{All-contains}
