@@ -1,6 +1,6 @@
 //! What flows to a point, with an empty set for each register of which it tells nothing.
 
-ghost use Rattle.std.specs.Prelude.{◌≡◌, ◌≤◌, ◌++◌, ℕ, List as ListOf, length, map, slice_get, option_and_then, IfOk, OnOk};
+ghost use Rattle.std.specs.Prelude.{true, false, ◌≡◌, ◌≤◌, ◌++◌, ℕ, List as ListOf, length, map, slice_get, option_and_then, IfOk, OnOk};
 ghost use Rattle.cc_places.specs.declared.abs.Abs.{Abs as AbsOf};
 ghost use Rattle.std.specs.List.{AllZip};
 ghost use Rattle.std.specs.Option.{option_copied};
@@ -123,7 +123,24 @@ fn kinds_at<I: IntDomain>(
     }
 }
 
-/// Puts the empty set of each kind behind some sets.
+/// The set of integers, or the one of addresses.
+fn of_kind<I: IntDomain>(
+    is_address: bool,
+    integers: &Shared<Abs<I>>,
+    addresses: &Shared<Abs<I>>,
+) -> Result<Shared<Abs<I>>, NoMemory>
+    requires integers { IsNone I.Has false integers.now }
+    requires addresses { IsNone I.Has true addresses.now }
+    ensures { IfOk result (λ set. IsNone I.Has is_address set) }
+{
+    if is_address {
+        addresses.share()
+    } else {
+        integers.share()
+    }
+}
+
+/// Puts the empty set of each kind behind some sets. Those of one kind are shared.
 fn put_nones<I: IntDomain>(
     alloc: Global,
     sets: &mut Vec<Shared<Abs<I>>>,
@@ -131,8 +148,12 @@ fn put_nones<I: IntDomain>(
 ) -> Result<(), NoMemory>
     ensures { OnOk result ((nones : ListOf (AbsOf I)) × (sets.new.items ≡ sets.old.items ++ nones) × AllZip (IsNone I.Has) kinds.now nones) }
 {
+    let no_integer = none_of(alloc, false);
+    let no_address = none_of(alloc, true);
+    let integers = Shared::new(alloc, no_integer)?;
+    let addresses = Shared::new(alloc, no_address)?;
     for kind in kinds {
-        let none = Shared::new(alloc, none_of(alloc, *kind))?;
+        let none = of_kind(*kind, &integers, &addresses)?;
         sets.push(none)?;
     }
     Ok(())
