@@ -7,21 +7,19 @@ ghost use Rattle.cc_rules_choices.specs.Choices.{choices_of};
 ghost use Rattle.cc_rules_choices.specs.declared.choices.Choice.{Choice as ChoiceOf};
 ghost use Rattle.cc_rules_choices.specs.Sided.{AreMembersWorked, AreWorkedHere, DoFlow, IsLike, IsRefined, IsSideTold, MayTest, fact_to};
 ghost use Rattle.cc_rules_flows.specs.Here.{IsHere};
-ghost use Rattle.cc_rules_tests.specs.Tested.{IsTested, IsTrialOf, labels_of, test_of};
+ghost use Rattle.cc_rules_tests.specs.Tested.{IsTested, labels_of, test_of};
+ghost use Rattle.cc_rules_tests.specs.Trials.{IsTrialOf};
 ghost use Rattle.cc_state_facts.specs.declared.facts.PointFact.{PointFact as PointFactOf};
 ghost use Rattle.cc_state_operators.specs.Domains.{domain};
-ghost use Rattle.cc_state_values.specs.Contexts.{IsValIn};
 
 use crate::choices::Choice;
 use cc_lattice::IntDomain;
 use cc_num::{List, NoMemory};
-use cc_places::Abs;
 use cc_program::Expr;
 use cc_rules_flows::Here;
 use cc_rules_sides::{is_one_emptied, left_locals, left_rows};
 use cc_rules_tests::{Test, Tested, Trial, passes};
 use cc_state_facts::PointFact;
-use cc_state_values::value_of;
 use std::alloc::Global;
 
 /// What is known at the point, each set as a test leaves it. None where a register with a value has none left.
@@ -35,8 +33,8 @@ fn refined<I: IntDomain>(
     requires may { MayTest (domain I.Has I.IsBelow I.OpGives I.OpOneGives I.ToGives I.KeepGives I.members_of) here.now tested.now.expression.now }
     requires tested { IsTested (domain I.Has I.IsBelow I.OpGives I.OpOneGives I.ToGives I.KeepGives I.members_of) tested.now }
     requires context { tested.now.context.now ≡ here.now.context }
-    requires trial { IsTrialOf here.now.context trial.old }
-    ensures trial { IsTrialOf here.now.context trial.new }
+    requires trial { IsTrialOf (domain I.Has I.IsBelow I.OpGives I.OpOneGives I.ToGives I.KeepGives I.members_of) here.now.context tested.now.expression.now trial.old }
+    ensures trial { IsTrialOf (domain I.Has I.IsBelow I.OpGives I.OpOneGives I.ToGives I.KeepGives I.members_of) here.now.context tested.now.expression.now trial.new }
     ensures refined { IfOk result (λ told. IsRefined (domain I.Has I.IsBelow I.OpGives I.OpOneGives I.ToGives I.KeepGives I.members_of) here.now tested.now.expression.now (test_of tested.now.test) told) }
     ensures like { IfOk result (λ told. IfSome told (IsLike (domain I.Has I.IsBelow I.OpGives I.OpOneGives I.ToGives I.KeepGives I.members_of) here.now)) }
     ensures members { IfOk result (λ told. AreMembersWorked (domain I.Has I.IsBelow I.OpGives I.OpOneGives I.ToGives I.KeepGives I.members_of) here.now tested.now.expression.now (test_of tested.now.test)) }
@@ -67,20 +65,18 @@ fn side<I: IntDomain>(
     here: &Here<'_, I>,
     trial: &mut Trial<I>,
     e: &Expr,
-    value: &Abs<I>,
     test: Test<'_>,
 ) -> Result<Option<PointFact<I>>, NoMemory>
     requires here { IsHere (domain I.Has I.IsBelow I.OpGives I.OpOneGives I.ToGives I.KeepGives I.members_of) here.now }
     requires may { MayTest (domain I.Has I.IsBelow I.OpGives I.OpOneGives I.ToGives I.KeepGives I.members_of) here.now e.now }
     requires labels { (n : ℤ) → Contains (labels_of (test_of test)) n → IsIntValue n }
-    requires trial { IsTrialOf here.now.context trial.old }
-    requires value { IsValIn (domain I.Has I.IsBelow I.OpGives I.OpOneGives I.ToGives I.KeepGives I.members_of) here.now.context e.now value.now }
-    ensures trial { IsTrialOf here.now.context trial.new }
+    requires trial { IsTrialOf (domain I.Has I.IsBelow I.OpGives I.OpOneGives I.ToGives I.KeepGives I.members_of) here.now.context e.now trial.old }
+    ensures trial { IsTrialOf (domain I.Has I.IsBelow I.OpGives I.OpOneGives I.ToGives I.KeepGives I.members_of) here.now.context e.now trial.new }
     ensures told { IfOk result (λ told. IsSideTold (domain I.Has I.IsBelow I.OpGives I.OpOneGives I.ToGives I.KeepGives I.members_of) here.now e.now (test_of test.entry) told) }
     ensures like { IfOk result (λ told. IfSome told (IsLike (domain I.Has I.IsBelow I.OpGives I.OpOneGives I.ToGives I.KeepGives I.members_of) here.now)) }
     ensures worked { IfOk result (λ told. AreWorkedHere (domain I.Has I.IsBelow I.OpGives I.OpOneGives I.ToGives I.KeepGives I.members_of) here.now e.now (test_of test.entry)) }
 {
-    if !passes(test, value) {
+    if !passes(test, trial.whole()) {
         return Ok(None);
     }
     let tested = Tested {
@@ -114,27 +110,25 @@ fn put_told<I: IntDomain>(
     }
 }
 
-/// What flows from the tests of an expression that gives this value, one after the other.
+/// What flows from the tests of an expression, one after the other.
 fn tested_sides<I: IntDomain>(
     alloc: Global,
     here: &Here<'_, I>,
     trial: &mut Trial<I>,
     e: &Expr,
-    value: &Abs<I>,
     choices: &[Choice<'_>],
 ) -> Result<Vec<(u32, PointFact<I>)>, NoMemory>
     requires here { IsHere (domain I.Has I.IsBelow I.OpGives I.OpOneGives I.ToGives I.KeepGives I.members_of) here.now }
     requires may { MayTest (domain I.Has I.IsBelow I.OpGives I.OpOneGives I.ToGives I.KeepGives I.members_of) here.now e.now }
     requires labels { (choice : ChoiceOf) → Contains choices.now choice → (n : ℤ) → Contains (labels_of (test_of choice.test)) n → IsIntValue n }
-    requires trial { IsTrialOf here.now.context trial.old }
-    requires value { IsValIn (domain I.Has I.IsBelow I.OpGives I.OpOneGives I.ToGives I.KeepGives I.members_of) here.now.context e.now value.now }
+    requires trial { IsTrialOf (domain I.Has I.IsBelow I.OpGives I.OpOneGives I.ToGives I.KeepGives I.members_of) here.now.context e.now trial.old }
     ensures flows { IfOk result (λ told. DoFlow (domain I.Has I.IsBelow I.OpGives I.OpOneGives I.ToGives I.KeepGives I.members_of) here.now e.now (choices_of choices.now) told.items) }
     ensures like { IfOk result (λ told. All (λ (flow : ℕ × PointFactOf I). IsLike (domain I.Has I.IsBelow I.OpGives I.OpOneGives I.ToGives I.KeepGives I.members_of) here.now flow.1) told.items) }
     ensures worked { IfOk result (λ told. (choice : ChoiceOf) → Contains choices.now choice → AreWorkedHere (domain I.Has I.IsBelow I.OpGives I.OpOneGives I.ToGives I.KeepGives I.members_of) here.now e.now (test_of choice.test)) }
 {
     let mut told = Vec::new(alloc);
     for choice in choices {
-        let fact = side(alloc, here, trial, e, value, choice.test)?;
+        let fact = side(alloc, here, trial, e, choice.test)?;
         put_told(&mut told, choice.point, fact)?;
     }
     Ok(told)
@@ -154,7 +148,6 @@ pub(crate) fn sides<I: IntDomain>(
     ensures like { IfOk result (λ told. All (λ (flow : ℕ × PointFactOf I). IsLike (domain I.Has I.IsBelow I.OpGives I.OpOneGives I.ToGives I.KeepGives I.members_of) here.now flow.1) told.items) }
     ensures worked { IfOk result (λ told. (choice : ChoiceOf) → Contains choices.now choice → AreWorkedHere (domain I.Has I.IsBelow I.OpGives I.OpOneGives I.ToGives I.KeepGives I.members_of) here.now e.now (test_of choice.test)) }
 {
-    let value = value_of(alloc, &here.context, e)?;
-    let mut trial = Trial::new(alloc, &here.context)?;
-    tested_sides(alloc, here, &mut trial, e, &value, choices)
+    let mut trial = Trial::new(alloc, &here.context, e)?;
+    tested_sides(alloc, here, &mut trial, e, choices)
 }

@@ -2,7 +2,8 @@
 
 ghost use Rattle.std.specs.Prelude.{◌≡◌, ◌<◌, ◌+◌, ◌*◌, ◌^◌, length, true, IfOk};
 ghost use Rattle.cc_rules_sides.specs.Refined.{AreCellsLeft, AreNumbered, AreRegisters, AreRowsLeft, IsCellLeft, IsLeftMore, IsNumbered, equal_from, has_pairs_in as has_pairs_of};
-ghost use Rattle.cc_rules_tests.specs.Tested.{IsTested, IsTrialOf};
+ghost use Rattle.cc_rules_tests.specs.Tested.{IsTested};
+ghost use Rattle.cc_rules_tests.specs.Trials.{IsTrialOf};
 ghost use Rattle.cc_state_facts.specs.Facts.{row_length};
 ghost use Rattle.cc_state_operators.specs.Domains.{domain};
 ghost use Rattle.cc_syntax.specs.Registers.{is_register};
@@ -27,9 +28,9 @@ fn left_more<I: IntDomain>(
     set: Shared<Abs<I>>,
 ) -> Result<Shared<Abs<I>>, NoMemory>
     requires tested { IsTested (domain I.Has I.IsBelow I.OpGives I.OpOneGives I.ToGives I.KeepGives I.members_of) tested.now }
-    requires trial { IsTrialOf tested.now.context.now trial.old }
+    requires trial { IsTrialOf (domain I.Has I.IsBelow I.OpGives I.OpOneGives I.ToGives I.KeepGives I.members_of) tested.now.context.now tested.now.expression.now trial.old }
     requires register { is_register tested.now.context.now.func.now r ≡ true }
-    ensures trial { IsTrialOf tested.now.context.now trial.new }
+    ensures trial { IsTrialOf (domain I.Has I.IsBelow I.OpGives I.OpOneGives I.ToGives I.KeepGives I.members_of) tested.now.context.now tested.now.expression.now trial.new }
     ensures left { IfOk result (λ z. IsLeftMore (domain I.Has I.IsBelow I.OpGives I.OpOneGives I.ToGives I.KeepGives I.members_of) tested.now is_equal r set z) }
 {
     if is_equal {
@@ -49,10 +50,10 @@ fn left_cell<I: IntDomain>(
     set: &Shared<Abs<I>>,
 ) -> Result<Shared<Abs<I>>, NoMemory>
     requires tested { IsTested (domain I.Has I.IsBelow I.OpGives I.OpOneGives I.ToGives I.KeepGives I.members_of) tested.now }
-    requires trial { IsTrialOf tested.now.context.now trial.old }
+    requires trial { IsTrialOf (domain I.Has I.IsBelow I.OpGives I.OpOneGives I.ToGives I.KeepGives I.members_of) tested.now.context.now tested.now.expression.now trial.old }
     requires registers { AreRegisters tested.now.context.now }
     requires few { length tested.now.context.now.registers.now < 2 ^ 32 }
-    ensures trial { IsTrialOf tested.now.context.now trial.new }
+    ensures trial { IsTrialOf (domain I.Has I.IsBelow I.OpGives I.OpOneGives I.ToGives I.KeepGives I.members_of) tested.now.context.now tested.now.expression.now trial.new }
     ensures left { IfOk result (λ z. IsCellLeft (domain I.Has I.IsBelow I.OpGives I.OpOneGives I.ToGives I.KeepGives I.members_of) tested.now (equal_from fact.now cell 0 tested.now.context.now.registers.now) set.now z) }
 {
     let registers = tested.context.registers;
@@ -82,11 +83,11 @@ fn left_cells<I: IntDomain>(
     sets: &[Shared<Abs<I>>],
 ) -> Result<Vec<Shared<Abs<I>>>, NoMemory>
     requires tested { IsTested (domain I.Has I.IsBelow I.OpGives I.OpOneGives I.ToGives I.KeepGives I.members_of) tested.now }
-    requires trial { IsTrialOf tested.now.context.now trial.old }
+    requires trial { IsTrialOf (domain I.Has I.IsBelow I.OpGives I.OpOneGives I.ToGives I.KeepGives I.members_of) tested.now.context.now tested.now.expression.now trial.old }
     requires registers { AreRegisters tested.now.context.now }
     requires few { length tested.now.context.now.registers.now < 2 ^ 32 }
     requires cells { IsNumbered row sets.now }
-    ensures trial { IsTrialOf tested.now.context.now trial.new }
+    ensures trial { IsTrialOf (domain I.Has I.IsBelow I.OpGives I.OpOneGives I.ToGives I.KeepGives I.members_of) tested.now.context.now tested.now.expression.now trial.new }
     ensures left { IfOk result (λ left. AreCellsLeft (domain I.Has I.IsBelow I.OpGives I.OpOneGives I.ToGives I.KeepGives I.members_of) tested.now fact.now row sets.now left.items) }
 {
     let mut left = Vec::new(alloc);
@@ -120,11 +121,11 @@ fn left_row<I: IntDomain>(
     row: &Shared<Row<I>>,
 ) -> Result<Shared<Row<I>>, NoMemory>
     requires tested { IsTested (domain I.Has I.IsBelow I.OpGives I.OpOneGives I.ToGives I.KeepGives I.members_of) tested.now }
-    requires trial { IsTrialOf tested.now.context.now trial.old }
+    requires trial { IsTrialOf (domain I.Has I.IsBelow I.OpGives I.OpOneGives I.ToGives I.KeepGives I.members_of) tested.now.context.now tested.now.expression.now trial.old }
     requires registers { AreRegisters tested.now.context.now }
     requires few { length tested.now.context.now.registers.now < 2 ^ 32 }
     requires cells { IsNumbered number row.now.cells }
-    ensures trial { IsTrialOf tested.now.context.now trial.new }
+    ensures trial { IsTrialOf (domain I.Has I.IsBelow I.OpGives I.OpOneGives I.ToGives I.KeepGives I.members_of) tested.now.context.now tested.now.expression.now trial.new }
     ensures left { IfOk result (λ made. AreCellsLeft (domain I.Has I.IsBelow I.OpGives I.OpOneGives I.ToGives I.KeepGives I.members_of) tested.now fact.now number row.now.cells made.cells) }
 {
     if !has_pairs_in(fact.same.all(), number) {
@@ -143,11 +144,11 @@ pub fn left_rows<I: IntDomain>(
     fact: &PointFact<I>,
 ) -> Result<Vec<Shared<Row<I>>>, NoMemory>
     requires tested { IsTested (domain I.Has I.IsBelow I.OpGives I.OpOneGives I.ToGives I.KeepGives I.members_of) tested.now }
-    requires trial { IsTrialOf tested.now.context.now trial.old }
+    requires trial { IsTrialOf (domain I.Has I.IsBelow I.OpGives I.OpOneGives I.ToGives I.KeepGives I.members_of) tested.now.context.now tested.now.expression.now trial.old }
     requires registers { AreRegisters tested.now.context.now }
     requires few { length tested.now.context.now.registers.now < 2 ^ 32 }
     requires cells { AreNumbered fact.now }
-    ensures trial { IsTrialOf tested.now.context.now trial.new }
+    ensures trial { IsTrialOf (domain I.Has I.IsBelow I.OpGives I.OpOneGives I.ToGives I.KeepGives I.members_of) tested.now.context.now tested.now.expression.now trial.new }
     ensures left { IfOk result (λ left. AreRowsLeft (domain I.Has I.IsBelow I.OpGives I.OpOneGives I.ToGives I.KeepGives I.members_of) tested.now fact.now fact.now.rows left.items) }
 {
     let rows = fact.rows.all();

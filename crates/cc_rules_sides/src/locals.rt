@@ -2,7 +2,8 @@
 
 ghost use Rattle.std.specs.Prelude.{◌≡◌, ◌↔◌, length, IfOk, IsTrue};
 ghost use Rattle.cc_rules_sides.specs.Refined.{AllKeepAddresses, AreHeld, AreLeft, HasNumber, IsEmptied, IsOneEmptied, KeepsAddresses};
-ghost use Rattle.cc_rules_tests.specs.Tested.{IsTested, IsTrialOf};
+ghost use Rattle.cc_rules_tests.specs.Tested.{IsTested};
+ghost use Rattle.cc_rules_tests.specs.Trials.{IsTrialOf};
 ghost use Rattle.cc_state_operators.specs.Domains.{domain};
 
 use cc_lattice::IntDomain;
@@ -21,10 +22,10 @@ pub fn left_locals<I: IntDomain>(
     sets: &[Shared<Abs<I>>],
 ) -> Result<Vec<Shared<Abs<I>>>, NoMemory>
     requires tested { IsTested (domain I.Has I.IsBelow I.OpGives I.OpOneGives I.ToGives I.KeepGives I.members_of) tested.now }
-    requires trial { IsTrialOf tested.now.context.now trial.old }
+    requires trial { IsTrialOf (domain I.Has I.IsBelow I.OpGives I.OpOneGives I.ToGives I.KeepGives I.members_of) tested.now.context.now tested.now.expression.now trial.old }
     requires each { length sets.now ≡ length registers.now }
     requires sets { AreHeld (domain I.Has I.IsBelow I.OpGives I.OpOneGives I.ToGives I.KeepGives I.members_of) tested.now.context.now registers.now sets.now }
-    ensures trial { IsTrialOf tested.now.context.now trial.new }
+    ensures trial { IsTrialOf (domain I.Has I.IsBelow I.OpGives I.OpOneGives I.ToGives I.KeepGives I.members_of) tested.now.context.now tested.now.expression.now trial.new }
     ensures left { IfOk result (λ left. AreLeft (domain I.Has I.IsBelow I.OpGives I.OpOneGives I.ToGives I.KeepGives I.members_of) tested.now registers.now sets.now left.items) }
 {
     let mut left = Vec::new(alloc);

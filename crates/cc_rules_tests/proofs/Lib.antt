@@ -1,4 +1,6 @@
+pub mod Changing
 pub mod Cuts
+pub mod Explicit
 pub mod Following
 pub mod Formed
 pub mod Least
@@ -7,4 +9,5 @@ pub mod Operands
 pub mod PassingValues
 pub mod Registers
 pub mod Staying
-pub mod Trials
+pub mod Unread
+pub mod Zips

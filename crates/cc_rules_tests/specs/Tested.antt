@@ -14,7 +14,7 @@ use Rattle.cc_rules_flows.specs.Tests.{Test, Is, Equals, Differs, HasPassing, St
 use Rattle.cc_rules_tests.specs.declared.tested.Test.{Test as CodeTest}
 use Rattle.cc_rules_tests.specs.declared.tested.Test.TheVariants as made
 use Rattle.cc_rules_tests.specs.declared.tested.Tested.{Tested}
-use Rattle.cc_rules_tests.specs.declared.trial.Trial.{Trial}
+use Rattle.cc_rules_tests.specs.declared.changed.Changed.{Changed}
 use Rattle.cc_state_operators.specs.Domains.{Domain, AllOf, IsHull}
 use Rattle.cc_state_values.specs.declared.context.Context.{Context}
 use Rattle.cc_state_values.specs.Contexts.{HaveSetsIn, IsPureIn, set_in}
@@ -47,8 +47,8 @@ pub record IsIntRegister {I : Type 0} (c : Context I) (r : ℕ) (type : IntType)
   pub is_type : scalar_value local.1 ≡ Some (Integer type)
 
 -- registers with their sets, and one of them before the others
-abbrev pub IsTrialOf : {I : Type 0} → Context I → Trial I → Type 0
-IsTrialOf {I = I} c t = (q : ℕ) × (s : Abs I) × (t.registers.items ≡ q ∷ c.registers.now) × (t.sets.items ≡ s ∷ c.sets.now)
+abbrev pub IsChangedOf : {I : Type 0} → Context I → Changed I → Type 0
+IsChangedOf {I = I} c t = (q : ℕ) × (s : Abs I) × (t.registers.items ≡ q ∷ c.registers.now) × (t.sets.items ≡ s ∷ c.sets.now)
 
 -- a set cut by a comparison with one number
 abbrev pub IsCutByOne : {I : Type 0} → Domain I → BinOp → ℤ → I → I → Type 0

@@ -3,15 +3,15 @@
 ghost use Rattle.std.specs.Prelude.{◌≡◌, IfOk, true, None};
 ghost use Rattle.cc_lattice.specs.Domains.{is_comparison as is_comparison_of};
 ghost use Rattle.cc_rules_flows.specs.Tests.{Is, Equals, Differs, negated as negated_of, turned as turned_of, passing as passing_of};
-ghost use Rattle.cc_rules_tests.specs.Tested.{IsCutAsIn, IsPureNumber, IsRangeLeftIn, IsTested, IsTrialOf, MayHoldAll, test_of};
+ghost use Rattle.cc_rules_tests.specs.Tested.{IsCutAsIn, IsPureNumber, IsRangeLeftIn, IsTested, IsChangedOf, MayHoldAll, test_of};
 ghost use Rattle.cc_state_operators.specs.Domains.{domain};
 ghost use Rattle.cc_syntax.specs.Registers.{is_register};
 
+use crate::changed::Changed;
 use crate::cut::at_label;
 use crate::forms::comparison_of;
 use crate::operand::is_operand;
 use crate::tested::{Test, Tested};
-use crate::trial::Trial;
 use cc_lattice::{IntDomain, copied};
 use cc_num::{BinOp, NoMemory};
 use cc_program::Expr;
@@ -57,7 +57,7 @@ impl<I: IntDomain> Tested<'_, I> {
     fn by_operands(
         &self,
         alloc: Global,
-        trial: &mut Trial<I>,
+        changed: &mut Changed<I>,
         r: u32,
         x: &I,
         op: BinOp,
@@ -65,35 +65,35 @@ impl<I: IntDomain> Tested<'_, I> {
         c: &Expr,
     ) -> Result<I, NoMemory>
         requires tested { IsTested (domain I.Has I.IsBelow I.OpGives I.OpOneGives I.ToGives I.KeepGives I.members_of) self.now }
-        requires trial { IsTrialOf self.now.context.now trial.old }
+        requires changed { IsChangedOf self.now.context.now changed.old }
         requires holds { MayHoldAll (domain I.Has I.IsBelow I.OpGives I.OpOneGives I.ToGives I.KeepGives I.members_of) self.now.context.now r x.now }
         requires compares { is_comparison_of op ≡ true }
         requires first { IsPureNumber (domain I.Has I.IsBelow I.OpGives I.OpOneGives I.ToGives I.KeepGives I.members_of) self.now.context.now a.now }
         requires second { IsPureNumber (domain I.Has I.IsBelow I.OpGives I.OpOneGives I.ToGives I.KeepGives I.members_of) self.now.context.now c.now }
-        ensures trial { IsTrialOf self.now.context.now trial.new }
+        ensures changed { IsChangedOf self.now.context.now changed.new }
         ensures cut { IfOk result (λ z. (u : I) × IsCutAsIn (domain I.Has I.IsBelow I.OpGives I.OpOneGives I.ToGives I.KeepGives I.members_of) self.now r x.now op a.now c.now x.now u × IsCutAsIn (domain I.Has I.IsBelow I.OpGives I.OpOneGives I.ToGives I.KeepGives I.members_of) self.now r x.now (turned_of op) c.now a.now u z) }
         ensures below { IfOk result (λ z. I.IsBelow z x.now) }
     {
         let u = copied(alloc, x)?;
-        let u = self.cut_as(alloc, trial, r, x, op, a, c, u)?;
-        self.cut_as(alloc, trial, r, x, turned(op), c, a, u)
+        let u = self.cut_as(alloc, changed, r, x, op, a, c, u)?;
+        self.cut_as(alloc, changed, r, x, turned(op), c, a, u)
     }
 
     /// By a condition.
     fn by_condition(
         &self,
         alloc: Global,
-        trial: &mut Trial<I>,
+        changed: &mut Changed<I>,
         r: u32,
         x: &I,
         b: bool,
     ) -> Result<I, NoMemory>
         requires tested { IsTested (domain I.Has I.IsBelow I.OpGives I.OpOneGives I.ToGives I.KeepGives I.members_of) self.now }
-        requires trial { IsTrialOf self.now.context.now trial.old }
+        requires changed { IsChangedOf self.now.context.now changed.old }
         requires holds { MayHoldAll (domain I.Has I.IsBelow I.OpGives I.OpOneGives I.ToGives I.KeepGives I.members_of) self.now.context.now r x.now }
         requires range { I.members_of x.now ≡ None }
         requires is { test_of self.now.test ≡ Is b }
-        ensures trial { IsTrialOf self.now.context.now trial.new }
+        ensures changed { IsChangedOf self.now.context.now changed.new }
         ensures left { IfOk result (λ u. IsRangeLeftIn (domain I.Has I.IsBelow I.OpGives I.OpOneGives I.ToGives I.KeepGives I.members_of) self.now r x.now u) }
         ensures below { IfOk result (λ u. I.IsBelow u x.now) }
     {
@@ -101,7 +101,7 @@ impl<I: IntDomain> Tested<'_, I> {
             None => copied(alloc, x),
             Some(c) => {
                 let op = passing(b, c.op);
-                self.by_operands(alloc, trial, r, x, op, c.left, c.right)
+                self.by_operands(alloc, changed, r, x, op, c.left, c.right)
             }
         }
     }
@@ -142,20 +142,20 @@ impl<I: IntDomain> Tested<'_, I> {
     pub(crate) fn of_range(
         &self,
         alloc: Global,
-        trial: &mut Trial<I>,
+        changed: &mut Changed<I>,
         r: u32,
         x: &I,
     ) -> Result<I, NoMemory>
         requires tested { IsTested (domain I.Has I.IsBelow I.OpGives I.OpOneGives I.ToGives I.KeepGives I.members_of) self.now }
-        requires trial { IsTrialOf self.now.context.now trial.old }
+        requires changed { IsChangedOf self.now.context.now changed.old }
         requires holds { MayHoldAll (domain I.Has I.IsBelow I.OpGives I.OpOneGives I.ToGives I.KeepGives I.members_of) self.now.context.now r x.now }
         requires range { I.members_of x.now ≡ None }
-        ensures trial { IsTrialOf self.now.context.now trial.new }
+        ensures changed { IsChangedOf self.now.context.now changed.new }
         ensures left { IfOk result (λ u. IsRangeLeftIn (domain I.Has I.IsBelow I.OpGives I.OpOneGives I.ToGives I.KeepGives I.members_of) self.now r x.now u) }
         ensures below { IfOk result (λ u. I.IsBelow u x.now) }
     {
         match self.test {
-            Test::Is(b) => self.by_condition(alloc, trial, r, x, b),
+            Test::Is(b) => self.by_condition(alloc, changed, r, x, b),
             Test::Equals(n) => self.by_label(alloc, r, x, n),
             Test::Differs(labels) => self.by_labels(alloc, r, x, labels),
         }

@@ -5,12 +5,12 @@ ghost use Rattle.std.specs.List.{Contains};
 ghost use Rattle.cc_lattice.specs.Domains.{IsIntValue, is_comparison};
 ghost use Rattle.cc_num.specs.declared.op.BinOp.TheVariants as op;
 ghost use Rattle.cc_places.specs.declared.abs.Abs.TheVariants as abs;
-ghost use Rattle.cc_rules_tests.specs.Tested.{IsTested, IsTrialOf, IsValWith, MayHoldAll, IsCutAsIn, IsCutByIn, IsCutByOne, IsPureNumber};
+ghost use Rattle.cc_rules_tests.specs.Tested.{IsTested, IsChangedOf, IsValWith, MayHoldAll, IsCutAsIn, IsCutByIn, IsCutByOne, IsPureNumber};
 ghost use Rattle.cc_state_operators.specs.Domains.{domain};
 
+use crate::changed::Changed;
 use crate::operand::is_operand;
 use crate::tested::Tested;
-use crate::trial::Trial;
 use cc_lattice::{IntDomain, copied};
 use cc_num::{BinOp, NoMemory};
 use cc_places::Abs;
@@ -58,20 +58,20 @@ impl<I: IntDomain> Tested<'_, I> {
     fn numbers_with(
         &self,
         alloc: Global,
-        trial: &mut Trial<I>,
+        changed: &mut Changed<I>,
         r: u32,
         x: &I,
         a: &Expr,
     ) -> Result<I, NoMemory>
         requires tested { IsTested (domain I.Has I.IsBelow I.OpGives I.OpOneGives I.ToGives I.KeepGives I.members_of) self.now }
-        requires trial { IsTrialOf self.now.context.now trial.old }
+        requires changed { IsChangedOf self.now.context.now changed.old }
         requires holds { MayHoldAll (domain I.Has I.IsBelow I.OpGives I.OpOneGives I.ToGives I.KeepGives I.members_of) self.now.context.now r x.now }
         requires number { IsPureNumber (domain I.Has I.IsBelow I.OpGives I.OpOneGives I.ToGives I.KeepGives I.members_of) self.now.context.now a.now }
-        ensures trial { IsTrialOf self.now.context.now trial.new }
+        ensures changed { IsChangedOf self.now.context.now changed.new }
         ensures value { IfOk result (λ w. IsValWith (domain I.Has I.IsBelow I.OpGives I.OpOneGives I.ToGives I.KeepGives I.members_of) self.now.context.now r x.now a.now (abs.Ints w)) }
     {
         let set = copied(alloc, x)?;
-        let value = trial.value_with(alloc, self.context, a, r, set)?;
+        let value = changed.value_with(alloc, self.context, a, r, set)?;
         match value {
             Abs::Ints(w) => Ok(w),
             Abs::Addrs(_) => unreachable!(),
@@ -82,7 +82,7 @@ impl<I: IntDomain> Tested<'_, I> {
     pub(crate) fn cut_as(
         &self,
         alloc: Global,
-        trial: &mut Trial<I>,
+        changed: &mut Changed<I>,
         r: u32,
         x: &I,
         op: BinOp,
@@ -91,18 +91,18 @@ impl<I: IntDomain> Tested<'_, I> {
         u: I,
     ) -> Result<I, NoMemory>
         requires tested { IsTested (domain I.Has I.IsBelow I.OpGives I.OpOneGives I.ToGives I.KeepGives I.members_of) self.now }
-        requires trial { IsTrialOf self.now.context.now trial.old }
+        requires changed { IsChangedOf self.now.context.now changed.old }
         requires holds { MayHoldAll (domain I.Has I.IsBelow I.OpGives I.OpOneGives I.ToGives I.KeepGives I.members_of) self.now.context.now r x.now }
         requires number { IsPureNumber (domain I.Has I.IsBelow I.OpGives I.OpOneGives I.ToGives I.KeepGives I.members_of) self.now.context.now other.now }
         requires compares { is_comparison op ≡ true }
-        ensures trial { IsTrialOf self.now.context.now trial.new }
+        ensures changed { IsChangedOf self.now.context.now changed.new }
         ensures cut { IfOk result (λ z. IsCutAsIn (domain I.Has I.IsBelow I.OpGives I.OpOneGives I.ToGives I.KeepGives I.members_of) self.now r x.now op a.now other.now u z) }
         ensures below { IfOk result (λ z. I.IsBelow z u) }
     {
         if !is_operand(self, r, x, a) {
             return Ok(u);
         }
-        let w = self.numbers_with(alloc, trial, r, x, other)?;
+        let w = self.numbers_with(alloc, changed, r, x, other)?;
         Ok(u.keep(op, &w))
     }
 }

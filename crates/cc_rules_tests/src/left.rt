@@ -1,13 +1,15 @@
 //! What a test leaves of a set.
 
-ghost use Rattle.std.specs.Prelude.{◌≡◌, ◌↔◌, ℤ, IfOk, IsTrue, true};
+ghost use Rattle.std.specs.Prelude.{◌≡◌, ◌↔◌, ℤ, IfOk, IsTrue, None, true};
 ghost use Rattle.cc_places.specs.Abstract.{IsBelowAbs};
 ghost use Rattle.cc_places.specs.declared.abs.Abs.TheVariants as abs;
-ghost use Rattle.cc_rules_tests.specs.Tested.{IsExplicitIn, IsLeftAlikeIn, IsLeftIn, IsOfRegisterIn, IsRangeLeftIn, IsTested, IsTrialOf, IsWorkedAt, MayHave, MayHoldAll};
+ghost use Rattle.cc_rules_tests.specs.Tested.{IsExplicitIn, IsLeftAlikeIn, IsLeftIn, IsOfRegisterIn, IsTested, IsWorkedAt, MayHave, MayHoldAll};
+ghost use Rattle.cc_rules_tests.specs.Trials.{IsTrialOf};
 ghost use Rattle.cc_state_operators.specs.Domains.{domain};
 ghost use Rattle.cc_syntax.specs.Registers.{is_register};
 
 use crate::operand::are_of;
+use crate::reading::reads;
 use crate::tested::Tested;
 use crate::trial::Trial;
 use cc_lattice::IntDomain;
@@ -18,19 +20,52 @@ use cc_typed::scalar_value;
 use std::alloc::Global;
 
 impl<I: IntDomain> Tested<'_, I> {
-    /// What is left of a set of integers, with what is known to be the register's type.
-    fn of_integers(&self, alloc: Global, trial: &mut Trial<I>, r: u32, x: &I) -> Result<I, NoMemory>
+    /// What is left of a range, which is a set behind a pointer.
+    fn of_span(
+        &self,
+        alloc: Global,
+        trial: &mut Trial<I>,
+        r: u32,
+        x: &I,
+        y: &Shared<Abs<I>>,
+    ) -> Result<Shared<Abs<I>>, NoMemory>
         requires tested { IsTested (domain I.Has I.IsBelow I.OpGives I.OpOneGives I.ToGives I.KeepGives I.members_of) self.now }
-        requires trial { IsTrialOf self.now.context.now trial.old }
+        requires trial { IsTrialOf (domain I.Has I.IsBelow I.OpGives I.OpOneGives I.ToGives I.KeepGives I.members_of) self.now.context.now self.now.expression.now trial.old }
         requires holds { MayHoldAll (domain I.Has I.IsBelow I.OpGives I.OpOneGives I.ToGives I.KeepGives I.members_of) self.now.context.now r x.now }
-        ensures trial { IsTrialOf self.now.context.now trial.new }
-        ensures left { IfOk result (λ u. IsRangeLeftIn (domain I.Has I.IsBelow I.OpGives I.OpOneGives I.ToGives I.KeepGives I.members_of) self.now r x.now u) }
-        ensures below { IfOk result (λ u. I.IsBelow u x.now) }
-        ensures worked { IfOk result (λ u. (m : ℤ) → IsExplicitIn (domain I.Has I.IsBelow I.OpGives I.OpOneGives I.ToGives I.KeepGives I.members_of) self.now.context.now (abs.Ints x.now) m → IsWorkedAt (domain I.Has I.IsBelow I.OpGives I.OpOneGives I.ToGives I.KeepGives I.members_of) self.now r m) }
+        requires set { y.now ≡ abs.Ints x.now }
+        requires range { I.members_of x.now ≡ None }
+        ensures trial { IsTrialOf (domain I.Has I.IsBelow I.OpGives I.OpOneGives I.ToGives I.KeepGives I.members_of) self.now.context.now self.now.expression.now trial.new }
+        ensures left { IfOk result (λ z. IsLeftIn (domain I.Has I.IsBelow I.OpGives I.OpOneGives I.ToGives I.KeepGives I.members_of) self.now r y.now z) }
+        ensures below { IfOk result (λ z. IsBelowAbs I.IsBelow z y.now) }
+    {
+        if !reads(self.expression, r) {
+            return y.share();
+        }
+        let left = self.of_range(alloc, &mut trial.changed, r, x)?;
+        Shared::new(alloc, Abs::Ints(left))
+    }
+
+    /// What is left of a set of integers, which is a set behind a pointer.
+    fn of_integers(
+        &self,
+        alloc: Global,
+        trial: &mut Trial<I>,
+        r: u32,
+        x: &I,
+        y: &Shared<Abs<I>>,
+    ) -> Result<Shared<Abs<I>>, NoMemory>
+        requires tested { IsTested (domain I.Has I.IsBelow I.OpGives I.OpOneGives I.ToGives I.KeepGives I.members_of) self.now }
+        requires trial { IsTrialOf (domain I.Has I.IsBelow I.OpGives I.OpOneGives I.ToGives I.KeepGives I.members_of) self.now.context.now self.now.expression.now trial.old }
+        requires holds { MayHoldAll (domain I.Has I.IsBelow I.OpGives I.OpOneGives I.ToGives I.KeepGives I.members_of) self.now.context.now r x.now }
+        requires set { y.now ≡ abs.Ints x.now }
+        ensures trial { IsTrialOf (domain I.Has I.IsBelow I.OpGives I.OpOneGives I.ToGives I.KeepGives I.members_of) self.now.context.now self.now.expression.now trial.new }
+        ensures left { IfOk result (λ z. IsLeftIn (domain I.Has I.IsBelow I.OpGives I.OpOneGives I.ToGives I.KeepGives I.members_of) self.now r y.now z) }
+        ensures below { IfOk result (λ z. IsBelowAbs I.IsBelow z y.now) }
+        ensures worked { IfOk result (λ z. (m : ℤ) → IsExplicitIn (domain I.Has I.IsBelow I.OpGives I.OpOneGives I.ToGives I.KeepGives I.members_of) self.now.context.now y.now m → IsWorkedAt (domain I.Has I.IsBelow I.OpGives I.OpOneGives I.ToGives I.KeepGives I.members_of) self.now r m) }
     {
         match x.members() {
-            Some(members) => self.of_members(alloc, trial, r, members),
-            None => self.of_range(alloc, trial, r, x),
+            Some(members) => self.of_members(alloc, trial, r, members, y),
+            None => self.of_span(alloc, trial, r, x, y),
         }
     }
 
@@ -43,19 +78,16 @@ impl<I: IntDomain> Tested<'_, I> {
         y: &Shared<Abs<I>>,
     ) -> Result<Shared<Abs<I>>, NoMemory>
         requires tested { IsTested (domain I.Has I.IsBelow I.OpGives I.OpOneGives I.ToGives I.KeepGives I.members_of) self.now }
-        requires trial { IsTrialOf self.now.context.now trial.old }
+        requires trial { IsTrialOf (domain I.Has I.IsBelow I.OpGives I.OpOneGives I.ToGives I.KeepGives I.members_of) self.now.context.now self.now.expression.now trial.old }
         requires holds { MayHave (domain I.Has I.IsBelow I.OpGives I.OpOneGives I.ToGives I.KeepGives I.members_of) self.now.context.now r y.now }
-        ensures trial { IsTrialOf self.now.context.now trial.new }
+        ensures trial { IsTrialOf (domain I.Has I.IsBelow I.OpGives I.OpOneGives I.ToGives I.KeepGives I.members_of) self.now.context.now self.now.expression.now trial.new }
         ensures left { IfOk result (λ z. IsLeftIn (domain I.Has I.IsBelow I.OpGives I.OpOneGives I.ToGives I.KeepGives I.members_of) self.now r y.now z) }
         ensures below { IfOk result (λ z. IsBelowAbs I.IsBelow z y.now) }
         ensures worked { IfOk result (λ z. (m : ℤ) → IsExplicitIn (domain I.Has I.IsBelow I.OpGives I.OpOneGives I.ToGives I.KeepGives I.members_of) self.now.context.now y.now m → IsWorkedAt (domain I.Has I.IsBelow I.OpGives I.OpOneGives I.ToGives I.KeepGives I.members_of) self.now r m) }
     {
         match y.get() {
             Abs::Addrs(_) => y.share(),
-            Abs::Ints(x) => {
-                let left = self.of_integers(alloc, trial, r, x)?;
-                Shared::new(alloc, Abs::Ints(left))
-            }
+            Abs::Ints(x) => self.of_integers(alloc, trial, r, x, y),
         }
     }
 
@@ -82,9 +114,9 @@ impl<I: IntDomain> Tested<'_, I> {
         y: &Shared<Abs<I>>,
     ) -> Result<Shared<Abs<I>>, NoMemory>
         requires tested { IsTested (domain I.Has I.IsBelow I.OpGives I.OpOneGives I.ToGives I.KeepGives I.members_of) self.now }
-        requires trial { IsTrialOf self.now.context.now trial.old }
+        requires trial { IsTrialOf (domain I.Has I.IsBelow I.OpGives I.OpOneGives I.ToGives I.KeepGives I.members_of) self.now.context.now self.now.expression.now trial.old }
         requires register { is_register self.now.context.now.func.now r ≡ true }
-        ensures trial { IsTrialOf self.now.context.now trial.new }
+        ensures trial { IsTrialOf (domain I.Has I.IsBelow I.OpGives I.OpOneGives I.ToGives I.KeepGives I.members_of) self.now.context.now self.now.expression.now trial.new }
         ensures left { IfOk result (λ z. IsLeftAlikeIn (domain I.Has I.IsBelow I.OpGives I.OpOneGives I.ToGives I.KeepGives I.members_of) self.now r y.now z) }
         ensures below { IfOk result (λ z. IsBelowAbs I.IsBelow z y.now) }
         ensures worked { IfOk result (λ z. IsOfRegisterIn (domain I.Has I.IsBelow I.OpGives I.OpOneGives I.ToGives I.KeepGives I.members_of) self.now r y.now → (m : ℤ) → IsExplicitIn (domain I.Has I.IsBelow I.OpGives I.OpOneGives I.ToGives I.KeepGives I.members_of) self.now.context.now y.now m → IsWorkedAt (domain I.Has I.IsBelow I.OpGives I.OpOneGives I.ToGives I.KeepGives I.members_of) self.now r m) }

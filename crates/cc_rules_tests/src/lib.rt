@@ -2,6 +2,7 @@
 //! integers, and sets of addresses.
 #![tactic(auto)]
 
+mod changed;
 mod compared;
 mod cut;
 mod forms;
@@ -9,8 +10,10 @@ mod left;
 mod members;
 mod operand;
 mod passing;
+mod reading;
 mod tested;
 mod trial;
+mod tried;
 
 pub use forms::{Comparison, comparison_of};
 pub use operand::{are_of, is_operand};

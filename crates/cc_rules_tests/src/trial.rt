@@ -1,15 +1,14 @@
-//! An expression worked where one register has another set.
+//! What has been worked of an expression.
 
-ghost use Rattle.std.specs.Prelude.{◌≡◌, ◌++◌, ◌∷◌, IfOk, OnOk, Some};
-ghost use Rattle.cc_places.specs.declared.abs.Abs.TheVariants as abs;
-ghost use Rattle.cc_rules_tests.specs.Tested.{IsTrialOf, IsValWith, MayHoldAll};
+ghost use Rattle.std.specs.Prelude.{◌≡◌, IfOk};
+ghost use Rattle.cc_rules_tests.specs.Tested.{MayHoldEach};
+ghost use Rattle.cc_rules_tests.specs.Trials.{IsTried, IsTriedAt, IsTrialOf};
 ghost use Rattle.cc_state_operators.specs.Domains.{domain};
-ghost use Rattle.cc_state_operators.specs.Types.{AreOf};
 ghost use Rattle.cc_state_values.specs.Contexts.{HaveSetsIn, IsPureIn};
-ghost use Rattle.cc_syntax.specs.Programs.{type_of};
 ghost use Rattle.cc_syntax.specs.Sizes.{AreSized};
-ghost use Rattle.cc_syntax.specs.Values.{ValueType};
 
+use crate::changed::Changed;
+use crate::tried::{Tried, tried_at};
 use cc_lattice::IntDomain;
 use cc_num::NoMemory;
 use cc_places::Abs;
@@ -18,85 +17,93 @@ use cc_state_shared::Shared;
 use cc_state_values::{Context, value_of};
 use std::alloc::Global;
 
-/// The registers of a function with their sets, and before them one of these once more, with another set.
+/// What an expression gives: at the sets that the registers of its function have, and with one of them at each of some numbers,
+/// as far as it has been worked.
 #[derive(Drop)]
 pub struct Trial<I> {
-    registers: Vec<u32>,
-    sets: Vec<Shared<Abs<I>>>,
-}
-
-/// Puts each set behind others, with one more owner.
-fn put_shared<I: Drop>(
-    all: &mut Vec<Shared<Abs<I>>>,
-    sets: &[Shared<Abs<I>>],
-) -> Result<(), NoMemory>
-    ensures { OnOk result (all.new.items ≡ all.old.items ++ sets.now) }
-{
-    for set in sets {
-        all.push(set.share()?)?;
-    }
-    Ok(())
-}
-
-/// The registers behind any number.
-fn behind_one(alloc: Global, registers: &[u32]) -> Result<Vec<u32>, NoMemory>
-    ensures { IfOk result (λ all. all.items ≡ 0 ∷ registers.now) }
-{
-    let mut all = Vec::new(alloc);
-    all.push(0)?;
-    all.extend_from_slice(registers)?;
-    Ok(all)
+    pub(crate) changed: Changed<I>,
+    whole: Abs<I>,
+    tried: Vec<Shared<Tried<I>>>,
 }
 
 impl<I: IntDomain> Trial<I> {
-    /// The registers of a function, with the sets that they have.
-    pub fn new(alloc: Global, c: &Context<'_, I>) -> Result<Trial<I>, NoMemory>
-        ensures { IfOk result (λ trial. IsTrialOf c.now trial) }
+    /// What an expression gives at the sets that the registers have.
+    pub fn new(alloc: Global, c: &Context<'_, I>, e: &Expr) -> Result<Trial<I>, NoMemory>
+        requires sized { AreSized c.now.program.now.structures c.now.program.now.target }
+        requires sets { HaveSetsIn (domain I.Has I.IsBelow I.OpGives I.OpOneGives I.ToGives I.KeepGives I.members_of) c.now }
+        requires pure { IsPureIn (domain I.Has I.IsBelow I.OpGives I.OpOneGives I.ToGives I.KeepGives I.members_of) c.now e.now }
+        ensures { IfOk result (λ trial. IsTrialOf (domain I.Has I.IsBelow I.OpGives I.OpOneGives I.ToGives I.KeepGives I.members_of) c.now e.now trial) }
     {
-        let registers = behind_one(alloc, c.registers)?;
-        let mut sets = Vec::new(alloc);
-        let first = Shared::new(alloc, Abs::Ints(I::none(alloc)))?;
-        sets.push(first)?;
-        put_shared(&mut sets, c.sets)?;
-        Ok(Trial { registers, sets })
+        let changed = Changed::new(alloc, c)?;
+        let whole = value_of(alloc, c, e)?;
+        let tried = Vec::new(alloc);
+        Ok(Trial {
+            changed,
+            whole,
+            tried,
+        })
     }
 
-    /// What an expression may give where a register has this set.
-    pub fn value_with(
+    /// What the expression gives at the sets that the registers have.
+    pub fn whole(&self) -> &Abs<I>
+        ensures { result.now ≡ self.now.whole }
+    {
+        &self.whole
+    }
+
+    /// What the expression gives with a register at each of some numbers, worked now, and kept.
+    fn try_now(
         &mut self,
         alloc: Global,
         c: &Context<'_, I>,
         e: &Expr,
         r: u32,
-        set: I,
-    ) -> Result<Abs<I>, NoMemory>
+        numbers: &[i128],
+    ) -> Result<Shared<Tried<I>>, NoMemory>
         requires sized { AreSized c.now.program.now.structures c.now.program.now.target }
         requires sets { HaveSetsIn (domain I.Has I.IsBelow I.OpGives I.OpOneGives I.ToGives I.KeepGives I.members_of) c.now }
         requires pure { IsPureIn (domain I.Has I.IsBelow I.OpGives I.OpOneGives I.ToGives I.KeepGives I.members_of) c.now e.now }
-        requires trial { IsTrialOf c.now self.old }
-        requires holds { MayHoldAll (domain I.Has I.IsBelow I.OpGives I.OpOneGives I.ToGives I.KeepGives I.members_of) c.now r set }
-        ensures trial { IsTrialOf c.now self.new }
-        ensures value { IfOk result (λ y. IsValWith (domain I.Has I.IsBelow I.OpGives I.OpOneGives I.ToGives I.KeepGives I.members_of) c.now r set e.now y) }
-        ensures typed { IfOk result (λ y. (t : ValueType) → type_of c.now.program.now c.now.func.now.locals e.now ≡ Some t → AreOf (domain I.Has I.IsBelow I.OpGives I.OpOneGives I.ToGives I.KeepGives I.members_of) c.now.program.now.target t y) }
+        requires trial { IsTrialOf (domain I.Has I.IsBelow I.OpGives I.OpOneGives I.ToGives I.KeepGives I.members_of) c.now e.now self.old }
+        requires holds { MayHoldEach (domain I.Has I.IsBelow I.OpGives I.OpOneGives I.ToGives I.KeepGives I.members_of) c.now r numbers.now }
+        ensures trial { IsTrialOf (domain I.Has I.IsBelow I.OpGives I.OpOneGives I.ToGives I.KeepGives I.members_of) c.now e.now self.new }
+        ensures at { IfOk result (λ t. IsTriedAt r numbers.now t) }
+        ensures tried { IfOk result (λ t. IsTried (domain I.Has I.IsBelow I.OpGives I.OpOneGives I.ToGives I.KeepGives I.members_of) c.now e.now t) }
     {
-        let other = Shared::new(alloc, Abs::Ints(set))?;
-        self.registers[0] = r;
-        self.sets[0] = other;
-        let there = Context {
-            program: c.program,
-            id: c.id,
-            func: c.func,
-            registers: self.registers.as_slice(),
-            sets: self.sets.as_slice(),
+        let values = self.changed.values_at(alloc, c, e, r, numbers)?;
+        let numbers = Vec::from_slice(alloc, numbers)?;
+        let made = Tried {
+            register: r,
+            numbers,
+            values,
         };
-        let value = value_of(alloc, &there, e);
-        let Context {
-            program: _,
-            id: _,
-            func: _,
-            registers: _,
-            sets: _,
-        } = there;
-        value
+        let tried = Shared::new(alloc, made)?;
+        let kept = tried.share()?;
+        self.tried.push(kept)?;
+        Ok(tried)
+    }
+
+    /// What the expression gives with a register at each of some numbers. It is worked once.
+    pub(crate) fn tried(
+        &mut self,
+        alloc: Global,
+        c: &Context<'_, I>,
+        e: &Expr,
+        r: u32,
+        numbers: &[i128],
+    ) -> Result<Shared<Tried<I>>, NoMemory>
+        requires sized { AreSized c.now.program.now.structures c.now.program.now.target }
+        requires sets { HaveSetsIn (domain I.Has I.IsBelow I.OpGives I.OpOneGives I.ToGives I.KeepGives I.members_of) c.now }
+        requires pure { IsPureIn (domain I.Has I.IsBelow I.OpGives I.OpOneGives I.ToGives I.KeepGives I.members_of) c.now e.now }
+        requires trial { IsTrialOf (domain I.Has I.IsBelow I.OpGives I.OpOneGives I.ToGives I.KeepGives I.members_of) c.now e.now self.old }
+        requires holds { MayHoldEach (domain I.Has I.IsBelow I.OpGives I.OpOneGives I.ToGives I.KeepGives I.members_of) c.now r numbers.now }
+        ensures trial { IsTrialOf (domain I.Has I.IsBelow I.OpGives I.OpOneGives I.ToGives I.KeepGives I.members_of) c.now e.now self.new }
+        ensures at { IfOk result (λ t. IsTriedAt r numbers.now t) }
+        ensures tried { IfOk result (λ t. IsTried (domain I.Has I.IsBelow I.OpGives I.OpOneGives I.ToGives I.KeepGives I.members_of) c.now e.now t) }
+    {
+        let found = tried_at(self.tried.as_slice(), r, numbers)?;
+        match found {
+            Some(tried) => Ok(tried),
+            None => self.try_now(alloc, c, e, r, numbers),
+        }
     }
 }

@@ -5,7 +5,7 @@ use Rattle.cc_rules_choices.proofs.Held.{all_held, all_numbered, all_registers, 
 use Rattle.cc_rules_choices.proofs.Kept.{all_keep}
 use Rattle.cc_rules_needs.specs.Flowing.{of_fact}
 use Rattle.cc_rules_sides.specs.Refined.{AllKeepAddresses, AreHeld, AreLeft, AreRowsLeft, IsOneEmptied}
-use Rattle.cc_rules_tests.specs.Tested.{IsTrialOf}
+use Rattle.cc_rules_tests.specs.Trials.{IsTrialOf}
 use Rattle.cc_state_facts.specs.declared.facts.PointFact.{PointFact}
 use Rattle.cc_state_keys.specs.Tracked.{registers}
 use Rattle.cc_state_operators.specs.Domains.{domain}
@@ -19,7 +19,7 @@ left_locals-requires g c =
     let t = c.args.tested.now in
     record {
       tested = c.requires.tested;
-      trial = subst (λ (x : Context g.row.I.Denot). IsTrialOf x c.args.trial.now) (sym c.requires.context) c.requires.trial;
+      trial = subst (λ (x : Context g.row.I.Denot). IsTrialOf d x c.args.tested.now.expression.now c.args.trial.now) (sym c.requires.context) c.requires.trial;
       each = ap length c.all-sets.ensures ∙ c.requires.here.each;
       sets = subst (λ sets. AreHeld d t.context.now here.context.registers.now sets) (sym c.all-sets.ensures) (all_held d here c.requires.here t c.requires.context);
     }
@@ -65,7 +65,7 @@ returns-then-is_one_emptied g c =
     let gone : IsOneEmptied d fact.locals made.locals =
     subst (λ xs. IsOneEmptied d fact.locals xs) c.as_slice.ensures.value (subst (λ xs. IsOneEmptied d xs c.as_slice.result.now) c.all-sets.ensures (c.is_one_emptied.ensures.0 c.if-is_one_emptied.true)) in
     record {
-      trial = subst (λ (x : Context g.row.I.Denot). IsTrialOf x c.left_rows.new.trial) same c.left_rows.ensures.trial;
+      trial = subst (λ (x : Context g.row.I.Denot). IsTrialOf d x c.args.tested.now.expression.now c.left_rows.new.trial) same c.left_rows.ensures.trial;
       refined = (of_fact made, is_side d here h t same made refl refl refl locals c.in_ok-rows.ensures.left, emptied d here h t same made refl refl refl locals c.in_ok-rows.ensures.left gone);
       like = tt;
       members = members d here h t same made refl refl refl locals c.in_ok-rows.ensures.left;
@@ -89,17 +89,17 @@ returns g c =
     let there = subst (λ xs. IsOneEmptied d xs c.as_slice.result.now) (sym c.all-sets.ensures) (subst (λ xs. IsOneEmptied d fact.locals xs) (c.of-locals.ensures ∙ sym c.as_slice.ensures.value) gone) in
     true≢false (sym (c.is_one_emptied.ensures.1 there) ∙ c.if-is_one_emptied.false) in
     record {
-      trial = subst (λ (x : Context g.row.I.Denot). IsTrialOf x c.left_rows.new.trial) same c.left_rows.ensures.trial;
+      trial = subst (λ (x : Context g.row.I.Denot). IsTrialOf d x c.args.tested.now.expression.now c.left_rows.new.trial) same c.left_rows.ensures.trial;
       refined = (is_side d here h t same made refl refl pairs locals rows, all_left d here h t same made refl refl pairs locals rows g.I.IntDomain.bounds_of g.met.I.IntDomain.bounds_none g.met.I.IntDomain.bounds_ends none);
       like = like d here h t same made refl refl pairs locals rows;
       members = members d here h t same made refl refl pairs locals rows;
     }
 
 pub returns-in_err-locals-clause-trial : goal.returns-in_err-locals-clause-trial
-returns-in_err-locals-clause-trial g c = subst (λ (x : Context g.row.I.Denot). IsTrialOf x c.left_locals.new.trial) c.requires.context c.left_locals.ensures.trial
+returns-in_err-locals-clause-trial g c = subst (λ (x : Context g.row.I.Denot). IsTrialOf (domain g.I.Concrete.Has g.I.Lattice.IsBelow g.I.IntDomain.OpGives g.I.IntDomain.OpOneGives g.I.IntDomain.ToGives g.I.IntDomain.KeepGives g.I.IntDomain.members_of) x c.args.tested.now.expression.now c.left_locals.new.trial) c.requires.context c.left_locals.ensures.trial
 
 pub returns-in_err-rows-clause-trial : goal.returns-in_err-rows-clause-trial
-returns-in_err-rows-clause-trial g c = subst (λ (x : Context g.row.I.Denot). IsTrialOf x c.left_rows.new.trial) c.requires.context c.left_rows.ensures.trial
+returns-in_err-rows-clause-trial g c = subst (λ (x : Context g.row.I.Denot). IsTrialOf (domain g.I.Concrete.Has g.I.Lattice.IsBelow g.I.IntDomain.OpGives g.I.IntDomain.OpOneGives g.I.IntDomain.ToGives g.I.IntDomain.KeepGives g.I.IntDomain.members_of) x c.args.tested.now.expression.now c.left_rows.new.trial) c.requires.context c.left_rows.ensures.trial
 
 pub returns-in_err-pairs-clause-trial : goal.returns-in_err-pairs-clause-trial
-returns-in_err-pairs-clause-trial g c = subst (λ (x : Context g.row.I.Denot). IsTrialOf x c.left_rows.new.trial) c.requires.context c.left_rows.ensures.trial
+returns-in_err-pairs-clause-trial g c = subst (λ (x : Context g.row.I.Denot). IsTrialOf (domain g.I.Concrete.Has g.I.Lattice.IsBelow g.I.IntDomain.OpGives g.I.IntDomain.OpOneGives g.I.IntDomain.ToGives g.I.IntDomain.KeepGives g.I.IntDomain.members_of) x c.args.tested.now.expression.now c.left_rows.new.trial) c.requires.context c.left_rows.ensures.trial

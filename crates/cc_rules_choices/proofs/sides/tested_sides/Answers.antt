@@ -41,7 +41,6 @@ side-requires g c =
       may = c.requires.may;
       labels = c.requires.labels choice (item_in choices i choice there (itself_at choices i nothing there));
       trial = c.loop-choice.invariant.trial;
-      value = c.requires.value;
     }
 
 pub loop-choice-preserved : goal.loop-choice-preserved

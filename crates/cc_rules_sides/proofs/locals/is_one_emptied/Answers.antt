@@ -18,7 +18,7 @@ is_emptied-requires g c =
     let there = c.loop-number-test.true in
     let each = c.requires.each in
     let within : i < length left = omega (arith, there, each) in
-    c.requires.kinds i c.get-set.result.now c.get-rest.result.now (slice_get-get_or sets i c.get-set.result.now there ∙ ap Some (sym (c.get-set.ensures ∙ c.index-sets-number.is))) (slice_get-get_or left i c.get-rest.result.now within ∙ ap Some (sym (c.get-rest.ensures ∙ c.index-left-number.is)))
+    c.requires.kinds i c.get-set.result.now c.get-rest.result.now (slice_get-get_or sets i c.index-sets-number.result there ∙ ap Some (sym (c.get-set.ensures ∙ c.index-sets-number.is))) (slice_get-get_or left i c.index-left-number.result within ∙ ap Some (sym (c.get-rest.ensures ∙ c.index-left-number.is)))
 
 pub returns-then-is_emptied : goal.returns-then-is_emptied
 returns-then-is_emptied g c =
@@ -30,8 +30,8 @@ returns-then-is_emptied g c =
     let within : i < length left = omega (arith, there, each) in
     let y = c.get-set.result.now in
     let z = c.get-rest.result.now in
-    let first = slice_get-get_or sets i y there ∙ ap Some (sym (c.get-set.ensures ∙ c.index-sets-number.is)) in
-    let second = slice_get-get_or left i z within ∙ ap Some (sym (c.get-rest.ensures ∙ c.index-left-number.is)) in
+    let first = slice_get-get_or sets i c.index-sets-number.result there ∙ ap Some (sym (c.get-set.ensures ∙ c.index-sets-number.is)) in
+    let second = slice_get-get_or left i c.index-left-number.result within ∙ ap Some (sym (c.get-rest.ensures ∙ c.index-left-number.is)) in
     ((λ h. (i, y, z, first, second, c.is_emptied.ensures.0 c.if-is_emptied.true)), (λ h. refl))
 
 pub loop-number-preserved : goal.loop-number-preserved
@@ -45,8 +45,8 @@ loop-number-preserved g c =
     let within : i < length left = omega (arith, there, each) in
     let y = c.get-set.result.now in
     let z = c.get-rest.result.now in
-    let first = slice_get-get_or sets i y there ∙ ap Some (sym (c.get-set.ensures ∙ c.index-sets-number.is)) in
-    let second = slice_get-get_or left i z within ∙ ap Some (sym (c.get-rest.ensures ∙ c.index-left-number.is)) in
+    let first = slice_get-get_or sets i c.index-sets-number.result there ∙ ap Some (sym (c.get-set.ensures ∙ c.index-sets-number.is)) in
+    let second = slice_get-get_or left i c.index-left-number.result within ∙ ap Some (sym (c.get-rest.ensures ∙ c.index-left-number.is)) in
     below_more (λ k. (y z : Abs g.row.I.Denot) → slice_get sets k ≡ Some y → slice_get left k ≡ Some z → IsEmptied d y z → ⊥) i c.loop-number.invariant
     (λ u v a b e. not_emptied d y z u v c.is_emptied.result c.is_emptied.ensures c.if-is_emptied.false (same_Some y u (sym first ∙ a)) (same_Some z v (sym second ∙ b)) e)
 

@@ -10,19 +10,19 @@ pub copied-requires : goal.copied-requires
 copied-requires g c = g.met.I.IntDomain.all_alike c.args.x.now c.args.x.now
 
 pub cut_as-requires : goal.cut_as-requires
-cut_as-requires g c = record { tested = c.requires.tested; trial = c.requires.trial; holds = c.requires.holds; number = c.requires.second; compares = c.requires.compares }
+cut_as-requires g c = record { tested = c.requires.tested; changed = c.requires.changed; holds = c.requires.holds; number = c.requires.second; compares = c.requires.compares }
 
 pub cut_as-requires-2 : goal.cut_as-requires-2
 cut_as-requires-2 g c = record {
   tested = c.requires.tested;
-  trial = c.cut_as.ensures.trial;
+  changed = c.cut_as.ensures.changed;
   holds = c.requires.holds;
   number = c.requires.first;
   compares = subst (λ o. is_comparison o ≡ true) (sym c.turned.ensures) (turned_compares c.args.op c.requires.compares);
 }
 
-pub returns-clause-trial : goal.returns-clause-trial
-returns-clause-trial g c = c.cut_as-2.ensures.trial
+pub returns-clause-changed : goal.returns-clause-changed
+returns-clause-changed g c = c.cut_as-2.ensures.changed
 
 pub returns-clause-cut : goal.returns-clause-cut
 returns-clause-cut g c =

@@ -11,7 +11,7 @@ value_with-requires g c = record {
   sized = c.requires.tested.sized;
   sets = c.requires.tested.known;
   pure = c.requires.number.0;
-  trial = c.requires.trial;
+  changed = c.requires.changed;
   holds = copy_held (domain g.I.Concrete.Has g.I.Lattice.IsBelow g.I.IntDomain.OpGives g.I.IntDomain.OpOneGives g.I.IntDomain.ToGives g.I.IntDomain.KeepGives g.I.IntDomain.members_of) c.args.self.now.context.now c.args.r c.in_ok-set.set c.args.x.now c.in_ok-set.ensures c.requires.holds;
 }
 
@@ -20,6 +20,6 @@ unreachable-requires g c = no_addresses (domain g.I.Concrete.Has g.I.Lattice.IsB
 
 pub returns : goal.returns
 returns g c = record {
-  trial = c.value_with.ensures.trial;
+  changed = c.value_with.ensures.changed;
   value = number_there (domain g.I.Concrete.Has g.I.Lattice.IsBelow g.I.IntDomain.OpGives g.I.IntDomain.OpOneGives g.I.IntDomain.ToGives g.I.IntDomain.KeepGives g.I.IntDomain.members_of) c.args.self.now.context.now c.args.r c.in_ok-set.set c.args.x.now c.args.a.now c.in_ok-value.value c.in-Ints.w c.in_ok-set.ensures c.in-Ints.is c.in_ok-value.ensures.value;
 }

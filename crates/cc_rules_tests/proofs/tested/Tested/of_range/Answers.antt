@@ -8,10 +8,10 @@ use Rattle.cc_rules_tests.proofs.Numbers.{label_value}
 use Rattle.cc_rules_tests.proofs.tested.Tested.of_range.Goals as goal
 
 pub by_condition-requires : goal.by_condition-requires
-by_condition-requires g c = record { tested = c.requires.tested; trial = c.requires.trial; holds = c.requires.holds; range = c.requires.range; is = ap test_of c.in-Is.is }
+by_condition-requires g c = record { tested = c.requires.tested; changed = c.requires.changed; holds = c.requires.holds; range = c.requires.range; is = ap test_of c.in-Is.is }
 
 pub returns-in-Is : goal.returns-in-Is
-returns-in-Is g c = record { trial = c.by_condition.ensures.trial; left = c.by_condition.ensures.left; below = c.by_condition.ensures.below }
+returns-in-Is g c = record { changed = c.by_condition.ensures.changed; left = c.by_condition.ensures.left; below = c.by_condition.ensures.below }
 
 pub by_label-requires : goal.by_label-requires
 by_label-requires g c =
@@ -21,10 +21,10 @@ by_label-requires g c =
     record { tested = c.requires.tested; register = c.requires.holds.1.register; range = c.requires.range; is = subst (λ z. test_of c.args.self.now.test ≡ Equals z) (sym same) is }
 
 pub returns-in-Equals : goal.returns-in-Equals
-returns-in-Equals g c = record { trial = c.requires.trial; left = c.by_label.ensures.left; below = c.by_label.ensures.below }
+returns-in-Equals g c = record { changed = c.requires.changed; left = c.by_label.ensures.left; below = c.by_label.ensures.below }
 
 pub by_labels-requires : goal.by_labels-requires
 by_labels-requires g c = record { tested = c.requires.tested; register = c.requires.holds.1.register; range = c.requires.range; is = ap test_of c.in-Differs.is }
 
 pub returns-in-Differs : goal.returns-in-Differs
-returns-in-Differs g c = record { trial = c.requires.trial; left = c.by_labels.ensures.left; below = c.by_labels.ensures.below }
+returns-in-Differs g c = record { changed = c.requires.changed; left = c.by_labels.ensures.left; below = c.by_labels.ensures.below }
