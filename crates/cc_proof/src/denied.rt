@@ -1,12 +1,12 @@
 //! Why facts are not taken.
 
-use cc_rules_constraints::Broken;
+use crate::broken::Broken;
 
 /// Why facts are not taken.
 #[derive(Drop)]
-pub enum Denied<I> {
+pub enum Denied {
     /// They break a constraint: the first one.
-    Broken(Broken<I>),
+    Broken(Broken),
     /// Memory ran out.
     NoMemory,
 }

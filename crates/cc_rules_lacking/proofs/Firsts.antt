@@ -1,6 +1,6 @@
 -- The first of some needs that facts lack, among lists of needs one behind the other, and among what is asked number by number.
-use Rattle.std.proofs.Common.{arith, ◌≡◌, ◌<◌, ◌+◌, ◌-◌, ℕ, zero, suc, Bool, true, false, cond, List, [], ◌∷◌, ◌++◌, map, length, get_or, take, drop, slice_get, append_assoc, append-nil, Option, Some, None, refl, ap, sym, subst, ◌∙◌}
-use Rattle.std.specs.List.{flat_map}
+use Rattle.std.proofs.Common.{arith, ◌≡◌, ◌<◌, ◌+◌, ◌-◌, ℕ, zero, suc, Bool, true, false, not, cond, List, [], ◌∷◌, ◌++◌, map, length, get_or, take, drop, slice_get, append_assoc, append-nil, Option, Some, None, refl, ap, sym, subst, ◌∙◌}
+use Rattle.std.specs.List.{flat_map, list_all}
 use Rattle.std.proofs.lemmas.List.Elements.{All-nil, All-cons, All-append}
 use Rattle.std.proofs.lemmas.Option.{same_Some, none-some, slice_get-get_or}
 use Rattle.cc_rules_needs.specs.declared.needs.Part.{Part}
@@ -8,9 +8,13 @@ use Rattle.cc_rules_needs.specs.declared.needs.Part.TheVariants.{Mark}
 use Rattle.cc_rules_needs.specs.declared.needs.Slot.{Slot}
 use Rattle.cc_rules_needs.specs.declared.needs.Slot.TheVariants.{Apart}
 use Rattle.cc_rules_needs.specs.Flowing.{each_pair, need_apart, numbers}
-use Rattle.cc_rules_needs.specs.Needs.{Needs, Has, HasAll}
+use Rattle.cc_rules_needs.proofs.AtPoint.{each_passes, none_of}
+use Rattle.cc_rules_needs.specs.Needs.{Needs, apart_in, Has, HasAll}
 use Rattle.cc_rules_lacking.specs.First.{IsFirst, LacksFirst}
 use Rattle.cc_state_facts.specs.declared.facts.Facts.{Facts}
+use Rattle.cc_state_facts.specs.declared.facts.PointFact.{PointFact}
+use Rattle.cc_state_facts.specs.Facts.{fact_at, has_pair}
+use Rattle.cc_state_facts.specs.Orders.{is_same}
 use Rattle.cc_state_keys.proofs.Grown.{flat-next}
 
 -- ---- lists
@@ -79,6 +83,10 @@ module _ {I : Type 0} (below : I → I → Type 0) (facts : Facts I) where
   behind xs ys None had h = All-append P xs ys had h
   behind xs ys (Some need) had h = first_behind xs ys need had h
 
+  all_flat : {A : Type 0} (f : A → Needs I) (xs : List A) → ((x : A) → AllHad (f x)) → AllHad (flat_map f xs)
+  all_flat f [] h = All-nil P
+  all_flat f (x ∷ xs) h = All-append P (f x) (flat_map f xs) (h x) (all_flat f xs h)
+
   -- one alone
   pub one_lacks : (need : Slot × Part I) → (P need → ⊥) → IsFirst below (need ∷ []) facts need
   one_lacks need bad = record { front = []; back = []; is = refl; has = All-nil P; lacks = bad }
@@ -144,6 +152,14 @@ module _ {I : Type 0} (below : I → I → Type 0) (facts : Facts I) where
         by : (b : Bool) → pair r j ≡ b → AllHad (cond b [] ((Apart point r j, Mark true) ∷ []))
         by true e = All-nil P
         by false e = one_has (Apart point r j, Mark true) (h e)
+
+    pub pairs_had : (registers cells : ℕ) → ((r j : ℕ) → pair r j ≡ false → P (Apart point r j, Mark true)) → AllHad (flat_map (need_apart point pair) (each_pair registers cells))
+    pairs_had registers cells h = all_flat (need_apart point pair) (each_pair registers cells) (λ q. apart_had q.0 q.1 (h q.0 q.1))
+
+-- a point all of whose pairs flow there
+pub apart_there : {I : Type 0} (below : I → I → Type 0) (facts : Facts I) (point : ℕ) (flow fact : PointFact I) → fact_at facts point ≡ Some fact → list_all (is_same flow) fact.same ≡ true → (r j : ℕ) → has_pair flow r j ≡ false → Has below facts (Apart point r j, Mark true)
+apart_there {I} below facts point flow fact at all r j none t =
+    subst (λ (o : Option (PointFact I)). apart_in o r j ≡ true) (sym at) (ap not (none_of (has_pair flow) fact.same (each_passes (is_same flow) fact.same all) r j none))
 
 -- ---- what is asked, one after the other
 

@@ -1,13 +1,16 @@
 //! The first register and tracked cell that are equal at a point, and not where control comes from.
 
-ghost use Rattle.std.specs.Prelude.{◌≡◌, ◌↔◌, true, false, MatchOption, map, Some, None};
-ghost use Rattle.std.specs.List.{flat_map};
+ghost use Rattle.std.specs.Prelude.{◌≡◌, ◌↔◌, ℕ, true, false, MatchOption, map, Some, None};
+ghost use Rattle.std.specs.List.{flat_map, list_all};
+ghost use Rattle.std.specs.Option.{option_copied};
 ghost use Rattle.cc_rules_lacking.specs.First.{IsFirst, LacksFirst};
 ghost use Rattle.cc_rules_needs.specs.Flowing.{each_pair, need_apart, numbers};
 ghost use Rattle.cc_rules_needs.specs.Needs.{Has, HasAll};
-ghost use Rattle.cc_state_facts.specs.Facts.{has_pair};
+ghost use Rattle.cc_state_facts.specs.Facts.{fact_at, has_pair};
+ghost use Rattle.cc_state_facts.specs.Orders.{is_same};
 
 use cc_lattice::IntDomain;
+use cc_num::at;
 use cc_rules_needs::{Need, Part, Slot, has};
 use cc_state_facts::{Facts, PointFact, is_pair};
 
@@ -48,8 +51,8 @@ fn first_cell<I: IntDomain>(
     None
 }
 
-/// What a point lacks first of what is to be apart there.
-pub(crate) fn lacking_apart<I: IntDomain>(
+/// What a point lacks first of what is to be apart there, register by register.
+fn first_apart<I: IntDomain>(
     facts: &Facts<I>,
     point: u32,
     flow: &PointFact<I>,
@@ -65,4 +68,50 @@ pub(crate) fn lacking_apart<I: IntDomain>(
         }
     }
     None
+}
+
+/// Whether some pairs all flow to a point.
+fn are_pairs<I>(flow: &PointFact<I>, pairs: &[(u32, u32)]) -> bool
+    ensures { result ≡ list_all (is_same flow.now) pairs.now }
+{
+    for pair in pairs {
+        if !is_pair(flow, pair.0, pair.1) {
+            return false;
+        }
+    }
+    true
+}
+
+/// What is known at a point.
+fn fact<I>(facts: &Facts<I>, point: u32) -> Option<&PointFact<I>>
+    ensures { option_copied result ≡ fact_at facts.now point }
+{
+    at(facts.at.all(), point as usize)?.as_ref()
+}
+
+/// Whether a point is reached, and has no pairs but those that flow there.
+fn has_all_apart<I: IntDomain>(facts: &Facts<I>, point: u32, flow: &PointFact<I>) -> bool
+    ensures { result ≡ true → (r j : ℕ) → has_pair flow.now r j ≡ false → Has I.IsBelow facts.now (Slot.Apart point r j, Part.Mark true) }
+{
+    match fact(facts, point) {
+        None => false,
+        Some(known) => are_pairs(flow, known.same.all()),
+    }
+}
+
+/// What a point lacks first of what is to be apart there.
+pub(crate) fn lacking_apart<I: IntDomain>(
+    facts: &Facts<I>,
+    point: u32,
+    flow: &PointFact<I>,
+    registers: u32,
+    cells: u32,
+) -> Option<Need<I>>
+    ensures { LacksFirst I.IsBelow (flat_map (need_apart point (has_pair flow.now)) (each_pair registers cells)) facts.now result }
+{
+    if has_all_apart(facts, point, flow) {
+        None
+    } else {
+        first_apart(facts, point, flow, registers, cells)
+    }
 }

@@ -5,7 +5,7 @@ ghost use Rattle.std.specs.Option.{option_copied};
 ghost use Rattle.cc_rules_lacking.specs.First.{IsFirst, LacksFirst};
 ghost use Rattle.cc_rules_needs.specs.Flowing.{of_fact, need_local, need_cell, numbers};
 ghost use Rattle.cc_rules_needs.specs.Needs.{Has, HasAll};
-ghost use Rattle.cc_state_facts.specs.Facts.{local_of as local_of_fact, cell_of as cell_of_fact};
+ghost use Rattle.cc_state_facts.specs.Facts.{local_of as local_of_fact};
 
 use crate::values::{copied_values, has_values};
 use cc_lattice::IntDomain;
@@ -15,23 +15,11 @@ use cc_rules_needs::{Need, Part, Slot};
 use cc_state_facts::{Facts, PointFact};
 use std::alloc::Global;
 
-/// How many cells a row has, where it is not the last.
-const ROW_LENGTH: usize = 16;
-
 /// The set of a register.
 fn local_of<I>(flow: &PointFact<I>, register: u32) -> Option<&Abs<I>>
     ensures { option_copied result ≡ local_of_fact flow.now register }
 {
     let set = at(flow.locals.all(), register as usize)?;
-    Some(set.get())
-}
-
-/// The set of a tracked cell.
-fn cell_of<I>(flow: &PointFact<I>, cell: u32) -> Option<&Abs<I>>
-    ensures { option_copied result ≡ cell_of_fact flow.now cell }
-{
-    let row = at(flow.rows.all(), cell as usize / ROW_LENGTH)?;
-    let set = at(row.get().cells.all(), cell as usize % ROW_LENGTH)?;
     Some(set.get())
 }
 
@@ -46,7 +34,7 @@ fn has_local<I: IntDomain>(facts: &Facts<I>, point: u32, flow: &PointFact<I>, re
 fn has_cell<I: IntDomain>(facts: &Facts<I>, point: u32, flow: &PointFact<I>, cell: u32) -> bool
     ensures { IsTrue result ↔ Has I.IsBelow facts.now (need_cell point (of_fact flow.now) cell) }
 {
-    has_values(cell_of(flow, cell), facts.cell(point, cell))
+    has_values(flow.cell(cell), facts.cell(point, cell))
 }
 
 /// The first register of which it has not.
@@ -115,7 +103,7 @@ pub(crate) fn lacking_cell<I: IntDomain>(
     match first_cell(facts, point, flow, cells) {
         None => Ok(None),
         Some(cell) => {
-            let values = copied_values(alloc, cell_of(flow, cell))?;
+            let values = copied_values(alloc, flow.cell(cell))?;
             Ok(Some((Slot::CellAt(point, cell), Part::Values(values))))
         }
     }

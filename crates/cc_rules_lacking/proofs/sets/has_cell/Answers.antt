@@ -7,5 +7,5 @@ use Rattle.cc_state_facts.specs.Facts.{cell_of}
 
 pub returns : goal.returns
 returns g c =
-    subst (λ held. IsTrue c.has_values.result ↔ AreValuesBelow g.I.Lattice.IsBelow (cell_of c.args.flow.now c.args.cell) held) c.cell.ensures
-    (subst (λ needed. IsTrue c.has_values.result ↔ AreValuesBelow g.I.Lattice.IsBelow needed (option_copied c.cell.result)) c.cell_of.ensures c.has_values.ensures)
+    subst (λ held. IsTrue c.has_values.result ↔ AreValuesBelow g.I.Lattice.IsBelow (cell_of c.args.flow.now c.args.cell) held) c.cell-2.ensures
+    (subst (λ needed. IsTrue c.has_values.result ↔ AreValuesBelow g.I.Lattice.IsBelow needed (option_copied c.cell-2.result)) c.cell.ensures c.has_values.ensures)

@@ -1,7 +1,7 @@
 use Rattle.cc_rules_needs.specs.Flowing.{numbers}
 use Rattle.cc_rules_needs.specs.Needs.{HasAll}
 use Rattle.cc_rules_lacking.proofs.Firsts.{row}
-use Rattle.cc_rules_lacking.proofs.apart.lacking_apart.Given as goal
+use Rattle.cc_rules_lacking.proofs.apart.first_apart.Given as goal
 use Rattle.cc_state_facts.specs.Facts.{has_pair}
 use Rattle.std.specs.List.{flat_map}
 
