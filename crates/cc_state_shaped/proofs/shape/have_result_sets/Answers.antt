@@ -1,0 +1,12 @@
+use Rattle.std.proofs.Common.{arith, ◌≡◌, length, ap, ◌∙◌}
+use Rattle.cc_state.specs.Shape.{IsResultType}
+use Rattle.cc_state_operators.specs.Domains.{domain}
+use Rattle.cc_state_shaped.proofs.Tests.{so_many}
+use Rattle.cc_state_shaped.proofs.shape.have_result_sets.Goals as goal
+
+pub returns-then-sets-all : goal.returns-then-sets-all
+returns-then-sets-all g c =
+    let d = domain g.I.Concrete.Has g.I.Lattice.IsBelow g.I.IntDomain.OpGives g.I.IntDomain.OpOneGives g.I.IntDomain.ToGives g.I.IntDomain.KeepGives g.I.IntDomain.members_of in
+    let p = c.args.layout.now.program.now in
+    let count : length c.all-sets.result.now ≡ length p.funcs = omega (arith, c.if-sets-all.true, ap length c.all.ensures) in
+    so_many d p (IsResultType d p) c.args.facts.now.results c.all-sets.result.now (length p.funcs) c.all-sets.ensures c.are_result_sets.result count c.are_result_sets.ensures
