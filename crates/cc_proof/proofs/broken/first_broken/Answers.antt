@@ -20,8 +20,8 @@ rules_of-requires g c =
       few_keys = few_keys d c.args.p.now c.args.facts.now c.requires.limits;
     }
 
-pub first_lacking-requires : goal.first_lacking-requires
-first_lacking-requires g c =
+pub first_broken-requires : goal.first_broken-requires
+first_broken-requires g c =
     let d = domain g.I.Concrete.Has g.I.Lattice.IsBelow g.I.IntDomain.OpGives g.I.IntDomain.OpOneGives g.I.IntDomain.ToGives g.I.IntDomain.KeepGives g.I.IntDomain.members_of in
     let made = ready d c.args.p.now c.in_ok-rules.rules c.args.facts.now c.requires.limits c.requires.shape c.in_ok-rules.ensures in
     record { normal = made.normal; rules = made.own; shape = made.shape; few = made.few; few_keys = made.few_keys }
@@ -49,5 +49,5 @@ returns g c =
       part = lacking.part;
       first = subst (λ q. FirstBroken d q c.args.facts.now (Some (broken_view lacking))) c.in_ok-rules.ensures.program
           (subst (λ b. FirstBroken d c.in_ok-rules.rules.program.now c.args.facts.now (option_map broken_view b)) c.in-Some.is c.in_ok-found.ensures);
-      told = c.in_ok-told.ensures;
+      told = c.in_ok-told-in-Some.ensures;
     }
