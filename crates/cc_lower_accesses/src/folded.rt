@@ -81,7 +81,7 @@ pub(crate) fn sum_or_difference(down: bool) -> BinOp
 }
 
 impl<'p> Body<'p> {
-    pub fn folded_un(self, op: UnOp, t: IntType, a: Expr) -> Result<Expr, NoMemory>
+    pub(crate) fn folded_un(self, op: UnOp, t: IntType, a: Expr) -> Result<Expr, NoMemory>
         ensures { IfOk result (λ e. e ≡ folded_un_of self.entry.program.now self.entry.func.now declared_type_of is_same_type_of op t a) }
     {
         let constant = constant_in(&a).unary(op, t, self.target());
@@ -89,7 +89,13 @@ impl<'p> Body<'p> {
         Ok(constant_or(unary_type(op, t), constant, e))
     }
 
-    pub fn folded_bin(self, op: BinOp, t: IntType, a: Expr, b: Expr) -> Result<Expr, NoMemory>
+    pub(crate) fn folded_bin(
+        self,
+        op: BinOp,
+        t: IntType,
+        a: Expr,
+        b: Expr,
+    ) -> Result<Expr, NoMemory>
         ensures { IfOk result (λ e. e ≡ folded_bin_of self.entry.program.now self.entry.func.now declared_type_of is_same_type_of op t a b) }
     {
         let constant = constant_in(&a).binary(op, t, constant_in(&b), self.target());
@@ -102,7 +108,7 @@ impl<'p> Body<'p> {
         Ok(constant_or(binary_type(op, t), constant, e))
     }
 
-    pub fn folded_conv(self, t: IntType, a: Expr) -> Result<Expr, NoMemory>
+    pub(crate) fn folded_conv(self, t: IntType, a: Expr) -> Result<Expr, NoMemory>
         ensures { IfOk result (λ e. e ≡ folded_conv_of self.entry.program.now self.entry.func.now declared_type_of is_same_type_of t a) }
     {
         let constant = constant_in(&a).converted(t, self.target());
