@@ -1,12 +1,11 @@
 -- Rows, read from their beginning, and pairs in order.
-use Rattle.std.proofs.Common.{arith, ◌≡◌, ◌↔◌, ◌⊎◌, inl, inr, ◌<◌, ◌≤◌, ◌+◌, ◌-◌, ℕ, zero, suc, Bool, true, false, IsTrue, eqb, List, [], ◌∷◌, length, get_or, take, Option, Some, None, refl, ap, sym, ◌∙◌, subst, slice_get, below_more}
-use Rattle.std.specs.List.{All, AllPairs, Contains, flat_map, sum_by}
+use Rattle.std.proofs.Common.{arith, ◌≡◌, ◌⊎◌, inl, inr, ◌<◌, ◌≤◌, ◌+◌, ◌-◌, ℕ, false, eqb, List, length, get_or, Some, sym, ◌∙◌, subst, slice_get, below_more}
+use Rattle.std.specs.List.{All, AllPairs, Contains, sum_by}
 use Rattle.std.proofs.lemmas.List.{get_or_default}
 use Rattle.std.proofs.lemmas.List.Concat.{length-flat_map}
 use Rattle.std.proofs.lemmas.List.Elements.{All-contains, Contains-get_or}
 use Rattle.std.proofs.lemmas.Option.{slice_get_within, slice_get-get_or, same_Some}
 use Rattle.cc_state_facts.specs.declared.facts.Row.{Row}
-use Rattle.cc_state_facts.specs.Facts.{row_length}
 use Rattle.cc_state_facts.specs.Orders.{IsBefore}
 use Rattle.cc_state_shaped.specs.Parts.{cells_in, cell_count, IsFilled, AreFilled}
 

@@ -1,5 +1,5 @@
 -- Tests one after the other, and lists that are read as they are held.
-use Rattle.std.proofs.Common.{arith, ◌≡◌, ◌↔◌, ◌<◌, ◌≤◌, ◌+◌, eqb, ℕ, Bool, true, false, IsTrue, List, length, Option, refl, ap, sym, ◌∙◌, subst, inl, inr, ◌⊎◌, slice_get}
+use Rattle.std.proofs.Common.{arith, ◌≡◌, ◌↔◌, ◌<◌, ◌≤◌, ◌+◌, eqb, ℕ, Bool, true, false, IsTrue, List, length, ap, sym, subst, inl, inr, ◌⊎◌, slice_get}
 use Rattle.std.specs.Option.{unwrap_or}
 use Rattle.std.proofs.lemmas.Option.{slice_get_past}
 use Rattle.cc_places.specs.declared.abs.Abs.{Abs}

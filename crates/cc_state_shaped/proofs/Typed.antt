@@ -1,5 +1,5 @@
 -- Sets of values of types: those so far, the set at a place, and which types things are of.
-use Rattle.std.proofs.Common.{arith, ◌≡◌, ◌↔◌, ◌<◌, ◌≤◌, ◌+◌, ℕ, Bool, true, false, IsTrue, List, Option, Some, None, refl, ap, sym, ◌∙◌, subst, below_more, slice_get}
+use Rattle.std.proofs.Common.{arith, ◌≡◌, ◌↔◌, ◌≤◌, ◌+◌, ℕ, Bool, true, false, IsTrue, List, Option, Some, None, ap, sym, ◌∙◌, subst, below_more, slice_get}
 use Rattle.std.proofs.lemmas.Option.{same_Some, none-some}
 use Rattle.cc_places.specs.declared.abs.Abs.{Abs}
 use Rattle.cc_program.specs.declared.func.Func.{Func}

@@ -1,8 +1,7 @@
-use Rattle.std.proofs.Common.{arith, ◌<◌, length, take, refl, sym, subst}
+use Rattle.std.proofs.Common.{arith, refl, sym, subst}
 use Rattle.std.specs.List.{All}
 use Rattle.std.proofs.lemmas.List.{take_all}
-use Rattle.std.proofs.lemmas.List.Elements.{All-more, All-nil}
-use Rattle.cc_program.specs.declared.value.Address.{Address}
+use Rattle.std.proofs.lemmas.List.Elements.{All-more}
 use Rattle.cc_state.specs.Shape.{MayPoint}
 use Rattle.cc_state_shaped.proofs.addresses.may_all_point.Goals as goal
 use Rattle.cc_typed.specs.View.{value_view}

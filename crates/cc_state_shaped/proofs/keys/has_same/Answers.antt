@@ -1,4 +1,4 @@
-use Rattle.std.proofs.Common.{None, Some, ap, sym, ◌∙◌}
+use Rattle.std.proofs.Common.{ap, sym, ◌∙◌}
 use Rattle.std.specs.Option.{option_copied}
 use Rattle.cc_state_shaped.proofs.Names.{same_at, none_first, none_second}
 use Rattle.cc_state_shaped.proofs.keys.has_same.Goals as goal

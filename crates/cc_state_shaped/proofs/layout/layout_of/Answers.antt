@@ -1,7 +1,6 @@
-use Rattle.std.proofs.Common.{◌<◌, ◌^◌, List, length, map, refl, ap, sym, ◌∙◌, subst}
+use Rattle.std.proofs.Common.{◌<◌, ◌^◌, length, map, refl, ap, sym, ◌∙◌, subst}
 use Rattle.std.specs.List.{All}
 use Rattle.cc_program.specs.declared.func.Func.{Func}
-use Rattle.cc_state_facts.specs.declared.facts.Key.{Key}
 use Rattle.cc_state_keys.proofs.Typed.{few-locals}
 use Rattle.cc_state_keys.specs.Tracked.{registers}
 use Rattle.cc_state_shaped.specs.Names.{may_name}

@@ -1,5 +1,5 @@
 -- Each pair so far is before the later ones; at the end these are all.
-use Rattle.std.proofs.Common.{arith, ◌<◌, ◌-◌, ℕ, length, refl}
+use Rattle.std.proofs.Common.{arith, ◌<◌, ◌-◌, length, refl}
 use Rattle.cc_state_shaped.proofs.Filled.{ascend_more, ascend_all, read_pairs}
 use Rattle.cc_state_shaped.proofs.pairs.do_ascend.Goals as goal
 

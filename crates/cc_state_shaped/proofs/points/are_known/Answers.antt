@@ -1,5 +1,5 @@
 -- What is known at each point so far is of its shape; at the end these are all.
-use Rattle.std.proofs.Common.{arith, ◌≡◌, ◌<◌, Some, length, refl, slice_get, below_more}
+use Rattle.std.proofs.Common.{arith, ◌≡◌, Some, length, refl, slice_get, below_more}
 use Rattle.std.proofs.lemmas.Option.{slice_get_read}
 use Rattle.cc_state_operators.specs.Domains.{domain}
 use Rattle.cc_state_shaped.proofs.Known.{IsKnownIn, known_into, known_from, known_all}

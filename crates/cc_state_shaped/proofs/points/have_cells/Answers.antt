@@ -1,4 +1,4 @@
-use Rattle.std.proofs.Common.{arith, ◌≡◌, ◌↔◌, ℕ, IsTrue, List, length, ap, sym, ◌∙◌, subst}
+use Rattle.std.proofs.Common.{arith, ◌≡◌, ◌↔◌, IsTrue, List, length, ap, ◌∙◌, subst}
 use Rattle.cc_state.specs.Shape.{AreSets, IsTrackedType}
 use Rattle.cc_state_facts.specs.declared.facts.Row.{Row}
 use Rattle.cc_state_facts.specs.Facts.{cell_of}

@@ -1,4 +1,4 @@
-use Rattle.std.proofs.Common.{◌↔◌, ℕ, IsTrue, List, length, ap, sym, ◌∙◌, subst}
+use Rattle.std.proofs.Common.{◌↔◌, ℕ, IsTrue, List, length, ap, subst}
 use Rattle.std.specs.List.{All, AllPairs, Contains}
 use Rattle.cc_state_facts.specs.Orders.{IsBefore}
 use Rattle.cc_state_shaped.proofs.Filled.{each_contained, all_from_each}

@@ -1,5 +1,5 @@
 -- Each row so far is filled; at the end these are all.
-use Rattle.std.proofs.Common.{arith, ◌≡◌, ◌<◌, ◌+◌, eqb, Some, length, refl, sym, subst, slice_get}
+use Rattle.std.proofs.Common.{arith, ◌≡◌, ◌+◌, eqb, Some, length, refl, sym, subst, slice_get}
 use Rattle.std.proofs.lemmas.Option.{slice_get_read}
 use Rattle.cc_state_facts.specs.declared.facts.Row.{Row}
 use Rattle.cc_state_shaped.specs.Parts.{IsFilled}

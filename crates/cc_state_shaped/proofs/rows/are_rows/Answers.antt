@@ -1,4 +1,4 @@
-use Rattle.std.proofs.Common.{◌≡◌, sym, ◌∙◌}
+use Rattle.std.proofs.Common.{sym, ◌∙◌}
 use Rattle.cc_state_shaped.proofs.Filled.{counted}
 use Rattle.cc_state_shaped.proofs.Tests.{both, not_first, as_said}
 use Rattle.cc_state_shaped.specs.Parts.{AreFilled}

@@ -1,5 +1,5 @@
 -- By the ends of the set.
-use Rattle.std.proofs.Common.{sym, ◌∙◌, ap, refl, subst}
+use Rattle.std.proofs.Common.{sym, ◌∙◌, refl, subst}
 use Rattle.std.specs.Option.{IfSome}
 use Rattle.cc_lattice.specs.Domains.{AreEnds}
 use Rattle.cc_state_shaped.proofs.Integers.{both_ends, first_end}

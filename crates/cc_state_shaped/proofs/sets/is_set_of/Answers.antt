@@ -1,4 +1,4 @@
-use Rattle.std.proofs.Common.{ap, refl}
+use Rattle.std.proofs.Common.{ap}
 use Rattle.std.specs.Prelude.{option_map}
 use Rattle.cc_state_operators.specs.Domains.{domain}
 use Rattle.cc_state_shaped.proofs.Typed.{of_some, of_no_type}

@@ -1,4 +1,4 @@
-use Rattle.std.proofs.Common.{arith, ◌≡◌, length, ap, ◌∙◌}
+use Rattle.std.proofs.Common.{arith, ◌≡◌, length, ap}
 use Rattle.cc_state.specs.Shape.{IsResultType}
 use Rattle.cc_state_operators.specs.Domains.{domain}
 use Rattle.cc_state_shaped.proofs.Tests.{so_many}
