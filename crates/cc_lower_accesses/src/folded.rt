@@ -81,7 +81,8 @@ pub(crate) fn sum_or_difference(down: bool) -> BinOp
 }
 
 impl<'p> Body<'p> {
-    pub(crate) fn folded_un(self, op: UnOp, t: IntType, a: Expr) -> Result<Expr, NoMemory>
+    /// `op a`, computed in type `t`: its value where `a` is a constant and the value exists.
+    pub fn folded_un(self, op: UnOp, t: IntType, a: Expr) -> Result<Expr, NoMemory>
         ensures { IfOk result (λ e. e ≡ folded_un_of self.entry.program.now self.entry.func.now declared_type_of is_same_type_of op t a) }
     {
         let constant = constant_in(&a).unary(op, t, self.target());
@@ -89,13 +90,8 @@ impl<'p> Body<'p> {
         Ok(constant_or(unary_type(op, t), constant, e))
     }
 
-    pub(crate) fn folded_bin(
-        self,
-        op: BinOp,
-        t: IntType,
-        a: Expr,
-        b: Expr,
-    ) -> Result<Expr, NoMemory>
+    /// `a op b`, computed in type `t`: its value where both are constants and the value exists.
+    pub fn folded_bin(self, op: BinOp, t: IntType, a: Expr, b: Expr) -> Result<Expr, NoMemory>
         ensures { IfOk result (λ e. e ≡ folded_bin_of self.entry.program.now self.entry.func.now declared_type_of is_same_type_of op t a b) }
     {
         let constant = constant_in(&a).binary(op, t, constant_in(&b), self.target());
@@ -108,7 +104,8 @@ impl<'p> Body<'p> {
         Ok(constant_or(binary_type(op, t), constant, e))
     }
 
-    pub(crate) fn folded_conv(self, t: IntType, a: Expr) -> Result<Expr, NoMemory>
+    /// `a` converted to `t`: its value where `a` is a constant.
+    pub fn folded_conv(self, t: IntType, a: Expr) -> Result<Expr, NoMemory>
         ensures { IfOk result (λ e. e ≡ folded_conv_of self.entry.program.now self.entry.func.now declared_type_of is_same_type_of t a) }
     {
         let constant = constant_in(&a).converted(t, self.target());

@@ -9,4 +9,4 @@ mod folded;
 mod temporaries;
 
 pub use body::Body;
-pub use temporaries::{assign, fresh, into, load, set};
+pub use temporaries::{assign, declared_type, fresh, into, load, set};

@@ -32,7 +32,7 @@ fn function_pointer(alloc: Global, sig: &Sig) -> Result<CType, NoMemory>
 }
 
 /// The type that a temporary is declared with.
-pub(crate) fn declared_type(alloc: Global, t: Option<ValueType>) -> Result<CType, NoMemory>
+pub fn declared_type(alloc: Global, t: Option<ValueType>) -> Result<CType, NoMemory>
     ensures { IfOk result (λ r. r ≡ declared_type_of (option_map value_view t.entry)) }
 {
     match t {
