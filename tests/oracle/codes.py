@@ -6,6 +6,9 @@ the fewest that tell the values apart and no fewer than asked; the first kind th
 import re
 from fractions import Fraction
 
+# so many members make the set all numbers of 7 bits with a sign
+SEVEN_BITS = ",".join(map(str, range(-64, 64)))
+
 CODES = [
     # numbers as they stand
     ("i{0,1,2,3} 0", "Direct 2 0>0>0 1>1>1 2>2>2 3>3>3"),
@@ -41,12 +44,19 @@ CODES = [
     ("i{1,2,4,8} 0", "Table 2 1>0>1 2>1>2 4>2>4 8>3>8"),
     ("i{255,256} 0", "Biased(255) 1 255>0>255 256>1>256"),
     ("i{65536} 16", "Biased(65536) 16 65536>0>65536"),
+    ("i{0,100,200} 0", "Table 2 0>0>0 100>1>100 200>2>200"),
+    ("i{0,1,2,3,4,5,6,7,8,9} 0", "Direct 4 0>0>0 1>1>1 2>2>2 3>3>3 4>4>4 5>5>5 6>6>6 7>7>7 8>8>8 9>9>9"),
+    ("i{7} 0", "Const 0 7>0>7"),
     ("i{0,10,20,30,40} 0", "Table 3 0>0>0 10>1>10 20>2>20 30>3>30 40>4>40"),
     ("i{-9223372036854775808,18446744073709551615} 0",
      "Table 1 -9223372036854775808>0>-9223372036854775808 18446744073709551615>1>18446744073709551615"),
     ("i{18446744073709551614,18446744073709551615} 0",
      "Biased(18446744073709551614) 1 18446744073709551614>0>18446744073709551614 18446744073709551615>1>18446744073709551615"),
     # all numbers of some bits
+    (f"i{{{SEVEN_BITS}}} 0", "Biased(-64) 7"),
+    (f"i{{{SEVEN_BITS}}} 0 v-64", "Biased(-64) 7 -64>0>-64"),
+    (f"i{{{SEVEN_BITS}}} 0 v0", "Biased(-64) 7 0>64>0"),
+    (f"i{{{SEVEN_BITS}}} 0 v63", "Biased(-64) 7 63>127>63"),
     ("iUChar 0", "Direct 8"),
     ("iUChar 0 v0", "Direct 8 0>0>0"),
     ("iUChar 0 v200", "Direct 8 200>200>200"),
@@ -191,7 +201,7 @@ def hold_codes():
             continue
         numbers = [int(n) for n in word[2:-1].split(",")]
         kind, bits, codes = kind_of(numbers, int(least))
-        told = "".join(f" {n}>{code}>{n}" for n, code in zip(sorted(numbers), codes)) if bits <= 16 else ""
+        told = "".join(f" {n}>{code}>{n}" for n, code in zip(sorted(numbers), codes)) if bits <= 16 and len(numbers) <= 64 else ""
         assert want == f"{kind} {bits}{told}", case
 
 
