@@ -1,0 +1,3 @@
+pub mod DoSteps
+pub mod Evaluates
+pub mod ResidueLemmas
