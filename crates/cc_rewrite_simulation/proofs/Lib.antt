@@ -1,0 +1,9 @@
+pub mod Answers
+pub mod BothLaws
+pub mod Entries
+pub mod Follows
+pub mod Laws
+pub mod LawsBack
+pub mod SameLemmas
+pub mod Starts
+pub mod Whole

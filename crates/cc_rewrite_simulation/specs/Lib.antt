@@ -1,0 +1,4 @@
+pub mod Comparison
+pub mod Relation
+pub mod RelationBack
+pub mod Simulated
