@@ -1,0 +1,4 @@
+pub mod Actions
+pub mod Calls
+pub mod OthersWrite
+pub mod Performs
