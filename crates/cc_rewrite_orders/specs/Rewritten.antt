@@ -6,8 +6,8 @@ use Rattle.cc_plan_legal.specs.declared.kinds.Plan.{Plan}
 use Rattle.cc_program.specs.declared.program.Program.{Program}
 use Rattle.cc_rewrite_codes.specs.Programs.{coded_program}
 use Rattle.cc_rewrite_orders.specs.Members.{with_members_ordered}
-use Rattle.cc_rewrite_orders.specs.Objects.{with_objects_ordered}
 use Rattle.cc_rewrite_orders.specs.Orders.{member_order, object_order}
+use Rattle.cc_rewrite_renamed.specs.Objects.{with_objects_ordered}
 use Rattle.cc_slots_types.specs.declared.slot.Slot.{Slot}
 use Rattle.cc_state_facts.specs.declared.facts.Facts.{Facts}
 

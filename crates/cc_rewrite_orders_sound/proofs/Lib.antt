@@ -1,0 +1,9 @@
+pub mod Devices
+pub mod Few
+pub mod FirstValues
+pub mod Forms
+pub mod Names
+pub mod NormalBodies
+pub mod Programs
+pub mod Types
+pub mod Whole

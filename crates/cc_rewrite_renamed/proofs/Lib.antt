@@ -1,0 +1,10 @@
+pub mod Gets
+pub mod Kept
+pub mod Laws
+pub mod Meanings
+pub mod Places
+pub mod Registers
+pub mod Sources
+pub mod Spots
+pub mod Stays
+pub mod Values
