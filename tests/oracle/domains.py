@@ -7,6 +7,7 @@ as an interval can be, the answer has to be exactly the least and the greatest r
 all results, and the hull is found by trying every range. What stands in BY_HAND was worked out by hand. `places.py` has the cases
 of sets of addresses, and `codes.py` those of codes, costs and rankings.
 """
+import functools
 import itertools
 import random
 import sys
@@ -329,6 +330,7 @@ MOST = 64
 RANGES = [range(0, 1 << k) for k in range(7, 65)] + [range(-(1 << k - 1), 1 << k - 1) for k in range(7, 66)]
 
 
+@functools.lru_cache(maxsize=None)
 def least_range(low, high):
     """The range that has both ends and lies in each range that has them."""
     those = [r for r in RANGES if low in r and high in r]
@@ -686,4 +688,5 @@ def main():
     print(count, file=sys.stderr)
 
 
-main()
+if __name__ == "__main__":
+    main()
