@@ -6,7 +6,7 @@ ghost use Rattle.cases_domains.specs.Chain.{IsBelowTruth, IsChain, turned, IsAsk
 
 use cc_fix::System;
 use cc_lattice::{Lattice, Table};
-use cc_num::{List, NoMemory, at};
+use cc_program::num::{List, NoMemory, at};
 use std::alloc::Global;
 use std::cell::Cell;
 use std::mem::replace;

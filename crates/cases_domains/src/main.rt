@@ -31,7 +31,7 @@ mod written;
 
 use cases_script::{Cases, Page, run, split};
 use cc_cost_ranking::{Budgets, Weights};
-use cc_num::Target;
+use cc_program::num::Target;
 use cc_ranges::Span;
 use cc_sets::Vals;
 use places::Places;

@@ -12,7 +12,7 @@ use crate::words::{operator_of, type_of};
 use crate::written::{join, set_of};
 use cases_script::{Page, split};
 use cc_lattice::IntDomain;
-use cc_num::{BinOp, IntType, Target};
+use cc_program::num::{BinOp, IntType, Target};
 use std::alloc::Global;
 
 /// The room of the results of an operator of two sets that is worked many times.

@@ -16,16 +16,16 @@
 //! another its least and its greatest member.
 
 ghost use Rattle.std.specs.Prelude.{◌≡◌, ℤ, IsTrue};
-ghost use Rattle.cc_num.specs.Integers.{IsValueOf};
-ghost use Rattle.cc_num.specs.Promotions.{promoted};
-ghost use Rattle.cc_num.specs.Results.{is_shift};
+ghost use Rattle.cc_program.specs.CcNum.Integers.{IsValueOf};
+ghost use Rattle.cc_program.specs.CcNum.Promotions.{promoted};
+ghost use Rattle.cc_program.specs.CcNum.Results.{is_shift};
 ghost use Rattle.cc_lattice.specs.Domains.{IsIntValue, IsSecond};
 
 use crate::words::{comparison_of, operator_of, prefix_of, type_of};
 use crate::written::{join, one_in, set_of, write_ends, write_explicit, write_set};
 use cases_script::{Page, split};
 use cc_lattice::IntDomain;
-use cc_num::{BinOp, IntType, Target, UnOp, promote};
+use cc_program::num::{BinOp, IntType, Target, UnOp, promote};
 use std::alloc::Global;
 
 /// Whether a set is below another.

@@ -7,7 +7,7 @@ use crate::chain::{Chain, Truth};
 use cases_script::Page;
 use cc_fix::{System, least};
 use cc_lattice::{Lattice, Table, copied};
-use cc_num::NoMemory;
+use cc_program::num::NoMemory;
 use std::alloc::Global;
 use std::cell::Cell;
 

@@ -3,7 +3,7 @@
 ghost use Rattle.std.specs.Prelude.{◌≡◌, true, IfSome};
 ghost use Rattle.cc_lattice.specs.Domains.{is_comparison};
 
-use cc_num::{BinOp, IntType, Target, UnOp};
+use cc_program::num::{BinOp, IntType, Target, UnOp};
 
 /// A target whose `int` has two bytes, and whose plain `char` has no sign.
 pub fn small_target() -> Target {

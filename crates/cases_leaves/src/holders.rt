@@ -2,7 +2,7 @@
 
 use crate::contents::number;
 use cases_script::{Page, bytes_of, split};
-use cc_num::{Boxed, List, at};
+use cc_program::num::{Boxed, List, at};
 use std::alloc::Global;
 
 fn write_list(page: &mut Page, list: List<u8>) {

@@ -40,7 +40,7 @@ mod wants;
 use cases_script::{Line, Page, line_of};
 use cc_edge::{MemorySink, MemoryStore, ReadEnd, WriteFault};
 use cc_lex::{spellings_are_longest, texts_have_tokens_or_a_fault};
-use cc_num::Target;
+use cc_program::num::Target;
 use std::alloc::Global;
 use std::io;
 
@@ -145,7 +145,7 @@ fn write_outcome(rt: &HostRuntime, page: &mut Page, subject: &mut Subject, case:
 
 fn main(rt: HostRuntime) -> io::Result<()> {
     let alloc = rt.alloc();
-    cc_num::laws();
+    cc_program::num::laws();
     spellings_are_longest();
     texts_have_tokens_or_a_fault();
     cc_bins::laws();

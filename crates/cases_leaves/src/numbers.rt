@@ -1,7 +1,9 @@
 //! Integers of a target: the values of types, conversions, operators, promotions and bits.
 
 use cases_script::Page;
-use cc_num::{BinOp, IntType, Target, UnOp, apply, apply_one, bits_for, convert, promote, usual};
+use cc_program::num::{
+    BinOp, IntType, Target, UnOp, apply, apply_one, bits_for, convert, promote, usual,
+};
 use std::alloc::Global;
 
 /// What a case gives.

@@ -3,7 +3,7 @@
 use crate::contents::{contents, number, write_contents};
 use cases_script::{Page, split};
 use cc_edge::{DiskStore, MemoryStore, Put, Store, WriteFault, read_whole, write_whole};
-use cc_num::List;
+use cc_program::num::List;
 use std::alloc::{AllocError, Global};
 use std::fs;
 use std::rt::Files;

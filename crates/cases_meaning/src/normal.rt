@@ -1,6 +1,6 @@
 //! Programs in normal form, and their texts.
 
-ghost use Rattle.cc_syntax.specs.Normal.{IsNormal};
+ghost use Rattle.cc_states.specs.CcSyntax.Normal.{IsNormal};
 
 use cases_script::Page;
 use cc_normal::is_normal;

@@ -3,8 +3,8 @@
 
 use cases_script::{Page, bytes_of};
 use cc_cost::{Profile, ProfileFault, default_profile, read_profile};
-use cc_num::Target;
 use cc_program::Roles;
+use cc_program::num::Target;
 use std::alloc::Global;
 
 /// A word with a blank on each side.

@@ -1,14 +1,14 @@
 //! What a case asks of a run, and the run.
 
 ghost use Rattle.std.specs.Prelude.{◌≡◌};
-ghost use Rattle.cc_syntax.specs.Sound.{IsSound};
+ghost use Rattle.cc_states.specs.CcSyntax.Sound.{IsSound};
 
 use crate::states::write_state;
 use cases_script::Page;
 use cc_meaning::{End, start};
 use cc_run::{drive, read_arrivals, read_inputs};
 use cc_sound::is_sound;
-use cc_syntax::Program;
+use cc_states::syntax::Program;
 use std::alloc::Global;
 
 /// What stands between the bars of a case: the rows of inputs and of arrivals are parted by blanks.

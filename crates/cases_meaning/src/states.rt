@@ -6,7 +6,7 @@
 
 use cases_script::Page;
 use cc_meaning::{Activation, End, Machine};
-use cc_num::at;
+use cc_program::num::at;
 use cc_program::{Address, Part, Program, Root, Value};
 use std::alloc::Global;
 

@@ -3,8 +3,8 @@
 use crate::legal::write_judgement;
 use cases_script::{Page, split};
 use cc_bins::{Field, Word};
-use cc_num::List;
 use cc_plan_legal::{Candidate, Form, Parts};
+use cc_program::num::List;
 use std::alloc::{AllocError, Global};
 
 /// How many slots there are at most.

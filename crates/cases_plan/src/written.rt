@@ -8,8 +8,8 @@
 //!     the rest   numbers of slots
 
 use cc_bins::{Field, Word};
-use cc_num::List;
 use cc_plan_legal::{Candidate, Form, Parts};
+use cc_program::num::List;
 use cc_slots_types::Reason;
 use std::alloc::{AllocError, Global};
 

@@ -1,7 +1,7 @@
 //! A program that is being built.
 
 use cc_cost::{Profile, read_profile};
-use cc_num::{Boxed, List, Name, Target};
+use cc_program::num::{Boxed, List, Name, Target};
 use cc_syntax::{
     CType, Case, Device, Entry, Expr, Func, Leaf, Object, Place, Program, Stmt, Structure,
 };

@@ -3,7 +3,7 @@
 use crate::builder::{Builder, Parts, Terms, put, taken};
 use crate::types::{plain, signature};
 use crate::words::{int_type, name, split};
-use cc_num::{List, Name};
+use cc_program::num::{List, Name};
 use cc_syntax::{Address, Device, Entry, Func, Leaf, Object, Part, Root, Shape, Sig, Structure};
 use std::alloc::Global;
 

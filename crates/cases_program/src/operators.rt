@@ -3,7 +3,7 @@
 use crate::builder::{Terms, put};
 use crate::types::boxed_type;
 use crate::words::{bin_op, int_type};
-use cc_num::{BinOp, UnOp};
+use cc_program::num::{BinOp, UnOp};
 use cc_syntax::Expr;
 
 fn unary(head: &str) -> Option<UnOp> {

@@ -1,7 +1,7 @@
 //! Statements.
 
 use crate::builder::{Bodies, Terms, last_few, put, taken};
-use cc_num::{Boxed, List};
+use cc_program::num::{Boxed, List};
 use cc_syntax::{Case, Expr, Stmt};
 use std::alloc::Global;
 use std::mem;

@@ -2,7 +2,7 @@
 
 use crate::builder::{Terms, boxed, last_few, put};
 use crate::words::{int_type, name};
-use cc_num::{Boxed, Name};
+use cc_program::num::{Boxed, Name};
 use cc_syntax::{CType, Shape, Sig};
 
 /// A type without qualifiers.

@@ -1,6 +1,6 @@
 //! What words stand for.
 
-use cc_num::{BinOp, IntType, List, Name};
+use cc_program::num::{BinOp, IntType, List, Name};
 use std::alloc::Global;
 
 /// The parts of a word in front of its first colon and behind it.

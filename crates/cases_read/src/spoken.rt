@@ -2,7 +2,7 @@
 
 use crate::written::{write_device, write_function_name, write_object_name};
 use cases_script::Page;
-use cc_num::{Boxed, List};
+use cc_program::num::{Boxed, List};
 use cc_program::{Case, Expr, Place, Program, Stmt};
 
 #[cycle(expressions)]

@@ -5,7 +5,7 @@ use cases_script::{Page, bytes_of};
 use cases_units::write_unit;
 use cc_cost::{Profile, read_profile};
 use cc_gram::{Unit, parse};
-use cc_lex::lex;
+use cc_type::lex::lex;
 use cc_type::{TypeFault, elaborate};
 use std::alloc::Global;
 

@@ -10,14 +10,14 @@
 use crate::spoken::write_stmts;
 use cases_script::Page;
 use cc_causes::LinkFault;
-use cc_lex::LexFault;
-use cc_num::{IntType, Name, at};
+use cc_program::num::{IntType, Name, at};
 use cc_program::{
     Address, CType, Device, Entry, Func, Leaf, Object, Program, Root, Shape, Structure,
 };
 use cc_read::{ReadRefusal, Refusal};
 use cc_tree::GramFault;
 use cc_type::TypeFault;
+use cc_type::lex::LexFault;
 use std::alloc::Global;
 
 /// Puts a title in front of the first of some parts, and a blank in front of each.

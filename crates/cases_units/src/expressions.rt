@@ -2,7 +2,7 @@
 
 use crate::types::{int_word, put_number, write_type};
 use cases_script::Page;
-use cc_num::{BinOp, UnOp};
+use cc_program::num::{BinOp, UnOp};
 use cc_program::{Expr, Intr, Place};
 
 fn unary_word(op: UnOp) -> &'static str {

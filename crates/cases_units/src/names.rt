@@ -3,7 +3,7 @@
 use crate::statements::write_stmts;
 use crate::types::{int_word, put_number, write_named, write_type};
 use cases_script::Page;
-use cc_num::Name;
+use cc_program::num::Name;
 use cc_program::{Address, Device, Entry, Func, Leaf, Part, Root};
 use cc_unit::{Linkage, TypedUnit, UnitKind, UnitName, UnitStructure};
 

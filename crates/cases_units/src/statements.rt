@@ -2,7 +2,7 @@
 
 use crate::expressions::write_expr;
 use cases_script::Page;
-use cc_num::{Boxed, List};
+use cc_program::num::{Boxed, List};
 use cc_program::{Case, Expr, Stmt};
 
 fn write_word(page: &mut Page, word: &str, e: &Boxed<Expr>) {

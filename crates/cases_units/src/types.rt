@@ -1,7 +1,7 @@
 //! Types.
 
 use cases_script::Page;
-use cc_num::{IntType, List, Name};
+use cc_program::num::{IntType, List, Name};
 use cc_program::{CType, Shape, Sig};
 
 /// Writes a number behind a letter.

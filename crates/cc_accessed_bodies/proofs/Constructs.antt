@@ -11,42 +11,42 @@ use Rattle.cc_accessed_terms.specs.Accounted.{Accounts, DeclaresNone}
 use Rattle.cc_accessed_terms.proofs.Accounts.{accounts_itself, accounts_more, accounts_behind}
 use Rattle.cc_accessed_terms.proofs.Founds.{answer, then_found}
 use Rattle.cc_accessed_terms.proofs.Terms.{value_accounts, constant_declares}
-use Rattle.cc_num.specs.declared.int_type.IntType.{IntType}
-use Rattle.cc_num.specs.declared.target.Target.{Target}
-use Rattle.cc_operands.specs.Assignments.{assigned}
-use Rattle.cc_operands.specs.Operands.{Operand, constancy, converted_to}
-use Rattle.cc_operands.specs.Verdicts.{Judged, must, judge_then}
-use Rattle.cc_operands.specs.declared.rule.Rule.TheVariants as rule
+use Rattle.cc_program.specs.CcNum.declared.int_type.IntType.{IntType}
+use Rattle.cc_program.specs.CcNum.declared.target.Target.{Target}
+use Rattle.cc_type.specs.CcOperands.Assignments.{assigned}
+use Rattle.cc_type.specs.CcOperands.Operands.{Operand, constancy, converted_to}
+use Rattle.cc_type.specs.CcOperands.Verdicts.{Judged, must, judge_then}
+use Rattle.cc_type.specs.CcOperands.declared.rule.Rule.TheVariants as rule
 use Rattle.cc_program.proofs.Each.{Each}
 use Rattle.cc_program.specs.declared.expr.Expr.{Expr}
 use Rattle.cc_program.specs.declared.program.Roles.{Roles}
 use Rattle.cc_program.specs.declared.stmt.Case.{Case}
 use Rattle.cc_program.specs.declared.stmt.Stmt.{Stmt, Do, If, While, DoWhile, For, Switch, Return, Empty, Block}
 use Rattle.cc_program.specs.declared.types.CType.{CType}
-use Rattle.cc_scopes.specs.State.{State, Name, empty, entered, left}
-use Rattle.cc_scopes.specs.Verdicts.{Found, Meaning, whole, and_then, maybe_found}
+use Rattle.cc_type.specs.CcScopes.State.{State, Name, empty, entered, left}
+use Rattle.cc_type.specs.CcScopes.Verdicts.{Found, Meaning, whole, and_then, maybe_found}
 use Rattle.cc_sound_declarations.specs.Ranges.{decl_fits}
 use Rattle.cc_read_sound.specs.Ranges.{first_fits}
-use Rattle.cc_specifiers.specs.declared.storage.Where.TheVariants as stands
-use Rattle.cc_syntax.specs.Folding.{Constant, NoConstant, Value, Traps}
-use Rattle.cc_syntax.specs.Operators.{is_integer}
-use Rattle.cc_syntax.specs.Values.{ValueType, is_void, is_scalar, scalar_value}
+use Rattle.cc_type.specs.CcSpecifiers.declared.storage.Where.TheVariants as stands
+use Rattle.cc_type.specs.CcSyntax.Folding.{Constant, NoConstant, Value, Traps}
+use Rattle.cc_type.specs.CcSyntax.Operators.{is_integer}
+use Rattle.cc_type.specs.CcSyntax.Values.{ValueType, is_void, is_scalar, scalar_value}
 use Rattle.cc_tree.specs.declared.at.At.{At}
 use Rattle.cc_tree.specs.declared.tree.Tree.{Tree}
 use Rattle.cc_tree.specs.declared.unit.Decl.{Decl}
 use Rattle.cc_tree.specs.declared.unit.First.{First}
 use Rattle.cc_tree.specs.declared.unit.First.TheVariants as first
-use Rattle.cc_typed_bodies.specs.Declarations.{declaration}
-use Rattle.cc_typed_bodies.specs.Lines.{misplaced, label_found, misplaced_case, case_found, if_found, while_found, do_found, switch_found, for_found}
-use Rattle.cc_typed_bodies.specs.Meanings.{LineMeaning, done, scoped, line_found, lines_found, block_found, body_inside, body_found, maybe_body, item_found, items_found, cases_inside, not_switched, switch_body, empty_item, unlabelled}
-use Rattle.cc_typed_bodies.specs.Parts.{value_here, effect_found, expression_found, return_found, declared_found, first_found}
-use Rattle.cc_typed_statements.specs.Conditions.{condition, maybe_condition, effect, body_of, joined}
-use Rattle.cc_typed_statements.specs.Jumps.{in_loop, in_switch, returned_by, returned}
-use Rattle.cc_typed_statements.specs.Labels.{no_case, label_in, once, case_label, labelled, label_done, behind, behind_empty}
-use Rattle.cc_typed_statements.specs.Statements.{if_of, while_of, do_of, for_of}
-use Rattle.cc_typed_statements.specs.Switch.{switch_type, cases_of, switch_of}
-use Rattle.cc_typed_statements.specs.declared.cases.Cases.{Cases}
-use Rattle.cc_typed_statements.specs.declared.jumps.Jumps.{Jumps}
+use Rattle.cc_type.specs.CcTypedBodies.Declarations.{declaration}
+use Rattle.cc_type.specs.CcTypedBodies.Lines.{misplaced, label_found, misplaced_case, case_found, if_found, while_found, do_found, switch_found, for_found}
+use Rattle.cc_type.specs.CcTypedBodies.Meanings.{LineMeaning, done, scoped, line_found, lines_found, block_found, body_inside, body_found, maybe_body, item_found, items_found, cases_inside, not_switched, switch_body, empty_item, unlabelled}
+use Rattle.cc_type.specs.CcTypedBodies.Parts.{value_here, effect_found, expression_found, return_found, declared_found, first_found}
+use Rattle.cc_type.specs.CcTypedStatements.Conditions.{condition, maybe_condition, effect, body_of, joined}
+use Rattle.cc_type.specs.CcTypedStatements.Jumps.{in_loop, in_switch, returned_by, returned}
+use Rattle.cc_type.specs.CcTypedStatements.Labels.{no_case, label_in, once, case_label, labelled, label_done, behind, behind_empty}
+use Rattle.cc_type.specs.CcTypedStatements.Statements.{if_of, while_of, do_of, for_of}
+use Rattle.cc_type.specs.CcTypedStatements.Switch.{switch_type, cases_of, switch_of}
+use Rattle.cc_type.specs.CcTypedStatements.declared.cases.Cases.{Cases}
+use Rattle.cc_type.specs.CcTypedStatements.declared.jumps.Jumps.{Jumps}
 use Rattle.cc_accessed_bodies.proofs.Declarations.{declaration_accounts}
 use Rattle.cc_accessed_bodies.proofs.Founds.{ends, whole_ends, accounts_both, GoesOn, in_turn_goes_on}
 use Rattle.cc_accessed_bodies.proofs.Statements.{item_accesses, do_reads, if_reads, while_reads, do_while_reads, for_reads, switch_reads, return_reads, block_reads, all_do_read, joined_access, body_reads, labelled_kept, behind_kept, behind_new, behind_empty_kept}

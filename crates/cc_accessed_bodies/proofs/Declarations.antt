@@ -8,60 +8,60 @@ use Rattle.cc_accessed_terms.specs.Accounted.{is_numbered_kind, Accounts, Declar
 use Rattle.cc_accessed_terms.proofs.Accounts.{accounts_itself, accounts_more, accounts_behind, accounts_before, none_accounts}
 use Rattle.cc_accessed_terms.proofs.Founds.{answer, then_found, whole_found, located_found}
 use Rattle.cc_accessed_terms.proofs.Terms.{declr_declares, specifiers_declare}
-use Rattle.cc_initialisers.specs.Initialisers.{here as given_here, refused_by}
-use Rattle.cc_initialisers.specs.Scalars.{scalars_from}
-use Rattle.cc_linkage.specs.Linkage.{declared}
-use Rattle.cc_linkage.specs.declared.linkage.DeclaredAs.{DeclaredAs}
-use Rattle.cc_linkage.specs.declared.linkage.DeclaredAs.TheVariants.{AsStatic, AsObject, AsExtern}
-use Rattle.cc_num.specs.declared.target.Target.{Target}
-use Rattle.cc_objects.specs.Categories.{category_of, category_by, function_category, file_category, entity_of, setting_of, is_given}
-use Rattle.cc_objects.specs.Linked.{object_declared, with_static, with_automatic}
-use Rattle.cc_objects.specs.Names.{name_judged}
-use Rattle.cc_objects.specs.Tags.{in_front, aliased}
-use Rattle.cc_objects.specs.Types.{contents_in, type_given, type_agrees, composite}
-use Rattle.cc_objects.specs.Values.{assignments}
-use Rattle.cc_objects.specs.declared.category.Category.{Category}
-use Rattle.cc_objects.specs.declared.category.Category.TheVariants as declares
-use Rattle.cc_operands.specs.Qualified.{is_function_type, without_const}
-use Rattle.cc_operands.specs.declared.rule.Rule.TheVariants as rule
+use Rattle.cc_type.specs.CcInitialisers.Initialisers.{here as given_here, refused_by}
+use Rattle.cc_type.specs.CcInitialisers.Scalars.{scalars_from}
+use Rattle.cc_type.specs.CcLinkage.Linkage.{declared}
+use Rattle.cc_type.specs.CcLinkage.declared.linkage.DeclaredAs.{DeclaredAs}
+use Rattle.cc_type.specs.CcLinkage.declared.linkage.DeclaredAs.TheVariants.{AsStatic, AsObject, AsExtern}
+use Rattle.cc_program.specs.CcNum.declared.target.Target.{Target}
+use Rattle.cc_type.specs.CcObjects.Categories.{category_of, category_by, function_category, file_category, entity_of, setting_of, is_given}
+use Rattle.cc_type.specs.CcObjects.Linked.{object_declared, with_static, with_automatic}
+use Rattle.cc_type.specs.CcObjects.Names.{name_judged}
+use Rattle.cc_type.specs.CcObjects.Tags.{in_front, aliased}
+use Rattle.cc_type.specs.CcObjects.Types.{contents_in, type_given, type_agrees, composite}
+use Rattle.cc_type.specs.CcObjects.Values.{assignments}
+use Rattle.cc_type.specs.CcObjects.declared.category.Category.{Category}
+use Rattle.cc_type.specs.CcObjects.declared.category.Category.TheVariants as declares
+use Rattle.cc_type.specs.CcOperands.Qualified.{is_function_type, without_const}
+use Rattle.cc_type.specs.CcOperands.declared.rule.Rule.TheVariants as rule
 use Rattle.cc_program.proofs.Each.{Each, each_of}
 use Rattle.cc_program.specs.declared.expr.Expr.{Expr}
 use Rattle.cc_program.specs.declared.expr.Place.{Local, Static}
 use Rattle.cc_program.specs.declared.program.Roles.{Roles}
 use Rattle.cc_program.specs.declared.types.CType.{CType}
-use Rattle.cc_scopes.specs.Definitions.{tentative_at, defined_at, with_values}
-use Rattle.cc_scopes.specs.State.{State, Name, bind, change_name, structures_of, layouts_of}
-use Rattle.cc_scopes.specs.Verdicts.{whole, and_then}
-use Rattle.cc_scopes.specs.declared.designated.Designated.TheVariants as means
-use Rattle.cc_scopes.specs.declared.unit.Declared.{Declared}
+use Rattle.cc_type.specs.CcScopes.Definitions.{tentative_at, defined_at, with_values}
+use Rattle.cc_type.specs.CcScopes.State.{State, Name, bind, change_name, structures_of, layouts_of}
+use Rattle.cc_type.specs.CcScopes.Verdicts.{whole, and_then}
+use Rattle.cc_type.specs.CcScopes.declared.designated.Designated.TheVariants as means
+use Rattle.cc_type.specs.CcScopes.declared.unit.Declared.{Declared}
 use Rattle.cc_sound_declarations.specs.Ranges.{decl_fits, init_fits, value_fits, given_in_range}
 use Rattle.cc_sound_terms.specs.Ranges.{all_fit, declr_in_range, spec_in_range}
-use Rattle.cc_specifiers.specs.Attributes.{attributes, entry_by}
-use Rattle.cc_specifiers.specs.Declarators.{declares_function, type_found}
-use Rattle.cc_specifiers.specs.Modes.{modes_judged}
-use Rattle.cc_specifiers.specs.declared.attribute.Attribute.{Attribute}
-use Rattle.cc_specifiers.specs.declared.attribute.Entity.{Entity}
-use Rattle.cc_specifiers.specs.declared.specifier.Specified.{Specified}
-use Rattle.cc_specifiers.specs.declared.storage.Where.{Where}
-use Rattle.cc_specifiers.specs.declared.storage.Where.TheVariants as stands
-use Rattle.cc_syntax.proofs.Prefixes.{both_true}
-use Rattle.cc_terms.specs.InTurn.{in_turn}
-use Rattle.cc_terms.specs.Specifiers.{specified_found}
-use Rattle.cc_terms.specs.Terms.{spec_here, declr_of}
+use Rattle.cc_type.specs.CcSpecifiers.Attributes.{attributes, entry_by}
+use Rattle.cc_type.specs.CcSpecifiers.Declarators.{declares_function, type_found}
+use Rattle.cc_type.specs.CcSpecifiers.Modes.{modes_judged}
+use Rattle.cc_type.specs.CcSpecifiers.declared.attribute.Attribute.{Attribute}
+use Rattle.cc_type.specs.CcSpecifiers.declared.attribute.Entity.{Entity}
+use Rattle.cc_type.specs.CcSpecifiers.declared.specifier.Specified.{Specified}
+use Rattle.cc_type.specs.CcSpecifiers.declared.storage.Where.{Where}
+use Rattle.cc_type.specs.CcSpecifiers.declared.storage.Where.TheVariants as stands
+use Rattle.cc_type.proofs.CcSyntax.Prefixes.{both_true}
+use Rattle.cc_type.specs.CcTerms.InTurn.{in_turn}
+use Rattle.cc_type.specs.CcTerms.Specifiers.{specified_found}
+use Rattle.cc_type.specs.CcTerms.Terms.{spec_here, declr_of}
 use Rattle.cc_tree.specs.declared.at.At.{At}
 use Rattle.cc_tree.specs.declared.tree.Spec.{Spec}
 use Rattle.cc_tree.specs.declared.unit.Decl.{Decl}
 use Rattle.cc_tree.specs.declared.unit.Given.{Given}
 use Rattle.cc_tree.specs.declared.unit.Init.{Init}
-use Rattle.cc_typed_bodies.specs.Declarations.{marked, init_allowed, declared_left, declared_with, named_found, init_found, init_next, inits_found, declaration}
-use Rattle.cc_typed_bodies.specs.Functions.{typedef_left, with_function, function_refused}
-use Rattle.cc_typed_bodies.specs.Objects.{leaves_found, exprs_found, linked_defined, linked_given, static_given, automatic_given}
-use Rattle.cc_typed_terms.specs.Declarators.{derived_type}
-use Rattle.cc_typed_terms.specs.Located.{located}
-use Rattle.cc_typed_terms.specs.Primary.{is_intrinsic, leaves_or_none}
-use Rattle.cc_unit.specs.declared.unit.UnitKind.TheVariants as kind
-use Rattle.cc_words.specs.declared.word.Word.{Word}
-use Rattle.cc_words.specs.declared.word.Word.TheVariants as w
+use Rattle.cc_type.specs.CcTypedBodies.Declarations.{marked, init_allowed, declared_left, declared_with, named_found, init_found, init_next, inits_found, declaration}
+use Rattle.cc_type.specs.CcTypedBodies.Functions.{typedef_left, with_function, function_refused}
+use Rattle.cc_type.specs.CcTypedBodies.Objects.{leaves_found, exprs_found, linked_defined, linked_given, static_given, automatic_given}
+use Rattle.cc_type.specs.CcTypedTerms.Declarators.{derived_type}
+use Rattle.cc_type.specs.CcTypedTerms.Located.{located}
+use Rattle.cc_type.specs.CcTypedTerms.Primary.{is_intrinsic, leaves_or_none}
+use Rattle.cc_type.specs.CcUnit.declared.unit.UnitKind.TheVariants as kind
+use Rattle.cc_program.specs.CcWords.declared.word.Word.{Word}
+use Rattle.cc_program.specs.CcWords.declared.word.Word.TheVariants as w
 use Rattle.cc_accessed_bodies.proofs.Founds.{ends, any_front, any_behind, GoesOn, in_turn_goes_on}
 use Rattle.cc_accessed_bodies.proofs.Objects.{leaves_declare_none, values_given}
 use Rattle.cc_accessed_bodies.proofs.States.{front_names, aliased_names, change_declares, function_declares, object_declares, static_declares}

@@ -6,11 +6,11 @@ use Rattle.cc_accessed_operands.proofs.Accesses.{or_kept, no}
 use Rattle.cc_accessed_terms.specs.Accounted.{Accounts}
 use Rattle.cc_accessed_terms.proofs.Accounts.{accounts_itself, accounts_through}
 use Rattle.cc_accessed_terms.proofs.Founds.{answer, then_found}
-use Rattle.cc_operands.specs.Verdicts.{Judged}
+use Rattle.cc_type.specs.CcOperands.Verdicts.{Judged}
 use Rattle.cc_program.proofs.Each.{Each}
-use Rattle.cc_scopes.specs.State.{State}
-use Rattle.cc_scopes.specs.Verdicts.{Found, whole}
-use Rattle.cc_terms.specs.InTurn.{in_turn}
+use Rattle.cc_type.specs.CcScopes.State.{State}
+use Rattle.cc_type.specs.CcScopes.Verdicts.{Found, whole}
+use Rattle.cc_type.specs.CcTerms.InTurn.{in_turn}
 
 -- ---- the end of a construct
 

@@ -4,31 +4,31 @@ use Rattle.std.specs.Prelude.{if◌then◌else◌}
 use Rattle.std.specs.List.{list_any}
 use Rattle.cc_accessed_terms.specs.Accounted.{Accounts}
 use Rattle.cc_accessed_terms.proofs.Founds.{then_found}
-use Rattle.cc_num.specs.declared.int_type.IntType.{IntType}
-use Rattle.cc_num.specs.declared.target.Target.{Target}
-use Rattle.cc_objects.specs.Categories.{is_given}
+use Rattle.cc_program.specs.CcNum.declared.int_type.IntType.{IntType}
+use Rattle.cc_program.specs.CcNum.declared.target.Target.{Target}
+use Rattle.cc_type.specs.CcObjects.Categories.{is_given}
 use Rattle.cc_program.specs.declared.expr.Expr.{Expr}
 use Rattle.cc_program.specs.declared.program.Roles.{Roles}
 use Rattle.cc_program.specs.declared.stmt.Stmt.{Stmt, Do}
 use Rattle.cc_program.specs.declared.types.CType.{CType}
 use Rattle.cc_read_sound.specs.Ranges.{each_fits, first_fits, part_fits, line_fits, line_in_range}
-use Rattle.cc_scopes.specs.State.{State, Name, empty, entered}
+use Rattle.cc_type.specs.CcScopes.State.{State, Name, empty, entered}
 use Rattle.cc_sound_declarations.specs.Ranges.{decl_fits}
 use Rattle.cc_sound_terms.specs.Ranges.{all_fit, fits}
-use Rattle.cc_specifiers.specs.declared.storage.Where.TheVariants as stands
-use Rattle.cc_syntax.proofs.Prefixes.{both_true}
+use Rattle.cc_type.specs.CcSpecifiers.declared.storage.Where.TheVariants as stands
+use Rattle.cc_type.proofs.CcSyntax.Prefixes.{both_true}
 use Rattle.cc_tree.specs.declared.at.At.{At}
 use Rattle.cc_tree.specs.declared.unit.Decl.{Decl}
 use Rattle.cc_tree.specs.declared.unit.Line.{Line, roll-Line, map-Line, ind-Line, fold-roll-Line}
 use Rattle.cc_tree.specs.declared.unit.Line.TheOpen as one_line
-use Rattle.cc_typed_bodies.specs.Declarations.{declaration}
-use Rattle.cc_typed_bodies.specs.Lines.{inside, line_by, switched_by, item_by, line_step, line_of}
-use Rattle.cc_typed_bodies.specs.Meanings.{LineMeaning, scoped, opens_scope, lines_found, not_switched, is_empty, counts, unlabelled}
-use Rattle.cc_typed_bodies.specs.Parts.{declared_found}
-use Rattle.cc_typed_statements.specs.Jumps.{break_of, continue_of}
-use Rattle.cc_typed_statements.specs.Labels.{default_label}
-use Rattle.cc_typed_statements.specs.declared.cases.Cases.{Cases}
-use Rattle.cc_typed_statements.specs.declared.jumps.Jumps.{Jumps}
+use Rattle.cc_type.specs.CcTypedBodies.Declarations.{declaration}
+use Rattle.cc_type.specs.CcTypedBodies.Lines.{inside, line_by, switched_by, item_by, line_step, line_of}
+use Rattle.cc_type.specs.CcTypedBodies.Meanings.{LineMeaning, scoped, opens_scope, lines_found, not_switched, is_empty, counts, unlabelled}
+use Rattle.cc_type.specs.CcTypedBodies.Parts.{declared_found}
+use Rattle.cc_type.specs.CcTypedStatements.Jumps.{break_of, continue_of}
+use Rattle.cc_type.specs.CcTypedStatements.Labels.{default_label}
+use Rattle.cc_type.specs.CcTypedStatements.declared.cases.Cases.{Cases}
+use Rattle.cc_type.specs.CcTypedStatements.declared.jumps.Jumps.{Jumps}
 use Rattle.cc_accessed_bodies.proofs.Constructs.{reads, switched_accesses, LineAccounts, AllAccount, LineIs, scoped_accounts, lines_account, block_accounts, expression_accounts, return_accounts, declared_accounts, if_accounts, while_accounts, do_accounts, for_accounts, misplaced_never, misplaced_case_never, label_goes_on, case_goes_on, unlabelled_goes_on, switch_block, no_block, switch_accounts, jump_accounts}
 use Rattle.cc_accessed_bodies.proofs.Declarations.{unvalued_assigns_nothing}
 use Rattle.cc_accessed_bodies.proofs.Founds.{ends, GoesOn}

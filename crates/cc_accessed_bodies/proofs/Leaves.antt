@@ -1,7 +1,7 @@
 -- An expression that gives a static object its first value accesses no device: it is a constant, or an address (C99 6.6, 9; 6.7.8, 4).
 use Rattle.std.proofs.Common.{◌≡◌, ℕ, ℤ, Bool, true, false, true≢false, ◌||◌, List, Option, Some, None, Ok, refl, ap, sym, ◌∙◌, subst}
-use Rattle.cc_initial.specs.Addresses.{Located, NotConstant, Trapping, AtNull, AtFunction, AtSpot, Spot, ConstantExpression, into, element_at, element_by, member_spot, moved_address, expr_step, place_step, constant_expression, place_located, located, address_leaf, integer_leaf, leaf_by, leaf_of}
-use Rattle.cc_operands.specs.Operands.{Operand, constancy}
+use Rattle.cc_type.specs.CcInitial.Addresses.{Located, NotConstant, Trapping, AtNull, AtFunction, AtSpot, Spot, ConstantExpression, into, element_at, element_by, member_spot, moved_address, expr_step, place_step, constant_expression, place_located, located, address_leaf, integer_leaf, leaf_by, leaf_of}
+use Rattle.cc_type.specs.CcOperands.Operands.{Operand, constancy}
 use Rattle.cc_program.proofs.ExprInduction.{Parts, PlaceParts, by_expr}
 use Rattle.cc_program.specs.declared.expr.Expr.{Expr, roll-Expr, map-Expr, fold-roll-Expr}
 use Rattle.cc_program.specs.declared.expr.Expr.TheOpen as one
@@ -9,8 +9,8 @@ use Rattle.cc_program.specs.declared.expr.Place.{Place, roll-Place, map-Place, f
 use Rattle.cc_program.specs.declared.types.CType.{CType}
 use Rattle.cc_program.specs.declared.types.Structure.{Structure}
 use Rattle.cc_program.specs.declared.value.Leaf.{Leaf}
-use Rattle.cc_syntax.specs.Folding.{Constant, NoConstant, Value, Traps}
-use Rattle.cc_syntax.specs.Values.{ValueType, NoValue, Integer, ToObject, ToFunction, member_of}
+use Rattle.cc_type.specs.CcSyntax.Folding.{Constant, NoConstant, Value, Traps}
+use Rattle.cc_type.specs.CcSyntax.Values.{ValueType, NoValue, Integer, ToObject, ToFunction, member_of}
 use Rattle.cc_accessed_operands.specs.Accessed.{PlaceAccess, accesses, place_access}
 use Rattle.cc_accessed_operands.proofs.Accesses.{accesses_at, place_access_at, accesses-roll, place-access-roll}
 use Rattle.cc_accessed_operands.proofs.Parts.{constant_none}

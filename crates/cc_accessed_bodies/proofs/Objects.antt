@@ -5,33 +5,33 @@ use Rattle.cc_accessed_operands.specs.Accessed.{accesses}
 use Rattle.cc_accessed_terms.specs.Accounted.{Accounts, DeclaresNone}
 use Rattle.cc_accessed_terms.proofs.Accounts.{accounts_itself, accounts_behind}
 use Rattle.cc_accessed_terms.proofs.Founds.{then_found, whole_found}
-use Rattle.cc_initialisers.specs.Initialisers.{here as given_here, initialised}
-use Rattle.cc_initialisers.specs.Scalars.{scalars_from}
-use Rattle.cc_num.specs.declared.target.Target.{Target}
-use Rattle.cc_objects.specs.Types.{contents_in, given_incomplete, completed_type}
-use Rattle.cc_objects.specs.Values.{leaf_given, no_leaf, expr_given, no_expr}
-use Rattle.cc_operands.specs.Operands.{Operand}
-use Rattle.cc_operands.specs.Qualified.{without_const}
-use Rattle.cc_operands.specs.Verdicts.{Judged}
+use Rattle.cc_type.specs.CcInitialisers.Initialisers.{here as given_here, initialised}
+use Rattle.cc_type.specs.CcInitialisers.Scalars.{scalars_from}
+use Rattle.cc_program.specs.CcNum.declared.target.Target.{Target}
+use Rattle.cc_type.specs.CcObjects.Types.{contents_in, given_incomplete, completed_type}
+use Rattle.cc_type.specs.CcObjects.Values.{leaf_given, no_leaf, expr_given, no_expr}
+use Rattle.cc_type.specs.CcOperands.Operands.{Operand}
+use Rattle.cc_type.specs.CcOperands.Qualified.{without_const}
+use Rattle.cc_type.specs.CcOperands.Verdicts.{Judged}
 use Rattle.cc_program.specs.declared.expr.Expr.{Expr}
 use Rattle.cc_program.specs.declared.expr.Place.{Place, Local, Static}
 use Rattle.cc_program.specs.declared.program.Roles.{Roles}
 use Rattle.cc_program.specs.declared.types.CType.{CType}
 use Rattle.cc_program.specs.declared.value.Leaf.{Leaf}
-use Rattle.cc_scopes.specs.State.{State, KnownStructure, with_unfinished}
-use Rattle.cc_scopes.specs.Verdicts.{whole, and_then}
+use Rattle.cc_type.specs.CcScopes.State.{State, KnownStructure, with_unfinished}
+use Rattle.cc_type.specs.CcScopes.Verdicts.{whole, and_then}
 use Rattle.cc_sound_declarations.specs.Ranges.{given_in_range}
 use Rattle.cc_sound_declarations.specs.Scalars.{OneScalar}
 use Rattle.cc_sound_declarations.proofs.Initialised.{steps_extend}
 use Rattle.cc_sound_declarations.proofs.Lists.{initialised_fits}
 use Rattle.cc_sound_declarations.proofs.Ordered.{initialised_gives}
 use Rattle.cc_sound_terms.specs.Growing.{StructuresKept}
-use Rattle.cc_syntax.specs.Values.{ValueType}
-use Rattle.cc_syntax.specs.Views.{View}
+use Rattle.cc_type.specs.CcSyntax.Values.{ValueType}
+use Rattle.cc_type.specs.CcSyntax.Views.{View}
 use Rattle.cc_tree.specs.declared.at.At.{At}
 use Rattle.cc_tree.specs.declared.unit.Given.{Given}
-use Rattle.cc_typed_bodies.specs.Objects.{initial_values, leaves_found, exprs_found}
-use Rattle.cc_typed_bodies.specs.Plans.{steps_done}
+use Rattle.cc_type.specs.CcTypedBodies.Objects.{initial_values, leaves_found, exprs_found}
+use Rattle.cc_type.specs.CcTypedBodies.Plans.{steps_done}
 use Rattle.cc_accessed_bodies.proofs.Founds.{ends}
 use Rattle.cc_accessed_bodies.proofs.States.{incomplete_names}
 use Rattle.cc_accessed_bodies.proofs.Steps.{leaves_declare, exprs_account, exprs_unbroken, exprs_count}

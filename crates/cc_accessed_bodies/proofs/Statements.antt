@@ -12,9 +12,9 @@ use Rattle.cc_program.specs.declared.stmt.Case.{Case, out-Case, roll-Case, roll-
 use Rattle.cc_program.specs.declared.stmt.Stmt.{Stmt, Do, If, While, DoWhile, For, Switch, Return, Block, roll-Stmt, out-Stmt, roll-out-Stmt}
 use Rattle.cc_program.specs.declared.stmt.Stmt.TheOpen as is
 use Rattle.cc_program.specs.declared.stmt.Stmt.TheVariants.{rolls-Do, rolls-If, rolls-While, rolls-DoWhile, rolls-For, rolls-Switch, rolls-Return, rolls-Block}
-use Rattle.cc_typed_statements.specs.Conditions.{inside_block, body_of, then_one, joined_to}
-use Rattle.cc_typed_statements.specs.Labels.{at_last, with_label, new_case, labelled, with_statements, is_empty, behind, behind_empty}
-use Rattle.cc_typed_statements.specs.declared.cases.Cases.{Cases}
+use Rattle.cc_type.specs.CcTypedStatements.Conditions.{inside_block, body_of, then_one, joined_to}
+use Rattle.cc_type.specs.CcTypedStatements.Labels.{at_last, with_label, new_case, labelled, with_statements, is_empty, behind, behind_empty}
+use Rattle.cc_type.specs.CcTypedStatements.declared.cases.Cases.{Cases}
 
 -- so far one may not come to such cases, or they access the device
 abbrev pub item_accesses : Cases → ℕ → Bool

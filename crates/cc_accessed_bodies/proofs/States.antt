@@ -5,31 +5,31 @@ use Rattle.std.specs.List.{list_any}
 use Rattle.std.specs.Str.{bytes_eq}
 use Rattle.cc_accessed_terms.specs.Accounted.{is_numbered_kind, is_numbered_entry, DeclaresNone}
 use Rattle.cc_accessed_terms.proofs.Accounts.{accounts_itself, accounts_behind, more_declared}
-use Rattle.cc_linkage.specs.Linkage.{new_declared, declared_by, declared}
-use Rattle.cc_linkage.specs.declared.linkage.DeclaredAs.{DeclaredAs}
-use Rattle.cc_objects.specs.Linked.{device_by, is_extern, object_kind, static_object, with_static}
-use Rattle.cc_objects.specs.Tags.{aliased_at, is_typedef_word, defines_untagged, first_name, aliased, tag_declared, sole_tag, sole_declared, sole_spec, in_front}
-use Rattle.cc_objects.specs.Types.{given_incomplete}
+use Rattle.cc_type.specs.CcLinkage.Linkage.{new_declared, declared_by, declared}
+use Rattle.cc_type.specs.CcLinkage.declared.linkage.DeclaredAs.{DeclaredAs}
+use Rattle.cc_type.specs.CcObjects.Linked.{device_by, is_extern, object_kind, static_object, with_static}
+use Rattle.cc_type.specs.CcObjects.Tags.{aliased_at, is_typedef_word, defines_untagged, first_name, aliased, tag_declared, sole_tag, sole_declared, sole_spec, in_front}
+use Rattle.cc_type.specs.CcObjects.Types.{given_incomplete}
 use Rattle.cc_program.specs.declared.func.Entry.{Entry}
 use Rattle.cc_program.specs.declared.types.CType.{CType}
 use Rattle.cc_program.specs.declared.types.Shape.{Shape, out-Shape}
 use Rattle.cc_program.specs.declared.types.Shape.TheOpen as shape
 use Rattle.cc_program.specs.declared.types.Sig.{Sig}
 use Rattle.cc_program.specs.declared.expr.Place.{Place}
-use Rattle.cc_scopes.specs.Definitions.{entry_added, with_entry}
-use Rattle.cc_scopes.specs.Linked.{linked_name}
-use Rattle.cc_scopes.specs.Standings.{is_none}
-use Rattle.cc_scopes.specs.State.{State, Name, tagged_here, change_at, change_name, with_unfinished}
-use Rattle.cc_scopes.specs.Structures.{tag_by}
-use Rattle.cc_scopes.specs.declared.designated.Tagged.{Tagged}
-use Rattle.cc_scopes.specs.declared.unit.Declared.{Declared}
-use Rattle.cc_specifiers.specs.Declarators.{is_unbounded}
-use Rattle.cc_specifiers.specs.declared.specifier.Specified.{Specified}
+use Rattle.cc_type.specs.CcScopes.Definitions.{entry_added, with_entry}
+use Rattle.cc_type.specs.CcScopes.Linked.{linked_name}
+use Rattle.cc_type.specs.CcScopes.Standings.{is_none}
+use Rattle.cc_type.specs.CcScopes.State.{State, Name, tagged_here, change_at, change_name, with_unfinished}
+use Rattle.cc_type.specs.CcScopes.Structures.{tag_by}
+use Rattle.cc_type.specs.CcScopes.declared.designated.Tagged.{Tagged}
+use Rattle.cc_type.specs.CcScopes.declared.unit.Declared.{Declared}
+use Rattle.cc_type.specs.CcSpecifiers.Declarators.{is_unbounded}
+use Rattle.cc_type.specs.CcSpecifiers.declared.specifier.Specified.{Specified}
 use Rattle.cc_tree.specs.declared.tree.Spec.{Spec, out-Spec}
 use Rattle.cc_tree.specs.declared.unit.Decl.{Decl}
-use Rattle.cc_typed_bodies.specs.Functions.{with_function}
-use Rattle.cc_unit.specs.declared.unit.UnitKind.{UnitKind}
-use Rattle.cc_unit.specs.declared.unit.UnitKind.TheVariants as kind
+use Rattle.cc_type.specs.CcTypedBodies.Functions.{with_function}
+use Rattle.cc_type.specs.CcUnit.declared.unit.UnitKind.{UnitKind}
+use Rattle.cc_type.specs.CcUnit.declared.unit.UnitKind.TheVariants as kind
 
 no : {C : Type 0} → false ≡ true → C
 no h = absurd (true≢false (sym h))

@@ -11,28 +11,28 @@ use Rattle.cc_accessed_terms.specs.Accounted.{Accounts, DeclaresNone}
 use Rattle.cc_accessed_terms.proofs.Accounts.{accounts_itself, accounts_more, accounts_through}
 use Rattle.cc_accessed_terms.proofs.Founds.{then_found}
 use Rattle.cc_accessed_terms.proofs.Terms.{value_accounts}
-use Rattle.cc_initial.specs.Addresses.{leaf_of}
-use Rattle.cc_initialisers.specs.Initialisers.{Step, Give, Character, Zero, Visit, Break}
-use Rattle.cc_num.specs.declared.int_type.IntType.TheVariants as int
-use Rattle.cc_num.specs.declared.target.Target.{Target}
-use Rattle.cc_objects.specs.Values.{objects_in, no_leaf, no_expr, leaf_given, expr_given, assignments}
-use Rattle.cc_operands.specs.Assignments.{assigned}
-use Rattle.cc_operands.specs.Operands.{Operand, integer, character_value}
-use Rattle.cc_operands.specs.Verdicts.{Judged, judge_then}
-use Rattle.cc_operands.specs.declared.rule.Rule.TheVariants as rule
+use Rattle.cc_type.specs.CcInitial.Addresses.{leaf_of}
+use Rattle.cc_type.specs.CcInitialisers.Initialisers.{Step, Give, Character, Zero, Visit, Break}
+use Rattle.cc_program.specs.CcNum.declared.int_type.IntType.TheVariants as int
+use Rattle.cc_program.specs.CcNum.declared.target.Target.{Target}
+use Rattle.cc_type.specs.CcObjects.Values.{objects_in, no_leaf, no_expr, leaf_given, expr_given, assignments}
+use Rattle.cc_type.specs.CcOperands.Assignments.{assigned}
+use Rattle.cc_type.specs.CcOperands.Operands.{Operand, integer, character_value}
+use Rattle.cc_type.specs.CcOperands.Verdicts.{Judged, judge_then}
+use Rattle.cc_type.specs.CcOperands.declared.rule.Rule.TheVariants as rule
 use Rattle.cc_program.proofs.Each.{Each}
 use Rattle.cc_program.specs.declared.expr.Expr.{Expr, Assign}
 use Rattle.cc_program.specs.declared.expr.Place.{Place}
 use Rattle.cc_program.specs.declared.program.Roles.{Roles}
 use Rattle.cc_program.specs.declared.value.Leaf.{Leaf}
-use Rattle.cc_scopes.specs.State.{State, structures_of}
-use Rattle.cc_scopes.specs.Verdicts.{whole}
+use Rattle.cc_type.specs.CcScopes.State.{State, structures_of}
+use Rattle.cc_type.specs.CcScopes.Verdicts.{whole}
 use Rattle.cc_sound_declarations.specs.Scalars.{step_gives, steps_give, IsUnbroken, AreUnbroken}
-use Rattle.cc_syntax.specs.Values.{ValueType}
-use Rattle.cc_terms.specs.InTurn.{in_turn}
-use Rattle.cc_terms.specs.Terms.{here}
-use Rattle.cc_typed_bodies.specs.Plans.{as_given, step_found, step_done, steps_done}
-use Rattle.cc_typed_terms.specs.Values.{value_found}
+use Rattle.cc_type.specs.CcSyntax.Values.{ValueType}
+use Rattle.cc_type.specs.CcTerms.InTurn.{in_turn}
+use Rattle.cc_type.specs.CcTerms.Terms.{here}
+use Rattle.cc_type.specs.CcTypedBodies.Plans.{as_given, step_found, step_done, steps_done}
+use Rattle.cc_type.specs.CcTypedTerms.Values.{value_found}
 use Rattle.cc_accessed_bodies.proofs.Founds.{ends, any_front, any_behind}
 use Rattle.cc_accessed_bodies.proofs.Leaves.{leaf_none}
 use Rattle.cc_accessed_bodies.proofs.Taken.{IsTaken, AreTaken}

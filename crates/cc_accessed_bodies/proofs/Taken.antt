@@ -1,13 +1,13 @@
 -- Steps that break no rule take each expression for something: by induction over initialisers, and over what an object consists of (C99 6.7.8).
 use Rattle.std.proofs.Common.{◌≡◌, ℕ, zero, suc, Bool, true, false, List, [], ◌∷◌, ◌++◌, map, Option, Some, None, sym, subst}
 use Rattle.std.specs.Prelude.{length, is_some, nat_le, if◌then◌else◌}
-use Rattle.cc_initialisers.specs.Contents.{Contents, Scalar, Elements, NoMember, Members}
-use Rattle.cc_initialisers.specs.Initialisers.{Step, Give, Character, Zero, Visit, Break, Initialiser, Init, Filled, Filling, breaks, refused_by, is_scalar_object, chars_given, text_by, text_given, both_filled, scalar_given, scalar_filled, string_for, started_by, started, repeated, elided, nothing_left, all_taken, sole_by, sole, list_braced, given_step, initialiser_of, here, list_initialised, aggregate_initialised, initialised}
-use Rattle.cc_operands.specs.declared.rule.Rule.{Rule}
-use Rattle.cc_operands.specs.declared.rule.Rule.TheVariants as rule
+use Rattle.cc_type.specs.CcInitialisers.Contents.{Contents, Scalar, Elements, NoMember, Members}
+use Rattle.cc_type.specs.CcInitialisers.Initialisers.{Step, Give, Character, Zero, Visit, Break, Initialiser, Init, Filled, Filling, breaks, refused_by, is_scalar_object, chars_given, text_by, text_given, both_filled, scalar_given, scalar_filled, string_for, started_by, started, repeated, elided, nothing_left, all_taken, sole_by, sole, list_braced, given_step, initialiser_of, here, list_initialised, aggregate_initialised, initialised}
+use Rattle.cc_type.specs.CcOperands.declared.rule.Rule.{Rule}
+use Rattle.cc_type.specs.CcOperands.declared.rule.Rule.TheVariants as rule
 use Rattle.cc_program.proofs.Each.{Each}
 use Rattle.cc_sound_declarations.specs.Scalars.{AreUnbroken}
-use Rattle.cc_syntax.specs.Values.{ValueType}
+use Rattle.cc_type.specs.CcSyntax.Values.{ValueType}
 use Rattle.cc_tree.specs.declared.at.At.{At}
 use Rattle.cc_tree.specs.declared.tree.Tree.{Tree}
 use Rattle.cc_tree.specs.declared.unit.Given.{Given, roll-Given, map-Given, fold-roll-Given, ind-Given}

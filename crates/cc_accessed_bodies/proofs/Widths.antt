@@ -2,20 +2,20 @@
 use Rattle.std.proofs.Common.{◌≡◌, ◌≤◌, ◌+◌, ◌⊎◌, inl, inr, ℕ, zero, suc, Bool, ◌||◌, List, [], ◌∷◌, map, length, Option, Some, None, refl, ap, ◌∙◌, arith, length-append}
 use Rattle.std.specs.Prelude.{slice_get, option_map}
 use Rattle.std.proofs.lemmas.Option.{slice_get-map}
-use Rattle.cc_initialisers.specs.Contents.{Contents, Scalar, Elements, NoMember, Members, Inside, contents_over, of_members, members_at, structure_inside, contents}
-use Rattle.cc_initialisers.specs.Scalars.{index_at, elements_from, scalars_from}
-use Rattle.cc_num.specs.declared.target.Target.{Target}
+use Rattle.cc_type.specs.CcInitialisers.Contents.{Contents, Scalar, Elements, NoMember, Members, Inside, contents_over, of_members, members_at, structure_inside, contents}
+use Rattle.cc_type.specs.CcInitialisers.Scalars.{index_at, elements_from, scalars_from}
+use Rattle.cc_program.specs.CcNum.declared.target.Target.{Target}
 use Rattle.cc_program.proofs.TypeInduction.{with_shape, TypeParts, by_type}
 use Rattle.cc_program.specs.declared.expr.Place.{Place, Element, Member}
 use Rattle.cc_program.specs.declared.types.CType.{CType}
 use Rattle.cc_program.specs.declared.types.Shape.{Shape, roll-Shape, out-roll-Shape}
 use Rattle.cc_program.specs.declared.types.Shape.TheOpen as shape
 use Rattle.cc_program.specs.declared.types.Sig.{Sig}
-use Rattle.cc_scopes.specs.State.{State, KnownStructure, members_or_none, as_structure, structures_of}
+use Rattle.cc_type.specs.CcScopes.State.{State, KnownStructure, members_or_none, as_structure, structures_of}
 use Rattle.cc_sound_declarations.specs.Scalars.{OneScalar, times, scalars_of}
 use Rattle.cc_sound_declarations.proofs.Places.{opened, contents-opens}
 use Rattle.cc_sound_terms.specs.Growing.{StructuresKept}
-use Rattle.cc_syntax.specs.Types.{Named}
+use Rattle.cc_type.specs.CcSyntax.Types.{Named}
 
 abbrev repeated : ℕ → ℕ → ℕ
 repeated zero w = 0

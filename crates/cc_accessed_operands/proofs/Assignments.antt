@@ -10,12 +10,12 @@ use Rattle.cc_accessed_operands.proofs.Parts.{accesses_is, never, null_constant_
 use Rattle.cc_accessed_operands.proofs.Verdicts.{ok_is, must_ok, value_ok, structure_ok, then_ok}
 use Rattle.cc_designators.specs.Assignments.{assign_to, change_of, assign_by, assign_of, one as first_number, stepped_before, stepped_after}
 use Rattle.cc_designators.specs.Designators.{TypedExpr, IsPlace, IsValue, IsFunction, IsIntrinsic, IsAddress}
-use Rattle.cc_lex.specs.declared.token.Mark.{Mark}
-use Rattle.cc_num.specs.declared.int_type.IntType.{IntType}
-use Rattle.cc_num.specs.declared.int_type.IntType.TheVariants as int
-use Rattle.cc_num.specs.declared.op.BinOp.{BinOp}
-use Rattle.cc_num.specs.declared.op.BinOp.TheVariants as op
-use Rattle.cc_num.specs.declared.target.Target.{Target}
+use Rattle.cc_operands.specs.CcLex.declared.token.Mark.{Mark}
+use Rattle.cc_program.specs.CcNum.declared.int_type.IntType.{IntType}
+use Rattle.cc_program.specs.CcNum.declared.int_type.IntType.TheVariants as int
+use Rattle.cc_program.specs.CcNum.declared.op.BinOp.{BinOp}
+use Rattle.cc_program.specs.CcNum.declared.op.BinOp.TheVariants as op
+use Rattle.cc_program.specs.CcNum.declared.target.Target.{Target}
 use Rattle.cc_operands.specs.Arithmetic.{working_type, second_type, truth}
 use Rattle.cc_operands.specs.Assignments.{assigned_pointer, changed_pointer, truth_of_pointer, assigned_integer, assigned_by, assigned, stored, stored_at, changed_integer, changed_by, changed_to, changed_at, stepped_at}
 use Rattle.cc_operands.specs.Operands.{Operand, operand, converted_to, is_null_constant, null_of, against_null}
@@ -27,9 +27,9 @@ use Rattle.cc_program.specs.declared.expr.Expr.TheOpen as one
 use Rattle.cc_program.specs.declared.expr.Expr.TheVariants.{rolls-Assign, rolls-Change, rolls-After}
 use Rattle.cc_program.specs.declared.expr.Place.{Place}
 use Rattle.cc_program.specs.declared.types.Structure.{Structure}
-use Rattle.cc_syntax.specs.Operators.{points_to_object, is_integer, is_additive}
-use Rattle.cc_syntax.specs.SameTypes.{same_int}
-use Rattle.cc_syntax.specs.Values.{ValueType, NoValue, Integer, ToObject, ToFunction, is_assignable, written_to}
+use Rattle.cc_operands.specs.CcSyntax.Operators.{points_to_object, is_integer, is_additive}
+use Rattle.cc_operands.specs.CcSyntax.SameTypes.{same_int}
+use Rattle.cc_operands.specs.CcSyntax.Values.{ValueType, NoValue, Integer, ToObject, ToFunction, is_assignable, written_to}
 
 -- what is assigned is taken as an expression
 abbrev KeepsValue : Operand → Operand → Type 0

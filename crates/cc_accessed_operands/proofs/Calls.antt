@@ -12,9 +12,9 @@ use Rattle.cc_accessed_operands.proofs.Verdicts.{ok_is, must_ok, value_ok, struc
 use Rattle.cc_designators.specs.Calls.{signature, byte_type, intrinsic_signature, first_or_none, result_of, passed_to, passed, called_with, called_by, called, intrinsic}
 use Rattle.cc_designators.specs.Casts.{void_pointer_cast, constant_cast, pointer_cast, integer_cast, cast_by, cast_of, size_value}
 use Rattle.cc_designators.specs.Designators.{TypedExpr, IsValue, pointed_in, null}
-use Rattle.cc_num.specs.Integers.{is_value_of}
-use Rattle.cc_num.specs.declared.int_type.IntType.{IntType}
-use Rattle.cc_num.specs.declared.target.Target.{Target}
+use Rattle.cc_program.specs.CcNum.Integers.{is_value_of}
+use Rattle.cc_program.specs.CcNum.declared.int_type.IntType.{IntType}
+use Rattle.cc_program.specs.CcNum.declared.target.Target.{Target}
 use Rattle.cc_operands.specs.Operands.{Operand, operand, integer, constancy, as_nothing, size_type, is_null_constant}
 use Rattle.cc_operands.specs.Qualified.{plain, unqualified}
 use Rattle.cc_operands.specs.Verdicts.{must, judge_then}
@@ -28,8 +28,8 @@ use Rattle.cc_program.specs.declared.types.CType.{CType}
 use Rattle.cc_program.specs.declared.types.Shape.{Shape, Void, out-Shape}
 use Rattle.cc_program.specs.declared.types.Shape.TheOpen as shape
 use Rattle.cc_program.specs.declared.types.Sig.{Sig, out-Sig, out-roll-Sig}
-use Rattle.cc_syntax.specs.Folding.{Constant, NoConstant, Value, Traps}
-use Rattle.cc_syntax.specs.Values.{ValueType, NoValue, Integer, ToObject, ToFunction, pointer_to, is_void, is_assignable, scalar_value, result_value}
+use Rattle.cc_operands.specs.CcSyntax.Folding.{Constant, NoConstant, Value, Traps}
+use Rattle.cc_operands.specs.CcSyntax.Values.{ValueType, NoValue, Integer, ToObject, ToFunction, pointer_to, is_void, is_assignable, scalar_value, result_value}
 
 abbrev Good : Operand → Type 0
 Good x = TrapsWithoutAccess x

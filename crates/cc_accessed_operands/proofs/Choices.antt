@@ -9,9 +9,9 @@ use Rattle.cc_accessed_operands.proofs.Conversions.{converted_keeps, converted_k
 use Rattle.cc_accessed_operands.proofs.Parts.{IsConstant, AccessesNone, accesses_is, never, neither, second_of, null_constant_none, constant_accesses_none, operand_keeps, fewer}
 use Rattle.cc_accessed_operands.proofs.Verdicts.{ok_is, must_ok, value_ok, structure_ok}
 use Rattle.cc_designators.specs.Designators.{IsValue}
-use Rattle.cc_num.specs.Promotions.{usual_of}
-use Rattle.cc_num.specs.declared.int_type.IntType.{IntType}
-use Rattle.cc_num.specs.declared.target.Target.{Target}
+use Rattle.cc_program.specs.CcNum.Promotions.{usual_of}
+use Rattle.cc_program.specs.CcNum.declared.int_type.IntType.{IntType}
+use Rattle.cc_program.specs.CcNum.declared.target.Target.{Target}
 use Rattle.cc_operands.specs.Choices.{chosen_integer, chosen_pointer, arm_chosen, nothing_by, nothing_chosen, pointers_chosen, chosen_by, arms_chosen, choose_of, comma_of}
 use Rattle.cc_operands.specs.Operands.{Operand, operand, constancy, converted_to, is_pointer, is_nothing, is_to_void, is_null_constant, null_of, no_structure}
 use Rattle.cc_operands.specs.Verdicts.{must}
@@ -19,9 +19,9 @@ use Rattle.cc_operands.specs.declared.rule.Rule.TheVariants as rule
 use Rattle.cc_program.specs.declared.expr.Expr.{Expr, Choose, Seq}
 use Rattle.cc_program.specs.declared.expr.Expr.TheOpen as one
 use Rattle.cc_program.specs.declared.expr.Expr.TheVariants.{rolls-Choose, rolls-Seq}
-use Rattle.cc_syntax.specs.Folding.{Constant, NoConstant, Value, Traps, is_true, chosen_constant}
-use Rattle.cc_syntax.specs.Operators.{common_type}
-use Rattle.cc_syntax.specs.Values.{ValueType, NoValue, Integer, ToObject, ToFunction, is_scalar, point_alike}
+use Rattle.cc_operands.specs.CcSyntax.Folding.{Constant, NoConstant, Value, Traps, is_true, chosen_constant}
+use Rattle.cc_operands.specs.CcSyntax.Operators.{common_type}
+use Rattle.cc_operands.specs.CcSyntax.Values.{ValueType, NoValue, Integer, ToObject, ToFunction, is_scalar, point_alike}
 
 abbrev accesses_some : Operand → Operand → Operand → ℕ → Bool
 accesses_some c x y d = accesses d c.value || (accesses d x.value || accesses d y.value)

@@ -4,14 +4,14 @@ use Rattle.std.specs.Prelude.{if◌then◌else◌}
 use Rattle.cc_accessed_operands.specs.Accessed.{accesses}
 use Rattle.cc_accessed_operands.specs.Kept.{KeepsOperand}
 use Rattle.cc_accessed_operands.proofs.Parts.{IsConstant, AccessesNone, never, operand_known, operand_keeps}
-use Rattle.cc_num.specs.declared.int_type.IntType.{IntType}
-use Rattle.cc_num.specs.declared.op.BinOp.{BinOp}
-use Rattle.cc_num.specs.declared.op.UnOp.{UnOp}
-use Rattle.cc_num.specs.declared.target.Target.{Target}
+use Rattle.cc_program.specs.CcNum.declared.int_type.IntType.{IntType}
+use Rattle.cc_program.specs.CcNum.declared.op.BinOp.{BinOp}
+use Rattle.cc_program.specs.CcNum.declared.op.UnOp.{UnOp}
+use Rattle.cc_program.specs.CcNum.declared.target.Target.{Target}
 use Rattle.cc_operands.specs.Operands.{folded}
 use Rattle.cc_program.specs.declared.expr.Expr.{Expr, Const}
-use Rattle.cc_syntax.specs.Folding.{Constant, NoConstant, Value, Traps, unary_constant, binary_constant, converted_constant, truth_constant, settled, both_constant, either_constant, chosen_constant, is_true}
-use Rattle.cc_syntax.specs.Values.{Integer}
+use Rattle.cc_operands.specs.CcSyntax.Folding.{Constant, NoConstant, Value, Traps, unary_constant, binary_constant, converted_constant, truth_constant, settled, both_constant, either_constant, chosen_constant, is_true}
+use Rattle.cc_operands.specs.CcSyntax.Values.{Integer}
 
 -- an operation keeps what its parts access, where as a constant expression it accesses none
 pub folded_keeps : (t : IntType) (k : Constant) (e : Expr) (accessed : ℕ → Bool) → ((d : ℕ) → accessed d ≡ true → accesses d e ≡ true) → (IsConstant k → AccessesNone e) → KeepsOperand (folded t k e) accessed

@@ -6,16 +6,16 @@ use Rattle.cc_accessed_operands.specs.Accessed.{accesses}
 use Rattle.cc_accessed_operands.specs.Kept.{Keeps, TrapsWithoutAccess, KeepsOperand}
 use Rattle.cc_accessed_operands.proofs.Constants.{folded_keeps, converted_part}
 use Rattle.cc_accessed_operands.proofs.Parts.{accesses_is, never, constant_none, constant_accesses_none}
-use Rattle.cc_num.specs.declared.int_type.IntType.{IntType}
-use Rattle.cc_num.specs.declared.op.BinOp.{BinOp}
-use Rattle.cc_num.specs.declared.target.Target.{Target}
+use Rattle.cc_program.specs.CcNum.declared.int_type.IntType.{IntType}
+use Rattle.cc_program.specs.CcNum.declared.op.BinOp.{BinOp}
+use Rattle.cc_program.specs.CcNum.declared.target.Target.{Target}
 use Rattle.cc_operands.specs.Operands.{Operand, constancy, folded, cast_to, converted_by, converted_to, null_of, against_null}
 use Rattle.cc_program.specs.declared.expr.Expr.{Conv}
 use Rattle.cc_program.specs.declared.expr.Expr.TheOpen as one
 use Rattle.cc_program.specs.declared.expr.Expr.TheVariants.{rolls-Conv, rolls-Compare}
-use Rattle.cc_syntax.specs.Folding.{Constant, NoConstant, Value, Traps, converted_constant}
-use Rattle.cc_syntax.specs.SameTypes.{same_int}
-use Rattle.cc_syntax.specs.Values.{ValueType, NoValue, Integer, ToObject, ToFunction}
+use Rattle.cc_operands.specs.CcSyntax.Folding.{Constant, NoConstant, Value, Traps, converted_constant}
+use Rattle.cc_operands.specs.CcSyntax.SameTypes.{same_int}
+use Rattle.cc_operands.specs.CcSyntax.Values.{ValueType, NoValue, Integer, ToObject, ToFunction}
 
 pub against_keeps : (o : BinOp) (x : Operand) → Keeps (against_null o x) x.value
 against_keeps o x d h = accesses_is d (against_null o x) (one.Compare o x.value (null_of x.type)) (rolls-Compare o x.value (null_of x.type)) ∙ or_left (accesses d x.value) (accesses d (null_of x.type)) h

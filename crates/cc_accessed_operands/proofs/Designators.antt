@@ -8,7 +8,7 @@ use Rattle.cc_accessed_operands.proofs.Parts.{accesses_is, place_access_is, stru
 use Rattle.cc_accessed_operands.proofs.Verdicts.{ok_is, must_ok, value_ok}
 use Rattle.cc_designators.specs.Designators.{TypedExpr, IsPlace, IsValue, IsFunction, IsIntrinsic, IsAddress, first_element, loaded, value_at}
 use Rattle.cc_designators.specs.Postfix.{element_by, pointed_by, subscripted, element, position_of, member_by, member_at, member_in, dot, arrow_to, arrow, address_at, address, pointed_at, indirection}
-use Rattle.cc_num.specs.declared.int_type.IntType.TheVariants as int
+use Rattle.cc_program.specs.CcNum.declared.int_type.IntType.TheVariants as int
 use Rattle.cc_operands.specs.Operands.{Operand, operand, with_value, structure_at}
 use Rattle.cc_operands.specs.Verdicts.{must}
 use Rattle.cc_operands.specs.declared.rule.Rule.{Rule}
@@ -23,8 +23,8 @@ use Rattle.cc_program.specs.declared.types.Shape.{Shape, out-Shape}
 use Rattle.cc_program.specs.declared.types.Shape.TheOpen as shape
 use Rattle.cc_program.specs.declared.types.Sig.{Sig}
 use Rattle.cc_program.specs.declared.types.Structure.{Structure}
-use Rattle.cc_syntax.specs.Operators.{is_integer, points_to_object}
-use Rattle.cc_syntax.specs.Values.{ValueType, Integer, ToObject, ToFunction, PlaceType, DevicePlace, ObjectPlace, FunctionPlace, pointer_to, pointed_to, element_of, member_of, address_of}
+use Rattle.cc_operands.specs.CcSyntax.Operators.{is_integer, points_to_object}
+use Rattle.cc_operands.specs.CcSyntax.Values.{ValueType, Integer, ToObject, ToFunction, PlaceType, DevicePlace, ObjectPlace, FunctionPlace, pointer_to, pointed_to, element_of, member_of, address_of}
 
 abbrev accesses_place : Place → ℕ → Bool
 accesses_place a d = of_place (place_access d a)

@@ -10,14 +10,14 @@ use Rattle.cc_accessed_operands.proofs.Conversions.{against_keeps, converted_kee
 use Rattle.cc_accessed_operands.proofs.Parts.{accesses_is, never, neither, second_of, null_constant_none, constant_accesses_none, operand_keeps, fewer}
 use Rattle.cc_accessed_operands.proofs.Verdicts.{ok_is, must_ok, value_ok}
 use Rattle.cc_designators.specs.Designators.{IsValue}
-use Rattle.cc_num.specs.Promotions.{promoted}
-use Rattle.cc_num.specs.declared.int_type.IntType.{IntType}
-use Rattle.cc_num.specs.declared.int_type.IntType.TheVariants as int
-use Rattle.cc_num.specs.declared.op.BinOp.{BinOp}
-use Rattle.cc_num.specs.declared.op.BinOp.TheVariants as op
-use Rattle.cc_num.specs.declared.op.UnOp.{UnOp}
-use Rattle.cc_num.specs.declared.op.UnOp.TheVariants as unary
-use Rattle.cc_num.specs.declared.target.Target.{Target}
+use Rattle.cc_program.specs.CcNum.Promotions.{promoted}
+use Rattle.cc_program.specs.CcNum.declared.int_type.IntType.{IntType}
+use Rattle.cc_program.specs.CcNum.declared.int_type.IntType.TheVariants as int
+use Rattle.cc_program.specs.CcNum.declared.op.BinOp.{BinOp}
+use Rattle.cc_program.specs.CcNum.declared.op.BinOp.TheVariants as op
+use Rattle.cc_program.specs.CcNum.declared.op.UnOp.{UnOp}
+use Rattle.cc_program.specs.CcNum.declared.op.UnOp.TheVariants as unary
+use Rattle.cc_program.specs.CcNum.declared.target.Target.{Target}
 use Rattle.cc_operands.specs.Arithmetic.{truth, is_equality, both, either, is_null_beside, pointers_compared, moved, working_type, second_type, worked, arithmetic, integers_by, sum_by, gap, difference_by, compared_by, scalars, binary_by, binary_of}
 use Rattle.cc_operands.specs.Operands.{Operand, operand, constancy, converted_to, is_pointer, is_null_constant, null_of, against_null, with_value}
 use Rattle.cc_operands.specs.Unary.{negated, integer_by, plus_by, not_by, unary_by, unary_of}
@@ -32,9 +32,9 @@ use Rattle.cc_program.specs.declared.expr.Expr.{Un, Bin, Move, Gap, Compare, Bot
 use Rattle.cc_program.specs.declared.expr.Expr.TheOpen as one
 use Rattle.cc_program.specs.declared.expr.Expr.TheVariants.{rolls-Un, rolls-Bin, rolls-Move, rolls-Gap, rolls-Compare, rolls-Both, rolls-Either}
 use Rattle.cc_program.specs.declared.types.Structure.{Structure}
-use Rattle.cc_syntax.specs.Folding.{unary_constant, binary_constant, both_constant, either_constant}
-use Rattle.cc_syntax.specs.Operators.{unary_result, binary_result, difference_type, has_difference, points_to_object}
-use Rattle.cc_syntax.specs.Values.{ValueType, NoValue, Integer, ToObject, ToFunction, is_scalar, point_alike}
+use Rattle.cc_operands.specs.CcSyntax.Folding.{unary_constant, binary_constant, both_constant, either_constant}
+use Rattle.cc_operands.specs.CcSyntax.Operators.{unary_result, binary_result, difference_type, has_difference, points_to_object}
+use Rattle.cc_operands.specs.CcSyntax.Values.{ValueType, NoValue, Integer, ToObject, ToFunction, is_scalar, point_alike}
 
 abbrev accesses_either : Operand → Operand → ℕ → Bool
 accesses_either x y d = accesses d x.value || accesses d y.value

@@ -12,8 +12,8 @@ use Rattle.cc_program.specs.declared.expr.Expr.TheOpen as one
 use Rattle.cc_program.specs.declared.expr.Expr.TheVariants.{rolls-Null}
 use Rattle.cc_program.specs.declared.expr.Place.{Place, roll-Place}
 use Rattle.cc_program.specs.declared.types.CType.{CType}
-use Rattle.cc_syntax.specs.Folding.{Constant, NoConstant, Value, Traps}
-use Rattle.cc_syntax.specs.Values.{ValueType}
+use Rattle.cc_operands.specs.CcSyntax.Folding.{Constant, NoConstant, Value, Traps}
+use Rattle.cc_operands.specs.CcSyntax.Values.{ValueType}
 
 pub never : {C : Type 0} {b : Bool} → b ≡ true → b ≡ false → C
 never h k = absurd (true≢false (sym h ∙ k))

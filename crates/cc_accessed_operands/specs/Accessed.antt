@@ -8,7 +8,7 @@ use Rattle.cc_program.specs.declared.object.Device.{Device}
 use Rattle.cc_program.specs.declared.program.Program.{Program}
 use Rattle.cc_program.specs.declared.stmt.Stmt.{Stmt, fold-Stmt}
 use Rattle.cc_program.specs.declared.stmt.Stmt.TheOpen as is
-use Rattle.cc_syntax.specs.Normal.{has_name}
+use Rattle.cc_operands.specs.CcSyntax.Normal.{has_name}
 
 -- of a place: whether it is the device, and whether the device is accessed by an expression in it
 pub record PlaceAccess : Type 0 where

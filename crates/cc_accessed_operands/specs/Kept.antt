@@ -4,7 +4,7 @@ use Rattle.cc_accessed_operands.specs.Accessed.{of_place, accesses, place_access
 use Rattle.cc_designators.specs.Designators.{TypedExpr, IsPlace, IsValue, IsFunction, IsIntrinsic, IsAddress}
 use Rattle.cc_operands.specs.Operands.{Operand}
 use Rattle.cc_program.specs.declared.expr.Expr.{Expr}
-use Rattle.cc_syntax.specs.Values.{PlaceType, DevicePlace, ObjectPlace, FunctionPlace}
+use Rattle.cc_operands.specs.CcSyntax.Values.{PlaceType, DevicePlace, ObjectPlace, FunctionPlace}
 
 -- an expression accesses each device that another, which stands in it, accesses
 abbrev pub Keeps : Expr → Expr → Type 0

@@ -1,14 +1,14 @@
 -- What is accounted for, one construct behind another, and by single changes of a state.
 use Rattle.std.proofs.Common.{◌≡◌, ◌⊎◌, inl, inr, ⊎_elim, ℕ, zero, suc, Bool, true, false, true≢false, ◌||◌, List, [], ◌∷◌, ◌++◌, length, slice_get, Ok, refl, ap, sym, ◌∙◌, subst, append_assoc, append-nil}
 use Rattle.std.proofs.lemmas.Bool.{or_left, or_right}
-use Rattle.cc_operands.specs.Verdicts.{Judged}
+use Rattle.cc_terms.specs.CcOperands.Verdicts.{Judged}
 use Rattle.cc_program.proofs.Each.{Each}
-use Rattle.cc_scopes.specs.State.{State, with_declared}
-use Rattle.cc_scopes.specs.Verdicts.{Found, whole, and_then}
-use Rattle.cc_scopes.specs.declared.unit.Declared.{Declared}
-use Rattle.cc_specifiers.specs.Places.{JudgedAt}
+use Rattle.cc_terms.specs.CcScopes.State.{State, with_declared}
+use Rattle.cc_terms.specs.CcScopes.Verdicts.{Found, whole, and_then}
+use Rattle.cc_terms.specs.CcScopes.declared.unit.Declared.{Declared}
+use Rattle.cc_terms.specs.CcSpecifiers.Places.{JudgedAt}
 use Rattle.cc_terms.specs.InTurn.{in_turn}
-use Rattle.cc_typed_terms.specs.Located.{located}
+use Rattle.cc_terms.specs.CcTypedTerms.Located.{located}
 use Rattle.cc_accessed_terms.specs.Accounted.{is_numbered_kind, is_numbered_entry, Accounts, DeclaresNone}
 use Rattle.cc_accessed_terms.proofs.Founds.{answer, answer_is, then_found, whole_found, located_found}
 

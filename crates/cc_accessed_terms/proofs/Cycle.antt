@@ -1,10 +1,10 @@
 -- What expressions account for, and that type names, specifiers and declarators declare no device without a name, by induction over them.
 use Rattle.std.proofs.Common.{◌≡◌, ℕ, List, [], ◌∷◌, map, Option, Some, None, sym, subst}
-use Rattle.cc_num.specs.declared.target.Target.{Target}
+use Rattle.cc_program.specs.CcNum.declared.target.Target.{Target}
 use Rattle.cc_program.proofs.Each.{Each}
 use Rattle.cc_program.specs.declared.program.Roles.{Roles}
-use Rattle.cc_specifiers.specs.Derivations.{with_derivation, pointer_derivation}
-use Rattle.cc_specifiers.specs.declared.specifier.Specifier.TheVariants as specifier
+use Rattle.cc_terms.specs.CcSpecifiers.Derivations.{with_derivation, pointer_derivation}
+use Rattle.cc_terms.specs.CcSpecifiers.declared.specifier.Specifier.TheVariants as specifier
 use Rattle.cc_terms.specs.Constants.{enumr_step}
 use Rattle.cc_terms.specs.Declarators.{declr_step, params_step, param_step, type_name_step}
 use Rattle.cc_terms.specs.Expressions.{tree_step}

@@ -1,38 +1,38 @@
 -- Specifiers declare no device without a name (C99 6.7.2): structures with their members, and enumerations with their constants.
 use Rattle.std.proofs.Common.{◌≡◌, ℕ, ℤ, pos, Bool, true, false, List, [], ◌∷◌, Option, Some, None, Ok, Err, refl}
 use Rattle.std.specs.Prelude.{◌+ℤ◌, if◌then◌else◌, is_some, slice_get}
-use Rattle.cc_num.specs.declared.target.Target.{Target}
-use Rattle.cc_operands.specs.Operands.{constancy}
-use Rattle.cc_operands.specs.declared.rule.Rule.TheVariants as rule
+use Rattle.cc_program.specs.CcNum.declared.target.Target.{Target}
+use Rattle.cc_terms.specs.CcOperands.Operands.{constancy}
+use Rattle.cc_terms.specs.CcOperands.declared.rule.Rule.TheVariants as rule
 use Rattle.cc_program.proofs.Each.{Each}
 use Rattle.cc_program.specs.declared.program.Roles.{Roles}
 use Rattle.cc_program.specs.declared.types.CType.{CType}
-use Rattle.cc_scopes.specs.State.{State, Name, tagged, designated, bind}
-use Rattle.cc_scopes.specs.Structures.{structure_type, new_structure, structure_named, opened_by, tagged_option, opened, is_enumeration, has_content, completed, closed, enumeration_type, enumeration_constant, enumeration_tagged, enumeration_closed, in_list, enumeration_named}
-use Rattle.cc_scopes.specs.Verdicts.{Found, whole, and_then}
-use Rattle.cc_scopes.specs.declared.designated.Designated.TheVariants as means
-use Rattle.cc_scopes.specs.declared.designated.Tagged.{Tagged}
-use Rattle.cc_scopes.specs.declared.designated.Tagged.TheVariants as tag
-use Rattle.cc_specifiers.specs.Attributes.{attributes}
-use Rattle.cc_specifiers.specs.Specifiers.{no_specifier, with_specifier, specified}
-use Rattle.cc_specifiers.specs.declared.attribute.Entity.TheVariants as entity
-use Rattle.cc_specifiers.specs.declared.specifier.Specified.{Specified}
-use Rattle.cc_specifiers.specs.declared.specifier.Specifier.{Specifier}
-use Rattle.cc_specifiers.specs.declared.specifier.Specifier.TheVariants as specifier
-use Rattle.cc_specifiers.specs.declared.specifier.Specs.{Specs}
-use Rattle.cc_specifiers.specs.declared.storage.Setting.{Setting}
-use Rattle.cc_syntax.specs.Folding.{Constant, NoConstant, Value, Traps}
-use Rattle.cc_syntax.specs.Types.{Named}
+use Rattle.cc_terms.specs.CcScopes.State.{State, Name, tagged, designated, bind}
+use Rattle.cc_terms.specs.CcScopes.Structures.{structure_type, new_structure, structure_named, opened_by, tagged_option, opened, is_enumeration, has_content, completed, closed, enumeration_type, enumeration_constant, enumeration_tagged, enumeration_closed, in_list, enumeration_named}
+use Rattle.cc_terms.specs.CcScopes.Verdicts.{Found, whole, and_then}
+use Rattle.cc_terms.specs.CcScopes.declared.designated.Designated.TheVariants as means
+use Rattle.cc_terms.specs.CcScopes.declared.designated.Tagged.{Tagged}
+use Rattle.cc_terms.specs.CcScopes.declared.designated.Tagged.TheVariants as tag
+use Rattle.cc_terms.specs.CcSpecifiers.Attributes.{attributes}
+use Rattle.cc_terms.specs.CcSpecifiers.Specifiers.{no_specifier, with_specifier, specified}
+use Rattle.cc_terms.specs.CcSpecifiers.declared.attribute.Entity.TheVariants as entity
+use Rattle.cc_terms.specs.CcSpecifiers.declared.specifier.Specified.{Specified}
+use Rattle.cc_terms.specs.CcSpecifiers.declared.specifier.Specifier.{Specifier}
+use Rattle.cc_terms.specs.CcSpecifiers.declared.specifier.Specifier.TheVariants as specifier
+use Rattle.cc_terms.specs.CcSpecifiers.declared.specifier.Specs.{Specs}
+use Rattle.cc_terms.specs.CcSpecifiers.declared.storage.Setting.{Setting}
+use Rattle.cc_terms.specs.CcSyntax.Folding.{Constant, NoConstant, Value, Traps}
+use Rattle.cc_terms.specs.CcSyntax.Types.{Named}
 use Rattle.cc_terms.specs.Constants.{constants_found, enumeration_found, constant_declared, constant_by}
 use Rattle.cc_terms.specs.Meanings.{TreeMeaning, SpecMeaning, MembersMeaning, EnumrMeaning}
 use Rattle.cc_terms.specs.Specifiers.{specifier_found, specifiers_found, specified_found}
 use Rattle.cc_terms.specs.Structures.{structure_opened, members_found, structure_closed, structure_found}
 use Rattle.cc_tree.specs.declared.at.At.{At}
 use Rattle.cc_tree.specs.declared.tree.Attr.{Attr}
-use Rattle.cc_typed_terms.specs.Located.{located}
-use Rattle.cc_typed_terms.specs.Names.{new_name}
-use Rattle.cc_typed_terms.specs.Specifiers.{begin, type_named, marked, as_type, structure_tag, enumeration_tag}
-use Rattle.cc_typed_terms.specs.Values.{value_found}
+use Rattle.cc_terms.specs.CcTypedTerms.Located.{located}
+use Rattle.cc_terms.specs.CcTypedTerms.Names.{new_name}
+use Rattle.cc_terms.specs.CcTypedTerms.Specifiers.{begin, type_named, marked, as_type, structure_tag, enumeration_tag}
+use Rattle.cc_terms.specs.CcTypedTerms.Values.{value_found}
 use Rattle.cc_accessed_terms.proofs.Accounts.{Nothing, declares_itself, nothing_through, chained, answered, judged, placed, in_turn_nothing}
 use Rattle.cc_accessed_terms.proofs.Founds.{answer, then_found}
 use Rattle.cc_accessed_terms.proofs.Values.{TreeAccounts, constant_nothing}

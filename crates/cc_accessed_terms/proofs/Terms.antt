@@ -1,18 +1,18 @@
 -- What expressions of a text account for, and that its type names, specifiers and declarators declare no device without a name.
 use Rattle.std.proofs.Common.{◌≡◌, ℕ, ℤ, Bool, List, [], ◌∷◌, map, Ok}
-use Rattle.cc_designators.specs.Designators.{TypedExpr}
-use Rattle.cc_num.specs.declared.target.Target.{Target}
-use Rattle.cc_operands.specs.Operands.{Operand, constancy}
+use Rattle.cc_terms.specs.CcDesignators.Designators.{TypedExpr}
+use Rattle.cc_program.specs.CcNum.declared.target.Target.{Target}
+use Rattle.cc_terms.specs.CcOperands.Operands.{Operand, constancy}
 use Rattle.cc_program.proofs.Each.{Each}
 use Rattle.cc_program.specs.declared.program.Roles.{Roles}
 use Rattle.cc_program.specs.declared.types.CType.{CType}
-use Rattle.cc_scopes.specs.State.{Scope, State}
-use Rattle.cc_specifiers.specs.declared.derivation.Allowed.{Allowed}
-use Rattle.cc_specifiers.specs.declared.derivation.Declarator.{Declarator}
-use Rattle.cc_specifiers.specs.declared.derivation.Parameter.{Parameter}
-use Rattle.cc_specifiers.specs.declared.specifier.Specified.{Specified}
-use Rattle.cc_specifiers.specs.declared.storage.Setting.{Setting}
-use Rattle.cc_syntax.specs.Folding.{Value}
+use Rattle.cc_terms.specs.CcScopes.State.{Scope, State}
+use Rattle.cc_terms.specs.CcSpecifiers.declared.derivation.Allowed.{Allowed}
+use Rattle.cc_terms.specs.CcSpecifiers.declared.derivation.Declarator.{Declarator}
+use Rattle.cc_terms.specs.CcSpecifiers.declared.derivation.Parameter.{Parameter}
+use Rattle.cc_terms.specs.CcSpecifiers.declared.specifier.Specified.{Specified}
+use Rattle.cc_terms.specs.CcSpecifiers.declared.storage.Setting.{Setting}
+use Rattle.cc_terms.specs.CcSyntax.Folding.{Value}
 use Rattle.cc_terms.specs.Meanings.{SpecMeaning}
 use Rattle.cc_terms.specs.Specifiers.{specified_found}
 use Rattle.cc_terms.specs.Terms.{declr_of, here, params_of, spec_here, tree_of, type_name_of}
@@ -22,7 +22,7 @@ use Rattle.cc_tree.specs.declared.tree.Params.{Params}
 use Rattle.cc_tree.specs.declared.tree.Spec.{Spec}
 use Rattle.cc_tree.specs.declared.tree.Tree.{Tree}
 use Rattle.cc_tree.specs.declared.tree.TypeName.{TypeName}
-use Rattle.cc_typed_terms.specs.Values.{value_found, designated_found}
+use Rattle.cc_terms.specs.CcTypedTerms.Values.{value_found, designated_found}
 use Rattle.cc_accessed_operands.specs.Accessed.{accesses}
 use Rattle.cc_accessed_operands.specs.Kept.{TrapsWithoutAccess}
 use Rattle.cc_accessed_terms.specs.Accounted.{Accounts, DeclaresNone, IsAccounted}

@@ -1,28 +1,28 @@
 -- Declarators, parameters, members and type names declare no device without a name (C99 6.7.5, 6.7.5.3, 6.7.2.1, 6.7.6).
 use Rattle.std.proofs.Common.{◌≡◌, ℕ, ℤ, Bool, true, false, not, ◌||◌, List, [], ◌∷◌, ◌++◌, length, Option, Some, None, Ok, refl}
-use Rattle.cc_num.specs.declared.target.Target.{Target}
-use Rattle.cc_operands.specs.Operands.{constancy}
-use Rattle.cc_operands.specs.Verdicts.{must}
-use Rattle.cc_operands.specs.declared.rule.Rule.TheVariants as rule
+use Rattle.cc_program.specs.CcNum.declared.target.Target.{Target}
+use Rattle.cc_terms.specs.CcOperands.Operands.{constancy}
+use Rattle.cc_terms.specs.CcOperands.Verdicts.{must}
+use Rattle.cc_terms.specs.CcOperands.declared.rule.Rule.TheVariants as rule
 use Rattle.cc_program.proofs.Each.{Each, Held}
 use Rattle.cc_program.specs.declared.program.Roles.{Roles}
 use Rattle.cc_program.specs.declared.types.CType.{CType}
-use Rattle.cc_scopes.specs.State.{State, Name, Scope, empty, innermost, entered, left, bind, structures_of, layouts_of}
-use Rattle.cc_scopes.specs.Verdicts.{whole, and_then}
-use Rattle.cc_scopes.specs.declared.designated.Designated.TheVariants as means
-use Rattle.cc_specifiers.specs.Bounds.{bound_in, bound_judged}
-use Rattle.cc_specifiers.specs.Declarators.{type_found}
-use Rattle.cc_specifiers.specs.Derivations.{nothing_more, in_parameter, in_type_name, with_derivation, is_next_to_name, suffix_found}
-use Rattle.cc_specifiers.specs.Parameters.{parameter_type}
-use Rattle.cc_specifiers.specs.Storage.{setting}
-use Rattle.cc_specifiers.specs.declared.attribute.Entity.TheVariants as entity
-use Rattle.cc_specifiers.specs.declared.derivation.Allowed.{Allowed}
-use Rattle.cc_specifiers.specs.declared.derivation.Declarator.{Declarator}
-use Rattle.cc_specifiers.specs.declared.derivation.Derivation.TheVariants as to
-use Rattle.cc_specifiers.specs.declared.derivation.Parameter.{Parameter}
-use Rattle.cc_specifiers.specs.declared.storage.Where.TheVariants as stands
-use Rattle.cc_syntax.specs.Folding.{Constant, NoConstant, Value, Traps}
-use Rattle.cc_syntax.specs.Types.{Named}
+use Rattle.cc_terms.specs.CcScopes.State.{State, Name, Scope, empty, innermost, entered, left, bind, structures_of, layouts_of}
+use Rattle.cc_terms.specs.CcScopes.Verdicts.{whole, and_then}
+use Rattle.cc_terms.specs.CcScopes.declared.designated.Designated.TheVariants as means
+use Rattle.cc_terms.specs.CcSpecifiers.Bounds.{bound_in, bound_judged}
+use Rattle.cc_terms.specs.CcSpecifiers.Declarators.{type_found}
+use Rattle.cc_terms.specs.CcSpecifiers.Derivations.{nothing_more, in_parameter, in_type_name, with_derivation, is_next_to_name, suffix_found}
+use Rattle.cc_terms.specs.CcSpecifiers.Parameters.{parameter_type}
+use Rattle.cc_terms.specs.CcSpecifiers.Storage.{setting}
+use Rattle.cc_terms.specs.CcSpecifiers.declared.attribute.Entity.TheVariants as entity
+use Rattle.cc_terms.specs.CcSpecifiers.declared.derivation.Allowed.{Allowed}
+use Rattle.cc_terms.specs.CcSpecifiers.declared.derivation.Declarator.{Declarator}
+use Rattle.cc_terms.specs.CcSpecifiers.declared.derivation.Derivation.TheVariants as to
+use Rattle.cc_terms.specs.CcSpecifiers.declared.derivation.Parameter.{Parameter}
+use Rattle.cc_terms.specs.CcSpecifiers.declared.storage.Where.TheVariants as stands
+use Rattle.cc_terms.specs.CcSyntax.Folding.{Constant, NoConstant, Value, Traps}
+use Rattle.cc_terms.specs.CcSyntax.Types.{Named}
 use Rattle.cc_terms.specs.Declarators.{declarator, without_bound, with_bound, bounded, parameters_found, with_scope, parameter_declared}
 use Rattle.cc_terms.specs.InTurn.{one_more}
 use Rattle.cc_terms.specs.Meanings.{TreeMeaning, DeclrMeaning, ParamsMeaning, ParamMeaning, SpecMeaning, TypeNameMeaning}
@@ -30,12 +30,12 @@ use Rattle.cc_terms.specs.Members.{member_found, declared_members}
 use Rattle.cc_terms.specs.Specifiers.{specified_found}
 use Rattle.cc_terms.specs.Structures.{member_behind}
 use Rattle.cc_tree.specs.declared.at.At.{At}
-use Rattle.cc_typed_terms.specs.Declarators.{derived_type}
-use Rattle.cc_typed_terms.specs.Located.{located}
-use Rattle.cc_typed_terms.specs.Members.{member_judged}
-use Rattle.cc_typed_terms.specs.Names.{new_name}
-use Rattle.cc_typed_terms.specs.Parameters.{parameter, parameter_bound}
-use Rattle.cc_typed_terms.specs.Values.{value_found}
+use Rattle.cc_terms.specs.CcTypedTerms.Declarators.{derived_type}
+use Rattle.cc_terms.specs.CcTypedTerms.Located.{located}
+use Rattle.cc_terms.specs.CcTypedTerms.Members.{member_judged}
+use Rattle.cc_terms.specs.CcTypedTerms.Names.{new_name}
+use Rattle.cc_terms.specs.CcTypedTerms.Parameters.{parameter, parameter_bound}
+use Rattle.cc_terms.specs.CcTypedTerms.Values.{value_found}
 use Rattle.cc_accessed_terms.proofs.Accounts.{Nothing, declares_itself, nothing_through, chained, answered, judged, placed, in_turn_nothing}
 use Rattle.cc_accessed_terms.proofs.Founds.{answer, then_found, whole_found, then_judged}
 use Rattle.cc_accessed_terms.proofs.Specifiers.{SpecDeclares, MembersDeclare, specified_declares}

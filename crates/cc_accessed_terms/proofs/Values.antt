@@ -2,21 +2,21 @@
 use Rattle.std.proofs.Common.{◌≡◌, ℕ, ℤ, pos, Bool, true, false, List, ◌++◌, length, Ok, Err, refl, ap, ◌∙◌, subst, take_at}
 use Rattle.std.specs.Ordering.{int_eq}
 use Rattle.std.specs.Prelude.{take, if◌then◌else◌}
-use Rattle.cc_designators.specs.Designators.{TypedExpr, IsPlace, IsValue, IsFunction, IsIntrinsic, IsAddress, value_at, null}
-use Rattle.cc_operands.specs.Operands.{Operand, operand, constancy}
-use Rattle.cc_operands.specs.Verdicts.{Judged}
-use Rattle.cc_operands.specs.declared.rule.Rule.TheVariants as rule
+use Rattle.cc_terms.specs.CcDesignators.Designators.{TypedExpr, IsPlace, IsValue, IsFunction, IsIntrinsic, IsAddress, value_at, null}
+use Rattle.cc_terms.specs.CcOperands.Operands.{Operand, operand, constancy}
+use Rattle.cc_terms.specs.CcOperands.Verdicts.{Judged}
+use Rattle.cc_terms.specs.CcOperands.declared.rule.Rule.TheVariants as rule
 use Rattle.cc_program.specs.declared.expr.Expr.{FuncAddr}
 use Rattle.cc_program.specs.declared.types.CType.{CType}
-use Rattle.cc_scopes.specs.State.{State, with_names}
-use Rattle.cc_scopes.specs.Verdicts.{Found, whole, and_then}
-use Rattle.cc_scopes.specs.declared.unit.Declared.{Declared}
-use Rattle.cc_syntax.specs.Folding.{Value}
-use Rattle.cc_syntax.specs.Values.{ToFunction}
+use Rattle.cc_terms.specs.CcScopes.State.{State, with_names}
+use Rattle.cc_terms.specs.CcScopes.Verdicts.{Found, whole, and_then}
+use Rattle.cc_terms.specs.CcScopes.declared.unit.Declared.{Declared}
+use Rattle.cc_terms.specs.CcSyntax.Folding.{Value}
+use Rattle.cc_terms.specs.CcSyntax.Values.{ToFunction}
 use Rattle.cc_terms.specs.Meanings.{TreeMeaning}
 use Rattle.cc_terms.specs.Operations.{forgotten}
 use Rattle.cc_tree.specs.declared.at.At.{At}
-use Rattle.cc_typed_terms.specs.Values.{null_judged, gives, valued, value_found, value, designating, designated_found, designator}
+use Rattle.cc_terms.specs.CcTypedTerms.Values.{null_judged, gives, valued, value_found, value, designating, designated_found, designator}
 use Rattle.cc_accessed_operands.proofs.Designators.{value_keeps}
 use Rattle.cc_accessed_operands.proofs.Parts.{operand_known, constant_none}
 use Rattle.cc_accessed_operands.proofs.Verdicts.{ok_is}

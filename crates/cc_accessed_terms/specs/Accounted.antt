@@ -1,12 +1,12 @@
 -- Devices without a name that stand behind a construct: each stood in front of it, or is accessed in it.
 use Rattle.std.specs.Prelude.{◌≡◌, ◌⊎◌, ℕ, Bool, true, false, Option, Some, None, slice_get}
 use Rattle.cc_accessed_operands.specs.Kept.{designated_accesses, IsKnownPlace}
-use Rattle.cc_designators.specs.Designators.{TypedExpr}
-use Rattle.cc_scopes.specs.State.{State}
-use Rattle.cc_scopes.specs.declared.unit.Declared.{Declared}
-use Rattle.cc_syntax.specs.Sound.{is_numbered}
-use Rattle.cc_unit.specs.declared.unit.UnitKind.{UnitKind}
-use Rattle.cc_unit.specs.declared.unit.UnitKind.TheVariants as kind
+use Rattle.cc_terms.specs.CcDesignators.Designators.{TypedExpr}
+use Rattle.cc_terms.specs.CcScopes.State.{State}
+use Rattle.cc_terms.specs.CcScopes.declared.unit.Declared.{Declared}
+use Rattle.cc_terms.specs.CcSyntax.Sound.{is_numbered}
+use Rattle.cc_terms.specs.CcUnit.declared.unit.UnitKind.{UnitKind}
+use Rattle.cc_terms.specs.CcUnit.declared.unit.UnitKind.TheVariants as kind
 
 -- a device without a name
 abbrev pub is_numbered_kind : UnitKind → Bool

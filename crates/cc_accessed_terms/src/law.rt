@@ -1,16 +1,16 @@
 ghost use Rattle.std.specs.Prelude.{◌≡◌, ℕ, Bool, List, map, Ok};
 ghost use Rattle.cc_accessed_operands.specs.Accessed.{accesses};
 ghost use Rattle.cc_accessed_terms.specs.Accounted.{Accounts, DeclaresNone, IsAccounted};
-ghost use Rattle.cc_designators.specs.Designators.{TypedExpr};
-ghost use Rattle.cc_num.specs.declared.target.Target.{Target};
-ghost use Rattle.cc_operands.specs.Operands.{Operand};
+ghost use Rattle.cc_terms.specs.CcDesignators.Designators.{TypedExpr};
+ghost use Rattle.cc_program.specs.CcNum.declared.target.Target.{Target};
+ghost use Rattle.cc_terms.specs.CcOperands.Operands.{Operand};
 ghost use Rattle.cc_program.specs.declared.program.Roles.{Roles};
 ghost use Rattle.cc_program.specs.declared.types.CType.{CType};
-ghost use Rattle.cc_scopes.specs.State.{Scope, State};
-ghost use Rattle.cc_specifiers.specs.declared.derivation.Allowed.{Allowed};
-ghost use Rattle.cc_specifiers.specs.declared.derivation.Declarator.{Declarator};
-ghost use Rattle.cc_specifiers.specs.declared.specifier.Specified.{Specified};
-ghost use Rattle.cc_specifiers.specs.declared.storage.Setting.{Setting};
+ghost use Rattle.cc_terms.specs.CcScopes.State.{Scope, State};
+ghost use Rattle.cc_terms.specs.CcSpecifiers.declared.derivation.Allowed.{Allowed};
+ghost use Rattle.cc_terms.specs.CcSpecifiers.declared.derivation.Declarator.{Declarator};
+ghost use Rattle.cc_terms.specs.CcSpecifiers.declared.specifier.Specified.{Specified};
+ghost use Rattle.cc_terms.specs.CcSpecifiers.declared.storage.Setting.{Setting};
 ghost use Rattle.cc_terms.specs.Specifiers.{specified_found};
 ghost use Rattle.cc_terms.specs.Terms.{declr_of, here, spec_here, tree_of, type_name_of};
 ghost use Rattle.cc_tree.specs.declared.at.At.{At};
@@ -18,7 +18,7 @@ ghost use Rattle.cc_tree.specs.declared.tree.Declr.{Declr};
 ghost use Rattle.cc_tree.specs.declared.tree.Spec.{Spec};
 ghost use Rattle.cc_tree.specs.declared.tree.Tree.{Tree};
 ghost use Rattle.cc_tree.specs.declared.tree.TypeName.{TypeName};
-ghost use Rattle.cc_typed_terms.specs.Values.{value_found};
+ghost use Rattle.cc_terms.specs.CcTypedTerms.Values.{value_found};
 
 /// Each device without a name that an expression declares, as `*(volatile T *)n` does (C99 6.5), is accessed by what the expression
 /// is found to be. The call does nothing.

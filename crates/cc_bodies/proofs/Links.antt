@@ -4,9 +4,9 @@ use Rattle.cc_program.specs.declared.expr.Expr.{Expr, roll-Expr, map-Expr, fold-
 use Rattle.cc_program.specs.declared.expr.Expr.TheOpen as one
 use Rattle.cc_program.specs.declared.expr.Place.{Place, roll-Place, map-Place, fold-roll-Place}
 use Rattle.cc_program.proofs.FoldFusion.{fused, place_fused}
-use Rattle.cc_syntax.specs.Expressions as typing
-use Rattle.cc_syntax.specs.Programs.{expr_step, place_step, type_of, place_type}
-use Rattle.cc_syntax.specs.Values.{ValueType, PlaceType}
+use Rattle.cc_typed.specs.CcSyntax.Expressions as typing
+use Rattle.cc_typed.specs.CcSyntax.Programs.{expr_step, place_step, type_of, place_type}
+use Rattle.cc_typed.specs.CcSyntax.Values.{ValueType, PlaceType}
 use Rattle.cc_program.specs.declared.func.Func.{Func}
 use Rattle.cc_program.specs.declared.program.Program.{Program}
 use Rattle.cc_bodies.specs.Exprs.{Written, WrittenPlace, expr_written, place_written, written, place}

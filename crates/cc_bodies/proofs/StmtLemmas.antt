@@ -1,7 +1,7 @@
 -- The lines of an `if`, a loop and a `switch`, put together from the last one to the first.
 use Rattle.std.proofs.Common.{◌≡◌, ℕ, ◌+◌, List, [], ◌∷◌, map, refl, ap, sym, ◌∙◌}
-use Rattle.cc_num.specs.declared.int_type.IntType.{IntType}
-use Rattle.cc_words.specs.declared.word.Word.TheVariants as w
+use Rattle.cc_program.specs.CcNum.declared.int_type.IntType.{IntType}
+use Rattle.cc_program.specs.CcWords.declared.word.Word.TheVariants as w
 use Rattle.cc_program.specs.declared.expr.Expr.{Expr}
 use Rattle.cc_program.specs.declared.func.Func.{Func}
 use Rattle.cc_program.specs.declared.program.Program.{Program}
@@ -9,7 +9,7 @@ use Rattle.cc_program.specs.declared.stmt.Case.{Case, fold-Case, fold_out-Case}
 use Rattle.cc_program.specs.declared.stmt.Stmt.{Stmt, If, While, Switch, fold-roll-Stmt}
 use Rattle.cc_program.specs.declared.stmt.Stmt.TheOpen as is
 use Rattle.cc_program.specs.declared.stmt.Stmt.TheVariants.{rolls-If, rolls-While, rolls-Switch}
-use Rattle.cc_syntax.specs.Programs.{type_of}
+use Rattle.cc_typed.specs.CcSyntax.Programs.{type_of}
 use Rattle.cc_pieces.specs.Pieces.{Pieces}
 use Rattle.cc_bodies.specs.Stmts.{StmtText, CaseText, closed, head, all_lines, else_lines, case_lines, if_lines, while_lines, switch_lines, label_type, stmt_step, case_step, stmt, case_text}
 

@@ -8,8 +8,8 @@ use Rattle.cc_program.specs.declared.types.Shape.{Shape, out-Shape}
 use Rattle.cc_program.specs.declared.types.Shape.TheOpen as shape
 use Rattle.cc_program.specs.declared.types.Sig.{Sig}
 use Rattle.cc_program.specs.declared.types.Structure.{Structure}
-use Rattle.cc_syntax.specs.Types.{Named}
-use Rattle.cc_syntax.specs.Values.{PlaceType, DevicePlace, ObjectPlace, FunctionPlace}
+use Rattle.cc_typed.specs.CcSyntax.Types.{Named}
+use Rattle.cc_typed.specs.CcSyntax.Values.{PlaceType, DevicePlace, ObjectPlace, FunctionPlace}
 use Rattle.cc_pieces.specs.Pieces.{Pieces, ident}
 
 -- a name, nothing where there is none

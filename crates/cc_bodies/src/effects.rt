@@ -4,15 +4,15 @@ ghost use Rattle.std.specs.Prelude.{◌≡◌, OnOk, option_map};
 ghost use Rattle.std.specs.Option.{option_copied};
 ghost use Rattle.cc_pieces.specs.View.{pieces_of};
 ghost use Rattle.cc_bodies.specs.Stmts.{intrinsic_name as intrinsic_name_of, optional_argument, intrinsic, further_arguments, arguments, call, parameters_of as parameters_of_of, taker as taker_of, right_side, assignment, done};
-ghost use Rattle.cc_syntax.specs.Programs.{type_of, place_type as place_type_of};
-ghost use Rattle.cc_syntax.specs.Sizes.{AreSized};
+ghost use Rattle.cc_typed.specs.CcSyntax.Programs.{type_of, place_type as place_type_of};
+ghost use Rattle.cc_typed.specs.CcSyntax.Sizes.{AreSized};
 ghost use Rattle.cc_typed.specs.View.{value_view, place_view};
 
 use crate::exprs::{Context, put_expr, put_place};
 use crate::spots::Spot;
 use cc_lex::Mark;
-use cc_num::{Name, NoMemory, at};
 use cc_pieces::{Piece, Symbol, mark, name, put, spaced_mark};
+use cc_program::num::{Name, NoMemory, at};
 use cc_program::{CType, Expr, Intr, Place, Roles};
 use cc_typed::{PlaceType, Scope, ValueType};
 

@@ -4,7 +4,7 @@ ghost use Rattle.std.specs.Prelude.{◌≡◌, OnOk, option_map};
 ghost use Rattle.cc_pieces.specs.View.{pieces_of};
 ghost use Rattle.cc_bodies.specs.Exprs.{binary, written, place, expr, place_text};
 ghost use Rattle.cc_bodies.specs.View.{spot_of};
-ghost use Rattle.cc_syntax.specs.Sizes.{AreSized};
+ghost use Rattle.cc_typed.specs.CcSyntax.Sizes.{AreSized};
 ghost use Rattle.cc_typed.specs.View.{place_view};
 
 use crate::leaves::{
@@ -13,8 +13,8 @@ use crate::leaves::{
 use crate::names::{func_name, local_name, member_name, object_name, put_named};
 use crate::spots::{Spot, wraps_conversion, wraps_operation};
 use cc_lex::Mark;
-use cc_num::NoMemory;
 use cc_pieces::{Symbol, close, mark, open, put_cast, put_int_cast, spaced_mark};
+use cc_program::num::NoMemory;
 use cc_program::{Expr, Func, Place, Program};
 use cc_typed::{PlaceType, Scope};
 

@@ -9,14 +9,14 @@ ghost use Rattle.cc_bodies.specs.View.{spot_of};
 use crate::names::put_named;
 use crate::spots::{Spot, converts_constant, wraps_conversion};
 use cc_lex::Mark;
-use cc_num::{BinOp, IntType, Name, NoMemory, Target, UnOp, at};
 use cc_pieces::{
     Piece, Symbol, close, is_narrow, mark, number, open, put, put_cast, put_constant, put_int_cast,
     put_int_name, put_qualifiers, word,
 };
+use cc_program::num::{BinOp, IntType, Name, NoMemory, Target, UnOp, at};
+use cc_program::words::Word;
 use cc_program::{CType, Device, Structure};
 use cc_typed::alike;
-use cc_words::Word;
 
 /// The mark of an operator of one operand (C99 6.5.3.3).
 pub fn unary_mark(op: UnOp) -> Mark

@@ -7,8 +7,8 @@ ghost use Rattle.cc_pieces.specs.View.{pieces_of};
 ghost use Rattle.cc_bodies.specs.Names.{named, local_name as local_name_of, object_name as object_name_of, func_name as func_name_of, member_at as member_at_of, member_shape, member_name as member_name_of};
 ghost use Rattle.cc_typed.specs.View.{place_view};
 
-use cc_num::{Name, NoMemory, at};
 use cc_pieces::{Symbol, name};
+use cc_program::num::{Name, NoMemory, at};
 use cc_program::{CType, Func, Object, Shape, Structure};
 use cc_typed::PlaceType;
 

@@ -5,19 +5,19 @@ ghost use Rattle.cc_pieces.specs.Pieces.{indent, keyword};
 ghost use Rattle.cc_pieces.specs.View.{pieces_of};
 ghost use Rattle.cc_program.specs.declared.types.Sig.{out-Sig};
 ghost use Rattle.cc_bodies.specs.Stmts.{ended, opened, closed, head, all_lines, else_lines, case_body, case_lines, case_text, label_line, label_lines, label_type as label_type_of, returned, done, stmt, stmts};
-ghost use Rattle.cc_syntax.specs.Programs.{type_of};
-ghost use Rattle.cc_syntax.specs.Sizes.{AreSized};
+ghost use Rattle.cc_typed.specs.CcSyntax.Programs.{type_of};
+ghost use Rattle.cc_typed.specs.CcSyntax.Sizes.{AreSized};
 ghost use Rattle.cc_typed.specs.View.{value_view};
 
 use crate::effects::put_done;
 use crate::exprs::{Context, put_expr};
 use crate::spots::Spot;
 use cc_lex::Mark;
-use cc_num::{Boxed, IntType, NoMemory, Target};
 use cc_pieces::{Piece, Symbol, mark, put, put_constant, word};
+use cc_program::num::{Boxed, IntType, NoMemory, Target};
+use cc_program::words::Word;
 use cc_program::{Case, Expr, Stmt};
 use cc_typed::{Scope, ValueType};
-use cc_words::Word;
 
 /// One level deeper. A tree as deep as `usize` counts fits in no memory.
 fn deeper(level: usize) -> Result<usize, NoMemory>

@@ -14,7 +14,7 @@ use crate::fault::LinkFault;
 use crate::numbers::structures_in;
 use cc_definitions::{is_named_main, own_name};
 use cc_linked_names::Given;
-use cc_num::{List, Name, NoMemory, at};
+use cc_program::num::{List, Name, NoMemory, at};
 use cc_program::{CType, Roles, copy_list};
 use cc_things::{Mention, Thing, is_defined, is_defined_twice, is_device, is_external, is_used};
 use cc_typed::{same_flag, same_shape};

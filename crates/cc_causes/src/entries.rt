@@ -14,7 +14,7 @@ ghost use Rattle.cc_things.specs.View.{thing_view};
 
 use cc_definitions::{entry_given, has_name, may_be_handler, own_name, thing_at};
 use cc_linked_names::Given;
-use cc_num::{Name, NoMemory};
+use cc_program::num::{Name, NoMemory};
 use cc_program::{Entry, Roles, copy_list};
 use cc_things::{Thing, is_device};
 use std::alloc::Global;

@@ -1,4 +1,4 @@
-use cc_num::Name;
+use cc_program::num::Name;
 
 /// Why typed units are no program. Each but NoMain carries a name, and the first one that it holds of.
 #[derive(Debug, Drop)]

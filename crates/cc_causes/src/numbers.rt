@@ -3,7 +3,7 @@
 ghost use Rattle.std.specs.Prelude.{◌≡◌};
 ghost use Rattle.cc_structures.specs.Structures.{numbers_of};
 
-use cc_num::{List, at};
+use cc_program::num::{List, at};
 
 /// The numbers of the structures of a source.
 pub fn structures_in(structures: &[List<u32>], text: usize) -> &[u32]

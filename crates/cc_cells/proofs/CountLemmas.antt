@@ -1,7 +1,7 @@
 -- How many scalars a type has, by its shape, and how numbers are counted.
 use Rattle.std.proofs.Common.{arith, ◌≡◌, ◌<◌, ◌≤◌, ◌+◌, ◌*◌, ◌^◌, ◌-◌, ◌⊎◌, inl, inr, ℕ, zero, suc, min, List, [], ◌∷◌, ◌++◌, length, length-append, replicate, take, ap, sym, ◌∙◌, unwrap_or, slice_get, get_or}
 use Rattle.std.specs.List.{flat_map}
-use Rattle.cc_num.specs.declared.int_type.IntType.{IntType}
+use Rattle.cc_program.specs.CcNum.declared.int_type.IntType.{IntType}
 use Rattle.cc_program.specs.declared.types.CType.{CType, fold_out-CType}
 use Rattle.cc_program.specs.declared.types.Shape.{Shape, Void, Int, Pointer, Array, Struct, Func, fold-Shape, fold_out-Shape, out-Shape, map-Shape}
 use Rattle.cc_program.specs.declared.types.Shape.TheOpen as shape
@@ -9,8 +9,8 @@ use Rattle.cc_program.specs.declared.types.Shape.TheVariants.{outs-Void, outs-In
 use Rattle.cc_program.specs.declared.types.Sig.{Sig, fold-Sig}
 use Rattle.cc_program.specs.declared.types.Structure.{Structure}
 use Rattle.cc_program.specs.declared.value.Value.{Value}
-use Rattle.cc_syntax.specs.Types.{Named}
-use Rattle.cc_syntax.proofs.Shapes.{read_at}
+use Rattle.cc_typed.specs.CcSyntax.Types.{Named}
+use Rattle.cc_typed.proofs.CcSyntax.Shapes.{read_at}
 use Rattle.cc_cells.specs.Counts.{counted, count_of, member_count}
 use Rattle.cc_cells.specs.Scalars.{shape_zeros, zeros_over, member_zeros, structure_zeros}
 use Rattle.cc_cells.proofs.ScalarLemmas.{members_more}

@@ -7,7 +7,7 @@ use Rattle.std.specs.List.{flat_map}
 use Rattle.cc_program.specs.declared.types.Structure.{Structure}
 use Rattle.cc_program.specs.declared.value.Value.{Value}
 use Rattle.cc_cells.specs.Scalars.{member_zeros, structure_zeros, zeros_over}
-use Rattle.cc_syntax.specs.Types.{Named}
+use Rattle.cc_typed.specs.CcSyntax.Types.{Named}
 use Rattle.std.proofs.lemmas.List.{append-nil}
 
 pub behind_more : (front xs : List Value) (i : ℕ) (d : Value) → i < length xs → front ++ take (i + 1) xs ≡ (front ++ take i xs) ++ get_or xs i d ∷ []

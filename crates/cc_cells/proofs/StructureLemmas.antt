@@ -3,7 +3,7 @@ use Rattle.std.proofs.Common.{arith, ◌≡◌, ◌<◌, ◌≤◌, ◌+◌, ℕ
 use Rattle.std.proofs.lemmas.Option.{slice_get_past}
 use Rattle.cc_program.specs.declared.types.Structure.{Structure}
 use Rattle.cc_program.specs.declared.value.Value.{Value}
-use Rattle.cc_syntax.proofs.Prefixes.{take_length}
+use Rattle.cc_typed.proofs.CcSyntax.Prefixes.{take_length}
 use Rattle.cc_cells.specs.Scalars.{member_zeros, structure_zeros}
 
 some_same : {A : Type 0} → {x y : A} → Some x ≡ Some y → x ≡ y

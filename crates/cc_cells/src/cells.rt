@@ -6,7 +6,7 @@ ghost use Rattle.std.specs.Option.{option_copied};
 ghost use Rattle.cc_cells.specs.Cells.{cells_of, scalar_in, with_scalar};
 ghost use Rattle.cc_cells.specs.Counts.{counted};
 
-use cc_num::at;
+use cc_program::num::at;
 
 #[tactic(auto, using(crate::proofs::CellLemmas::of_positions))]
 fn read_at<T>(scalars: &[T], position: usize) -> Option<&T>

@@ -6,7 +6,7 @@ ghost use Rattle.cc_typed.specs.View.{place_view};
 ghost use Rattle.cc_cells.specs.Counts.{counted, count_of, member_count};
 ghost use Rattle.cc_cells.specs.Scalars.{before_part as before_part_of, before as before_of, position as position_of};
 
-use cc_num::{Name, at};
+use cc_program::num::{Name, at};
 use cc_program::{CType, Part, Shape, Structure};
 use cc_typed::{PlaceType, step_into};
 

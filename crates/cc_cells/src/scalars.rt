@@ -5,7 +5,7 @@ ghost use Rattle.std.specs.List.{flat_map};
 ghost use Rattle.std.specs.Option.{option_copied};
 ghost use Rattle.cc_cells.specs.Scalars.{zeros_over as zeros_over_of, member_zeros as member_zeros_of, structure_zeros as structure_zeros_of};
 
-use cc_num::{List, Name, NoMemory, at};
+use cc_program::num::{List, Name, NoMemory, at};
 use cc_program::{Address, CType, Shape, Structure, Value};
 use std::alloc::Global;
 

@@ -3,7 +3,7 @@ use Rattle.std.proofs.Common.{◌≡◌, ◌<◌, ◌≤◌, ◌-◌, ◌^◌, �
 use Rattle.std.specs.List.{list_all}
 use Rattle.std.proofs.lemmas.Bool.{and_left, and_right}
 use Rattle.std.proofs.lemmas.Option.{same_Some}
-use Rattle.cc_num.specs.Integers.{least_of_bits, most_of_bits}
+use Rattle.cc_program.specs.CcNum.Integers.{least_of_bits, most_of_bits}
 use Rattle.cc_explicit.specs.declared.explicit.Explicit.{Explicit}
 use Rattle.cc_explicit.specs.Sets.{list_ends}
 use Rattle.cc_program.specs.declared.value.Address.{Address}

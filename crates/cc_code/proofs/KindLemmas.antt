@@ -4,8 +4,8 @@ use Rattle.std.specs.Option.{IfSome}
 use Rattle.std.proofs.lemmas.Bool.{and_left, and_right, cases_lt, eq-eqb, eqb-true, le-ltb, lt-ltb, ne_eqb}
 use Rattle.std.proofs.lemmas.Int.{ints}
 use Rattle.std.proofs.lemmas.Nat.{div_below, le-div}
-use Rattle.cc_num.specs.Integers.{least_of_bits, most_of_bits}
-use Rattle.cc_num.proofs.Residues.{halves}
+use Rattle.cc_program.specs.CcNum.Integers.{least_of_bits, most_of_bits}
+use Rattle.cc_program.proofs.CcNum.Residues.{halves}
 use Rattle.cc_lattice.specs.Domains.{IsInReach}
 use Rattle.cc_lattice.specs.Domains.{AreEnds}
 use Rattle.cc_ranges.specs.Ends.{EndsHave}

@@ -7,8 +7,8 @@ ghost use Rattle.cc_code.specs.Members.{count_of as count_of_values, has_coding 
 use crate::kinds::Coding;
 use crate::members::{count_of, has_coding};
 use cc_lattice::IntDomain;
-use cc_num::bits_for;
 use cc_places::Abs;
+use cc_program::num::bits_for;
 use cc_sets::Vals;
 
 /// Whether a number has no more than so many bits.

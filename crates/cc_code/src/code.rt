@@ -6,8 +6,8 @@ ghost use Rattle.cc_code.specs.Members.{Has};
 
 use crate::kinds::Coding;
 use crate::members::place_of;
-use cc_num::at;
 use cc_places::Abs;
+use cc_program::num::at;
 use cc_program::{Address, Value};
 use cc_sets::Vals;
 

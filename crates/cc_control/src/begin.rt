@@ -7,7 +7,7 @@ ghost use Rattle.cc_control.specs.View.{left_of, levels_of, control_of};
 use crate::level::{Control, Left, Level, copied};
 use crate::phase::Phase;
 use crate::statements::{behind_body, first_phase, opening};
-use cc_num::NoMemory;
+use cc_program::num::NoMemory;
 use std::alloc::Global;
 
 /// Begins the first statement of a list, which has this position there, inside these levels, the body's first. A block

@@ -11,8 +11,8 @@ use crate::level::{
 };
 use crate::phase::Phase;
 use crate::statements::counted;
-use cc_num::{List, NoMemory};
 use cc_program::Stmt;
+use cc_program::num::{List, NoMemory};
 use std::alloc::Global;
 
 /// Nothing is left.

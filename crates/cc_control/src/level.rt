@@ -7,7 +7,7 @@ ghost use Rattle.cc_control.specs.View.{left_of, level_of, levels_of, is_settled
 
 use crate::phase::Phase;
 use crate::statements::{behind_body, is_left_by_break, is_loop};
-use cc_num::NoMemory;
+use cc_program::num::NoMemory;
 use cc_program::{Case, Stmt};
 use std::alloc::Global;
 

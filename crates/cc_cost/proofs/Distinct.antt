@@ -4,7 +4,7 @@ use Rattle.std.specs.List.{list_any}
 use Rattle.std.specs.Prelude.{not, ◌||◌, ◌&&◌}
 use Rattle.std.specs.Str.{bytes_eq}
 use Rattle.std.proofs.lemmas.Slice.Eq.{bytes_eq-Decides}
-use Rattle.cc_words.specs.Names.{are_distinct}
+use Rattle.cc_program.specs.CcWords.Names.{are_distinct}
 
 abbrev pub one : Bool → ℕ
 one true = 1

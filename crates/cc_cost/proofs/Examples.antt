@@ -2,8 +2,8 @@
 use Rattle.std.proofs.Common.{◌≡◌, [], ◌∷◌, map, Some, None, refl}
 use Rattle.std.specs.Prelude.{codes}
 use Rattle.csv.proofs.OnLiterals.{csv_on_literals}
-use Rattle.cc_words.specs.Names.{is_name}
-use Rattle.cc_words.specs.Words.{word_of}
+use Rattle.cc_program.specs.CcWords.Names.{is_name}
+use Rattle.cc_program.specs.CcWords.Words.{word_of}
 use Rattle.cc_cost.specs.Keys.{key_of}
 use Rattle.cc_rows.specs.Numbers.{number_in}
 use Rattle.cc_rows.specs.Rows.{rows_of}

@@ -9,8 +9,8 @@ use Rattle.std.specs.Str.{bytes_eq}
 use Rattle.std.proofs.lemmas.List.{append-nil, map-append}
 use Rattle.std.proofs.lemmas.List.Elements.{filter_map-append}
 use Rattle.std.proofs.lemmas.List.Folds.{find-append, list_all-append}
-use Rattle.cc_words.specs.Names.{are_distinct, is_name}
-use Rattle.cc_words.specs.Words.{word_of}
+use Rattle.cc_program.specs.CcWords.Names.{are_distinct, is_name}
+use Rattle.cc_program.specs.CcWords.Words.{word_of}
 use Rattle.cc_cost.specs.declared.key.Key.{Key}
 use Rattle.cc_cost.specs.declared.key.Key.TheVariants as key
 use Rattle.cc_cost.specs.declared.setting.Setting.{Setting}

@@ -4,7 +4,7 @@ use Rattle.std.specs.List.{list_all, cons_option}
 use Rattle.std.specs.Option.{unwrap_or}
 use Rattle.std.specs.Prelude.{IsTrue, ◌&&◌, nat_le, filter_map, if◌then◌else◌, codes}
 use Rattle.std.proofs.lemmas.List.Folds.{list_all-append}
-use Rattle.cc_words.specs.Names.{are_distinct, is_name}
+use Rattle.cc_program.specs.CcWords.Names.{are_distinct, is_name}
 use Rattle.cc_cost.specs.declared.key.Key.{Key}
 use Rattle.cc_cost.specs.declared.key.Key.TheVariants as key
 use Rattle.cc_cost.specs.declared.setting.Setting.{Setting}

@@ -3,7 +3,7 @@ use Rattle.std.specs.Prelude.{ℕ, Bool, true, false, ◌&&◌, ◌-◌, ◌^◌
 use Rattle.std.specs.List.{list_any}
 use Rattle.std.specs.Option.{is_some}
 use Rattle.std.specs.Str.{bytes_eq}
-use Rattle.cc_words.specs.Names.{is_name}
+use Rattle.cc_program.specs.CcWords.Names.{is_name}
 use Rattle.cc_cost.specs.declared.key.Key.{Key}
 use Rattle.cc_cost.specs.declared.key.Key.TheVariants as key
 use Rattle.cc_cost.specs.declared.setting.Setting.{Setting}

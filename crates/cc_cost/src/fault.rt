@@ -1,7 +1,7 @@
 ghost use Rattle.std.specs.Prelude.{◌≡◌};
 ghost use Rattle.cc_cost.specs.declared.fault.ProfileFault.TheVariants as fault;
 
-use cc_num::NoMemory;
+use cc_program::num::NoMemory;
 
 /// Why a text is no profile.
 #[derive(Clone, Copy, Debug, PartialEq, Eq)]

@@ -8,8 +8,8 @@ ghost use Rattle.cc_cost.specs.Settings.{thing_of, same_thing, is_allowed as is_
 
 use crate::key::Key;
 use crate::setting::Setting;
+use cc_program::words::is_name;
 use cc_rows::number_in;
-use cc_words::is_name;
 
 /// Whether a field is this word.
 pub fn is(field: &[u8], word: &str) -> bool

@@ -15,7 +15,7 @@ use crate::key::Key;
 use crate::profile::Profile;
 use crate::rules::given;
 use crate::setting::Line;
-use cc_num::{List, Name, NoMemory, Target};
+use cc_program::num::{List, Name, NoMemory, Target};
 use cc_program::{Roles, copy_list};
 use cc_rows::number_in;
 use std::alloc::Global;

@@ -8,7 +8,7 @@ ghost use Rattle.cc_cost.specs.Sets.{names_of, things_of};
 
 use crate::field::second_of;
 use crate::setting::Setting;
-use cc_num::NoMemory;
+use cc_program::num::NoMemory;
 use indexmap::IndexSet;
 
 /// Names, in the order in which they were added.

@@ -1,11 +1,11 @@
 ghost use Rattle.std.specs.Prelude.{◌&&◌, ◌^◌, ◌-◌, map, nat_le, IsTrue};
 ghost use Rattle.std.specs.List.{list_all};
 ghost use Rattle.std.specs.Option.{option_map_or};
-ghost use Rattle.cc_words.specs.Names.{are_distinct};
+ghost use Rattle.cc_program.specs.CcWords.Names.{are_distinct};
 ghost use Rattle.std.specs.Prelude.{true};
 
-use cc_num::{List, Name, Target};
 use cc_program::Roles;
+use cc_program::num::{List, Name, Target};
 
 /// What is told of a chip and of a program beside its sources.
 #[derive(Drop)]

@@ -11,7 +11,7 @@ use crate::given::profile_of;
 use crate::profile::Profile;
 use crate::rules::first_fault;
 use crate::setting::Line;
-use cc_num::NoMemory;
+use cc_program::num::NoMemory;
 use cc_rows::lines_of;
 use std::alloc::Global;
 

@@ -6,7 +6,7 @@ ghost use Rattle.cc_cost.specs.Settings.{line_of as line_of_row, says as says_fi
 
 use crate::key::{Key, key_of};
 use crate::setting::{Line, Setting};
-use cc_num::{List, NoMemory};
+use cc_program::num::{List, NoMemory};
 use cc_rows::FromRow;
 use csv::ByteRecord;
 use std::alloc::Global;

@@ -11,7 +11,7 @@ use crate::field::{ends_early, has_names, is_allowed, is_for, role_of};
 use crate::key::Key;
 use crate::names::{Names, Things, add_name, add_thing};
 use crate::setting::{Line, Setting};
-use cc_num::NoMemory;
+use cc_program::num::NoMemory;
 use indexmap::IndexSet;
 use std::alloc::Global;
 

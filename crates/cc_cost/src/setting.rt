@@ -1,7 +1,7 @@
 ghost use Rattle.std.specs.Prelude.{◌≡◌};
 
 use crate::key::Key;
-use cc_num::Name;
+use cc_program::num::Name;
 
 /// What a row of three fields says.
 #[derive(Drop)]

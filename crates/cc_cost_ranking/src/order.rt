@@ -6,7 +6,7 @@ ghost use Rattle.cc_cost_ranking.specs.Ranking.{rank_order, AreWeights};
 
 use crate::priced::{Priced, all_priced};
 use crate::types::{Costed, Weights};
-use cc_num::NoMemory;
+use cc_program::num::NoMemory;
 use std::alloc::Global;
 use std::cmp::Ordering;
 

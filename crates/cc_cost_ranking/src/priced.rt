@@ -4,7 +4,7 @@ ghost use Rattle.std.specs.Prelude.{◌≡◌, ◌≤◌, ◌^◌, map, All, IfO
 ghost use Rattle.cc_cost_ranking.specs.Ranking.{price as price_of, AreWeights};
 
 use crate::types::{Costed, Weights};
-use cc_num::NoMemory;
+use cc_program::num::NoMemory;
 use std::alloc::Global;
 
 /// A slot and its price.

@@ -5,7 +5,7 @@ ghost use Rattle.cc_cost_ranking.specs.Ranking.{is_within as is_within_budget, t
 
 use crate::order::in_order;
 use crate::types::{Budgets, Costed, Weights};
-use cc_num::NoMemory;
+use cc_program::num::NoMemory;
 use std::alloc::Global;
 
 /// Whether a sum is within a budget.

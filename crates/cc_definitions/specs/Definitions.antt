@@ -6,7 +6,7 @@ use Rattle.cc_order.specs.Order.{in_order}
 use Rattle.cc_order.specs.Places.{stands_before}
 use Rattle.cc_order.specs.declared.place.Place.{Place}
 use Rattle.cc_program.specs.declared.func.Func.{Func}
-use Rattle.cc_syntax.specs.SameTypes.{same_flag}
+use Rattle.cc_typed.specs.CcSyntax.SameTypes.{same_flag}
 use Rattle.cc_things.specs.Mentions.{Mention}
 use Rattle.cc_things.specs.Things.{Thing, is_definition, is_device, is_external, is_func_kind, is_there, own_name}
 use Rattle.cc_things.specs.View.{no_thing, thing_view}

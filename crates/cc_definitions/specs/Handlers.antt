@@ -7,7 +7,7 @@ use Rattle.cc_program.specs.declared.types.CType.{CType}
 use Rattle.cc_program.specs.declared.types.Shape.{Shape, out-Shape}
 use Rattle.cc_program.specs.declared.types.Shape.TheOpen as shape
 use Rattle.cc_program.specs.declared.types.Sig.{Sig, out-Sig}
-use Rattle.cc_syntax.specs.Sound.{is_plain_void, main_name}
+use Rattle.cc_typed.specs.CcSyntax.Sound.{is_plain_void, main_name}
 use Rattle.cc_things.specs.Things.{Thing, is_defined, is_external, is_func, is_used, own_name}
 use Rattle.cc_unit.specs.Entries.{both_entries}
 use Rattle.cc_unit.specs.declared.unit.UnitKind.{UnitKind}

@@ -6,8 +6,8 @@ ghost use Rattle.cc_definitions.specs.Definitions.{definition as definition_of, 
 ghost use Rattle.cc_things.specs.Things.{is_definition as is_definition_of, is_func_kind, own_name as own_name_of};
 ghost use Rattle.cc_things.specs.View.{thing_view, view_of};
 
-use cc_num::{Name, at};
 use cc_program::Func;
+use cc_program::num::{Name, at};
 use cc_things::{Mention, Thing};
 use cc_unit::{UnitKind, UnitName};
 

@@ -4,11 +4,11 @@ ghost use Rattle.std.specs.Prelude.{◌≡◌};
 ghost use Rattle.std.specs.Option.{option_copied};
 ghost use Rattle.cc_definitions.specs.Handlers.{entry_in as entry_of_kind, entry_given as entry_given_of, takes_and_gives_nothing as takes_and_gives_nothing_of, has_handler_type as has_handler_type_of, has_name as has_name_of, is_named_main as is_named_main_of, may_be_handler as may_be_handler_of};
 ghost use Rattle.cc_program.specs.declared.types.Shape.{out-Shape};
-ghost use Rattle.cc_syntax.specs.Sound.{is_plain_void as is_plain_void_of};
+ghost use Rattle.cc_typed.specs.CcSyntax.Sound.{is_plain_void as is_plain_void_of};
 ghost use Rattle.cc_things.specs.View.{thing_view};
 
 use crate::facts::own_name;
-use cc_num::Name;
+use cc_program::num::Name;
 use cc_program::{CType, Entry, Shape, Sig};
 use cc_things::{Thing, is_defined, is_external, is_func, is_used};
 use cc_typed::{is_unqualified, is_void};

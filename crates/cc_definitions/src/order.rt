@@ -6,8 +6,8 @@ ghost use Rattle.std.specs.Option.{option_copied};
 ghost use Rattle.cc_things.specs.View.{thing_view};
 
 use crate::facts::{definition, is_function, own_name};
-use cc_num::{NoMemory, at};
 use cc_order::{Place, sort_places};
+use cc_program::num::{NoMemory, at};
 use cc_things::{Thing, is_device, is_external, is_there};
 use std::alloc::Global;
 

@@ -2,13 +2,13 @@
 use Rattle.std.proofs.Common.{◌≡◌, ◌∙◌, ℕ, ◌+◌, ◌<◌, List, [], ◌∷◌, ◌++◌, Ok, Err, refl, ap, sym, append_assoc, map, drop, length, get_or}
 use Rattle.std.proofs.lemmas.List.{append-nil, drop_more}
 use Rattle.cc_designators.specs.Calls.{passed_to, passed}
-use Rattle.cc_num.specs.declared.target.Target.{Target}
+use Rattle.cc_program.specs.CcNum.declared.target.Target.{Target}
 use Rattle.cc_operands.specs.Operands.{Operand}
 use Rattle.cc_operands.specs.View.{operand_view}
 use Rattle.cc_operands.specs.declared.operand.Operand.{Operand as CodeOperand}
 use Rattle.cc_program.specs.declared.expr.Expr.{Expr}
 use Rattle.cc_program.specs.declared.types.CType.{CType}
-use Rattle.cc_syntax.specs.Values.{scalar_value}
+use Rattle.cc_operands.specs.CcSyntax.Values.{scalar_value}
 use Rattle.cc_operands.specs.Verdicts.{Judged, judge_then}
 
 -- a list whose head is judged already

@@ -1,17 +1,17 @@
 -- Assignments to what an expression designates (C99 6.5.16, 6.5.2.4, 6.5.3.1).
 use Rattle.std.specs.Prelude.{pos, Bool, List, Option, Some, None, Err, if◌then◌else◌}
-use Rattle.cc_lex.specs.declared.token.Mark.{Mark}
-use Rattle.cc_num.specs.declared.int_type.IntType.TheVariants as int
-use Rattle.cc_num.specs.declared.op.BinOp.{BinOp}
-use Rattle.cc_num.specs.declared.op.BinOp.TheVariants as op
-use Rattle.cc_num.specs.declared.target.Target.{Target}
+use Rattle.cc_operands.specs.CcLex.declared.token.Mark.{Mark}
+use Rattle.cc_program.specs.CcNum.declared.int_type.IntType.TheVariants as int
+use Rattle.cc_program.specs.CcNum.declared.op.BinOp.{BinOp}
+use Rattle.cc_program.specs.CcNum.declared.op.BinOp.TheVariants as op
+use Rattle.cc_program.specs.CcNum.declared.target.Target.{Target}
 use Rattle.cc_operands.specs.Assignments.{stored_at, changed_at, stepped_at}
 use Rattle.cc_operands.specs.Operands.{Operand, integer}
 use Rattle.cc_operands.specs.Operators.{assigns_by}
 use Rattle.cc_operands.specs.Verdicts.{Judged}
 use Rattle.cc_operands.specs.declared.rule.Rule.TheVariants as rule
 use Rattle.cc_program.specs.declared.types.Structure.{Structure}
-use Rattle.cc_syntax.specs.Values.{written_to}
+use Rattle.cc_operands.specs.CcSyntax.Values.{written_to}
 use Rattle.cc_designators.specs.Designators.{TypedExpr, IsPlace}
 
 module _ (target : Target) where

@@ -1,14 +1,14 @@
 -- Calls of functions and of intrinsics, by their prototypes (C99 6.5.2.2).
 use Rattle.std.specs.Prelude.{List, [], ◌∷◌, Option, Some, None, Ok, Err}
-use Rattle.cc_num.specs.declared.int_type.IntType.TheVariants as int
-use Rattle.cc_num.specs.declared.target.Target.{Target}
+use Rattle.cc_program.specs.CcNum.declared.int_type.IntType.TheVariants as int
+use Rattle.cc_program.specs.CcNum.declared.target.Target.{Target}
 use Rattle.cc_program.specs.declared.expr.Expr.{Expr, Call, Intr}
 use Rattle.cc_program.specs.declared.expr.Intr.{Intr as Intrinsic}
 use Rattle.cc_program.specs.declared.expr.Intr.TheVariants as intr
 use Rattle.cc_program.specs.declared.types.CType.{CType}
 use Rattle.cc_program.specs.declared.types.Shape.{Void, Int}
 use Rattle.cc_program.specs.declared.types.Sig.{Sig, out-Sig, roll-Sig}
-use Rattle.cc_syntax.specs.Values.{ValueType, NoValue, Integer, ToObject, ToFunction, result_value, scalar_value}
+use Rattle.cc_operands.specs.CcSyntax.Values.{ValueType, NoValue, Integer, ToObject, ToFunction, result_value, scalar_value}
 use Rattle.cc_operands.specs.Assignments.{assigned}
 use Rattle.cc_operands.specs.Qualified.{plain}
 use Rattle.cc_operands.specs.Operands.{Operand, operand, with_value}

@@ -1,9 +1,9 @@
 -- Casts, the devices that they name, and sizes (C99 6.5.4, 6.5.3.4).
 use Rattle.std.specs.Prelude.{ℕ, ◌*◌, ◌^◌, ℤ, pos, negsuc, Bool, false, nat_lt, Ok, Err, if◌then◌else◌}
 use Rattle.std.specs.Ordering.{int_eq}
-use Rattle.cc_num.specs.declared.int_type.IntType.{IntType}
-use Rattle.cc_num.specs.declared.target.Target.{Target}
-use Rattle.cc_num.specs.Integers.{is_value_of}
+use Rattle.cc_program.specs.CcNum.declared.int_type.IntType.{IntType}
+use Rattle.cc_program.specs.CcNum.declared.target.Target.{Target}
+use Rattle.cc_program.specs.CcNum.Integers.{is_value_of}
 use Rattle.cc_operands.specs.Operands.{Operand, operand, as_nothing, integer, constancy, cast_to, size_type, is_null_constant, with_value, no_structure}
 use Rattle.cc_operands.specs.Qualified.{unqualified}
 use Rattle.cc_operands.specs.Verdicts.{Judged, must}
@@ -13,8 +13,8 @@ use Rattle.cc_program.specs.declared.types.CType.{CType}
 use Rattle.cc_program.specs.declared.types.Shape.{Shape, out-Shape}
 use Rattle.cc_program.specs.declared.types.Shape.TheOpen as shape
 use Rattle.cc_program.specs.declared.types.Sig.{Sig}
-use Rattle.cc_syntax.specs.Folding.{Constant, NoConstant, Value, Traps}
-use Rattle.cc_syntax.specs.Values.{ValueType, Integer, pointer_to, is_void, is_assignable}
+use Rattle.cc_operands.specs.CcSyntax.Folding.{Constant, NoConstant, Value, Traps}
+use Rattle.cc_operands.specs.CcSyntax.Values.{ValueType, Integer, pointer_to, is_void, is_assignable}
 use Rattle.cc_designators.specs.Designators.{TypedExpr, IsValue, IsAddress, null}
 use Rattle.cc_designators.specs.Postfix.{indirection}
 

@@ -8,8 +8,8 @@ use Rattle.cc_program.specs.declared.types.Shape.{Shape, out-Shape}
 use Rattle.cc_program.specs.declared.types.Shape.TheOpen as shape
 use Rattle.cc_program.specs.declared.types.Sig.{Sig}
 use Rattle.cc_program.specs.declared.types.Structure.{Structure}
-use Rattle.cc_syntax.specs.Operators.{is_integer, points_to_object}
-use Rattle.cc_syntax.specs.Values.{ValueType, ToFunction, PlaceType, DevicePlace, ObjectPlace, FunctionPlace, pointed_to, element_of, member_of, address_of}
+use Rattle.cc_operands.specs.CcSyntax.Operators.{is_integer, points_to_object}
+use Rattle.cc_operands.specs.CcSyntax.Values.{ValueType, ToFunction, PlaceType, DevicePlace, ObjectPlace, FunctionPlace, pointed_to, element_of, member_of, address_of}
 use Rattle.cc_designators.specs.Designators.{TypedExpr, IsPlace, IsValue, IsFunction, IsIntrinsic, IsAddress}
 use Rattle.cc_operands.specs.Operands.{Operand, operand, with_value}
 use Rattle.cc_operands.specs.Verdicts.{Judged, must}

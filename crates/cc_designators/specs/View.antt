@@ -1,6 +1,6 @@
 -- What expressions designate, and the types of places, as the code has them, as the definitions do.
 use Rattle.cc_operands.specs.View.{operand_view}
-use Rattle.cc_syntax.specs.Values.{PlaceType, DevicePlace, ObjectPlace, FunctionPlace}
+use Rattle.cc_operands.specs.CcSyntax.Values.{PlaceType, DevicePlace, ObjectPlace, FunctionPlace}
 use Rattle.cc_designators.specs.Designators.{TypedExpr, IsPlace, IsValue, IsFunction, IsIntrinsic, IsAddress}
 use Rattle.cc_designators.specs.declared.designated.DesignatedType.{DesignatedType}
 use Rattle.cc_designators.specs.declared.designated.DesignatedType.TheVariants as designated

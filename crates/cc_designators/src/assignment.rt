@@ -6,9 +6,9 @@ ghost use Rattle.cc_operands.specs.Verdicts.{Judges};
 ghost use Rattle.cc_operands.specs.View.{operand_view};
 
 use crate::designated::TypedExpr;
-use cc_num::{BinOp, IntType, Target};
+use cc_operands::syntax::Structure;
 use cc_operands::{Breach, Operand, Rule, changed, integer, stepped, stored};
-use cc_syntax::Structure;
+use cc_program::num::{BinOp, IntType, Target};
 use std::alloc::Global;
 
 /// `a = b` (C99 6.5.16.1).

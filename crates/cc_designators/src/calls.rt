@@ -6,12 +6,12 @@ ghost use Rattle.cc_operands.specs.Qualified.{plain as plain_of};
 ghost use Rattle.cc_operands.specs.Verdicts.{Judges};
 ghost use Rattle.cc_operands.specs.View.{operand_view, type_view};
 ghost use Rattle.cc_program.specs.declared.expr.Expr.{Call as CallOf};
-ghost use Rattle.cc_syntax.specs.Values.{result_value as result_value_of, scalar_value as scalar_value_of};
+ghost use Rattle.cc_operands.specs.CcSyntax.Values.{result_value as result_value_of, scalar_value as scalar_value_of};
 
-use cc_num::{Boxed, IntType, List, NoMemory, Target};
+use cc_operands::syntax::{CType, Expr, Intr, Shape, Sig};
+use cc_operands::typed_crate::{result_value, scalar_value};
 use cc_operands::{Breach, Operand, OperandType, Rule, assigned, owned, typed};
-use cc_syntax::{CType, Expr, Intr, Shape, Sig};
-use cc_typed::{result_value, scalar_value};
+use cc_program::num::{Boxed, IntType, List, NoMemory, Target};
 use std::alloc::Global;
 
 /// An argument as it is assigned to a parameter of the type.

@@ -10,13 +10,13 @@ ghost use Rattle.cc_operands.specs.View.{operand_view, type_view, constant_view}
 use crate::designated::{TypedExpr, valued};
 use crate::pointers::indirection;
 use crate::values::null;
-use cc_num::{Boxed, IntType, NoMemory, Target};
+use cc_operands::syntax::{CType, Expr, Shape};
+use cc_operands::typed_crate::{is_void, pointer_to};
 use cc_operands::{
     Breach, Constant, Operand, OperandType, Rule, as_nothing, cast_to, integer, owned, size_type,
     typed,
 };
-use cc_syntax::{CType, Expr, Shape};
-use cc_typed::{is_void, pointer_to};
+use cc_program::num::{Boxed, IntType, NoMemory, Target};
 use std::alloc::Global;
 
 /// `(void *)a`: of a null constant alone.

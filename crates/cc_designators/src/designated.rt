@@ -5,13 +5,13 @@ ghost use Rattle.cc_designators.specs.Designators.{IsPlace, IsValue};
 ghost use Rattle.cc_designators.specs.View.{designated_view, expr_view};
 ghost use Rattle.cc_designators.specs.Postfix.{is_array_place as is_array_place_of};
 ghost use Rattle.cc_operands.specs.View.{operand_view, type_view};
-ghost use Rattle.cc_syntax.specs.Values.{written_to, element_of, member_of, pointed_to as pointed_to_of};
-ghost use Rattle.cc_typed.specs.View.{place_view};
+ghost use Rattle.cc_operands.specs.CcSyntax.Values.{written_to, element_of, member_of, pointed_to as pointed_to_of};
+ghost use Rattle.cc_operands.specs.CcTyped.View.{place_view};
 
-use cc_num::{Boxed, IntType, NoMemory};
+use cc_operands::syntax::{CType, Intr, Place, Sig, Structure};
+use cc_operands::typed_crate::{PlaceType, is_void};
 use cc_operands::{Operand, OperandType, owned};
-use cc_syntax::{CType, Intr, Place, Sig, Structure};
-use cc_typed::{PlaceType, is_void};
+use cc_program::num::{Boxed, IntType, NoMemory};
 use std::alloc::Global;
 
 /// The type of a place.

@@ -9,9 +9,9 @@ ghost use Rattle.cc_operands.specs.Verdicts.{Judges};
 ghost use Rattle.cc_operands.specs.View.{operand_view};
 
 use crate::designated::{DesignatedType, TypedExpr, placed, pointed_to};
-use cc_num::{Boxed, Name, at};
+use cc_operands::syntax::{CType, Place, Shape, Structure};
 use cc_operands::{Breach, Operand, Rule};
-use cc_syntax::{CType, Place, Shape, Structure};
+use cc_program::num::{Boxed, Name, at};
 use std::alloc::Global;
 
 fn same(name: &[u8], other: &[u8]) -> bool

@@ -4,12 +4,12 @@ ghost use Rattle.cc_designators.specs.Postfix.{address_at, address as address_of
 ghost use Rattle.cc_designators.specs.View.{designated_view, expr_view};
 ghost use Rattle.cc_operands.specs.Verdicts.{Judges};
 ghost use Rattle.cc_operands.specs.View.{operand_view};
-ghost use Rattle.cc_syntax.specs.Values.{address_of};
+ghost use Rattle.cc_operands.specs.CcSyntax.Values.{address_of};
 
 use crate::designated::{DesignatedType, TypedExpr, placed, pointed_to};
-use cc_num::Boxed;
+use cc_operands::syntax::{Expr, Place, Structure};
 use cc_operands::{Breach, Operand, OperandType, Rule, typed};
-use cc_syntax::{Expr, Place, Structure};
+use cc_program::num::Boxed;
 use std::alloc::Global;
 
 /// The address of a place that is no device.

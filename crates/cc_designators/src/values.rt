@@ -8,10 +8,10 @@ ghost use Rattle.cc_operands.specs.View.{operand_view};
 ghost use Rattle.cc_program.specs.declared.types.Shape.{out-Shape};
 
 use crate::designated::DesignatedType;
-use cc_num::{Boxed, IntType, NoMemory};
+use cc_operands::syntax::{CType, Expr, Place, Shape};
+use cc_operands::typed_crate::pointer_to;
 use cc_operands::{Breach, Operand, OperandType, Rule, owned, typed};
-use cc_syntax::{CType, Expr, Place, Shape};
-use cc_typed::pointer_to;
+use cc_program::num::{Boxed, IntType, NoMemory};
 use std::alloc::Global;
 
 /// The address of the first element of an array (C99 6.3.2.1, 3).

@@ -3,8 +3,8 @@
 
 ghost use Rattle.std.specs.Prelude.{◌≡◌, ◌++◌, ◌∷◌, [], OnOk};
 
-use cc_num::NoMemory;
 use cc_program::Program;
+use cc_program::num::NoMemory;
 use cc_things::Text;
 
 /// Lets a program go.

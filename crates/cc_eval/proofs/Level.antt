@@ -1,8 +1,8 @@
 -- What an expression does next, opened at its top.
 use Rattle.std.proofs.Common.{◌≡◌, refl, sym, ◌∙◌, List, map, Result, Ok, Err, IfOk}
-use Rattle.cc_num.specs.declared.int_type.IntType.{IntType}
-use Rattle.cc_num.specs.declared.op.BinOp.{BinOp}
-use Rattle.cc_num.specs.declared.op.UnOp.{UnOp}
+use Rattle.cc_program.specs.CcNum.declared.int_type.IntType.{IntType}
+use Rattle.cc_program.specs.CcNum.declared.op.BinOp.{BinOp}
+use Rattle.cc_program.specs.CcNum.declared.op.UnOp.{UnOp}
 use Rattle.cc_program.specs.declared.expr.Expr.{Expr, Load, AddrOf, Un, Bin, Conv, Move, Gap, Compare, Both, Either, Choose, Assign, Change, After, Call, Seq}
 use Rattle.cc_program.specs.declared.expr.Expr.TheVariants.{rolls-Load, rolls-AddrOf, rolls-Un, rolls-Bin, rolls-Conv, rolls-Move, rolls-Gap, rolls-Compare, rolls-Both, rolls-Either, rolls-Choose, rolls-Assign, rolls-Change, rolls-After, rolls-Call, rolls-Seq}
 use Rattle.cc_program.specs.declared.expr.Expr.TheOpen as one

@@ -10,3 +10,4 @@ pub mod MeaningUses
 pub mod Opened
 pub mod Uses
 pub mod Works
+pub mod CcSyntax

@@ -4,3 +4,6 @@ pub mod Marks
 pub mod Operands
 pub mod Progress
 pub mod View
+pub mod CcSyntax
+pub mod CcTyped
+pub mod CcValues

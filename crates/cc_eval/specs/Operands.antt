@@ -1,6 +1,6 @@
 -- What an expression of each kind makes of its operands (C99 6.5).
 use Rattle.std.specs.Prelude.{Option}
-use Rattle.cc_num.specs.declared.target.Target.{Target}
+use Rattle.cc_program.specs.CcNum.declared.target.Target.{Target}
 use Rattle.cc_program.specs.declared.value.Value.{Value}
 use Rattle.cc_eval.specs.declared.action.Action.TheVariants.{Flag}
 use Rattle.cc_eval.specs.declared.operators.AtPlace.{AtPlace}

@@ -18,7 +18,7 @@ use crate::mark::Mark;
 use crate::operators::ToPlace;
 use crate::progress::{Stage, ask_value, ask_write, copy_value};
 use crate::spots::{Spot, address_at, element, is_seen, member, reached};
-use cc_num::{BinOp, IntType, NoMemory, Target, usual};
+use cc_program::num::{BinOp, IntType, NoMemory, Target, usual};
 use cc_program::{Place, Value};
 use cc_typed::{PlaceType, Scope, ValueType};
 use cc_values::{binary, conversion, integer, movement};

@@ -1,4 +1,4 @@
-use cc_num::List;
+use cc_program::num::List;
 use cc_program::{Address, Cell, Value};
 
 /// How a cell is read.

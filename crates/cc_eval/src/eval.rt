@@ -18,7 +18,7 @@ use crate::operations::{
 use crate::operators::{AtPlace, OneOperand, ToPlace, TwoOperands};
 use crate::progress::{Stage, outcome};
 use crate::spots::Spot;
-use cc_num::{List, NoMemory};
+use cc_program::num::{List, NoMemory};
 use cc_program::{Address, Expr, Intr, Part, Place, Root, Value};
 use std::alloc::Global;
 

@@ -1,7 +1,7 @@
 ghost use Rattle.std.specs.Prelude.{◌≡◌, ℕ, ℤ, pos, Bool, List, [], Option, Some, map, option_map};
-ghost use Rattle.cc_num.specs.declared.int_type.IntType.{IntType};
-ghost use Rattle.cc_num.specs.declared.op.BinOp.{BinOp};
-ghost use Rattle.cc_num.specs.declared.op.UnOp.{UnOp};
+ghost use Rattle.cc_program.specs.CcNum.declared.int_type.IntType.{IntType};
+ghost use Rattle.cc_program.specs.CcNum.declared.op.BinOp.{BinOp};
+ghost use Rattle.cc_program.specs.CcNum.declared.op.UnOp.{UnOp};
 ghost use Rattle.cc_program.specs.declared.expr.Expr.{Expr, out-Expr, Const, Null, FuncAddr, Load, AddrOf, Un, Bin, Conv, Qualify, Move, Gap, Compare, Both, Either, Choose, Assign, Change, After, Call, Intr, Seq};
 ghost use Rattle.cc_program.specs.declared.expr.Expr.TheOpen as one;
 ghost use Rattle.cc_program.specs.declared.expr.Intr.{Intr as IntrKind};

@@ -17,6 +17,9 @@ mod spots;
 
 pub use action::{Action, Manner};
 pub use answering::{Answers, works_by};
+pub use cc_typed as typed;
+pub use cc_typed::syntax;
+pub use cc_values as values;
 pub use context::Context;
 pub use eval::next_of;
 pub use kinds::equations;

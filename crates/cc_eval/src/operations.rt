@@ -15,8 +15,8 @@ use crate::mark::Mark;
 use crate::operators::TwoOperands;
 use crate::progress::{Stage, ask_value, branch, called, outcome, restored};
 use crate::spots::Spot;
-use cc_num::{IntType, List, NoMemory, Target, UnOp};
 use cc_program::Value;
+use cc_program::num::{IntType, List, NoMemory, Target, UnOp};
 use cc_values::{
     address_in, binary, comparison, conversion, gap, movement, of_truth, truth, unary,
 };

@@ -1,6 +1,6 @@
 //! What an expression of each kind makes of its operands.
 
-use cc_num::{BinOp, IntType, UnOp};
+use cc_program::num::{BinOp, IntType, UnOp};
 
 /// What has one operand.
 #[derive(Clone, Copy)]

@@ -11,7 +11,7 @@ ghost use Rattle.cc_eval.specs.View.{progress_of};
 
 use crate::action::Action;
 use crate::mark::Mark;
-use cc_num::{Boxed, List, NoMemory};
+use cc_program::num::{Boxed, List, NoMemory};
 use cc_program::{Address, Cell, Value};
 use cc_values::{address_in, truth};
 use std::alloc::Global;

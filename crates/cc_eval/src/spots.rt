@@ -8,7 +8,7 @@ ghost use Rattle.cc_typed.specs.View.{place_view};
 ghost use Rattle.cc_program.specs.declared.value.Part.TheVariants.{Index, Member as MemberOf};
 ghost use Rattle.cc_eval.specs.Context.{local_type as local_type_of, object_type as object_type_of, are_alike as are_alike_of, has_elements as has_elements_of, path_to as path_to_of, named_by as named_by_of, designated as designated_of, cell_of, cell_at as cell_at_of, reached as reached_of, element as element_in_place, element_in as element_in_of, member as member_of_place, address_at as address_at_of, is_seen as is_seen_of};
 
-use cc_num::{List, NoMemory, at};
+use cc_program::num::{List, NoMemory, at};
 use cc_program::{Address, Cell, Func, Part, Program, Root, copy_list};
 use cc_typed::{PlaceType, alike, bound_of, object_place, place_at, static_type};
 use cc_values::element_at;

@@ -2,9 +2,9 @@
 use Rattle.std.proofs.Common.{◌≡◌, ℕ, Bool, true, false, ◌||◌, ltb, eqb, List, [], ◌∷◌, ◌++◌, map, length, Option, Some, None, refl, sym, subst, arith, slice_get}
 use Rattle.std.proofs.lemmas.Bool.Decides.{nat_tests}
 use Rattle.std.specs.List.{list_all}
-use Rattle.cc_num.specs.declared.target.Target.{Target}
-use Rattle.cc_words.specs.Names.{is_name, is_letter, is_letter_or_digit, is_identifier}
-use Rattle.cc_words.specs.declared.word.Word.TheVariants as w
+use Rattle.cc_program.specs.CcNum.declared.target.Target.{Target}
+use Rattle.cc_program.specs.CcWords.Names.{is_name, is_letter, is_letter_or_digit, is_identifier}
+use Rattle.cc_program.specs.CcWords.declared.word.Word.TheVariants as w
 use Rattle.cc_lex.specs.declared.token.Mark.TheVariants as m
 use Rattle.cc_lex.proofs.Booleans.{and-true}
 use Rattle.cc_program.specs.declared.types.CType.{CType}
@@ -26,8 +26,8 @@ use Rattle.cc_pieces.specs.Pieces.{Pieces, punct, keyword, ident, space, flat}
 use Rattle.cc_expression_trees.specs.Laid.{laid}
 use Rattle.cc_expression_trees.specs.Parts.{Fits}
 use Rattle.cc_expression_trees.proofs.Spelling.{name-parts}
-use Rattle.cc_syntax.specs.Kinds.{kind_of, is_plain_scalar, extent_with}
-use Rattle.cc_syntax.specs.Types.{has_members}
+use Rattle.cc_typed.specs.CcSyntax.Kinds.{kind_of, is_plain_scalar, extent_with}
+use Rattle.cc_typed.specs.CcSyntax.Types.{has_members}
 use Rattle.cc_expression_trees.specs.Soft.{IsSoft}
 use Rattle.cc_expression_trees.specs.Types.{Plain, unnamed, ShowsParams}
 use Rattle.cc_expression_trees.proofs.TypeFitting.{NoEqual, name-apart}

@@ -3,14 +3,14 @@ use Rattle.std.proofs.Common.{◌≡◌, ◌≤◌, ◌-◌, ◌^◌, ℕ, Bool,
 use Rattle.std.proofs.lemmas.Bool.Decides.{nat_tests}
 use Rattle.std.specs.Option.{is_some}
 use Rattle.std.specs.List.{list_all}
-use Rattle.cc_num.specs.declared.int_type.IntType.{IntType}
-use Rattle.cc_num.specs.declared.op.BinOp.{BinOp}
-use Rattle.cc_num.specs.declared.op.BinOp.TheVariants as op
-use Rattle.cc_num.specs.declared.op.UnOp.{UnOp}
-use Rattle.cc_num.specs.declared.op.UnOp.TheVariants as unary_op
-use Rattle.cc_num.specs.Integers.{is_value_of}
-use Rattle.cc_num.proofs.ResultLaws.{value_from_test}
-use Rattle.cc_words.specs.Names.{is_name, is_letter, is_letter_or_digit, is_identifier}
+use Rattle.cc_program.specs.CcNum.declared.int_type.IntType.{IntType}
+use Rattle.cc_program.specs.CcNum.declared.op.BinOp.{BinOp}
+use Rattle.cc_program.specs.CcNum.declared.op.BinOp.TheVariants as op
+use Rattle.cc_program.specs.CcNum.declared.op.UnOp.{UnOp}
+use Rattle.cc_program.specs.CcNum.declared.op.UnOp.TheVariants as unary_op
+use Rattle.cc_program.specs.CcNum.Integers.{is_value_of}
+use Rattle.cc_program.proofs.CcNum.ResultLaws.{value_from_test}
+use Rattle.cc_program.specs.CcWords.Names.{is_name, is_letter, is_letter_or_digit, is_identifier}
 use Rattle.cc_lex.specs.Bytes.{begins_with}
 use Rattle.cc_lex.specs.declared.token.Kind.TheVariants as kind
 use Rattle.cc_lex.specs.declared.token.Mark.{Mark}
@@ -39,11 +39,11 @@ use Rattle.cc_bodies.specs.Exprs.{Text, unary_mark, binary_mark, movement_mark, 
 use Rattle.cc_bodies.specs.Names.{named, local_name, object_name, func_name, member_name, member_shape, member_at}
 use Rattle.cc_bodies.specs.Spots.{Spot, Whole, Operand, Converted, Pointed, wraps_operation, wraps_conversion, converts_constant}
 use Rattle.cc_bodies.proofs.Links.{level, place_level, place_type_linked}
-use Rattle.cc_syntax.specs.Programs.{place_type, null_type}
-use Rattle.cc_syntax.specs.Operators.{function_type, when}
-use Rattle.cc_syntax.specs.SameTypes.{alike}
-use Rattle.cc_syntax.specs.Types.{Named}
-use Rattle.cc_syntax.specs.Values.{PlaceType, DevicePlace, ObjectPlace, FunctionPlace, Integer}
+use Rattle.cc_typed.specs.CcSyntax.Programs.{place_type, null_type}
+use Rattle.cc_typed.specs.CcSyntax.Operators.{function_type, when}
+use Rattle.cc_typed.specs.CcSyntax.SameTypes.{alike}
+use Rattle.cc_typed.specs.CcSyntax.Types.{Named}
+use Rattle.cc_typed.specs.CcSyntax.Values.{PlaceType, DevicePlace, ObjectPlace, FunctionPlace, Integer}
 use Rattle.cc_expression_trees.specs.Soft.{IsSoft}
 use Rattle.cc_expression_trees.proofs.Bases.{int-fits}
 use Rattle.cc_expression_trees.proofs.TypeFitting.{name-apart, open-apart, close-apart, bracket-apart, unbracket-apart, number-fits}

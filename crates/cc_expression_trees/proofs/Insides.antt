@@ -1,7 +1,7 @@
 -- Declarators are read from the inside out: what stands inside declares a core behind a type, and so does a pointer, an
 -- array or a function round it. What is inside is an accumulator, a function of the pieces behind it.
 use Rattle.std.proofs.Common.{◌≡◌, ◌≤◌, ◌-◌, ◌^◌, ℕ, ◌+◌, Bool, true, false, List, [], ◌∷◌, length, Option, Some, refl, sym, ◌∙◌, subst, true≢false}
-use Rattle.cc_words.specs.declared.word.Word.TheVariants as w
+use Rattle.cc_program.specs.CcWords.declared.word.Word.TheVariants as w
 use Rattle.cc_lex.specs.declared.token.Kind.TheVariants as kind
 use Rattle.cc_lex.specs.declared.token.Mark.TheVariants as m
 use Rattle.cc_program.specs.declared.types.CType.{CType}

@@ -2,7 +2,7 @@
 use Rattle.std.proofs.Common.{◌≡◌, ◌≤◌, ◌*◌, leb, ltb, ℕ, Bool, true, false, ◌&&◌, ◌||◌, cond, List, map, Option, Some, None, refl, ap, sym, ◌∙◌, subst, slice_get}
 use Rattle.std.specs.List.{list_all}
 use Rattle.std.specs.Option.{is_some}
-use Rattle.cc_num.specs.declared.target.Target.{Target}
+use Rattle.cc_program.specs.CcNum.declared.target.Target.{Target}
 use Rattle.cc_lex.proofs.Booleans.{and-true, le-true}
 use Rattle.cc_program.specs.declared.types.CType.{CType, fold_out-CType}
 use Rattle.cc_program.specs.declared.types.Shape.{Shape, fold-Shape, fold_out-Shape, out-Shape, roll-Shape, out-roll-Shape, map-Shape}
@@ -11,9 +11,9 @@ use Rattle.cc_program.specs.declared.types.Sig.{Sig, roll-Sig, fold-roll-Sig}
 use Rattle.cc_program.specs.declared.types.Structure.{Structure}
 use Rattle.cc_program.proofs.TypeInduction.{with_shape}
 use Rattle.cc_pieces.specs.Declarators.{Declarator, Signature, parameters, shape_step, type_step, sig_step, declarator, signature}
-use Rattle.cc_syntax.specs.Kinds.{Kind, IsVoid, IsArray, is_small, bytes_in, array_kind, extent_kind, shape_kind, type_kind, is_signature, qualified_kind, kind_of, is_sig, is_result, is_plain_scalar, extent_with}
-use Rattle.cc_syntax.specs.Types.{has_members}
-use Rattle.cc_syntax.proofs.KindRolls.{kind-roll, kind-opens, parts_kind}
+use Rattle.cc_typed.specs.CcSyntax.Kinds.{Kind, IsVoid, IsArray, is_small, bytes_in, array_kind, extent_kind, shape_kind, type_kind, is_signature, qualified_kind, kind_of, is_sig, is_result, is_plain_scalar, extent_with}
+use Rattle.cc_typed.specs.CcSyntax.Types.{has_members}
+use Rattle.cc_typed.proofs.CcSyntax.KindRolls.{kind-roll, kind-opens, parts_kind}
 
 module _ (structures : List Structure) where
   abbrev pub parts_declared : shape.Shape-F Shape CType Sig → shape.Shape-F (Bool → Bool → Declarator) Declarator Signature

@@ -5,13 +5,13 @@ use Rattle.std.proofs.lemmas.Bool.Decides.{nat_tests, Decides-int_eq}
 use Rattle.std.specs.Prelude.{int_lt}
 use Rattle.std.specs.Ordering.{int_eq}
 use Rattle.std.specs.List.{list_all}
-use Rattle.cc_num.specs.declared.int_type.IntType.{IntType}
-use Rattle.cc_num.specs.declared.int_type.IntType.TheVariants as int
-use Rattle.cc_num.specs.declared.target.Target.{Target}
-use Rattle.cc_num.specs.Integers.{bits_of, is_signed, least_of, most_of, least_of_bits, most_of_bits, IsValueOf}
-use Rattle.cc_num.proofs.Conversions.{few_bytes}
-use Rattle.cc_num.proofs.Exact.{value_narrow}
-use Rattle.cc_words.specs.Names.{is_letter_or_digit, is_digit}
+use Rattle.cc_program.specs.CcNum.declared.int_type.IntType.{IntType}
+use Rattle.cc_program.specs.CcNum.declared.int_type.IntType.TheVariants as int
+use Rattle.cc_program.specs.CcNum.declared.target.Target.{Target}
+use Rattle.cc_program.specs.CcNum.Integers.{bits_of, is_signed, least_of, most_of, least_of_bits, most_of_bits, IsValueOf}
+use Rattle.cc_program.proofs.CcNum.Conversions.{few_bytes}
+use Rattle.cc_program.proofs.CcNum.Exact.{value_narrow}
+use Rattle.cc_program.specs.CcWords.Names.{is_letter_or_digit, is_digit}
 use Rattle.cc_lex.specs.Bytes.{begins_with}
 use Rattle.cc_lex.specs.Numbers.{greatest}
 use Rattle.cc_lex.specs.declared.token.Kind.TheVariants as kind

@@ -1,11 +1,11 @@
 -- The text of an operand, and of a place, is read as a tree that shows it, by induction over expressions.
 use Rattle.std.proofs.Common.{◌≡◌, ℕ, suc, ◌+◌, ◌≤◌, Bool, true, false, cond, ℤ, [], ◌∷◌, length, Option, Some, None, refl, ap, sym, ◌∙◌, subst, arith, lit≤, slice_get}
 use Rattle.std.specs.Option.{is_some}
-use Rattle.cc_num.specs.declared.int_type.IntType.{IntType}
-use Rattle.cc_num.specs.declared.op.BinOp.{BinOp}
-use Rattle.cc_num.specs.declared.op.BinOp.TheVariants as op
-use Rattle.cc_num.specs.declared.op.UnOp.{UnOp}
-use Rattle.cc_num.specs.declared.op.UnOp.TheVariants as unary_op
+use Rattle.cc_program.specs.CcNum.declared.int_type.IntType.{IntType}
+use Rattle.cc_program.specs.CcNum.declared.op.BinOp.{BinOp}
+use Rattle.cc_program.specs.CcNum.declared.op.BinOp.TheVariants as op
+use Rattle.cc_program.specs.CcNum.declared.op.UnOp.{UnOp}
+use Rattle.cc_program.specs.CcNum.declared.op.UnOp.TheVariants as unary_op
 use Rattle.cc_lex.specs.declared.token.Kind.TheVariants as kind
 use Rattle.cc_lex.specs.declared.token.Mark.{Mark}
 use Rattle.cc_lex.specs.declared.token.Mark.TheVariants as m
@@ -32,9 +32,9 @@ use Rattle.cc_bodies.specs.Exprs.{Text, unary_mark, binary_mark, movement_mark, 
 use Rattle.cc_bodies.specs.Names.{named, local_name, object_name, func_name, member_name}
 use Rattle.cc_bodies.specs.Spots.{Spot, Whole, Operand, Converted, Pointed, wraps_operation, wraps_conversion, converts_constant}
 use Rattle.cc_bodies.proofs.Links.{level, place_level, place_type_linked}
-use Rattle.cc_syntax.specs.Programs.{place_type, null_type}
-use Rattle.cc_syntax.specs.Operators.{function_type}
-use Rattle.cc_syntax.specs.SameTypes.{alike}
+use Rattle.cc_typed.specs.CcSyntax.Programs.{place_type, null_type}
+use Rattle.cc_typed.specs.CcSyntax.Operators.{function_type}
+use Rattle.cc_typed.specs.CcSyntax.SameTypes.{alike}
 use Rattle.cc_expression_trees.specs.Types.{ShowsTypeName, plain_suffix}
 use Rattle.cc_expression_trees.proofs.Parameters.{Reads}
 use Rattle.cc_expression_trees.proofs.TypeNames.{type-name-of}

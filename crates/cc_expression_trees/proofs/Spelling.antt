@@ -2,10 +2,10 @@
 -- their tokens.
 use Rattle.std.proofs.Common.{◌≡◌, ℕ, ◌+◌, Bool, true, false, ◌||◌, not, ◌&&◌, eqb, List, [], ◌∷◌, ◌++◌, length, Option, Some, None, refl, sym, ◌∙◌, subst, arith}
 use Rattle.std.specs.Option.{is_none}
-use Rattle.cc_words.specs.declared.word.Word.{Word}
-use Rattle.cc_words.specs.declared.word.Word.TheVariants as word
-use Rattle.cc_words.specs.Names.{is_name, is_identifier, is_letter_or_digit}
-use Rattle.cc_words.specs.Words.{word_of, is_outside}
+use Rattle.cc_program.specs.CcWords.declared.word.Word.{Word}
+use Rattle.cc_program.specs.CcWords.declared.word.Word.TheVariants as word
+use Rattle.cc_program.specs.CcWords.Names.{is_name, is_identifier, is_letter_or_digit}
+use Rattle.cc_program.specs.CcWords.Words.{word_of, is_outside}
 use Rattle.cc_lex.specs.declared.token.Kind.{Kind}
 use Rattle.cc_lex.specs.declared.token.Kind.TheVariants as kind
 use Rattle.cc_lex.specs.declared.token.Suffix.{Suffix}

@@ -8,7 +8,7 @@ use Rattle.cc_pieces.specs.Declarators.{Declarator, type_name_of}
 use Rattle.cc_pieces.specs.declared.types.Inside.TheVariants.{Nothing, Name as Named}
 use Rattle.cc_pieces.specs.Pieces.{Pieces}
 use Rattle.cc_expression_trees.specs.Laid.{laid}
-use Rattle.cc_syntax.specs.Types.{has_members}
+use Rattle.cc_typed.specs.CcSyntax.Types.{has_members}
 use Rattle.cc_expression_trees.specs.Types.{Core, Plain, NamesType}
 use Rattle.cc_expression_trees.specs.ReadTypes.{ReadsTypeName, ReadsDeclared}
 use Rattle.cc_expression_trees.proofs.Insides.{Inner, ReadsInner, core-named}

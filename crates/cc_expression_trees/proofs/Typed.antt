@@ -13,13 +13,13 @@ use Rattle.cc_program.specs.declared.types.Shape.TheOpen as shape
 use Rattle.cc_program.specs.declared.types.Sig.{Sig}
 use Rattle.cc_program.specs.declared.types.Structure.{Structure}
 use Rattle.cc_bodies.specs.Names.{member_name, member_shape, member_at, local_name}
-use Rattle.cc_syntax.specs.Effects.{Effects, PlaceEffects, no_one, is_soft, effect_step, place_effect_step, effects_of, place_effects_of}
-use Rattle.cc_syntax.specs.Expressions.{of_one, of_two}
-use Rattle.cc_syntax.specs.Expressions as typing
-use Rattle.cc_syntax.specs.Programs.{expr_step, place_step, type_of, place_type, null_type, pointer_type}
-use Rattle.cc_syntax.specs.Operators.{constant_type, function_type, when_assignable, choice_type, subscript_type}
-use Rattle.cc_syntax.specs.Types.{Named}
-use Rattle.cc_syntax.specs.Values.{ValueType, PlaceType, DevicePlace, ObjectPlace, FunctionPlace, member_of, member_in, member_at as member_place, member_shape as member_type}
+use Rattle.cc_typed.specs.CcSyntax.Effects.{Effects, PlaceEffects, no_one, is_soft, effect_step, place_effect_step, effects_of, place_effects_of}
+use Rattle.cc_typed.specs.CcSyntax.Expressions.{of_one, of_two}
+use Rattle.cc_typed.specs.CcSyntax.Expressions as typing
+use Rattle.cc_typed.specs.CcSyntax.Programs.{expr_step, place_step, type_of, place_type, null_type, pointer_type}
+use Rattle.cc_typed.specs.CcSyntax.Operators.{constant_type, function_type, when_assignable, choice_type, subscript_type}
+use Rattle.cc_typed.specs.CcSyntax.Types.{Named}
+use Rattle.cc_typed.specs.CcSyntax.Values.{ValueType, PlaceType, DevicePlace, ObjectPlace, FunctionPlace, member_of, member_in, member_at as member_place, member_shape as member_type}
 
 -- ---- options
 

@@ -1,7 +1,7 @@
 -- The types of nulls and of qualified pointers are read, and part.
 use Rattle.std.proofs.Common.{◌≡◌, ◌&&◌, Bool, true, false, cond, length, Option, Some, None, refl, ap, sym, ◌∙◌, subst, slice_get, ℕ}
 use Rattle.std.specs.Option.{is_some}
-use Rattle.cc_words.specs.Names.{is_name}
+use Rattle.cc_program.specs.CcWords.Names.{is_name}
 use Rattle.cc_program.specs.declared.program.Program.{Program}
 use Rattle.cc_program.specs.declared.types.CType.{CType}
 use Rattle.cc_program.specs.declared.types.Shape.{Shape, out-Shape, roll-Shape, roll-out-Shape}
@@ -10,11 +10,11 @@ use Rattle.cc_program.specs.declared.types.Sig.{Sig}
 use Rattle.cc_program.specs.declared.types.Structure.{Structure}
 use Rattle.cc_program.proofs.TypeInduction.{with_shape}
 use Rattle.cc_pieces.specs.Declarators.{declarator}
-use Rattle.cc_syntax.specs.Kinds.{is_plain_scalar}
-use Rattle.cc_syntax.specs.Programs.{kind_in, null_type, pointer_type}
-use Rattle.cc_syntax.specs.Operators.{pointer_in, void_pointer_in, first_of, is_unqualified}
-use Rattle.cc_syntax.specs.SameTypes.{is_void_shape}
-use Rattle.cc_syntax.specs.Values.{ValueType, is_void, pointer_to}
+use Rattle.cc_typed.specs.CcSyntax.Kinds.{is_plain_scalar}
+use Rattle.cc_typed.specs.CcSyntax.Programs.{kind_in, null_type, pointer_type}
+use Rattle.cc_typed.specs.CcSyntax.Operators.{pointer_in, void_pointer_in, first_of, is_unqualified}
+use Rattle.cc_typed.specs.CcSyntax.SameTypes.{is_void_shape}
+use Rattle.cc_typed.specs.CcSyntax.Values.{ValueType, is_void, pointer_to}
 use Rattle.cc_expression_trees.proofs.Levels.{scalar-some}
 use Rattle.cc_expression_trees.proofs.Parameters.{Reads}
 use Rattle.cc_expression_trees.proofs.Declarators.{type-reads, void-level, pointer-level, FitsDeclarator, type-fits, void-fitting, pointer-fitting}

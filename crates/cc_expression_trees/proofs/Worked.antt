@@ -1,8 +1,8 @@
 -- The examples, by evaluation.
 use Rattle.std.proofs.Common.{◌≡◌, codes, [], ◌∷◌, refl, arith, decimal, lit≤}
 use Rattle.std.proofs.lemmas.Fmt.{decimal_digit}
-use Rattle.cc_words.specs.Names.{is_name}
-use Rattle.cc_words.specs.Words.{word_of}
+use Rattle.cc_program.specs.CcWords.Names.{is_name}
+use Rattle.cc_program.specs.CcWords.Words.{word_of}
 use Rattle.cc_pieces.specs.Pieces.{flat}
 use Rattle.cc_expression_trees.specs.Laid.{laid}
 use Rattle.cc_expression_trees.specs.Parts.{Fits}

@@ -1,9 +1,9 @@
 -- Which trees show an integer, and a null.
 use Rattle.std.specs.Prelude.{◌≡◌, ℕ, ◌-◌, ℤ, pos, int_lt, unsigned_abs, Bool, true, false, List}
 use Rattle.std.specs.Ordering.{int_eq}
-use Rattle.cc_num.specs.declared.int_type.IntType.{IntType}
-use Rattle.cc_num.specs.declared.target.Target.{Target}
-use Rattle.cc_num.specs.Integers.{least_of}
+use Rattle.cc_program.specs.CcNum.declared.int_type.IntType.{IntType}
+use Rattle.cc_program.specs.CcNum.declared.target.Target.{Target}
+use Rattle.cc_program.specs.CcNum.Integers.{least_of}
 use Rattle.cc_lex.specs.declared.token.Mark.TheVariants as m
 use Rattle.cc_pieces.specs.Constants.{has_unsigned_letter, long_letters_of}
 use Rattle.cc_program.specs.declared.types.CType.{CType}

@@ -1,12 +1,12 @@
 -- The names that the text of a function's body has: each may name something.
 use Rattle.std.specs.Prelude.{◌≡◌, ℕ, true, List, Some, slice_get}
-use Rattle.cc_words.specs.Names.{is_name}
+use Rattle.cc_program.specs.CcWords.Names.{is_name}
 use Rattle.cc_program.specs.declared.func.Func.{Func}
 use Rattle.cc_program.specs.declared.object.Device.{Device}
 use Rattle.cc_program.specs.declared.object.Object.{Object}
 use Rattle.cc_program.specs.declared.program.Program.{Program}
 use Rattle.cc_program.specs.declared.types.Structure.{Structure}
-use Rattle.cc_syntax.specs.Types.{Named}
+use Rattle.cc_typed.specs.CcSyntax.Types.{Named}
 
 pub record HasNames (p : Program) (f : Func) : Type 0 where
   pub locals : (i : ℕ) (l : Named) → slice_get f.locals i ≡ Some l → is_name l.0 ≡ true

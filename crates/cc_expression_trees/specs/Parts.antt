@@ -2,7 +2,7 @@
 -- behind it begins. One byte of that text decides it.
 use Rattle.std.specs.Prelude.{◌≡◌, ℕ, ◌+◌, ◌≤◌, Bool, true, false, ◌||◌, not, nat_eq, ◌==◌, List, [], ◌∷◌, ◌++◌}
 use Rattle.std.specs.List.{list_all, list_any, starts_with}
-use Rattle.cc_words.specs.Names.{is_name, is_letter_or_digit, is_digit}
+use Rattle.cc_program.specs.CcWords.Names.{is_name, is_letter_or_digit, is_digit}
 use Rattle.cc_lex.specs.declared.token.Kind.{Kind}
 use Rattle.cc_lex.specs.declared.token.Kind.TheVariants as kind
 use Rattle.cc_lex.specs.declared.token.Mark.{Mark}

@@ -1,7 +1,7 @@
 -- Texts before which a type's name, a declaration or an expression may stand.
 use Rattle.std.specs.Prelude.{◌≡◌, ℕ, Bool, false, ◌||◌, ◌==◌, List}
 use Rattle.std.specs.Str.{byte}
-use Rattle.cc_words.specs.Names.{is_letter_or_digit}
+use Rattle.cc_program.specs.CcWords.Names.{is_letter_or_digit}
 use Rattle.cc_lex.specs.Bytes.{point, begins_with}
 
 -- no name and no number goes on there, and no mark becomes another one with `=`

@@ -14,8 +14,8 @@ ghost use Rattle.cc_program.specs.declared.expr.Place.{Place};
 ghost use Rattle.cc_program.specs.declared.func.Func.{Func};
 ghost use Rattle.cc_program.specs.declared.object.Device.{Device};
 ghost use Rattle.cc_program.specs.declared.program.Program.{Program};
-ghost use Rattle.cc_syntax.specs.Effects.{no_one, effects_of, place_effects_of};
-ghost use Rattle.cc_syntax.specs.Programs.{type_of, place_type};
+ghost use Rattle.cc_typed.specs.CcSyntax.Effects.{no_one, effects_of, place_effects_of};
+ghost use Rattle.cc_typed.specs.CcSyntax.Programs.{type_of, place_type};
 ghost use Rattle.cc_expression_trees.specs.Soft.{IsSoft};
 
 /// What holds of the text of an expression that has a type and no effect, and of a place with such operands,

@@ -2,14 +2,14 @@
 
 ghost use Rattle.std.specs.Prelude.{◌≡◌, ℕ, List, Some, true, slice_get};
 ghost use Rattle.std.specs.Option.{is_some};
-ghost use Rattle.cc_num.specs.declared.target.Target.{Target};
-ghost use Rattle.cc_words.specs.Names.{is_name};
+ghost use Rattle.cc_program.specs.CcNum.declared.target.Target.{Target};
+ghost use Rattle.cc_program.specs.CcWords.Names.{is_name};
 ghost use Rattle.cc_pieces.specs.Declarators.{type_name, declaration};
 ghost use Rattle.cc_pieces.specs.Pieces.{Pieces, flat};
 ghost use Rattle.cc_expression_trees.specs.Parts.{Fits};
 ghost use Rattle.cc_program.specs.declared.types.CType.{CType};
 ghost use Rattle.cc_program.specs.declared.types.Structure.{Structure};
-ghost use Rattle.cc_syntax.specs.Kinds.{kind_of, extent_in};
+ghost use Rattle.cc_typed.specs.CcSyntax.Kinds.{kind_of, extent_in};
 ghost use Rattle.cc_tree.specs.Tokens.{Name};
 ghost use Rattle.cc_expression_trees.specs.ReadTypes.{ReadsTypeName, ReadsDeclared};
 ghost use Rattle.cc_expression_trees.specs.Soft.{IsSoft};

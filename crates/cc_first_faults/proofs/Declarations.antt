@@ -1,28 +1,28 @@
 -- The law of declarations, and of all constructs.
 use Rattle.std.proofs.Common.{ℕ, false, List, [], ◌∷◌, ◌++◌, map, Option, Some, None, refl}
-use Rattle.cc_typed_terms.specs.Declarators.{derived_type}
-use Rattle.cc_typed_terms.specs.Located.{located}
-use Rattle.cc_typed_terms.specs.Specifiers.{begin}
-use Rattle.cc_num.specs.declared.target.Target.{Target}
-use Rattle.cc_objects.specs.Categories.{category_of, entity_of, setting_of}
-use Rattle.cc_objects.specs.Names.{name_judged}
-use Rattle.cc_objects.specs.Tags.{in_front, aliased}
-use Rattle.cc_objects.specs.declared.category.Category.{Category}
-use Rattle.cc_operands.specs.Qualified.{is_function_type}
+use Rattle.cc_typed_bodies.specs.CcTypedTerms.Declarators.{derived_type}
+use Rattle.cc_typed_bodies.specs.CcTypedTerms.Located.{located}
+use Rattle.cc_typed_bodies.specs.CcTypedTerms.Specifiers.{begin}
+use Rattle.cc_program.specs.CcNum.declared.target.Target.{Target}
+use Rattle.cc_typed_bodies.specs.CcObjects.Categories.{category_of, entity_of, setting_of}
+use Rattle.cc_typed_bodies.specs.CcObjects.Names.{name_judged}
+use Rattle.cc_typed_bodies.specs.CcObjects.Tags.{in_front, aliased}
+use Rattle.cc_typed_bodies.specs.CcObjects.declared.category.Category.{Category}
+use Rattle.cc_typed_bodies.specs.CcOperands.Qualified.{is_function_type}
 use Rattle.cc_program.proofs.Each.{Each, each_of}
 use Rattle.cc_program.specs.declared.program.Roles.{Roles}
 use Rattle.cc_program.specs.declared.types.CType.{CType}
-use Rattle.cc_scopes.specs.State.{State, Name}
-use Rattle.cc_scopes.specs.Verdicts.{whole}
-use Rattle.cc_specifiers.specs.Attributes.{attribute_judged, attributes, entry_by}
-use Rattle.cc_specifiers.specs.declared.attribute.Attribute.{Attribute}
-use Rattle.cc_specifiers.specs.declared.attribute.Entity.{Entity}
-use Rattle.cc_specifiers.specs.declared.derivation.Allowed.{Allowed}
+use Rattle.cc_typed_bodies.specs.CcScopes.State.{State, Name}
+use Rattle.cc_typed_bodies.specs.CcScopes.Verdicts.{whole}
+use Rattle.cc_typed_bodies.specs.CcSpecifiers.Attributes.{attribute_judged, attributes, entry_by}
+use Rattle.cc_typed_bodies.specs.CcSpecifiers.declared.attribute.Attribute.{Attribute}
+use Rattle.cc_typed_bodies.specs.CcSpecifiers.declared.attribute.Entity.{Entity}
+use Rattle.cc_typed_bodies.specs.CcSpecifiers.declared.derivation.Allowed.{Allowed}
 use Rattle.cc_tree.specs.declared.tree.Declr.{Declr}
-use Rattle.cc_specifiers.specs.declared.specifier.Specified.{Specified}
-use Rattle.cc_specifiers.specs.declared.storage.Where.{Where}
-use Rattle.cc_terms.specs.Specifiers.{specified_found}
-use Rattle.cc_terms.specs.Terms.{declr_of, spec_here}
+use Rattle.cc_typed_bodies.specs.CcSpecifiers.declared.specifier.Specified.{Specified}
+use Rattle.cc_typed_bodies.specs.CcSpecifiers.declared.storage.Where.{Where}
+use Rattle.cc_typed_bodies.specs.CcTerms.Specifiers.{specified_found}
+use Rattle.cc_typed_bodies.specs.CcTerms.Terms.{declr_of, spec_here}
 use Rattle.cc_tree.specs.declared.at.At.{At}
 use Rattle.cc_tree.specs.declared.tree.Spec.{Spec}
 use Rattle.cc_tree.specs.declared.unit.Decl.{Decl}

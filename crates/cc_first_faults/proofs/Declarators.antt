@@ -1,38 +1,38 @@
 -- The law of attributes, derivations, declarators and specifiers, whose parts have it.
 use Rattle.std.proofs.Common.{◌≡◌, ◌∙◌, ℕ, Bool, true, false, not, ◌||◌, List, [], ◌∷◌, ◌++◌, length, map, Option, Some, None, option_map, Ok, Err, refl, sym, subst}
-use Rattle.cc_typed_terms.specs.Declarators.{derived_type}
-use Rattle.cc_typed_terms.specs.Located.{located}
-use Rattle.cc_typed_terms.specs.Parameters.{parameter, parameter_bound}
-use Rattle.cc_typed_terms.specs.Names.{new_name}
-use Rattle.cc_typed_terms.specs.Specifiers.{begin}
-use Rattle.cc_num.specs.declared.target.Target.{Target}
-use Rattle.cc_operands.specs.Verdicts.{Judged, must}
-use Rattle.cc_operands.specs.declared.rule.Rule.{Rule}
-use Rattle.cc_operands.specs.declared.rule.Rule.TheVariants as rule
+use Rattle.cc_typed_bodies.specs.CcTypedTerms.Declarators.{derived_type}
+use Rattle.cc_typed_bodies.specs.CcTypedTerms.Located.{located}
+use Rattle.cc_typed_bodies.specs.CcTypedTerms.Parameters.{parameter, parameter_bound}
+use Rattle.cc_typed_bodies.specs.CcTypedTerms.Names.{new_name}
+use Rattle.cc_typed_bodies.specs.CcTypedTerms.Specifiers.{begin}
+use Rattle.cc_program.specs.CcNum.declared.target.Target.{Target}
+use Rattle.cc_typed_bodies.specs.CcOperands.Verdicts.{Judged, must}
+use Rattle.cc_typed_bodies.specs.CcOperands.declared.rule.Rule.{Rule}
+use Rattle.cc_typed_bodies.specs.CcOperands.declared.rule.Rule.TheVariants as rule
 use Rattle.cc_program.proofs.Each.{Each}
 use Rattle.cc_program.specs.declared.program.Roles.{Roles}
 use Rattle.cc_program.specs.declared.types.CType.{CType}
-use Rattle.cc_scopes.specs.State.{State, Name, Scope, structures_of, layouts_of, empty, entered}
-use Rattle.cc_scopes.specs.Verdicts.{Found, whole, and_then}
-use Rattle.cc_specifiers.specs.Attributes.{attribute_judged, attributes}
-use Rattle.cc_specifiers.specs.Declarators.{breach, derived, derived_further, derive, derive_one, fault_or}
-use Rattle.cc_specifiers.specs.declared.attribute.Attribute.{Attribute}
-use Rattle.cc_specifiers.specs.declared.specifier.Specified.{Specified}
-use Rattle.cc_specifiers.specs.Derivations.{in_parameter, is_next_to_name, suffix_found}
-use Rattle.cc_specifiers.specs.Parameters.{parameter_type}
-use Rattle.cc_specifiers.specs.Places.{JudgedAt, Checked, judged_at, at_then, behind as ahead_of}
-use Rattle.cc_specifiers.specs.Specifiers.{no_specifier, with_specifier, specified}
-use Rattle.cc_specifiers.specs.declared.attribute.Entity.{Entity}
-use Rattle.cc_specifiers.specs.declared.derivation.Allowed.{Allowed}
-use Rattle.cc_specifiers.specs.declared.derivation.Declarator.{Declarator}
-use Rattle.cc_specifiers.specs.declared.derivation.Derivation.{Derivation}
-use Rattle.cc_specifiers.specs.declared.derivation.Parameter.{Parameter}
-use Rattle.cc_specifiers.specs.declared.specifier.Specs.{Specs}
-use Rattle.cc_specifiers.specs.declared.storage.Setting.{Setting}
-use Rattle.cc_terms.specs.Declarators.{bounded, without_bound, with_bound, parameters_found, parameter_declared}
-use Rattle.cc_terms.specs.InTurn.{in_turn, one_more}
-use Rattle.cc_terms.specs.Specifiers.{specifier_found, specified_found}
-use Rattle.cc_terms.specs.Terms.{spec_of, spec_here, declr_of, params_of, param_here, here}
+use Rattle.cc_typed_bodies.specs.CcScopes.State.{State, Name, Scope, structures_of, layouts_of, empty, entered}
+use Rattle.cc_typed_bodies.specs.CcScopes.Verdicts.{Found, whole, and_then}
+use Rattle.cc_typed_bodies.specs.CcSpecifiers.Attributes.{attribute_judged, attributes}
+use Rattle.cc_typed_bodies.specs.CcSpecifiers.Declarators.{breach, derived, derived_further, derive, derive_one, fault_or}
+use Rattle.cc_typed_bodies.specs.CcSpecifiers.declared.attribute.Attribute.{Attribute}
+use Rattle.cc_typed_bodies.specs.CcSpecifiers.declared.specifier.Specified.{Specified}
+use Rattle.cc_typed_bodies.specs.CcSpecifiers.Derivations.{in_parameter, is_next_to_name, suffix_found}
+use Rattle.cc_typed_bodies.specs.CcSpecifiers.Parameters.{parameter_type}
+use Rattle.cc_typed_bodies.specs.CcSpecifiers.Places.{JudgedAt, Checked, judged_at, at_then, behind as ahead_of}
+use Rattle.cc_typed_bodies.specs.CcSpecifiers.Specifiers.{no_specifier, with_specifier, specified}
+use Rattle.cc_typed_bodies.specs.CcSpecifiers.declared.attribute.Entity.{Entity}
+use Rattle.cc_typed_bodies.specs.CcSpecifiers.declared.derivation.Allowed.{Allowed}
+use Rattle.cc_typed_bodies.specs.CcSpecifiers.declared.derivation.Declarator.{Declarator}
+use Rattle.cc_typed_bodies.specs.CcSpecifiers.declared.derivation.Derivation.{Derivation}
+use Rattle.cc_typed_bodies.specs.CcSpecifiers.declared.derivation.Parameter.{Parameter}
+use Rattle.cc_typed_bodies.specs.CcSpecifiers.declared.specifier.Specs.{Specs}
+use Rattle.cc_typed_bodies.specs.CcSpecifiers.declared.storage.Setting.{Setting}
+use Rattle.cc_typed_bodies.specs.CcTerms.Declarators.{bounded, without_bound, with_bound, parameters_found, parameter_declared}
+use Rattle.cc_typed_bodies.specs.CcTerms.InTurn.{in_turn, one_more}
+use Rattle.cc_typed_bodies.specs.CcTerms.Specifiers.{specifier_found, specified_found}
+use Rattle.cc_typed_bodies.specs.CcTerms.Terms.{spec_of, spec_here, declr_of, params_of, param_here, here}
 use Rattle.cc_tree.specs.declared.at.At.{At}
 use Rattle.cc_tree.specs.declared.tree.Attr.{Attr}
 use Rattle.cc_tree.specs.declared.tree.Declr.{Declr, out-Declr, roll-Declr, out-roll-Declr}

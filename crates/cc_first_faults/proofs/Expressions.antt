@@ -1,37 +1,37 @@
 -- The law of expressions, whose parts have it.
 use Rattle.std.proofs.Common.{◌≡◌, ◌∙◌, ◌+◌, ℕ, ℤ, Bool, true, false, List, [], ◌∷◌, ◌++◌, length, map, Option, Some, None, is_some, if◌then◌else◌, Ok, Err, refl, sym, subst}
-use Rattle.cc_designators.specs.Assignments.{assign_of, stepped_before, stepped_after}
-use Rattle.cc_designators.specs.Casts.{cast_of, fits_pointer, no_device}
-use Rattle.cc_designators.specs.Designators.{TypedExpr}
-use Rattle.cc_designators.specs.Postfix.{dot, arrow, address, indirection}
-use Rattle.cc_lex.specs.declared.token.Mark.{Mark}
-use Rattle.cc_num.specs.declared.target.Target.{Target}
-use Rattle.cc_operands.specs.Choices.{choose_of, comma_of}
-use Rattle.cc_operands.specs.Operands.{Operand}
-use Rattle.cc_operands.specs.Operators.{operator_of, unary_operator_of}
-use Rattle.cc_operands.specs.Verdicts.{Judged}
-use Rattle.cc_operands.specs.declared.rule.Rule.TheVariants as rule
-use Rattle.cc_typed_terms.specs.Devices.{address_found, register_found, device_found, device_of, with_device, number_of, cast_constant, starred_by}
-use Rattle.cc_typed_terms.specs.Operators.{binary_by, is_minus, prefix_of, unary_by}
-use Rattle.cc_typed_terms.specs.Primary.{named, string_place, string_object}
-use Rattle.cc_typed_terms.specs.Sizes.{sizeof_judged, size_of_type}
-use Rattle.cc_typed_terms.specs.Values.{gives, valued, designating, found_value, value_found, designated_found}
-use Rattle.cc_typed_terms.specs.declared.prefix.Prefix.{Prefix}
-use Rattle.cc_typed_terms.specs.declared.prefix.Prefix.TheVariants as prefix
+use Rattle.cc_typed_bodies.specs.CcDesignators.Assignments.{assign_of, stepped_before, stepped_after}
+use Rattle.cc_typed_bodies.specs.CcDesignators.Casts.{cast_of, fits_pointer, no_device}
+use Rattle.cc_typed_bodies.specs.CcDesignators.Designators.{TypedExpr}
+use Rattle.cc_typed_bodies.specs.CcDesignators.Postfix.{dot, arrow, address, indirection}
+use Rattle.cc_typed_bodies.specs.CcLex.declared.token.Mark.{Mark}
+use Rattle.cc_program.specs.CcNum.declared.target.Target.{Target}
+use Rattle.cc_typed_bodies.specs.CcOperands.Choices.{choose_of, comma_of}
+use Rattle.cc_typed_bodies.specs.CcOperands.Operands.{Operand}
+use Rattle.cc_typed_bodies.specs.CcOperands.Operators.{operator_of, unary_operator_of}
+use Rattle.cc_typed_bodies.specs.CcOperands.Verdicts.{Judged}
+use Rattle.cc_typed_bodies.specs.CcOperands.declared.rule.Rule.TheVariants as rule
+use Rattle.cc_typed_bodies.specs.CcTypedTerms.Devices.{address_found, register_found, device_found, device_of, with_device, number_of, cast_constant, starred_by}
+use Rattle.cc_typed_bodies.specs.CcTypedTerms.Operators.{binary_by, is_minus, prefix_of, unary_by}
+use Rattle.cc_typed_bodies.specs.CcTypedTerms.Primary.{named, string_place, string_object}
+use Rattle.cc_typed_bodies.specs.CcTypedTerms.Sizes.{sizeof_judged, size_of_type}
+use Rattle.cc_typed_bodies.specs.CcTypedTerms.Values.{gives, valued, designating, found_value, value_found, designated_found}
+use Rattle.cc_typed_bodies.specs.CcTypedTerms.declared.prefix.Prefix.{Prefix}
+use Rattle.cc_typed_bodies.specs.CcTypedTerms.declared.prefix.Prefix.TheVariants as prefix
 use Rattle.cc_program.specs.declared.object.Device.{Device}
 use Rattle.cc_program.specs.declared.program.Roles.{Roles}
 use Rattle.cc_program.specs.declared.types.CType.{CType}
 use Rattle.cc_program.specs.declared.types.Shape.{Shape, out-Shape}
 use Rattle.cc_program.specs.declared.types.Shape.TheOpen as shape
 use Rattle.cc_program.specs.declared.types.Sig.{Sig}
-use Rattle.cc_scopes.specs.State.{State, Name, with_declared, structures_of}
-use Rattle.cc_scopes.specs.Verdicts.{Found, whole, and_then}
-use Rattle.cc_specifiers.specs.Bounds.{is_bound}
-use Rattle.cc_terms.proofs.Arms.{tree_in, tree-out}
-use Rattle.cc_terms.specs.Expressions.{argument_found}
-use Rattle.cc_terms.specs.InTurn.{in_turn, one_more}
-use Rattle.cc_terms.specs.Operations.{subscript_base, subscript_judged, callee, call_judged, prefixed_by, forgotten}
-use Rattle.cc_terms.specs.Terms.{tree_of, type_name_of, here}
+use Rattle.cc_typed_bodies.specs.CcScopes.State.{State, Name, with_declared, structures_of}
+use Rattle.cc_typed_bodies.specs.CcScopes.Verdicts.{Found, whole, and_then}
+use Rattle.cc_typed_bodies.specs.CcSpecifiers.Bounds.{is_bound}
+use Rattle.cc_typed_bodies.proofs.CcTerms.Arms.{tree_in, tree-out}
+use Rattle.cc_typed_bodies.specs.CcTerms.Expressions.{argument_found}
+use Rattle.cc_typed_bodies.specs.CcTerms.InTurn.{in_turn, one_more}
+use Rattle.cc_typed_bodies.specs.CcTerms.Operations.{subscript_base, subscript_judged, callee, call_judged, prefixed_by, forgotten}
+use Rattle.cc_typed_bodies.specs.CcTerms.Terms.{tree_of, type_name_of, here}
 use Rattle.cc_tree.specs.declared.at.At.{At}
 use Rattle.cc_tree.specs.declared.tree.Declr.{Declr}
 use Rattle.cc_tree.specs.declared.tree.Declr.TheOpen as one

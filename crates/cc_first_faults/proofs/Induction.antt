@@ -1,11 +1,11 @@
 -- Induction over constructs of the trees: the law of each is shown from the law of those in it.
 use Rattle.std.proofs.Common.{ℕ, ℤ, Bool, List}
-use Rattle.cc_num.specs.declared.target.Target.{Target}
+use Rattle.cc_program.specs.CcNum.declared.target.Target.{Target}
 use Rattle.cc_program.specs.declared.program.Roles.{Roles}
-use Rattle.cc_scopes.specs.State.{State, Name}
-use Rattle.cc_specifiers.specs.declared.derivation.Allowed.{Allowed}
-use Rattle.cc_specifiers.specs.declared.derivation.Parameter.{Parameter}
-use Rattle.cc_syntax.specs.Types.{Named}
+use Rattle.cc_typed_bodies.specs.CcScopes.State.{State, Name}
+use Rattle.cc_typed_bodies.specs.CcSpecifiers.declared.derivation.Allowed.{Allowed}
+use Rattle.cc_typed_bodies.specs.CcSpecifiers.declared.derivation.Parameter.{Parameter}
+use Rattle.cc_typed_bodies.specs.CcSyntax.Types.{Named}
 use Rattle.cc_tree.specs.declared.at.At.{At}
 use Rattle.cc_tree.specs.declared.tree.Declr.{Declr, map-Declr}
 use Rattle.cc_tree.specs.declared.tree.Declr.TheOpen as one

@@ -1,39 +1,39 @@
 -- The law of initialisers, and of what is left of a declarator.
 use Rattle.std.proofs.Common.{ℕ, Bool, true, false, length, List, [], ◌∷◌, ◌++◌, Option, Some, None, option_to_list, Ok, Err, if◌then◌else◌, refl, slice_get}
-use Rattle.cc_initialisers.specs.Initialisers.{Step, Give, Character, Zero, Visit, Break, here as given_here, initialised, refused_by}
-use Rattle.cc_linkage.specs.Linkage.{declared}
-use Rattle.cc_linkage.specs.declared.linkage.DeclaredAs.{DeclaredAs}
-use Rattle.cc_linkage.specs.declared.linkage.DeclaredAs.TheVariants.{AsStatic, AsObject, AsExtern}
-use Rattle.cc_num.specs.declared.int_type.IntType.TheVariants as int
-use Rattle.cc_num.specs.declared.target.Target.{Target}
-use Rattle.cc_objects.specs.Linked.{object_declared, with_static, with_automatic}
-use Rattle.cc_objects.specs.Types.{contents_in, type_given, given_incomplete, completed_type, type_agrees, composite}
-use Rattle.cc_objects.specs.Values.{leaf_given, no_leaf, expr_given, no_expr}
-use Rattle.cc_objects.specs.declared.category.Category.{Category}
-use Rattle.cc_objects.specs.declared.category.Category.TheVariants as declares
-use Rattle.cc_operands.specs.Operands.{Operand, integer, character_value}
-use Rattle.cc_operands.specs.Qualified.{without_const}
-use Rattle.cc_operands.specs.Verdicts.{Judged}
-use Rattle.cc_operands.specs.declared.rule.Rule.TheVariants as rule
-use Rattle.cc_typed_terms.specs.Primary.{is_intrinsic}
+use Rattle.cc_typed_bodies.specs.CcInitialisers.Initialisers.{Step, Give, Character, Zero, Visit, Break, here as given_here, initialised, refused_by}
+use Rattle.cc_typed_bodies.specs.CcLinkage.Linkage.{declared}
+use Rattle.cc_typed_bodies.specs.CcLinkage.declared.linkage.DeclaredAs.{DeclaredAs}
+use Rattle.cc_typed_bodies.specs.CcLinkage.declared.linkage.DeclaredAs.TheVariants.{AsStatic, AsObject, AsExtern}
+use Rattle.cc_program.specs.CcNum.declared.int_type.IntType.TheVariants as int
+use Rattle.cc_program.specs.CcNum.declared.target.Target.{Target}
+use Rattle.cc_typed_bodies.specs.CcObjects.Linked.{object_declared, with_static, with_automatic}
+use Rattle.cc_typed_bodies.specs.CcObjects.Types.{contents_in, type_given, given_incomplete, completed_type, type_agrees, composite}
+use Rattle.cc_typed_bodies.specs.CcObjects.Values.{leaf_given, no_leaf, expr_given, no_expr}
+use Rattle.cc_typed_bodies.specs.CcObjects.declared.category.Category.{Category}
+use Rattle.cc_typed_bodies.specs.CcObjects.declared.category.Category.TheVariants as declares
+use Rattle.cc_typed_bodies.specs.CcOperands.Operands.{Operand, integer, character_value}
+use Rattle.cc_typed_bodies.specs.CcOperands.Qualified.{without_const}
+use Rattle.cc_typed_bodies.specs.CcOperands.Verdicts.{Judged}
+use Rattle.cc_typed_bodies.specs.CcOperands.declared.rule.Rule.TheVariants as rule
+use Rattle.cc_typed_bodies.specs.CcTypedTerms.Primary.{is_intrinsic}
 use Rattle.cc_program.specs.declared.expr.Expr.{Expr}
 use Rattle.cc_program.specs.declared.expr.Place.{Local, Static}
 use Rattle.cc_program.specs.declared.program.Roles.{Roles}
 use Rattle.cc_program.specs.declared.types.CType.{CType}
 use Rattle.cc_program.specs.declared.value.Leaf.{Leaf}
-use Rattle.cc_scopes.specs.State.{State, Name, with_unfinished}
-use Rattle.cc_scopes.specs.Verdicts.{whole, and_then}
-use Rattle.cc_specifiers.specs.Attributes.{entry_by}
-use Rattle.cc_specifiers.specs.Modes.{modes_judged}
-use Rattle.cc_specifiers.specs.declared.attribute.Attribute.{Attribute}
-use Rattle.cc_syntax.specs.Values.{ValueType}
+use Rattle.cc_typed_bodies.specs.CcScopes.State.{State, Name, with_unfinished}
+use Rattle.cc_typed_bodies.specs.CcScopes.Verdicts.{whole, and_then}
+use Rattle.cc_typed_bodies.specs.CcSpecifiers.Attributes.{entry_by}
+use Rattle.cc_typed_bodies.specs.CcSpecifiers.Modes.{modes_judged}
+use Rattle.cc_typed_bodies.specs.CcSpecifiers.declared.attribute.Attribute.{Attribute}
+use Rattle.cc_typed_bodies.specs.CcSyntax.Values.{ValueType}
 use Rattle.cc_tree.specs.declared.at.At.{At}
 use Rattle.cc_tree.specs.declared.unit.Given.{Given}
 use Rattle.cc_typed_bodies.specs.Functions.{function_refused, with_function}
 use Rattle.cc_typed_bodies.specs.Declarations.{declared_left}
 use Rattle.cc_typed_bodies.specs.Objects.{initial_values, linked_known, static_given, automatic_given}
 use Rattle.cc_typed_bodies.specs.Plans.{as_given, step_found, step_done, steps_done}
-use Rattle.cc_unit.specs.declared.unit.UnitKind.TheVariants as kind
+use Rattle.cc_typed_bodies.specs.CcUnit.declared.unit.UnitKind.TheVariants as kind
 use Rattle.cc_first_faults.specs.Constructs.{LeafGiven, ScalarAssigned, step_at}
 use Rattle.cc_first_faults.specs.FirstFaults.{forget}
 use Rattle.cc_first_faults.specs.Parts.{step_parts, leaf_parts, assignment_parts, refused_parts, static_parts, automatic_parts, left_parts}

@@ -2,12 +2,12 @@
 -- construct whose parts break none, behind others that break none.
 use Rattle.std.proofs.Common.{◌≡◌, ◌∙◌, ℕ, List, [], ◌∷◌, ◌++◌, map, Result, Ok, Err, refl, sym, subst, append_assoc}
 use Rattle.std.proofs.lemmas.List.{append-nil}
-use Rattle.cc_operands.specs.Verdicts.{Judged}
+use Rattle.cc_typed_bodies.specs.CcOperands.Verdicts.{Judged}
 use Rattle.cc_program.proofs.Each.{Each}
-use Rattle.cc_scopes.specs.State.{State}
-use Rattle.cc_scopes.specs.Verdicts.{Found, whole, and_then}
-use Rattle.cc_scopes.specs.declared.verdict.Fault.{Fault}
-use Rattle.cc_terms.specs.InTurn.{in_turn}
+use Rattle.cc_typed_bodies.specs.CcScopes.State.{State}
+use Rattle.cc_typed_bodies.specs.CcScopes.Verdicts.{Found, whole, and_then}
+use Rattle.cc_typed_bodies.specs.CcScopes.declared.verdict.Fault.{Fault}
+use Rattle.cc_typed_bodies.specs.CcTerms.InTurn.{in_turn}
 use Rattle.cc_first_faults.specs.FirstFaults.{forget, after, parts_in_turn, BreaksNone, BreakNone, IsCarried, Itself, InPart, IsWithin, Whole, PartOf}
 
 -- its own fault stands at this place

@@ -1,11 +1,11 @@
 -- The law for constructs of declarations, and how it is shown of one.
 use Rattle.std.proofs.Common.{◌≡◌, ℕ, List, [], ◌∷◌, ◌++◌, map}
-use Rattle.cc_num.specs.declared.target.Target.{Target}
+use Rattle.cc_program.specs.CcNum.declared.target.Target.{Target}
 use Rattle.cc_program.proofs.Each.{Each}
 use Rattle.cc_program.specs.declared.program.Roles.{Roles}
-use Rattle.cc_scopes.specs.State.{State, Name}
-use Rattle.cc_scopes.specs.Verdicts.{Found, and_then}
-use Rattle.cc_terms.specs.InTurn.{in_turn}
+use Rattle.cc_typed_bodies.specs.CcScopes.State.{State, Name}
+use Rattle.cc_typed_bodies.specs.CcScopes.Verdicts.{Found, and_then}
+use Rattle.cc_typed_bodies.specs.CcTerms.InTurn.{in_turn}
 use Rattle.cc_first_faults.specs.Behind.{behind}
 use Rattle.cc_first_faults.specs.Constructs.{Construct, place}
 use Rattle.cc_first_faults.specs.FirstFaults.{forget, after, parts_in_turn}

@@ -1,14 +1,14 @@
 -- What constructs mean, by their layers.
 use Rattle.std.proofs.Common.{◌≡◌}
-use Rattle.cc_num.specs.declared.target.Target.{Target}
+use Rattle.cc_program.specs.CcNum.declared.target.Target.{Target}
 use Rattle.cc_program.specs.declared.program.Roles.{Roles}
-use Rattle.cc_terms.specs.Constants.{enumr_step}
-use Rattle.cc_terms.specs.Declarators.{declr_step, params_step, param_step, type_name_step}
-use Rattle.cc_terms.specs.Expressions.{tree_step}
-use Rattle.cc_terms.specs.Meanings.{TreeMeaning, DeclrMeaning, ParamsMeaning, ParamMeaning, SpecMeaning, MembersMeaning, EnumrMeaning, TypeNameMeaning}
-use Rattle.cc_terms.specs.Members.{members_step}
-use Rattle.cc_terms.specs.Specifiers.{spec_step}
-use Rattle.cc_terms.specs.Terms.{declr_of, params_of, spec_of, tree_of, enumr_of, members_of, param_of, type_name_of}
+use Rattle.cc_typed_bodies.specs.CcTerms.Constants.{enumr_step}
+use Rattle.cc_typed_bodies.specs.CcTerms.Declarators.{declr_step, params_step, param_step, type_name_step}
+use Rattle.cc_typed_bodies.specs.CcTerms.Expressions.{tree_step}
+use Rattle.cc_typed_bodies.specs.CcTerms.Meanings.{TreeMeaning, DeclrMeaning, ParamsMeaning, ParamMeaning, SpecMeaning, MembersMeaning, EnumrMeaning, TypeNameMeaning}
+use Rattle.cc_typed_bodies.specs.CcTerms.Members.{members_step}
+use Rattle.cc_typed_bodies.specs.CcTerms.Specifiers.{spec_step}
+use Rattle.cc_typed_bodies.specs.CcTerms.Terms.{declr_of, params_of, spec_of, tree_of, enumr_of, members_of, param_of, type_name_of}
 use Rattle.cc_tree.specs.declared.tree.Declr.{Declr, out-Declr, fold_out-Declr, map-Declr}
 use Rattle.cc_tree.specs.declared.tree.Declr.TheOpen as one
 use Rattle.cc_tree.specs.declared.tree.Enumr.{Enumr, out-Enumr, fold_out-Enumr, map-Enumr}

@@ -1,30 +1,30 @@
 -- The law of structures, enumerations and specifiers, whose parts have it.
 use Rattle.std.proofs.Common.{◌≡◌, ◌∙◌, ℕ, ℤ, pos, Bool, true, false, is_some, List, [], ◌∷◌, map, Option, Some, None, option_map, Ok, Err, if◌then◌else◌, refl, sym, subst, slice_get}
-use Rattle.cc_typed_terms.specs.Declarators.{derived_type}
-use Rattle.cc_typed_terms.specs.Located.{located}
-use Rattle.cc_typed_terms.specs.Members.{member_judged}
-use Rattle.cc_typed_terms.specs.Names.{new_name}
-use Rattle.cc_typed_terms.specs.Specifiers.{as_type, type_named, marked, structure_tag, enumeration_tag}
-use Rattle.cc_num.specs.declared.target.Target.{Target}
-use Rattle.cc_operands.specs.Operands.{constancy}
-use Rattle.cc_operands.specs.declared.rule.Rule.TheVariants as rule
+use Rattle.cc_typed_bodies.specs.CcTypedTerms.Declarators.{derived_type}
+use Rattle.cc_typed_bodies.specs.CcTypedTerms.Located.{located}
+use Rattle.cc_typed_bodies.specs.CcTypedTerms.Members.{member_judged}
+use Rattle.cc_typed_bodies.specs.CcTypedTerms.Names.{new_name}
+use Rattle.cc_typed_bodies.specs.CcTypedTerms.Specifiers.{as_type, type_named, marked, structure_tag, enumeration_tag}
+use Rattle.cc_program.specs.CcNum.declared.target.Target.{Target}
+use Rattle.cc_typed_bodies.specs.CcOperands.Operands.{constancy}
+use Rattle.cc_typed_bodies.specs.CcOperands.declared.rule.Rule.TheVariants as rule
 use Rattle.cc_program.proofs.Each.{Each}
 use Rattle.cc_program.specs.declared.program.Roles.{Roles}
 use Rattle.cc_program.specs.declared.types.CType.{CType}
-use Rattle.cc_scopes.specs.State.{State, Name, designated, tagged}
-use Rattle.cc_scopes.specs.Structures.{structure_named, enumeration_named, enumeration_closed, enumeration_constant, closed, has_content, tagged_option, in_list}
-use Rattle.cc_scopes.specs.Verdicts.{Found, whole}
-use Rattle.cc_scopes.specs.declared.designated.Tagged.{Tagged}
-use Rattle.cc_scopes.specs.declared.designated.Tagged.TheVariants.{StructureTag, EnumerationTag, UnfinishedEnumeration}
-use Rattle.cc_specifiers.specs.Attributes.{attributes}
-use Rattle.cc_specifiers.specs.Derivations.{nothing_more}
-use Rattle.cc_specifiers.specs.declared.attribute.Entity.TheVariants as entity
-use Rattle.cc_syntax.specs.Folding.{Constant, Value}
-use Rattle.cc_syntax.specs.Types.{Named}
-use Rattle.cc_terms.specs.Constants.{constants_found, constant_by, constant_declared}
-use Rattle.cc_terms.specs.Members.{member_found}
-use Rattle.cc_terms.specs.Structures.{structure_opened, members_found, structure_closed}
-use Rattle.cc_terms.specs.Terms.{here, declr_here, members_here, enumr_here}
+use Rattle.cc_typed_bodies.specs.CcScopes.State.{State, Name, designated, tagged}
+use Rattle.cc_typed_bodies.specs.CcScopes.Structures.{structure_named, enumeration_named, enumeration_closed, enumeration_constant, closed, has_content, tagged_option, in_list}
+use Rattle.cc_typed_bodies.specs.CcScopes.Verdicts.{Found, whole}
+use Rattle.cc_typed_bodies.specs.CcScopes.declared.designated.Tagged.{Tagged}
+use Rattle.cc_typed_bodies.specs.CcScopes.declared.designated.Tagged.TheVariants.{StructureTag, EnumerationTag, UnfinishedEnumeration}
+use Rattle.cc_typed_bodies.specs.CcSpecifiers.Attributes.{attributes}
+use Rattle.cc_typed_bodies.specs.CcSpecifiers.Derivations.{nothing_more}
+use Rattle.cc_typed_bodies.specs.CcSpecifiers.declared.attribute.Entity.TheVariants as entity
+use Rattle.cc_typed_bodies.specs.CcSyntax.Folding.{Constant, Value}
+use Rattle.cc_typed_bodies.specs.CcSyntax.Types.{Named}
+use Rattle.cc_typed_bodies.specs.CcTerms.Constants.{constants_found, constant_by, constant_declared}
+use Rattle.cc_typed_bodies.specs.CcTerms.Members.{member_found}
+use Rattle.cc_typed_bodies.specs.CcTerms.Structures.{structure_opened, members_found, structure_closed}
+use Rattle.cc_typed_bodies.specs.CcTerms.Terms.{here, declr_here, members_here, enumr_here}
 use Rattle.cc_tree.specs.declared.at.At.{At}
 use Rattle.cc_tree.specs.declared.tree.Attr.{Attr}
 use Rattle.cc_tree.specs.declared.tree.Declr.{Declr}

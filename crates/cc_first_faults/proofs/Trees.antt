@@ -1,8 +1,8 @@
 -- The law of all constructs of the trees, by induction.
 use Rattle.std.proofs.Common.{List}
-use Rattle.cc_num.specs.declared.target.Target.{Target}
+use Rattle.cc_program.specs.CcNum.declared.target.Target.{Target}
 use Rattle.cc_program.specs.declared.program.Roles.{Roles}
-use Rattle.cc_scopes.specs.State.{Name}
+use Rattle.cc_typed_bodies.specs.CcScopes.State.{Name}
 use Rattle.cc_tree.specs.declared.tree.Declr.{Declr, ind-Declr}
 use Rattle.cc_tree.specs.declared.tree.Enumr.{Enumr, ind-Enumr}
 use Rattle.cc_tree.specs.declared.tree.MemberDecl.{MemberDecl, ind-MemberDecl}

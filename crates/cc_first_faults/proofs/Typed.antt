@@ -1,20 +1,20 @@
 -- The law of what is judged once it is typed, and of constructs that are judged as wholes.
 use Rattle.std.proofs.Common.{ℕ, Bool, true, false, is_some, List, [], ◌∷◌, Option, Some, None, Ok, if◌then◌else◌, refl}
-use Rattle.cc_typed_terms.specs.Located.{located}
-use Rattle.cc_designators.specs.Designators.{TypedExpr, IsPlace, IsValue, IsFunction, IsIntrinsic, IsAddress, value_at}
-use Rattle.cc_designators.specs.Postfix.{is_array_place}
-use Rattle.cc_num.specs.declared.target.Target.{Target}
-use Rattle.cc_operands.specs.declared.rule.Rule.{Rule}
-use Rattle.cc_typed_terms.specs.Operators.{intrinsic_in}
-use Rattle.cc_typed_terms.specs.Values.{valued, designating, found_value, null_judged}
+use Rattle.cc_typed_bodies.specs.CcTypedTerms.Located.{located}
+use Rattle.cc_typed_bodies.specs.CcDesignators.Designators.{TypedExpr, IsPlace, IsValue, IsFunction, IsIntrinsic, IsAddress, value_at}
+use Rattle.cc_typed_bodies.specs.CcDesignators.Postfix.{is_array_place}
+use Rattle.cc_program.specs.CcNum.declared.target.Target.{Target}
+use Rattle.cc_typed_bodies.specs.CcOperands.declared.rule.Rule.{Rule}
+use Rattle.cc_typed_bodies.specs.CcTypedTerms.Operators.{intrinsic_in}
+use Rattle.cc_typed_bodies.specs.CcTypedTerms.Values.{valued, designating, found_value, null_judged}
 use Rattle.cc_program.specs.declared.expr.Intr.{Intr}
 use Rattle.cc_program.specs.declared.program.Roles.{Roles}
 use Rattle.cc_program.specs.declared.types.CType.{CType}
-use Rattle.cc_scopes.specs.State.{State, Name, Scope, structures_of, layouts_of}
-use Rattle.cc_specifiers.specs.Declarators.{breach, fault_or}
-use Rattle.cc_specifiers.specs.Derivations.{suffix_breach, suffix_judged, unless_broken, outermost}
-use Rattle.cc_specifiers.specs.declared.derivation.Derivation.{Derivation}
-use Rattle.cc_terms.specs.Operations.{as_value, subscript_base, callee, callee_by}
+use Rattle.cc_typed_bodies.specs.CcScopes.State.{State, Name, Scope, structures_of, layouts_of}
+use Rattle.cc_typed_bodies.specs.CcSpecifiers.Declarators.{breach, fault_or}
+use Rattle.cc_typed_bodies.specs.CcSpecifiers.Derivations.{suffix_breach, suffix_judged, unless_broken, outermost}
+use Rattle.cc_typed_bodies.specs.CcSpecifiers.declared.derivation.Derivation.{Derivation}
+use Rattle.cc_typed_bodies.specs.CcTerms.Operations.{as_value, subscript_base, callee, callee_by}
 use Rattle.cc_tree.specs.declared.at.At.{At}
 use Rattle.cc_first_faults.specs.Constructs.{Valued, Designated, Suffixed, Derived, begin_of}
 use Rattle.cc_first_faults.specs.FirstFaults.{forget}

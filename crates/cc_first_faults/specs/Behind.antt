@@ -1,25 +1,25 @@
 -- What is known behind a construct, or the fault that it carries (C99 6.5, 6.7).
 use Rattle.std.specs.Prelude.{Bool, List, map, Result, Ok}
-use Rattle.cc_typed_terms.specs.Located.{located}
-use Rattle.cc_num.specs.declared.target.Target.{Target}
-use Rattle.cc_objects.specs.Names.{name_judged}
-use Rattle.cc_objects.specs.Values.{leaf_given, no_leaf, expr_given, no_expr}
-use Rattle.cc_typed_terms.specs.Values.{valued, designating, value_found, designated_found}
+use Rattle.cc_typed_bodies.specs.CcTypedTerms.Located.{located}
+use Rattle.cc_program.specs.CcNum.declared.target.Target.{Target}
+use Rattle.cc_typed_bodies.specs.CcObjects.Names.{name_judged}
+use Rattle.cc_typed_bodies.specs.CcObjects.Values.{leaf_given, no_leaf, expr_given, no_expr}
+use Rattle.cc_typed_bodies.specs.CcTypedTerms.Values.{valued, designating, value_found, designated_found}
 use Rattle.cc_program.specs.declared.expr.Expr.{Expr}
 use Rattle.cc_program.specs.declared.program.Roles.{Roles}
 use Rattle.cc_program.specs.declared.types.CType.{CType}
 use Rattle.cc_program.specs.declared.value.Leaf.{Leaf}
-use Rattle.cc_scopes.specs.State.{State, Name, Scope, structures_of, layouts_of}
-use Rattle.cc_scopes.specs.Verdicts.{Found, whole}
-use Rattle.cc_scopes.specs.declared.verdict.Fault.{Fault}
-use Rattle.cc_specifiers.specs.Attributes.{attribute_judged, entry_by}
-use Rattle.cc_specifiers.specs.Declarators.{breach, fault_or}
-use Rattle.cc_specifiers.specs.Derivations.{suffix_found}
-use Rattle.cc_specifiers.specs.declared.derivation.Derivation.{Derivation}
-use Rattle.cc_terms.specs.Declarators.{parameter_declared}
-use Rattle.cc_terms.specs.Members.{member_found}
-use Rattle.cc_terms.specs.Specifiers.{specifier_found, specified_found}
-use Rattle.cc_terms.specs.Terms.{tree_of, declr_of, params_of, param_of, spec_of, members_of, enumr_of, type_name_of, here, declr_here, spec_here}
+use Rattle.cc_typed_bodies.specs.CcScopes.State.{State, Name, Scope, structures_of, layouts_of}
+use Rattle.cc_typed_bodies.specs.CcScopes.Verdicts.{Found, whole}
+use Rattle.cc_typed_bodies.specs.CcScopes.declared.verdict.Fault.{Fault}
+use Rattle.cc_typed_bodies.specs.CcSpecifiers.Attributes.{attribute_judged, entry_by}
+use Rattle.cc_typed_bodies.specs.CcSpecifiers.Declarators.{breach, fault_or}
+use Rattle.cc_typed_bodies.specs.CcSpecifiers.Derivations.{suffix_found}
+use Rattle.cc_typed_bodies.specs.CcSpecifiers.declared.derivation.Derivation.{Derivation}
+use Rattle.cc_typed_bodies.specs.CcTerms.Declarators.{parameter_declared}
+use Rattle.cc_typed_bodies.specs.CcTerms.Members.{member_found}
+use Rattle.cc_typed_bodies.specs.CcTerms.Specifiers.{specifier_found, specified_found}
+use Rattle.cc_typed_bodies.specs.CcTerms.Terms.{tree_of, declr_of, params_of, param_of, spec_of, members_of, enumr_of, type_name_of, here, declr_here, spec_here}
 use Rattle.cc_tree.specs.declared.at.At.{At}
 use Rattle.cc_typed_bodies.specs.Declarations.{declaration, init_found}
 use Rattle.cc_typed_bodies.specs.Plans.{step_found}

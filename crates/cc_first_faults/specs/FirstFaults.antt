@@ -2,9 +2,9 @@
 -- in front of it breaks one. Constructs are told by a table: where each begins; what is known behind it, or the fault that
 -- it carries; and its parts in the order in which they are read, each with what is known in front of it.
 use Rattle.std.specs.Prelude.{◌≡◌, ℕ, List, [], ◌∷◌, ◌++◌, Result, Ok, Err}
-use Rattle.cc_scopes.specs.State.{State}
-use Rattle.cc_scopes.specs.Verdicts.{Found}
-use Rattle.cc_scopes.specs.declared.verdict.Fault.{Fault}
+use Rattle.cc_typed_bodies.specs.CcScopes.State.{State}
+use Rattle.cc_typed_bodies.specs.CcScopes.Verdicts.{Found}
+use Rattle.cc_typed_bodies.specs.CcScopes.declared.verdict.Fault.{Fault}
 
 -- the state alone
 abbrev pub forget : {A : Type 0} → Found A → Result State Fault

@@ -1,60 +1,60 @@
 -- The parts of a construct in the order in which they are read, each with what is known in front of it (C99 6.5, 6.7).
 use Rattle.std.specs.Prelude.{ℕ, pos, Bool, true, false, not, ◌||◌, is_some, List, [], ◌∷◌, ◌++◌, map, length, Option, Some, None, if◌then◌else◌}
-use Rattle.cc_typed_terms.specs.Declarators.{derived_type}
-use Rattle.cc_designators.specs.Designators.{TypedExpr}
-use Rattle.cc_designators.specs.Postfix.{is_array_place}
-use Rattle.cc_initialisers.specs.Initialisers.{Step, Give, Character, Zero, Visit, Break, here as given_here, initialised, refused_by}
-use Rattle.cc_linkage.specs.Linkage.{declared}
-use Rattle.cc_linkage.specs.declared.linkage.DeclaredAs.{DeclaredAs}
-use Rattle.cc_num.specs.declared.target.Target.{Target}
-use Rattle.cc_objects.specs.Categories.{category_of, entity_of, setting_of}
-use Rattle.cc_objects.specs.Linked.{object_declared, with_static, with_automatic}
-use Rattle.cc_objects.specs.Names.{name_judged}
-use Rattle.cc_objects.specs.Tags.{in_front, aliased}
-use Rattle.cc_objects.specs.Types.{contents_in, type_given, given_incomplete, composite}
-use Rattle.cc_objects.specs.Values.{leaf_given, no_leaf, expr_given, no_expr}
-use Rattle.cc_objects.specs.declared.category.Category.{Category}
-use Rattle.cc_objects.specs.declared.category.Category.TheVariants as declares
-use Rattle.cc_operands.specs.Operands.{Operand}
-use Rattle.cc_operands.specs.Qualified.{is_function_type, without_const}
-use Rattle.cc_operands.specs.declared.rule.Rule.TheVariants as rule
-use Rattle.cc_typed_terms.specs.Devices.{cast_constant}
-use Rattle.cc_typed_terms.specs.Operators.{prefix_of, intrinsic_in}
-use Rattle.cc_typed_terms.specs.Primary.{is_intrinsic}
-use Rattle.cc_typed_terms.specs.Values.{value_found, designated_found}
-use Rattle.cc_typed_terms.specs.declared.prefix.Prefix.{Prefix}
-use Rattle.cc_typed_terms.specs.declared.prefix.Prefix.TheVariants as prefix
+use Rattle.cc_typed_bodies.specs.CcTypedTerms.Declarators.{derived_type}
+use Rattle.cc_typed_bodies.specs.CcDesignators.Designators.{TypedExpr}
+use Rattle.cc_typed_bodies.specs.CcDesignators.Postfix.{is_array_place}
+use Rattle.cc_typed_bodies.specs.CcInitialisers.Initialisers.{Step, Give, Character, Zero, Visit, Break, here as given_here, initialised, refused_by}
+use Rattle.cc_typed_bodies.specs.CcLinkage.Linkage.{declared}
+use Rattle.cc_typed_bodies.specs.CcLinkage.declared.linkage.DeclaredAs.{DeclaredAs}
+use Rattle.cc_program.specs.CcNum.declared.target.Target.{Target}
+use Rattle.cc_typed_bodies.specs.CcObjects.Categories.{category_of, entity_of, setting_of}
+use Rattle.cc_typed_bodies.specs.CcObjects.Linked.{object_declared, with_static, with_automatic}
+use Rattle.cc_typed_bodies.specs.CcObjects.Names.{name_judged}
+use Rattle.cc_typed_bodies.specs.CcObjects.Tags.{in_front, aliased}
+use Rattle.cc_typed_bodies.specs.CcObjects.Types.{contents_in, type_given, given_incomplete, composite}
+use Rattle.cc_typed_bodies.specs.CcObjects.Values.{leaf_given, no_leaf, expr_given, no_expr}
+use Rattle.cc_typed_bodies.specs.CcObjects.declared.category.Category.{Category}
+use Rattle.cc_typed_bodies.specs.CcObjects.declared.category.Category.TheVariants as declares
+use Rattle.cc_typed_bodies.specs.CcOperands.Operands.{Operand}
+use Rattle.cc_typed_bodies.specs.CcOperands.Qualified.{is_function_type, without_const}
+use Rattle.cc_typed_bodies.specs.CcOperands.declared.rule.Rule.TheVariants as rule
+use Rattle.cc_typed_bodies.specs.CcTypedTerms.Devices.{cast_constant}
+use Rattle.cc_typed_bodies.specs.CcTypedTerms.Operators.{prefix_of, intrinsic_in}
+use Rattle.cc_typed_bodies.specs.CcTypedTerms.Primary.{is_intrinsic}
+use Rattle.cc_typed_bodies.specs.CcTypedTerms.Values.{value_found, designated_found}
+use Rattle.cc_typed_bodies.specs.CcTypedTerms.declared.prefix.Prefix.{Prefix}
+use Rattle.cc_typed_bodies.specs.CcTypedTerms.declared.prefix.Prefix.TheVariants as prefix
 use Rattle.cc_program.specs.declared.expr.Expr.{Expr}
 use Rattle.cc_program.specs.declared.expr.Place.{Local, Static}
 use Rattle.cc_program.specs.declared.program.Roles.{Roles}
 use Rattle.cc_program.specs.declared.types.CType.{CType}
 use Rattle.cc_program.specs.declared.value.Leaf.{Leaf}
-use Rattle.cc_scopes.specs.State.{State, Name, Scope, empty, entered}
-use Rattle.cc_scopes.specs.Structures.{in_list}
-use Rattle.cc_scopes.specs.Verdicts.{whole}
-use Rattle.cc_unit.specs.declared.unit.UnitKind.TheVariants as kind
-use Rattle.cc_specifiers.specs.Attributes.{entry_by}
-use Rattle.cc_specifiers.specs.Declarators.{derive}
-use Rattle.cc_specifiers.specs.Derivations.{nothing_more, in_parameter, in_type_name, is_next_to_name}
-use Rattle.cc_specifiers.specs.Specifiers.{no_specifier}
-use Rattle.cc_specifiers.specs.Storage.{setting}
-use Rattle.cc_specifiers.specs.declared.attribute.Attribute.{Attribute}
-use Rattle.cc_specifiers.specs.declared.attribute.Entity.{Entity}
-use Rattle.cc_specifiers.specs.declared.attribute.Entity.TheVariants as entity
-use Rattle.cc_specifiers.specs.declared.derivation.Allowed.{Allowed}
-use Rattle.cc_specifiers.specs.declared.derivation.Declarator.{Declarator}
-use Rattle.cc_specifiers.specs.declared.derivation.Derivation.{Derivation}
-use Rattle.cc_specifiers.specs.declared.derivation.Parameter.{Parameter}
-use Rattle.cc_specifiers.specs.declared.specifier.Specified.{Specified}
-use Rattle.cc_specifiers.specs.declared.storage.Setting.{Setting}
-use Rattle.cc_specifiers.specs.declared.storage.Where.{Where}
-use Rattle.cc_specifiers.specs.declared.storage.Where.TheVariants as stands
-use Rattle.cc_terms.specs.Members.{member_found}
-use Rattle.cc_terms.specs.Operations.{subscript_base, callee}
-use Rattle.cc_terms.specs.Specifiers.{specifier_found, specified_found}
-use Rattle.cc_terms.specs.Structures.{structure_opened, members_found}
-use Rattle.cc_terms.specs.Terms.{tree_of, declr_of, param_of, members_of, enumr_of, type_name_of, here, declr_here, spec_here, members_here}
-use Rattle.cc_syntax.specs.Types.{Named}
+use Rattle.cc_typed_bodies.specs.CcScopes.State.{State, Name, Scope, empty, entered}
+use Rattle.cc_typed_bodies.specs.CcScopes.Structures.{in_list}
+use Rattle.cc_typed_bodies.specs.CcScopes.Verdicts.{whole}
+use Rattle.cc_typed_bodies.specs.CcUnit.declared.unit.UnitKind.TheVariants as kind
+use Rattle.cc_typed_bodies.specs.CcSpecifiers.Attributes.{entry_by}
+use Rattle.cc_typed_bodies.specs.CcSpecifiers.Declarators.{derive}
+use Rattle.cc_typed_bodies.specs.CcSpecifiers.Derivations.{nothing_more, in_parameter, in_type_name, is_next_to_name}
+use Rattle.cc_typed_bodies.specs.CcSpecifiers.Specifiers.{no_specifier}
+use Rattle.cc_typed_bodies.specs.CcSpecifiers.Storage.{setting}
+use Rattle.cc_typed_bodies.specs.CcSpecifiers.declared.attribute.Attribute.{Attribute}
+use Rattle.cc_typed_bodies.specs.CcSpecifiers.declared.attribute.Entity.{Entity}
+use Rattle.cc_typed_bodies.specs.CcSpecifiers.declared.attribute.Entity.TheVariants as entity
+use Rattle.cc_typed_bodies.specs.CcSpecifiers.declared.derivation.Allowed.{Allowed}
+use Rattle.cc_typed_bodies.specs.CcSpecifiers.declared.derivation.Declarator.{Declarator}
+use Rattle.cc_typed_bodies.specs.CcSpecifiers.declared.derivation.Derivation.{Derivation}
+use Rattle.cc_typed_bodies.specs.CcSpecifiers.declared.derivation.Parameter.{Parameter}
+use Rattle.cc_typed_bodies.specs.CcSpecifiers.declared.specifier.Specified.{Specified}
+use Rattle.cc_typed_bodies.specs.CcSpecifiers.declared.storage.Setting.{Setting}
+use Rattle.cc_typed_bodies.specs.CcSpecifiers.declared.storage.Where.{Where}
+use Rattle.cc_typed_bodies.specs.CcSpecifiers.declared.storage.Where.TheVariants as stands
+use Rattle.cc_typed_bodies.specs.CcTerms.Members.{member_found}
+use Rattle.cc_typed_bodies.specs.CcTerms.Operations.{subscript_base, callee}
+use Rattle.cc_typed_bodies.specs.CcTerms.Specifiers.{specifier_found, specified_found}
+use Rattle.cc_typed_bodies.specs.CcTerms.Structures.{structure_opened, members_found}
+use Rattle.cc_typed_bodies.specs.CcTerms.Terms.{tree_of, declr_of, param_of, members_of, enumr_of, type_name_of, here, declr_here, spec_here, members_here}
+use Rattle.cc_typed_bodies.specs.CcSyntax.Types.{Named}
 use Rattle.cc_tree.specs.declared.at.At.{At}
 use Rattle.cc_tree.specs.declared.tree.Attr.{Attr}
 use Rattle.cc_tree.specs.declared.tree.Declr.{Declr, out-Declr}

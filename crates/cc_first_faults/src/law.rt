@@ -5,10 +5,10 @@ ghost use Rattle.cc_first_faults.specs.Behind.{behind};
 ghost use Rattle.cc_first_faults.specs.Constructs.{Construct, place};
 ghost use Rattle.cc_first_faults.specs.FirstFaults.{BreaksNone, IsCarried, IsWithin};
 ghost use Rattle.cc_first_faults.specs.Parts.{parts};
-ghost use Rattle.cc_num.specs.declared.target.Target.{Target};
+ghost use Rattle.cc_program.specs.CcNum.declared.target.Target.{Target};
 ghost use Rattle.cc_program.specs.declared.program.Roles.{Roles};
-ghost use Rattle.cc_scopes.specs.State.{State, Name};
-ghost use Rattle.cc_scopes.specs.declared.verdict.Fault.{Fault};
+ghost use Rattle.cc_typed_bodies.specs.CcScopes.State.{State, Name};
+ghost use Rattle.cc_typed_bodies.specs.CcScopes.declared.verdict.Fault.{Fault};
 
 /// The fault of a declaration, and of any construct in one, is carried by a construct that breaks the rule at its place
 /// while its parts break none, and nothing that is read in front of it breaks one; there is no other such fault. What stands

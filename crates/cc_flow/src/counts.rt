@@ -4,7 +4,7 @@ ghost use Rattle.std.specs.Prelude.{◌≡◌, ◌<◌, ◌-◌, ◌^◌, min, m
 ghost use Rattle.cc_flow.specs.Points.{size_of as size_of_stmt, total_of, count_in};
 ghost use Rattle.cc_flow.specs.View.{case_total, total_of_cases};
 
-use cc_num::NoMemory;
+use cc_program::num::NoMemory;
 use cc_program::{Case, Func, Stmt};
 use std::alloc::Global;
 

@@ -8,7 +8,7 @@ use crate::counts::{count_funcs, size};
 use crate::next::Site;
 use crate::statements::{longer, put_list, put_point};
 use crate::types::{Flow, FlowEnd, Point};
-use cc_num::{List, NoMemory};
+use cc_program::num::{List, NoMemory};
 use cc_program::{Func, Program, Stmt};
 use std::alloc::Global;
 

@@ -9,7 +9,7 @@ ghost use Rattle.cc_flow.specs.View.{case_pieces, total_of_cases, simple_next as
 ghost use Rattle.cc_flow.specs.Next.{reached as reached_of, head, heads, branches as branches_of, is_zero, may_pass as may_pass_of};
 
 use crate::counts::sizes;
-use cc_num::NoMemory;
+use cc_program::num::NoMemory;
 use cc_program::{Case, Stmt};
 use std::alloc::Global;
 

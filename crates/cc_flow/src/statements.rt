@@ -7,7 +7,7 @@ ghost use Rattle.cc_flow.specs.View.{case_pieces, total_of_cases};
 use crate::counts::{size, size_of, size_of_cases};
 use crate::next::{Site, if_next, one, reached, simple_next, switch_next};
 use crate::types::Point;
-use cc_num::{List, NoMemory};
+use cc_program::num::{List, NoMemory};
 use cc_program::{Case, Stmt};
 use std::alloc::Global;
 

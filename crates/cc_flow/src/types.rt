@@ -1,4 +1,4 @@
-use cc_num::List;
+use cc_program::num::List;
 
 /// A point: where an activation of a function stands before a statement, or at the return at the function's end.
 #[derive(Debug, Drop)]

@@ -3,7 +3,7 @@ use Rattle.std.proofs.Common.{arith, ◌≡◌, ◌⊎◌, inl, inr, ◌+◌, �
 use Rattle.std.specs.Prelude.{if◌then◌else◌}
 use Rattle.std.specs.List.{list_any}
 use Rattle.std.specs.Option.{option_or}
-use Rattle.cc_num.specs.declared.target.Target.{Target}
+use Rattle.cc_program.specs.CcNum.declared.target.Target.{Target}
 use Rattle.cc_program.specs.declared.expr.Expr.{Expr}
 use Rattle.cc_program.specs.declared.func.Func.{Func}
 use Rattle.cc_program.specs.declared.program.Program.{Program}
@@ -11,12 +11,12 @@ use Rattle.cc_program.specs.declared.stmt.Case.{Case}
 use Rattle.cc_program.specs.declared.stmt.Stmt.{Stmt, out-Stmt}
 use Rattle.cc_program.specs.declared.stmt.Stmt.TheOpen as is
 use Rattle.cc_program.specs.declared.value.Value.{Value}
-use Rattle.cc_control.specs.Control.{Level, Control, counted, around_list, behind, arm, bodies, from_label, is_label, is_default}
+use Rattle.cc_states.specs.CcControl.Control.{Level, Control, counted, around_list, behind, arm, bodies, from_label, is_label, is_default}
 use Rattle.cc_flow.specs.declared.next.Site.{Site}
 use Rattle.cc_flow.specs.Points.{total_of}
-use Rattle.cc_steps.specs.State.{Active}
-use Rattle.cc_steps.specs.Step.{in_case, looped, next_place, number_in, goes_to, passes, at_test}
-use Rattle.cc_values.specs.Values.{is_true}
+use Rattle.cc_states.specs.CcSteps.State.{Active}
+use Rattle.cc_states.specs.CcSteps.Step.{in_case, looped, next_place, number_in, goes_to, passes, at_test}
+use Rattle.cc_states.specs.CcValues.Values.{is_true}
 use Rattle.cc_states.specs.States.{may_break, may_continue}
 use Rattle.cc_flow_sound.specs.Sites.{moved_to, own_site, loop_site, switch_site, IsSiteIn, IsPlaced, number_at, arm_point, nexts}
 use Rattle.cc_flow_sound.proofs.Opened.{all_normal, NormalAt, normal_level, normal_head, normal_lists, normal_parts}

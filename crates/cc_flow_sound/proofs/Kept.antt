@@ -2,17 +2,17 @@
 use Rattle.std.proofs.Common.{◌≡◌, inl, inr, ◌<◌, ◌^◌, ℕ, ℤ, false, List, [], ◌∷◌, Option, Some, None, refl, sym, subst, slice_get}
 use Rattle.cc_program.specs.declared.func.Func.{Func}
 use Rattle.cc_program.specs.declared.program.Program.{Program}
-use Rattle.cc_control.specs.Control.{level}
-use Rattle.cc_control.specs.declared.phase.Phase.TheVariants.{First}
+use Rattle.cc_states.specs.CcControl.Control.{level}
+use Rattle.cc_states.specs.CcControl.declared.phase.Phase.TheVariants.{First}
 use Rattle.cc_flow.specs.Points.{count_of}
 use Rattle.cc_states.specs.States.{IsState}
-use Rattle.cc_syntax.proofs.NameRules.{sound-typed}
+use Rattle.cc_states.proofs.CcSyntax.NameRules.{sound-typed}
 use Rattle.cc_states.proofs.StartLemmas.{start_state}
 use Rattle.cc_states.proofs.TurnLemmas.{turn_state}
-use Rattle.cc_steps.specs.Runs.{Arrivals, run}
-use Rattle.cc_steps.specs.State.{State, locals_with}
-use Rattle.cc_steps.specs.Turn.{first_of_stack, start, turn}
-use Rattle.cc_syntax.specs.Normal.{IsNormal}
+use Rattle.cc_states.specs.CcSteps.Runs.{Arrivals, run}
+use Rattle.cc_states.specs.CcSteps.State.{State, locals_with}
+use Rattle.cc_states.specs.CcSteps.Turn.{first_of_stack, start, turn}
+use Rattle.cc_states.specs.CcSyntax.Normal.{IsNormal}
 use Rattle.cc_flow_sound.specs.Moves.{Standing, standings, entry, IsAt, AreAt, StaysOrGoes, IsMove, Goes, Opens, Backs, Ends, Stands}
 use Rattle.cc_flow_sound.proofs.Moved.{turn_moves, entered_by}
 use Rattle.cc_flow_sound.proofs.Normal.{normal_body}

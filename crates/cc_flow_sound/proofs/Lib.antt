@@ -9,3 +9,8 @@ pub mod Places
 pub mod Reached
 pub mod Segments
 pub mod Starts
+pub mod CcEval
+pub mod CcFlow
+pub mod CcStates
+pub mod CcSteps
+pub mod CcSyntax

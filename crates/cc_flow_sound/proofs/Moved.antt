@@ -3,10 +3,10 @@ use Rattle.std.proofs.Common.{◌≡◌, ◌<◌, ◌^◌, inl, inr, ℕ, zero, 
 use Rattle.std.specs.Prelude.{if◌then◌else◌, ◌==◌, option_map, negsuc}
 use Rattle.std.specs.Ordering.{int_eq}
 use Rattle.std.specs.List.{Contains}
-use Rattle.cc_num.specs.declared.int_type.IntType.{IntType}
-use Rattle.cc_num.specs.declared.int_type.IntType.TheVariants as int
-use Rattle.cc_num.specs.Integers.{converted}
-use Rattle.cc_num.specs.Results.{one_if}
+use Rattle.cc_program.specs.CcNum.declared.int_type.IntType.{IntType}
+use Rattle.cc_program.specs.CcNum.declared.int_type.IntType.TheVariants as int
+use Rattle.cc_program.specs.CcNum.Integers.{converted}
+use Rattle.cc_program.specs.CcNum.Results.{one_if}
 use Rattle.cc_program.specs.declared.expr.Expr.{Expr, out-Expr}
 use Rattle.cc_program.specs.declared.expr.Expr.TheOpen as one
 use Rattle.cc_program.specs.declared.expr.Place.{Place as PlaceOf}
@@ -23,39 +23,39 @@ use Rattle.cc_program.specs.declared.value.Cell.TheVariants as cell
 use Rattle.cc_program.specs.declared.value.Root.TheVariants as root
 use Rattle.cc_program.specs.declared.value.Value.{Value}
 use Rattle.cc_program.specs.declared.value.Value.TheVariants.{Int}
-use Rattle.cc_cells.specs.Cells.{with_scalar}
-use Rattle.cc_control.specs.Control.{Control, level, close, behind}
-use Rattle.cc_control.specs.declared.phase.Phase.TheVariants.{First}
-use Rattle.cc_eval.specs.declared.action.Action.{Action}
-use Rattle.cc_eval.specs.declared.action.Action.TheVariants.{Read, Write, Choose, Call, Flag, Save}
-use Rattle.cc_eval.specs.declared.action.Manner.{Manner}
-use Rattle.cc_eval.specs.declared.mark.Mark.{Mark}
-use Rattle.cc_eval.specs.declared.mark.Mark.TheVariants.{Gave, Did, Chose}
-use Rattle.cc_eval.specs.Context.{Context}
-use Rattle.cc_eval.specs.Eval.{Meaning}
-use Rattle.cc_eval.proofs.Opened.{meaning_at}
-use Rattle.cc_eval.specs.Progress.{Progress, Known, Waits, Traps, no_value}
+use Rattle.cc_states.specs.CcCells.Cells.{with_scalar}
+use Rattle.cc_states.specs.CcControl.Control.{Control, level, close, behind}
+use Rattle.cc_states.specs.CcControl.declared.phase.Phase.TheVariants.{First}
+use Rattle.cc_states.specs.CcEval.declared.action.Action.{Action}
+use Rattle.cc_states.specs.CcEval.declared.action.Action.TheVariants.{Read, Write, Choose, Call, Flag, Save}
+use Rattle.cc_states.specs.CcEval.declared.action.Manner.{Manner}
+use Rattle.cc_states.specs.CcEval.declared.mark.Mark.{Mark}
+use Rattle.cc_states.specs.CcEval.declared.mark.Mark.TheVariants.{Gave, Did, Chose}
+use Rattle.cc_states.specs.CcEval.Context.{Context}
+use Rattle.cc_states.specs.CcEval.Eval.{Meaning}
+use Rattle.cc_states.proofs.CcEval.Opened.{meaning_at}
+use Rattle.cc_states.specs.CcEval.Progress.{Progress, Known, Waits, Traps, no_value}
 use Rattle.cc_flow.specs.declared.next.Site.{Site}
 use Rattle.cc_flow.specs.Points.{count_of}
-use Rattle.cc_steps.specs.declared.content.Content.{Content}
-use Rattle.cc_steps.specs.declared.content.Content.TheVariants.{Gone, Unwritten, Holds}
-use Rattle.cc_steps.specs.declared.event.Event.{Event}
-use Rattle.cc_steps.specs.declared.event.Event.TheVariants as event
-use Rattle.cc_steps.specs.declared.event.Event.TheVariants.{Enter}
-use Rattle.cc_steps.specs.declared.event.End.TheVariants.{Trap, Starved}
-use Rattle.cc_steps.specs.Access.{with_locals, is_open, with_local}
-use Rattle.cc_steps.specs.State.{Active, State, locals_with}
-use Rattle.cc_steps.specs.Step.{stopped, with_stack, with_flag, with_statics, with_inputs, with_event, content_at, worked, progress_in, progress_of, is_known, with_mark, goes_to, settled_in, settled, marked, on_top, did, cell_position, has_read, input_read, read, has_written, write, activation, opened, opened_if, call, perform, next_place, is_return, return_mark, gives_nothing, returned, stepped, active_step, proceed}
-use Rattle.cc_steps.specs.Turn.{is_going, only_handler, may_enter, entered, turn_by, turn}
+use Rattle.cc_states.specs.CcSteps.declared.content.Content.{Content}
+use Rattle.cc_states.specs.CcSteps.declared.content.Content.TheVariants.{Gone, Unwritten, Holds}
+use Rattle.cc_states.specs.CcSteps.declared.event.Event.{Event}
+use Rattle.cc_states.specs.CcSteps.declared.event.Event.TheVariants as event
+use Rattle.cc_states.specs.CcSteps.declared.event.Event.TheVariants.{Enter}
+use Rattle.cc_states.specs.CcSteps.declared.event.End.TheVariants.{Trap, Starved}
+use Rattle.cc_states.specs.CcSteps.Access.{with_locals, is_open, with_local}
+use Rattle.cc_states.specs.CcSteps.State.{Active, State, locals_with}
+use Rattle.cc_states.specs.CcSteps.Step.{stopped, with_stack, with_flag, with_statics, with_inputs, with_event, content_at, worked, progress_in, progress_of, is_known, with_mark, goes_to, settled_in, settled, marked, on_top, did, cell_position, has_read, input_read, read, has_written, write, activation, opened, opened_if, call, perform, next_place, is_return, return_mark, gives_nothing, returned, stepped, active_step, proceed}
+use Rattle.cc_states.specs.CcSteps.Turn.{is_going, only_handler, may_enter, entered, turn_by, turn}
 use Rattle.cc_states.specs.States.{expression_of, worked_at, IsActive, AreActive, IsState}
-use Rattle.cc_steps.proofs.MarkLemmas.{marked_call, marked_with}
+use Rattle.cc_states.proofs.CcSteps.MarkLemmas.{marked_call, marked_with}
 use Rattle.cc_states.proofs.ControlLemmas.{may_break_there, may_continue_there}
-use Rattle.cc_syntax.specs.Forms.{form_of, form_at}
-use Rattle.cc_syntax.specs.Normal.{is_one}
-use Rattle.cc_syntax.specs.SameTypes.{same_int}
-use Rattle.cc_syntax.specs.Operators.{is_handler}
-use Rattle.cc_syntax.proofs.Prefixes.{both_true}
-use Rattle.cc_values.specs.Values.{is_true}
+use Rattle.cc_states.specs.CcSyntax.Forms.{form_of, form_at}
+use Rattle.cc_states.specs.CcSyntax.Normal.{is_one}
+use Rattle.cc_states.specs.CcSyntax.SameTypes.{same_int}
+use Rattle.cc_states.specs.CcSyntax.Operators.{is_handler}
+use Rattle.cc_states.proofs.CcSyntax.Prefixes.{both_true}
+use Rattle.cc_states.specs.CcValues.Values.{is_true}
 use Rattle.cc_flow_sound.specs.Sites.{own_site, nexts, StandsAt, base_of, number_at, IsPoint}
 use Rattle.cc_flow_sound.proofs.Opened.{all_normal, NormalAt, normal_level, normal_head}
 use Rattle.cc_flow_sound.proofs.Places.{AreNormal, sited, normal_inside, body_at, behind_at}

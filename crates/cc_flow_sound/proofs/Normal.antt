@@ -4,8 +4,8 @@ use Rattle.std.specs.List.{list_all}
 use Rattle.std.proofs.lemmas.Option.{same_Some}
 use Rattle.cc_program.specs.declared.func.Func.{Func}
 use Rattle.cc_program.specs.declared.program.Program.{Program}
-use Rattle.cc_syntax.specs.Normal.{IsNormal, is_normal_body}
-use Rattle.cc_syntax.proofs.Prefixes.{both_true}
+use Rattle.cc_states.specs.CcSyntax.Normal.{IsNormal, is_normal_body}
+use Rattle.cc_states.proofs.CcSyntax.Prefixes.{both_true}
 use Rattle.cc_flow_sound.proofs.Opened.{all_normal}
 
 all_at : {A : Type 0} → (test : A → Bool) (xs : List A) (i : ℕ) (x : A) → list_all test xs ≡ true → slice_get xs i ≡ Some x → test x ≡ true

@@ -7,7 +7,7 @@ use Rattle.std.proofs.lemmas.Option.{same_Some}
 use Rattle.cc_program.specs.declared.func.Func.{Func}
 use Rattle.cc_program.specs.declared.program.Program.{Program}
 use Rattle.cc_program.specs.declared.stmt.Stmt.{Stmt, out-Stmt}
-use Rattle.cc_control.specs.Control.{Level, Control, path_of}
+use Rattle.cc_states.specs.CcControl.Control.{Level, Control, path_of}
 use Rattle.cc_flow.specs.declared.next.Site.{Site}
 use Rattle.cc_flow.specs.declared.types.Point.{Point}
 use Rattle.cc_flow.specs.Points.{point, total_of, body_count, body_points, count_in, count_of, points_in, firsts_in, flow_of}

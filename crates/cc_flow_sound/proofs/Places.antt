@@ -2,13 +2,13 @@
 use Rattle.std.proofs.Common.{arith, ◌≡◌, ◌<◌, inl, inr, ◌+◌, ℕ, Bool, true, false, ◌||◌, List, [], ◌∷◌, ◌++◌, nat_eq, length, length-append, append_assoc, refl, ap, sym, ◌∙◌, subst}
 use Rattle.std.specs.Prelude.{if◌then◌else◌}
 use Rattle.std.proofs.lemmas.List.Sums.{sum_by-cons}
-use Rattle.cc_num.specs.declared.target.Target.{Target}
+use Rattle.cc_program.specs.CcNum.declared.target.Target.{Target}
 use Rattle.cc_program.specs.declared.func.Func.{Func}
 use Rattle.cc_program.specs.declared.stmt.Case.{Case}
 use Rattle.cc_program.specs.declared.stmt.Stmt.{Stmt, out-Stmt}
 use Rattle.cc_program.specs.declared.stmt.Stmt.TheOpen as is
-use Rattle.cc_control.specs.Control.{Level, Control, counted, is_loop, is_left_by_break, behind_first, first_is, close, behind, broken, continued}
-use Rattle.cc_control.proofs.Begun.{begun_stands}
+use Rattle.cc_states.specs.CcControl.Control.{Level, Control, counted, is_loop, is_left_by_break, behind_first, first_is, close, behind, broken, continued}
+use Rattle.cc_states.proofs.CcControl.Begun.{begun_stands}
 use Rattle.cc_flow.specs.declared.next.Site.{Site}
 use Rattle.cc_flow.specs.Next.{reached}
 use Rattle.cc_flow.specs.Points.{size_of, total_of}

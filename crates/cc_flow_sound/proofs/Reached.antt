@@ -6,14 +6,14 @@ use Rattle.cc_program.specs.declared.program.Program.{Program}
 use Rattle.cc_program.specs.declared.stmt.Case.{Case}
 use Rattle.cc_program.specs.declared.stmt.Stmt.{Stmt, out-Stmt}
 use Rattle.cc_program.specs.declared.stmt.Stmt.TheOpen as is
-use Rattle.cc_control.specs.Control.{Level, Control, counted, bodies, path_of}
+use Rattle.cc_states.specs.CcControl.Control.{Level, Control, counted, bodies, path_of}
 use Rattle.cc_flow.specs.declared.next.Site.{Site}
 use Rattle.cc_flow.specs.Points.{total_of, body_site, count_of}
 use Rattle.cc_states.proofs.ListLemmas.{get_before, get_after}
 use Rattle.cc_states.specs.States.{IsActive}
-use Rattle.cc_steps.specs.State.{Active}
-use Rattle.cc_syntax.specs.Expressions.{of_one}
-use Rattle.cc_syntax.specs.Normal.{IsNormal}
+use Rattle.cc_states.specs.CcSteps.State.{Active}
+use Rattle.cc_states.specs.CcSyntax.Expressions.{of_one}
+use Rattle.cc_states.specs.CcSyntax.Normal.{IsNormal}
 use Rattle.cc_flow_sound.specs.Sites.{own_site, IsSiteIn, StandsAt, base_of}
 use Rattle.cc_flow_sound.specs.Moves.{entry}
 use Rattle.cc_flow_sound.specs.Statements.{inside, statement_at}

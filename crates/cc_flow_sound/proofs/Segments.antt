@@ -9,7 +9,7 @@ use Rattle.cc_program.proofs.Each.{Each}
 use Rattle.cc_program.specs.declared.stmt.Case.{Case, out-Case}
 use Rattle.cc_program.specs.declared.stmt.Stmt.{Stmt, out-Stmt, map-Stmt}
 use Rattle.cc_program.specs.declared.stmt.Stmt.TheOpen as is
-use Rattle.cc_control.specs.Control.{Level, Control, counted, bodies, path_of}
+use Rattle.cc_states.specs.CcControl.Control.{Level, Control, counted, bodies, path_of}
 use Rattle.cc_flow.specs.declared.next.Site.{Site}
 use Rattle.cc_flow.specs.declared.types.Point.{Point}
 use Rattle.cc_flow.specs.Next.{reached}

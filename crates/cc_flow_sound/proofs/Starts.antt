@@ -7,7 +7,7 @@ use Rattle.std.proofs.lemmas.List.Sums.{sum_by-cons}
 use Rattle.std.proofs.lemmas.Option.{same_Some}
 use Rattle.cc_program.specs.declared.stmt.Case.{Case, out-Case}
 use Rattle.cc_program.specs.declared.stmt.Stmt.{Stmt}
-use Rattle.cc_control.specs.Control.{bodies, from_label, is_default}
+use Rattle.cc_states.specs.CcControl.Control.{bodies, from_label, is_default}
 use Rattle.cc_flow.specs.declared.next.Site.{Site}
 use Rattle.cc_flow.specs.Laws.{start, starts}
 use Rattle.cc_flow.specs.Next.{reached, head, heads, branches, may_pass}

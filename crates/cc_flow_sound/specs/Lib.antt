@@ -1,3 +1,11 @@
 pub mod Moves
 pub mod Sites
 pub mod Statements
+pub mod CcCells
+pub mod CcControl
+pub mod CcEval
+pub mod CcFlow
+pub mod CcStates
+pub mod CcSteps
+pub mod CcSyntax
+pub mod CcValues

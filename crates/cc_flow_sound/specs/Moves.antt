@@ -4,10 +4,10 @@ use Rattle.std.specs.Prelude.{◌≡◌, ◌⊎◌, ℕ, List, [], ◌∷◌, ma
 use Rattle.std.specs.List.{Contains}
 use Rattle.cc_program.specs.declared.func.Func.{Func}
 use Rattle.cc_program.specs.declared.program.Program.{Program}
-use Rattle.cc_control.specs.Control.{Control, path_of}
+use Rattle.cc_states.specs.CcControl.Control.{Control, path_of}
 use Rattle.cc_flow.specs.declared.types.Point.{Point}
 use Rattle.cc_flow.specs.Points.{flow_of}
-use Rattle.cc_steps.specs.State.{Active}
+use Rattle.cc_states.specs.CcSteps.State.{Active}
 
 -- the function of an activation, and where in it its next step is
 abbrev pub Standing : Type 0

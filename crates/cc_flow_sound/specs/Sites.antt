@@ -6,7 +6,7 @@ use Rattle.cc_program.specs.declared.program.Program.{Program}
 use Rattle.cc_program.specs.declared.stmt.Case.{Case, out-Case}
 use Rattle.cc_program.specs.declared.stmt.Stmt.{Stmt, out-Stmt}
 use Rattle.cc_program.specs.declared.stmt.Stmt.TheOpen as is
-use Rattle.cc_control.specs.Control.{Level, Control, counted, bodies}
+use Rattle.cc_states.specs.CcControl.Control.{Level, Control, counted, bodies}
 use Rattle.cc_flow.specs.declared.next.Site.{Site}
 use Rattle.cc_flow.specs.Next.{reached, branches, may_pass}
 use Rattle.cc_flow.specs.Points.{size_of, total_of, body_site}

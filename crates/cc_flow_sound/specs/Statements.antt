@@ -1,11 +1,11 @@
 -- The statement to which a path leads, from the body inwards, by the position in each list. The two lists of an `if` count as one, and so do
 -- the bodies of a `switch`.
 use Rattle.std.specs.Prelude.{ℕ, List, [], ◌∷◌, ◌++◌, Option, None, slice_get}
-use Rattle.cc_control.specs.Control.{bodies}
+use Rattle.cc_states.specs.CcControl.Control.{bodies}
 use Rattle.cc_program.specs.declared.stmt.Case.{Case}
 use Rattle.cc_program.specs.declared.stmt.Stmt.{Stmt, out-Stmt}
 use Rattle.cc_program.specs.declared.stmt.Stmt.TheOpen as is
-use Rattle.cc_syntax.specs.Expressions.{of_one}
+use Rattle.cc_states.specs.CcSyntax.Expressions.{of_one}
 
 -- the statements inside one
 abbrev pub inside : is.Stmt-F Stmt Case → List Stmt

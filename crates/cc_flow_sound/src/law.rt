@@ -1,5 +1,5 @@
 ghost use Rattle.std.specs.Prelude.{◌≡◌, ◌<◌, ◌^◌, ℕ, ℤ, List, ◌∷◌, Option, Some, slice_get};
-ghost use Rattle.cc_control.specs.Control.{path_of};
+ghost use Rattle.cc_states.specs.CcControl.Control.{path_of};
 ghost use Rattle.cc_flow.specs.Points.{count_of};
 ghost use Rattle.cc_flow_sound.specs.Moves.{Standing, standings, IsAt, AreAt, IsMove};
 ghost use Rattle.cc_flow_sound.specs.Statements.{statement_at};
@@ -7,10 +7,10 @@ ghost use Rattle.cc_program.specs.declared.func.Func.{Func};
 ghost use Rattle.cc_program.specs.declared.program.Program.{Program};
 ghost use Rattle.cc_program.specs.declared.stmt.Stmt.{Stmt};
 ghost use Rattle.cc_states.specs.States.{IsActive, IsState};
-ghost use Rattle.cc_steps.specs.Runs.{Arrivals, run};
-ghost use Rattle.cc_steps.specs.State.{Active, State};
-ghost use Rattle.cc_steps.specs.Turn.{start, turn};
-ghost use Rattle.cc_syntax.specs.Normal.{IsNormal};
+ghost use Rattle.cc_states.specs.CcSteps.Runs.{Arrivals, run};
+ghost use Rattle.cc_states.specs.CcSteps.State.{Active, State};
+ghost use Rattle.cc_states.specs.CcSteps.Turn.{start, turn};
+ghost use Rattle.cc_states.specs.CcSyntax.Normal.{IsNormal};
 
 /// Where activations of a program in normal form stand among its points, and where turns take them. The call does nothing.
 pub fn moves()

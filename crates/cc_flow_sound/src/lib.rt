@@ -3,4 +3,5 @@
 
 mod law;
 
+pub use cc_flow as flow;
 pub use law::moves;

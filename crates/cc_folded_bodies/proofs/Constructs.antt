@@ -1,12 +1,12 @@
 -- Lines of a body are folded, construct by construct, where the lines in them are (C99 6.8).
 use Rattle.std.proofs.Common.{◌≡◌, ℕ, ℤ, Bool, true, false, List, [], ◌∷◌, ◌++◌, map, Option, Some, None, Ok, Err, refl, ap, subst}
 use Rattle.std.specs.Prelude.{not, if◌then◌else◌}
-use Rattle.cc_num.specs.declared.int_type.IntType.{IntType}
-use Rattle.cc_num.specs.declared.target.Target.{Target}
-use Rattle.cc_operands.specs.Assignments.{assigned}
-use Rattle.cc_operands.specs.Operands.{Operand, converted_to}
-use Rattle.cc_operands.specs.Verdicts.{Judged, must, judge_then}
-use Rattle.cc_operands.specs.declared.rule.Rule.TheVariants as rule
+use Rattle.cc_program.specs.CcNum.declared.int_type.IntType.{IntType}
+use Rattle.cc_program.specs.CcNum.declared.target.Target.{Target}
+use Rattle.cc_typed_bodies.specs.CcOperands.Assignments.{assigned}
+use Rattle.cc_typed_bodies.specs.CcOperands.Operands.{Operand, converted_to}
+use Rattle.cc_typed_bodies.specs.CcOperands.Verdicts.{Judged, must, judge_then}
+use Rattle.cc_typed_bodies.specs.CcOperands.declared.rule.Rule.TheVariants as rule
 use Rattle.cc_program.proofs.Each.{Each}
 use Rattle.cc_program.specs.declared.expr.Expr.{Expr, Seq}
 use Rattle.cc_program.specs.declared.expr.Expr.TheOpen as one
@@ -15,13 +15,13 @@ use Rattle.cc_program.specs.declared.program.Roles.{Roles}
 use Rattle.cc_program.specs.declared.stmt.Case.{Case}
 use Rattle.cc_program.specs.declared.stmt.Stmt.{Stmt, Do, If, While, DoWhile, For, Switch, Break, Continue, Return, Empty, Block}
 use Rattle.cc_program.specs.declared.types.CType.{CType}
-use Rattle.cc_scopes.specs.State.{State, Name, empty, entered, left}
-use Rattle.cc_scopes.specs.Verdicts.{Found, Meaning, whole, and_then, maybe_found}
-use Rattle.cc_specifiers.specs.declared.storage.Where.TheVariants as stands
-use Rattle.cc_syntax.specs.Folding.{variable, is_folded}
-use Rattle.cc_syntax.specs.Operators.{is_integer}
-use Rattle.cc_syntax.specs.Values.{ValueType, is_void, is_scalar, scalar_value}
-use Rattle.cc_terms.specs.Terms.{here}
+use Rattle.cc_typed_bodies.specs.CcScopes.State.{State, Name, empty, entered, left}
+use Rattle.cc_typed_bodies.specs.CcScopes.Verdicts.{Found, Meaning, whole, and_then, maybe_found}
+use Rattle.cc_typed_bodies.specs.CcSpecifiers.declared.storage.Where.TheVariants as stands
+use Rattle.cc_eval.specs.CcSyntax.Folding.{variable, is_folded}
+use Rattle.cc_eval.specs.CcSyntax.Operators.{is_integer}
+use Rattle.cc_eval.specs.CcSyntax.Values.{ValueType, is_void, is_scalar, scalar_value}
+use Rattle.cc_typed_bodies.specs.CcTerms.Terms.{here}
 use Rattle.cc_tree.specs.declared.at.At.{At}
 use Rattle.cc_tree.specs.declared.tree.Tree.{Tree}
 use Rattle.cc_tree.specs.declared.unit.Decl.{Decl}
@@ -31,13 +31,13 @@ use Rattle.cc_typed_bodies.specs.Declarations.{declaration}
 use Rattle.cc_typed_bodies.specs.Lines.{misplaced, label_found, misplaced_case, case_found, if_found, while_found, do_found, switch_found, for_found}
 use Rattle.cc_typed_bodies.specs.Meanings.{LineMeaning, done, scoped, line_found, lines_found, block_found, body_inside, body_found, maybe_body, item_found, items_found, cases_inside, not_switched, switch_body, empty_item, unlabelled}
 use Rattle.cc_typed_bodies.specs.Parts.{value_here, effect_found, expression_found, return_found, declared_found, first_found}
-use Rattle.cc_typed_statements.specs.Conditions.{condition, maybe_condition, effect, body_of, then_one, joined_to, joined}
-use Rattle.cc_typed_statements.specs.Jumps.{in_loop, in_switch, break_of, continue_of, returned_by, returned}
-use Rattle.cc_typed_statements.specs.Labels.{no_case, case_label, cases_behind, label_done, behind, behind_empty}
-use Rattle.cc_typed_statements.specs.Statements.{if_of, while_of, do_of, for_of}
-use Rattle.cc_typed_statements.specs.Switch.{switch_type, cases_of, switch_of}
-use Rattle.cc_typed_statements.specs.declared.cases.Cases.{Cases}
-use Rattle.cc_typed_statements.specs.declared.jumps.Jumps.{Jumps}
+use Rattle.cc_typed_bodies.specs.CcTypedStatements.Conditions.{condition, maybe_condition, effect, body_of, then_one, joined_to, joined}
+use Rattle.cc_typed_bodies.specs.CcTypedStatements.Jumps.{in_loop, in_switch, break_of, continue_of, returned_by, returned}
+use Rattle.cc_typed_bodies.specs.CcTypedStatements.Labels.{no_case, case_label, cases_behind, label_done, behind, behind_empty}
+use Rattle.cc_typed_bodies.specs.CcTypedStatements.Statements.{if_of, while_of, do_of, for_of}
+use Rattle.cc_typed_bodies.specs.CcTypedStatements.Switch.{switch_type, cases_of, switch_of}
+use Rattle.cc_typed_bodies.specs.CcTypedStatements.declared.cases.Cases.{Cases}
+use Rattle.cc_typed_bodies.specs.CcTypedStatements.declared.jumps.Jumps.{Jumps}
 use Rattle.cc_folded_operands.specs.Folded.{IsFoldedOperand}
 use Rattle.cc_folded_operands.proofs.Assignments.{assigned_folded}
 use Rattle.cc_folded_operands.proofs.Conversions.{converted_folded}

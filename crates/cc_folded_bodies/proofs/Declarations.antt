@@ -1,38 +1,38 @@
 -- The assignments by which a declaration initialises automatic objects are folded (C99 6.7, 6.7.8).
 use Rattle.std.proofs.Common.{◌≡◌, ℕ, Bool, true, false, List, [], ◌∷◌, ◌++◌, map, length, Option, Some, None, Ok, subst}
 use Rattle.std.specs.Prelude.{slice_get, if◌then◌else◌}
-use Rattle.cc_initialisers.specs.Initialisers.{here as given_here, initialised, refused_by}
-use Rattle.cc_initialisers.specs.Scalars.{scalars_from}
-use Rattle.cc_linkage.specs.Linkage.{declared}
-use Rattle.cc_linkage.specs.declared.linkage.DeclaredAs.{DeclaredAs}
-use Rattle.cc_linkage.specs.declared.linkage.DeclaredAs.TheVariants.{AsStatic, AsObject, AsExtern}
-use Rattle.cc_num.specs.declared.target.Target.{Target}
-use Rattle.cc_objects.specs.Categories.{category_of, entity_of, setting_of}
-use Rattle.cc_objects.specs.Linked.{object_declared, with_static, with_automatic}
-use Rattle.cc_objects.specs.Names.{name_judged}
-use Rattle.cc_objects.specs.Tags.{in_front, aliased}
-use Rattle.cc_objects.specs.Types.{contents_in, type_given, given_incomplete, completed_type, type_agrees, composite}
-use Rattle.cc_objects.specs.Values.{expr_given, no_expr, assignments}
-use Rattle.cc_objects.specs.declared.category.Category.{Category}
-use Rattle.cc_objects.specs.declared.category.Category.TheVariants as declares
-use Rattle.cc_operands.specs.Qualified.{is_function_type, without_const}
-use Rattle.cc_operands.specs.declared.rule.Rule.TheVariants as rule
+use Rattle.cc_typed_bodies.specs.CcInitialisers.Initialisers.{here as given_here, initialised, refused_by}
+use Rattle.cc_typed_bodies.specs.CcInitialisers.Scalars.{scalars_from}
+use Rattle.cc_typed_bodies.specs.CcLinkage.Linkage.{declared}
+use Rattle.cc_typed_bodies.specs.CcLinkage.declared.linkage.DeclaredAs.{DeclaredAs}
+use Rattle.cc_typed_bodies.specs.CcLinkage.declared.linkage.DeclaredAs.TheVariants.{AsStatic, AsObject, AsExtern}
+use Rattle.cc_program.specs.CcNum.declared.target.Target.{Target}
+use Rattle.cc_typed_bodies.specs.CcObjects.Categories.{category_of, entity_of, setting_of}
+use Rattle.cc_typed_bodies.specs.CcObjects.Linked.{object_declared, with_static, with_automatic}
+use Rattle.cc_typed_bodies.specs.CcObjects.Names.{name_judged}
+use Rattle.cc_typed_bodies.specs.CcObjects.Tags.{in_front, aliased}
+use Rattle.cc_typed_bodies.specs.CcObjects.Types.{contents_in, type_given, given_incomplete, completed_type, type_agrees, composite}
+use Rattle.cc_typed_bodies.specs.CcObjects.Values.{expr_given, no_expr, assignments}
+use Rattle.cc_typed_bodies.specs.CcObjects.declared.category.Category.{Category}
+use Rattle.cc_typed_bodies.specs.CcObjects.declared.category.Category.TheVariants as declares
+use Rattle.cc_typed_bodies.specs.CcOperands.Qualified.{is_function_type, without_const}
+use Rattle.cc_typed_bodies.specs.CcOperands.declared.rule.Rule.TheVariants as rule
 use Rattle.cc_program.proofs.Each.{Each}
 use Rattle.cc_program.specs.declared.expr.Expr.{Expr}
 use Rattle.cc_program.specs.declared.expr.Place.{Local}
 use Rattle.cc_program.specs.declared.program.Roles.{Roles}
 use Rattle.cc_program.specs.declared.types.CType.{CType}
-use Rattle.cc_scopes.specs.Definitions.{tentative_at, defined_at, with_values}
-use Rattle.cc_scopes.specs.State.{State, Name, bind, change_name, with_unfinished}
-use Rattle.cc_scopes.specs.Verdicts.{whole, and_then}
-use Rattle.cc_scopes.specs.declared.designated.Designated.TheVariants as means
-use Rattle.cc_specifiers.specs.Attributes.{entry_by}
-use Rattle.cc_specifiers.specs.Modes.{modes_judged}
-use Rattle.cc_specifiers.specs.declared.attribute.Attribute.{Attribute}
-use Rattle.cc_specifiers.specs.declared.specifier.Specified.{Specified}
-use Rattle.cc_specifiers.specs.declared.storage.Where.{Where}
-use Rattle.cc_terms.specs.Specifiers.{specified_found}
-use Rattle.cc_terms.specs.Terms.{spec_here, declr_of}
+use Rattle.cc_typed_bodies.specs.CcScopes.Definitions.{tentative_at, defined_at, with_values}
+use Rattle.cc_typed_bodies.specs.CcScopes.State.{State, Name, bind, change_name, with_unfinished}
+use Rattle.cc_typed_bodies.specs.CcScopes.Verdicts.{whole, and_then}
+use Rattle.cc_typed_bodies.specs.CcScopes.declared.designated.Designated.TheVariants as means
+use Rattle.cc_typed_bodies.specs.CcSpecifiers.Attributes.{entry_by}
+use Rattle.cc_typed_bodies.specs.CcSpecifiers.Modes.{modes_judged}
+use Rattle.cc_typed_bodies.specs.CcSpecifiers.declared.attribute.Attribute.{Attribute}
+use Rattle.cc_typed_bodies.specs.CcSpecifiers.declared.specifier.Specified.{Specified}
+use Rattle.cc_typed_bodies.specs.CcSpecifiers.declared.storage.Where.{Where}
+use Rattle.cc_typed_bodies.specs.CcTerms.Specifiers.{specified_found}
+use Rattle.cc_typed_bodies.specs.CcTerms.Terms.{spec_here, declr_of}
 use Rattle.cc_tree.specs.declared.at.At.{At}
 use Rattle.cc_tree.specs.declared.unit.Decl.{Decl}
 use Rattle.cc_tree.specs.declared.unit.Given.{Given}
@@ -41,9 +41,9 @@ use Rattle.cc_typed_bodies.specs.Declarations.{marked, init_allowed, declared_le
 use Rattle.cc_typed_bodies.specs.Functions.{typedef_left, with_function, function_refused}
 use Rattle.cc_typed_bodies.specs.Objects.{leaves_found, exprs_found, linked_defined, linked_given, static_given, automatic_given}
 use Rattle.cc_typed_bodies.specs.Plans.{steps_done}
-use Rattle.cc_typed_terms.specs.Declarators.{derived_type}
-use Rattle.cc_typed_terms.specs.Primary.{is_intrinsic, leaves_or_none}
-use Rattle.cc_unit.specs.declared.unit.UnitKind.TheVariants as kind
+use Rattle.cc_typed_bodies.specs.CcTypedTerms.Declarators.{derived_type}
+use Rattle.cc_typed_bodies.specs.CcTypedTerms.Primary.{is_intrinsic, leaves_or_none}
+use Rattle.cc_typed_bodies.specs.CcUnit.declared.unit.UnitKind.TheVariants as kind
 use Rattle.cc_folded_operands.proofs.Opened.{local_folded}
 use Rattle.cc_folded_terms.proofs.Founds.{answer, answer_is, then_found, each_append, in_turn_found}
 use Rattle.cc_folded_bodies.proofs.Initialisers.{scalars_folded, assignments_folded, steps_folded}

@@ -1,21 +1,21 @@
 -- Lines of a body are folded, by induction over them.
 use Rattle.std.proofs.Common.{◌≡◌, ℕ, Bool, true, false, List, [], ◌∷◌, map, Option, Some, None, Ok, sym, subst}
 use Rattle.std.specs.Prelude.{if◌then◌else◌}
-use Rattle.cc_num.specs.declared.int_type.IntType.{IntType}
-use Rattle.cc_num.specs.declared.target.Target.{Target}
+use Rattle.cc_program.specs.CcNum.declared.int_type.IntType.{IntType}
+use Rattle.cc_program.specs.CcNum.declared.target.Target.{Target}
 use Rattle.cc_program.proofs.Each.{Each}
 use Rattle.cc_program.specs.declared.program.Roles.{Roles}
 use Rattle.cc_program.specs.declared.stmt.Stmt.{Stmt}
 use Rattle.cc_program.specs.declared.types.CType.{CType}
-use Rattle.cc_scopes.specs.State.{State, Name, empty, entered}
+use Rattle.cc_typed_bodies.specs.CcScopes.State.{State, Name, empty, entered}
 use Rattle.cc_tree.specs.declared.at.At.{At}
 use Rattle.cc_tree.specs.declared.unit.Line.{Line, roll-Line, map-Line, ind-Line, fold-roll-Line}
 use Rattle.cc_tree.specs.declared.unit.Line.TheOpen as one_line
 use Rattle.cc_typed_bodies.specs.Lines.{inside, line_by, switched_by, item_by, line_step, line_of}
 use Rattle.cc_typed_bodies.specs.Meanings.{LineMeaning, scoped, opens_scope, lines_found, not_switched, is_empty, counts, unlabelled}
-use Rattle.cc_typed_statements.specs.Labels.{default_label}
-use Rattle.cc_typed_statements.specs.declared.cases.Cases.{Cases}
-use Rattle.cc_typed_statements.specs.declared.jumps.Jumps.{Jumps}
+use Rattle.cc_typed_bodies.specs.CcTypedStatements.Labels.{default_label}
+use Rattle.cc_typed_bodies.specs.CcTypedStatements.declared.cases.Cases.{Cases}
+use Rattle.cc_typed_bodies.specs.CcTypedStatements.declared.jumps.Jumps.{Jumps}
 use Rattle.cc_folded_bodies.proofs.Constructs.{MaybeCases, LineFolds, LineIs, expression_folded, return_is_folded, declared_folded, scoped_folded, lines_folded, block_is_folded, if_is_folded, while_is_folded, do_is_folded, for_is_folded, break_is_folded, continue_is_folded, misplaced_never, misplaced_case_never, label_is_folded, case_is_folded, unlabelled_folded, switch_block, no_block, switch_is_folded}
 use Rattle.cc_folded_bodies.proofs.Statements.{AreFolded, CasesFolded}
 

@@ -1,29 +1,29 @@
 -- What the scalars of an automatic object are given, and the assignments of that, are folded (C99 6.7.8).
 use Rattle.std.proofs.Common.{◌≡◌, ℕ, zero, suc, pos, Bool, true, not, List, [], ◌∷◌, ◌++◌, Option, Some, None, Ok, subst}
 use Rattle.std.specs.Prelude.{option_to_list}
-use Rattle.cc_initialisers.specs.Contents.{Contents, Scalar, Elements, NoMember, Members}
-use Rattle.cc_initialisers.specs.Initialisers.{Step, Give, Character, Zero, Visit, Break}
-use Rattle.cc_initialisers.specs.Scalars.{decimal, index_at, elements_from, scalars_from}
-use Rattle.cc_num.specs.declared.int_type.IntType.TheVariants as int
-use Rattle.cc_num.specs.declared.target.Target.{Target}
-use Rattle.cc_objects.specs.Values.{zero_expr, no_expr, expr_given, assignments}
-use Rattle.cc_operands.specs.Assignments.{assigned}
-use Rattle.cc_operands.specs.Operands.{Operand, integer, character_value, number_type}
-use Rattle.cc_operands.specs.Verdicts.{Judged, judge_then}
-use Rattle.cc_operands.specs.declared.rule.Rule.TheVariants as rule
+use Rattle.cc_typed_bodies.specs.CcInitialisers.Contents.{Contents, Scalar, Elements, NoMember, Members}
+use Rattle.cc_typed_bodies.specs.CcInitialisers.Initialisers.{Step, Give, Character, Zero, Visit, Break}
+use Rattle.cc_typed_bodies.specs.CcInitialisers.Scalars.{decimal, index_at, elements_from, scalars_from}
+use Rattle.cc_program.specs.CcNum.declared.int_type.IntType.TheVariants as int
+use Rattle.cc_program.specs.CcNum.declared.target.Target.{Target}
+use Rattle.cc_typed_bodies.specs.CcObjects.Values.{zero_expr, no_expr, expr_given, assignments}
+use Rattle.cc_typed_bodies.specs.CcOperands.Assignments.{assigned}
+use Rattle.cc_typed_bodies.specs.CcOperands.Operands.{Operand, integer, character_value, number_type}
+use Rattle.cc_typed_bodies.specs.CcOperands.Verdicts.{Judged, judge_then}
+use Rattle.cc_typed_bodies.specs.CcOperands.declared.rule.Rule.TheVariants as rule
 use Rattle.cc_program.proofs.Each.{Each}
 use Rattle.cc_program.specs.declared.expr.Expr.{Expr}
 use Rattle.cc_program.specs.declared.expr.Place.{Place, Element, Member}
 use Rattle.cc_program.specs.declared.program.Roles.{Roles}
-use Rattle.cc_scopes.specs.State.{State}
-use Rattle.cc_scopes.specs.Verdicts.{whole}
-use Rattle.cc_syntax.specs.Folding.{is_folded_place}
-use Rattle.cc_syntax.specs.Values.{ValueType, NoValue, Integer, ToObject, ToFunction}
-use Rattle.cc_terms.specs.Terms.{here}
+use Rattle.cc_typed_bodies.specs.CcScopes.State.{State}
+use Rattle.cc_typed_bodies.specs.CcScopes.Verdicts.{whole}
+use Rattle.cc_eval.specs.CcSyntax.Folding.{is_folded_place}
+use Rattle.cc_eval.specs.CcSyntax.Values.{ValueType, NoValue, Integer, ToObject, ToFunction}
+use Rattle.cc_typed_bodies.specs.CcTerms.Terms.{here}
 use Rattle.cc_tree.specs.declared.at.At.{At}
 use Rattle.cc_tree.specs.declared.tree.Tree.{Tree}
 use Rattle.cc_typed_bodies.specs.Plans.{as_given, step_found, step_done, steps_done}
-use Rattle.cc_typed_terms.specs.Values.{value_found}
+use Rattle.cc_typed_bodies.specs.CcTypedTerms.Values.{value_found}
 use Rattle.cc_folded_operands.specs.Folded.{IsFoldedOperand}
 use Rattle.cc_folded_operands.proofs.Assignments.{assigned_folded, assignment_folded}
 use Rattle.cc_folded_operands.proofs.Conversions.{null_folded}

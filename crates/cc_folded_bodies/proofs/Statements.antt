@@ -2,17 +2,17 @@
 use Rattle.std.proofs.Common.{◌≡◌, ℤ, Bool, true, false, ◌&&◌, List, [], ◌∷◌, ◌++◌, map, Option, refl, ap, sym, ◌∙◌}
 use Rattle.std.specs.List.{list_all}
 use Rattle.cc_lower_sound.specs.Folded.{is_optional_folded, folded_step, is_folded_stmt, are_folded}
-use Rattle.cc_num.specs.declared.target.Target.{Target}
+use Rattle.cc_program.specs.CcNum.declared.target.Target.{Target}
 use Rattle.cc_program.proofs.Each.{Each}
 use Rattle.cc_program.specs.declared.expr.Expr.{Expr}
 use Rattle.cc_program.specs.declared.stmt.Case.{Case, fold-Case, fold-roll-Case, out-Case, roll-Case, roll-out-Case}
 use Rattle.cc_program.specs.declared.stmt.Stmt.{Stmt, Do, If, While, DoWhile, For, Switch, Break, Continue, Return, Empty, Block, roll-Stmt, out-Stmt, roll-out-Stmt, map-Stmt, fold-roll-Stmt}
 use Rattle.cc_program.specs.declared.stmt.Stmt.TheOpen as is
 use Rattle.cc_program.specs.declared.stmt.Stmt.TheVariants.{rolls-Do, rolls-If, rolls-While, rolls-DoWhile, rolls-For, rolls-Switch, rolls-Break, rolls-Continue, rolls-Return, rolls-Empty, rolls-Block}
-use Rattle.cc_syntax.specs.Folding.{is_folded}
-use Rattle.cc_typed_statements.specs.Conditions.{inside_block, body_of}
-use Rattle.cc_typed_statements.specs.Labels.{at_last, with_label, new_case, labelled, with_statements, behind, behind_empty}
-use Rattle.cc_typed_statements.specs.declared.cases.Cases.{Cases}
+use Rattle.cc_eval.specs.CcSyntax.Folding.{is_folded}
+use Rattle.cc_typed_bodies.specs.CcTypedStatements.Conditions.{inside_block, body_of}
+use Rattle.cc_typed_bodies.specs.CcTypedStatements.Labels.{at_last, with_label, new_case, labelled, with_statements, behind, behind_empty}
+use Rattle.cc_typed_bodies.specs.CcTypedStatements.declared.cases.Cases.{Cases}
 use Rattle.std.specs.Prelude.{if◌then◌else◌}
 use Rattle.cc_folded_operands.proofs.Verdicts.{both}
 use Rattle.cc_folded_terms.proofs.Founds.{each_append}

@@ -1,12 +1,12 @@
 -- What is assigned is folded, where the operand is; and so are assignments to folded places.
 use Rattle.std.proofs.Common.{◌≡◌, Bool, true, false, List, Option, Some, None, Ok, refl, ap, subst}
 use Rattle.std.specs.Prelude.{if◌then◌else◌}
-use Rattle.cc_lex.specs.declared.token.Mark.{Mark}
-use Rattle.cc_num.specs.declared.int_type.IntType.{IntType}
-use Rattle.cc_num.specs.declared.int_type.IntType.TheVariants as int
-use Rattle.cc_num.specs.declared.op.BinOp.{BinOp}
-use Rattle.cc_num.specs.declared.op.BinOp.TheVariants as op
-use Rattle.cc_num.specs.declared.target.Target.{Target}
+use Rattle.cc_operands.specs.CcLex.declared.token.Mark.{Mark}
+use Rattle.cc_program.specs.CcNum.declared.int_type.IntType.{IntType}
+use Rattle.cc_program.specs.CcNum.declared.int_type.IntType.TheVariants as int
+use Rattle.cc_program.specs.CcNum.declared.op.BinOp.{BinOp}
+use Rattle.cc_program.specs.CcNum.declared.op.BinOp.TheVariants as op
+use Rattle.cc_program.specs.CcNum.declared.target.Target.{Target}
 use Rattle.std.specs.Prelude.{pos}
 use Rattle.cc_designators.specs.Assignments.{assign_to, change_of, assign_by, assign_of, one as first_number, stepped_before, stepped_after}
 use Rattle.cc_designators.specs.Designators.{TypedExpr, IsPlace, IsValue, IsFunction, IsIntrinsic, IsAddress}
@@ -21,10 +21,10 @@ use Rattle.cc_program.specs.declared.expr.Expr.TheOpen as one
 use Rattle.cc_program.specs.declared.expr.Expr.TheVariants.{rolls-Assign, rolls-Change, rolls-After}
 use Rattle.cc_program.specs.declared.expr.Place.{Place}
 use Rattle.cc_program.specs.declared.types.Structure.{Structure}
-use Rattle.cc_syntax.specs.Folding.{variable, is_folded, is_folded_place}
-use Rattle.cc_syntax.specs.Operators.{points_to_object, is_integer, is_additive}
-use Rattle.cc_syntax.specs.SameTypes.{same_int}
-use Rattle.cc_syntax.specs.Values.{ValueType, NoValue, Integer, ToObject, ToFunction, is_assignable, written_to}
+use Rattle.cc_operands.specs.CcSyntax.Folding.{variable, is_folded, is_folded_place}
+use Rattle.cc_operands.specs.CcSyntax.Operators.{points_to_object, is_integer, is_additive}
+use Rattle.cc_operands.specs.CcSyntax.SameTypes.{same_int}
+use Rattle.cc_operands.specs.CcSyntax.Values.{ValueType, NoValue, Integer, ToObject, ToFunction, is_assignable, written_to}
 use Rattle.cc_folded_operands.specs.Folded.{IsFoldedExpr}
 use Rattle.cc_folded_operands.proofs.Conversions.{null_folded, against_folded, cast_folded, converted_folded}
 use Rattle.cc_folded_operands.proofs.Opened.{Folded, IsVariable, variable_at, variable_operand, constant_operand}

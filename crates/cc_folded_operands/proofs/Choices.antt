@@ -1,9 +1,9 @@
 -- What `c ? a : b` and `a, b` make of folded operands is folded.
 use Rattle.std.proofs.Common.{◌≡◌, Bool, true, false, ◌&&◌, ◌||◌, Ok, Err, refl, ap, sym, ◌∙◌, subst}
 use Rattle.std.specs.Prelude.{if◌then◌else◌}
-use Rattle.cc_num.specs.declared.int_type.IntType.{IntType}
-use Rattle.cc_num.specs.declared.target.Target.{Target}
-use Rattle.cc_num.specs.Promotions.{usual_of}
+use Rattle.cc_program.specs.CcNum.declared.int_type.IntType.{IntType}
+use Rattle.cc_program.specs.CcNum.declared.target.Target.{Target}
+use Rattle.cc_program.specs.CcNum.Promotions.{usual_of}
 use Rattle.cc_operands.specs.Choices.{chosen_integer, chosen_pointer, arm_chosen, nothing_by, nothing_chosen, pointers_chosen, chosen_by, arms_chosen, choose_of, comma_of}
 use Rattle.cc_operands.specs.Operands.{Operand, operand, constant_at, constancy, converted_to, is_pointer, is_nothing, is_to_void, is_null_constant, null_of, no_structure}
 use Rattle.cc_operands.specs.Verdicts.{must}
@@ -11,9 +11,9 @@ use Rattle.cc_operands.specs.declared.rule.Rule.TheVariants as rule
 use Rattle.cc_program.specs.declared.expr.Expr.{Expr, Choose, Seq, out-Expr}
 use Rattle.cc_program.specs.declared.expr.Expr.TheOpen as one
 use Rattle.cc_program.specs.declared.expr.Expr.TheVariants.{rolls-Choose, rolls-Seq}
-use Rattle.cc_syntax.specs.Folding.{Constant, NoConstant, Value, Traps, Folding, operation, variable, is_true, settled, chosen_constant, folding_of, is_folded, constant_of}
-use Rattle.cc_syntax.specs.Operators.{common_type}
-use Rattle.cc_syntax.specs.Values.{ValueType, NoValue, Integer, ToObject, ToFunction, is_scalar, point_alike}
+use Rattle.cc_operands.specs.CcSyntax.Folding.{Constant, NoConstant, Value, Traps, Folding, operation, variable, is_true, settled, chosen_constant, folding_of, is_folded, constant_of}
+use Rattle.cc_operands.specs.CcSyntax.Operators.{common_type}
+use Rattle.cc_operands.specs.CcSyntax.Values.{ValueType, NoValue, Integer, ToObject, ToFunction, is_scalar, point_alike}
 use Rattle.cc_folded_operands.proofs.Conversions.{null_folded, converted_folded}
 use Rattle.cc_folded_operands.proofs.Opened.{Folded, IsVariable, folding_is, constant_is, variable_at, variable_operand, operation_operand, null_variable}
 use Rattle.cc_folded_operands.proofs.Verdicts.{ok_is, must_ok, value_ok, structure_ok, both as two}

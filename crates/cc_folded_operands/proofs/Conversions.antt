@@ -1,10 +1,10 @@
 -- Conversions of integers, nulls and comparisons with them are folded, where their operands are.
 use Rattle.std.proofs.Common.{◌≡◌, Bool, true, false, refl, ap, ◌∙◌}
 use Rattle.std.specs.Prelude.{if◌then◌else◌}
-use Rattle.cc_num.specs.declared.int_type.IntType.{IntType}
-use Rattle.cc_num.specs.declared.int_type.IntType.TheVariants as int
-use Rattle.cc_num.specs.declared.op.BinOp.{BinOp}
-use Rattle.cc_num.specs.declared.target.Target.{Target}
+use Rattle.cc_program.specs.CcNum.declared.int_type.IntType.{IntType}
+use Rattle.cc_program.specs.CcNum.declared.int_type.IntType.TheVariants as int
+use Rattle.cc_program.specs.CcNum.declared.op.BinOp.{BinOp}
+use Rattle.cc_program.specs.CcNum.declared.target.Target.{Target}
 use Rattle.cc_operands.specs.Arithmetic.{truth}
 use Rattle.cc_operands.specs.Operands.{Operand, constancy, cast_to, converted_by, converted_to, null_of, against_null}
 use Rattle.cc_operands.specs.Qualified.{type_of_value}
@@ -12,9 +12,9 @@ use Rattle.cc_program.specs.declared.expr.Expr.{Expr, Conv, Compare, Qualify}
 use Rattle.cc_program.specs.declared.expr.Expr.TheOpen as one
 use Rattle.cc_program.specs.declared.expr.Expr.TheVariants.{rolls-Conv, rolls-Compare, rolls-Qualify}
 use Rattle.cc_program.specs.declared.types.CType.{CType}
-use Rattle.cc_syntax.specs.Folding.{Constant, operation, variable, converted_constant, is_folded}
-use Rattle.cc_syntax.specs.SameTypes.{same_int}
-use Rattle.cc_syntax.specs.Values.{ValueType, NoValue, Integer, ToObject, ToFunction}
+use Rattle.cc_operands.specs.CcSyntax.Folding.{Constant, operation, variable, converted_constant, is_folded}
+use Rattle.cc_operands.specs.CcSyntax.SameTypes.{same_int}
+use Rattle.cc_operands.specs.CcSyntax.Values.{ValueType, NoValue, Integer, ToObject, ToFunction}
 use Rattle.cc_folded_operands.proofs.Opened.{Folded, IsVariable, folding_is, constant_is, variable_at, is_variable_folded, variable_operand, operation_operand, null_variable}
 use Rattle.cc_folded_operands.proofs.Verdicts.{both}
 

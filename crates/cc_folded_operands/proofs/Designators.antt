@@ -2,10 +2,10 @@
 use Rattle.std.proofs.Common.{◌≡◌, ℕ, pos, Bool, true, false, ◌&&◌, List, [], ◌∷◌, map, Option, Some, None, Ok, Err, refl, ap, subst}
 use Rattle.std.specs.List.{list_all}
 use Rattle.std.specs.Prelude.{if◌then◌else◌}
-use Rattle.cc_num.specs.declared.int_type.IntType.{IntType}
-use Rattle.cc_num.specs.declared.int_type.IntType.TheVariants as int
-use Rattle.cc_num.specs.Integers.{is_value_of}
-use Rattle.cc_num.specs.declared.target.Target.{Target}
+use Rattle.cc_program.specs.CcNum.declared.int_type.IntType.{IntType}
+use Rattle.cc_program.specs.CcNum.declared.int_type.IntType.TheVariants as int
+use Rattle.cc_program.specs.CcNum.Integers.{is_value_of}
+use Rattle.cc_program.specs.CcNum.declared.target.Target.{Target}
 use Rattle.cc_designators.specs.Calls.{intrinsic_signature, first_or_none, result_of, passed_to, passed, called_with, called_by, called, intrinsic}
 use Rattle.cc_designators.specs.Casts.{void_pointer_cast, constant_cast, pointer_cast, integer_cast, cast_by, cast_of, size_value}
 use Rattle.cc_designators.specs.Designators.{TypedExpr, IsPlace, IsValue, IsFunction, IsIntrinsic, IsAddress, first_element, loaded, value_at, pointed_in, null}
@@ -26,9 +26,9 @@ use Rattle.cc_program.specs.declared.types.Shape.{Shape, out-Shape}
 use Rattle.cc_program.specs.declared.types.Shape.TheOpen as shape
 use Rattle.cc_program.specs.declared.types.Sig.{Sig, out-Sig}
 use Rattle.cc_program.specs.declared.types.Structure.{Structure}
-use Rattle.cc_syntax.specs.Folding.{Constant, NoConstant, Value, Traps, Folding, variable, folding_of, is_folded, is_folded_place}
-use Rattle.cc_syntax.specs.Operators.{is_integer, points_to_object}
-use Rattle.cc_syntax.specs.Values.{ValueType, NoValue, Integer, ToObject, ToFunction, PlaceType, DevicePlace, ObjectPlace, FunctionPlace, pointer_to, is_void, is_assignable, pointed_to, element_of, member_of, address_of, scalar_value, result_value}
+use Rattle.cc_operands.specs.CcSyntax.Folding.{Constant, NoConstant, Value, Traps, Folding, variable, folding_of, is_folded, is_folded_place}
+use Rattle.cc_operands.specs.CcSyntax.Operators.{is_integer, points_to_object}
+use Rattle.cc_operands.specs.CcSyntax.Values.{ValueType, NoValue, Integer, ToObject, ToFunction, PlaceType, DevicePlace, ObjectPlace, FunctionPlace, pointer_to, is_void, is_assignable, pointed_to, element_of, member_of, address_of, scalar_value, result_value}
 use Rattle.cc_folded_operands.specs.Folded.{IsFoldedExpr}
 use Rattle.cc_folded_operands.proofs.Assignments.{assigned_folded}
 use Rattle.cc_folded_operands.proofs.Conversions.{qualify_variable, cast_folded}

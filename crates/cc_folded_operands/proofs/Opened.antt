@@ -1,7 +1,7 @@
 -- Folding, opened at the outermost operator of an expression; and operands of expressions that are folded.
 use Rattle.std.proofs.Common.{◌≡◌, ℕ, ℤ, Bool, true, refl, ap, sym, ◌∙◌}
-use Rattle.cc_num.specs.declared.int_type.IntType.{IntType}
-use Rattle.cc_num.specs.declared.target.Target.{Target}
+use Rattle.cc_program.specs.CcNum.declared.int_type.IntType.{IntType}
+use Rattle.cc_program.specs.CcNum.declared.target.Target.{Target}
 use Rattle.cc_operands.specs.Operands.{Operand, operand, integer, constant_at, folded}
 use Rattle.cc_program.specs.declared.expr.Expr.{Expr, Const, Null, FuncAddr, Load, AddrOf, roll-Expr, out-Expr, out-roll-Expr, map-Expr, fold-roll-Expr}
 use Rattle.cc_program.specs.declared.expr.Expr.TheOpen as one
@@ -9,8 +9,8 @@ use Rattle.cc_program.specs.declared.expr.Expr.TheVariants.{rolls-Const, rolls-N
 use Rattle.cc_program.specs.declared.expr.Place.{Place, Local, Static, Device, Element, Member, Deref, roll-Place, map-Place, fold-roll-Place}
 use Rattle.cc_program.specs.declared.expr.Place.TheVariants.{rolls-Local, rolls-Static, rolls-Device, rolls-Element, rolls-Member, rolls-Deref}
 use Rattle.cc_program.specs.declared.types.CType.{CType}
-use Rattle.cc_syntax.specs.Folding.{Constant, NoConstant, Value, Traps, Folding, operation, variable, folding_step, place_folding_step, folding_of, is_folded, is_folded_place}
-use Rattle.cc_syntax.specs.Values.{ValueType}
+use Rattle.cc_operands.specs.CcSyntax.Folding.{Constant, NoConstant, Value, Traps, Folding, operation, variable, folding_step, place_folding_step, folding_of, is_folded, is_folded_place}
+use Rattle.cc_operands.specs.CcSyntax.Values.{ValueType}
 use Rattle.cc_folded_operands.specs.Folded.{IsFoldedOperand}
 use Rattle.cc_folded_operands.proofs.Verdicts.{both}
 

@@ -1,14 +1,14 @@
 -- What unary and binary operators make of folded operands is folded.
 use Rattle.std.proofs.Common.{◌≡◌, Bool, true, false, ◌&&◌, List, Ok, refl, ap, ◌∙◌, subst}
 use Rattle.std.specs.Prelude.{if◌then◌else◌}
-use Rattle.cc_num.specs.declared.int_type.IntType.{IntType}
-use Rattle.cc_num.specs.declared.int_type.IntType.TheVariants as int
-use Rattle.cc_num.specs.declared.op.BinOp.{BinOp}
-use Rattle.cc_num.specs.declared.op.BinOp.TheVariants as op
-use Rattle.cc_num.specs.declared.op.UnOp.{UnOp}
-use Rattle.cc_num.specs.declared.op.UnOp.TheVariants as unary
-use Rattle.cc_num.specs.declared.target.Target.{Target}
-use Rattle.cc_num.specs.Promotions.{promoted}
+use Rattle.cc_program.specs.CcNum.declared.int_type.IntType.{IntType}
+use Rattle.cc_program.specs.CcNum.declared.int_type.IntType.TheVariants as int
+use Rattle.cc_program.specs.CcNum.declared.op.BinOp.{BinOp}
+use Rattle.cc_program.specs.CcNum.declared.op.BinOp.TheVariants as op
+use Rattle.cc_program.specs.CcNum.declared.op.UnOp.{UnOp}
+use Rattle.cc_program.specs.CcNum.declared.op.UnOp.TheVariants as unary
+use Rattle.cc_program.specs.CcNum.declared.target.Target.{Target}
+use Rattle.cc_program.specs.CcNum.Promotions.{promoted}
 use Rattle.cc_operands.specs.Arithmetic.{truth, both, either, is_null_beside, pointers_compared, moved, working_type, second_type, worked, arithmetic, integers_by, sum_by, gap, difference_by, compared_by, scalars, binary_by, binary_of}
 use Rattle.cc_operands.specs.Operands.{Operand, operand, constancy, converted_to, null_of, against_null, with_value}
 use Rattle.cc_operands.specs.Unary.{negated, integer_by, plus_by, not_by, unary_by, unary_of}
@@ -23,9 +23,9 @@ use Rattle.cc_program.specs.declared.expr.Expr.{Expr, Un, Bin, Move, Gap, Compar
 use Rattle.cc_program.specs.declared.expr.Expr.TheOpen as one
 use Rattle.cc_program.specs.declared.expr.Expr.TheVariants.{rolls-Un, rolls-Bin, rolls-Move, rolls-Gap, rolls-Both, rolls-Either}
 use Rattle.cc_program.specs.declared.types.Structure.{Structure}
-use Rattle.cc_syntax.specs.Folding.{Constant, operation, variable, unary_constant, binary_constant, both_constant, either_constant, is_folded, constant_of}
-use Rattle.cc_syntax.specs.Operators.{unary_result, binary_result, difference_type, has_difference, points_to_object}
-use Rattle.cc_syntax.specs.Values.{ValueType, NoValue, Integer, ToObject, ToFunction, is_scalar, point_alike}
+use Rattle.cc_operands.specs.CcSyntax.Folding.{Constant, operation, variable, unary_constant, binary_constant, both_constant, either_constant, is_folded, constant_of}
+use Rattle.cc_operands.specs.CcSyntax.Operators.{unary_result, binary_result, difference_type, has_difference, points_to_object}
+use Rattle.cc_operands.specs.CcSyntax.Values.{ValueType, NoValue, Integer, ToObject, ToFunction, is_scalar, point_alike}
 use Rattle.cc_folded_operands.proofs.Conversions.{compare_variable, null_folded, against_folded, converted_folded}
 use Rattle.cc_folded_operands.proofs.Opened.{Folded, IsVariable, folding_is, constant_is, variable_at, variable_operand, operation_operand}
 use Rattle.cc_folded_operands.proofs.Verdicts.{ok_is, must_ok, value_ok, both as two}

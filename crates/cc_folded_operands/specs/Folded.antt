@@ -2,9 +2,9 @@
 -- that has a value (C99 6.6).
 use Rattle.std.specs.Prelude.{◌≡◌, true}
 use Rattle.cc_designators.specs.Designators.{TypedExpr, IsPlace, IsValue, IsFunction, IsIntrinsic, IsAddress}
-use Rattle.cc_num.specs.declared.target.Target.{Target}
+use Rattle.cc_program.specs.CcNum.declared.target.Target.{Target}
 use Rattle.cc_operands.specs.Operands.{Operand, constancy, is_pointer}
-use Rattle.cc_syntax.specs.Folding.{NoConstant, is_folded, is_folded_place, constant_of}
+use Rattle.cc_operands.specs.CcSyntax.Folding.{NoConstant, is_folded, is_folded_place, constant_of}
 
 module _ (target : Target) where
   -- an operand says what its expression is as a constant expression; a pointer is none

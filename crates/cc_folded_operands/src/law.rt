@@ -5,9 +5,9 @@ ghost use Rattle.cc_designators.specs.Casts.{cast_of, size_value};
 ghost use Rattle.cc_designators.specs.Designators.{TypedExpr, null, value_at};
 ghost use Rattle.cc_designators.specs.Postfix.{address, arrow, dot, element, indirection, subscripted};
 ghost use Rattle.cc_folded_operands.specs.Folded.{IsFoldedExpr, IsFoldedOperand};
-ghost use Rattle.cc_lex.specs.declared.token.Mark.{Mark};
-ghost use Rattle.cc_num.specs.declared.int_type.IntType.{IntType};
-ghost use Rattle.cc_num.specs.declared.target.Target.{Target};
+ghost use Rattle.cc_operands.specs.CcLex.declared.token.Mark.{Mark};
+ghost use Rattle.cc_program.specs.CcNum.declared.int_type.IntType.{IntType};
+ghost use Rattle.cc_program.specs.CcNum.declared.target.Target.{Target};
 ghost use Rattle.cc_operands.specs.Arithmetic.{binary_of};
 ghost use Rattle.cc_operands.specs.Assignments.{assigned};
 ghost use Rattle.cc_operands.specs.Choices.{choose_of, comma_of};
@@ -20,8 +20,8 @@ ghost use Rattle.cc_program.specs.declared.expr.Intr.{Intr as Intrinsic};
 ghost use Rattle.cc_program.specs.declared.expr.Place.{Place};
 ghost use Rattle.cc_program.specs.declared.types.CType.{CType};
 ghost use Rattle.cc_program.specs.declared.types.Structure.{Structure};
-ghost use Rattle.cc_syntax.specs.Folding.{is_folded, is_folded_place};
-ghost use Rattle.cc_syntax.specs.Values.{PlaceType, ValueType};
+ghost use Rattle.cc_operands.specs.CcSyntax.Folding.{is_folded, is_folded_place};
+ghost use Rattle.cc_operands.specs.CcSyntax.Values.{PlaceType, ValueType};
 
 /// What operators make of folded operands (C99 6.5.3.3, 6.5.5 to 6.5.17). The call does nothing.
 pub fn operand_laws()

@@ -1,9 +1,9 @@
 -- What follows of a construct that is found, whatever is known where it stands.
 use Rattle.std.proofs.Common.{◌≡◌, ℕ, List, [], ◌∷◌, ◌++◌, Ok, Err, refl, ap, subst}
-use Rattle.cc_operands.specs.Verdicts.{Judged}
+use Rattle.cc_terms.specs.CcOperands.Verdicts.{Judged}
 use Rattle.cc_program.proofs.Each.{Each}
-use Rattle.cc_scopes.specs.State.{State}
-use Rattle.cc_scopes.specs.Verdicts.{Found, whole, and_then}
+use Rattle.cc_terms.specs.CcScopes.State.{State}
+use Rattle.cc_terms.specs.CcScopes.Verdicts.{Found, whole, and_then}
 use Rattle.cc_terms.specs.InTurn.{in_turn, one_more}
 
 abbrev pub answer : {A : Type 0} → A → State → Found A

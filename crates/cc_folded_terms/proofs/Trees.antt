@@ -2,23 +2,23 @@
 use Rattle.std.proofs.Common.{◌≡◌, ℕ, ◌+◌, ℤ, pos, Bool, true, false, List, [], length, Option, Some, None, Ok, Err, refl, subst}
 use Rattle.std.specs.Ordering.{int_eq}
 use Rattle.std.specs.Prelude.{take, slice_get, if◌then◌else◌}
-use Rattle.cc_designators.specs.Assignments.{assign_of, stepped_before, stepped_after}
-use Rattle.cc_designators.specs.Casts.{fits_pointer, no_device, cast_of, size_value}
-use Rattle.cc_designators.specs.Designators.{TypedExpr, IsPlace, IsValue, IsFunction, IsIntrinsic, IsAddress, value_at, null}
-use Rattle.cc_designators.specs.Postfix.{is_array_place, dot, arrow, address, indirection}
-use Rattle.cc_lex.specs.declared.token.Mark.{Mark}
-use Rattle.cc_lex.specs.declared.token.Suffix.{Suffix}
-use Rattle.cc_num.specs.Integers.{bytes_of}
-use Rattle.cc_num.specs.declared.int_type.IntType.TheVariants as int
-use Rattle.cc_num.specs.declared.target.Target.{Target}
-use Rattle.cc_operands.specs.Choices.{choose_of, comma_of}
-use Rattle.cc_operands.specs.Operands.{Operand, operand, number_type, character_value}
-use Rattle.cc_operands.specs.Operators.{operator_of, unary_operator_of}
-use Rattle.cc_operands.specs.Qualified.{type_of_value}
-use Rattle.cc_operands.specs.Verdicts.{Judged}
-use Rattle.cc_operands.specs.declared.operator.Operator.{Operator}
-use Rattle.cc_operands.specs.declared.operator.UnaryOperator.{UnaryOperator}
-use Rattle.cc_operands.specs.declared.rule.Rule.TheVariants as rule
+use Rattle.cc_terms.specs.CcDesignators.Assignments.{assign_of, stepped_before, stepped_after}
+use Rattle.cc_terms.specs.CcDesignators.Casts.{fits_pointer, no_device, cast_of, size_value}
+use Rattle.cc_terms.specs.CcDesignators.Designators.{TypedExpr, IsPlace, IsValue, IsFunction, IsIntrinsic, IsAddress, value_at, null}
+use Rattle.cc_terms.specs.CcDesignators.Postfix.{is_array_place, dot, arrow, address, indirection}
+use Rattle.cc_terms.specs.CcLex.declared.token.Mark.{Mark}
+use Rattle.cc_terms.specs.CcLex.declared.token.Suffix.{Suffix}
+use Rattle.cc_program.specs.CcNum.Integers.{bytes_of}
+use Rattle.cc_program.specs.CcNum.declared.int_type.IntType.TheVariants as int
+use Rattle.cc_program.specs.CcNum.declared.target.Target.{Target}
+use Rattle.cc_terms.specs.CcOperands.Choices.{choose_of, comma_of}
+use Rattle.cc_terms.specs.CcOperands.Operands.{Operand, operand, number_type, character_value}
+use Rattle.cc_terms.specs.CcOperands.Operators.{operator_of, unary_operator_of}
+use Rattle.cc_terms.specs.CcOperands.Qualified.{type_of_value}
+use Rattle.cc_terms.specs.CcOperands.Verdicts.{Judged}
+use Rattle.cc_terms.specs.CcOperands.declared.operator.Operator.{Operator}
+use Rattle.cc_terms.specs.CcOperands.declared.operator.UnaryOperator.{UnaryOperator}
+use Rattle.cc_terms.specs.CcOperands.declared.rule.Rule.TheVariants as rule
 use Rattle.cc_program.proofs.Each.{Each}
 use Rattle.cc_program.specs.declared.expr.Expr.{FuncAddr}
 use Rattle.cc_program.specs.declared.expr.Intr.{Intr}
@@ -28,28 +28,28 @@ use Rattle.cc_program.specs.declared.types.CType.{CType}
 use Rattle.cc_program.specs.declared.types.Shape.{Shape, out-Shape}
 use Rattle.cc_program.specs.declared.types.Shape.TheOpen as shape
 use Rattle.cc_program.specs.declared.types.Sig.{Sig}
-use Rattle.cc_scopes.specs.State.{State, Name, designated, structures_of, layouts_of, is_unfinished, with_names, with_declared}
-use Rattle.cc_scopes.specs.Verdicts.{Found, whole, and_then}
-use Rattle.cc_scopes.specs.declared.designated.Designated.{Designated}
-use Rattle.cc_scopes.specs.declared.designated.Designated.TheVariants as means
-use Rattle.cc_scopes.specs.declared.unit.Declared.{Declared}
-use Rattle.cc_specifiers.specs.Bounds.{is_bound}
-use Rattle.cc_specifiers.specs.Objects.{size_of}
-use Rattle.cc_syntax.specs.Types.{is_complete}
-use Rattle.cc_syntax.specs.Values.{PlaceType, DevicePlace, ObjectPlace, FunctionPlace, ToFunction}
+use Rattle.cc_terms.specs.CcScopes.State.{State, Name, designated, structures_of, layouts_of, is_unfinished, with_names, with_declared}
+use Rattle.cc_terms.specs.CcScopes.Verdicts.{Found, whole, and_then}
+use Rattle.cc_terms.specs.CcScopes.declared.designated.Designated.{Designated}
+use Rattle.cc_terms.specs.CcScopes.declared.designated.Designated.TheVariants as means
+use Rattle.cc_terms.specs.CcScopes.declared.unit.Declared.{Declared}
+use Rattle.cc_terms.specs.CcSpecifiers.Bounds.{is_bound}
+use Rattle.cc_terms.specs.CcSpecifiers.Objects.{size_of}
+use Rattle.cc_terms.specs.CcSyntax.Types.{is_complete}
+use Rattle.cc_terms.specs.CcSyntax.Values.{PlaceType, DevicePlace, ObjectPlace, FunctionPlace, ToFunction}
 use Rattle.cc_terms.specs.Expressions.{argument_found, arguments_found}
 use Rattle.cc_terms.specs.Meanings.{TreeMeaning, TypeNameMeaning}
 use Rattle.cc_terms.specs.Operations.{as_value, subscript_base, subscript_judged, callee_by, callee, call_judged, prefixed_by, prefixed, forgotten, sizeof_found, sizeof_type_found}
 use Rattle.cc_tree.specs.declared.at.At.{At}
-use Rattle.cc_typed_terms.specs.Devices.{device_of, number_of, with_device, device_found, register_found, address_found, starred}
-use Rattle.cc_typed_terms.specs.Operators.{prefix_of, is_minus, intrinsic_in, binary_by, unary_by}
-use Rattle.cc_typed_terms.specs.Primary.{intrinsic_named, function_by, linked_by, linked, designates, named_by, named, number, character, string_place, string_object, string_found}
-use Rattle.cc_typed_terms.specs.Sizes.{size_of_type, size_of_place, sizeof_judged}
-use Rattle.cc_typed_terms.specs.Values.{null_judged, found_value, gives, valued, value_found, value, designating, designated_found, designator}
-use Rattle.cc_typed_terms.specs.declared.prefix.Prefix.{Prefix}
-use Rattle.cc_typed_terms.specs.declared.prefix.Prefix.TheVariants as prefix
-use Rattle.cc_unit.specs.declared.unit.UnitKind.{UnitKind}
-use Rattle.cc_unit.specs.declared.unit.UnitKind.TheVariants as kind
+use Rattle.cc_terms.specs.CcTypedTerms.Devices.{device_of, number_of, with_device, device_found, register_found, address_found, starred}
+use Rattle.cc_terms.specs.CcTypedTerms.Operators.{prefix_of, is_minus, intrinsic_in, binary_by, unary_by}
+use Rattle.cc_terms.specs.CcTypedTerms.Primary.{intrinsic_named, function_by, linked_by, linked, designates, named_by, named, number, character, string_place, string_object, string_found}
+use Rattle.cc_terms.specs.CcTypedTerms.Sizes.{size_of_type, size_of_place, sizeof_judged}
+use Rattle.cc_terms.specs.CcTypedTerms.Values.{null_judged, found_value, gives, valued, value_found, value, designating, designated_found, designator}
+use Rattle.cc_terms.specs.CcTypedTerms.declared.prefix.Prefix.{Prefix}
+use Rattle.cc_terms.specs.CcTypedTerms.declared.prefix.Prefix.TheVariants as prefix
+use Rattle.cc_terms.specs.CcUnit.declared.unit.UnitKind.{UnitKind}
+use Rattle.cc_terms.specs.CcUnit.declared.unit.UnitKind.TheVariants as kind
 use Rattle.cc_folded_operands.specs.Folded.{IsFoldedOperand, IsFoldedExpr}
 use Rattle.cc_folded_operands.proofs.Assignments.{assign_folded, before_folded, stepped_after_folded}
 use Rattle.cc_folded_operands.proofs.Choices.{choose_folded, comma_folded}

@@ -15,9 +15,9 @@ use Rattle.cc_program.specs.declared.value.Leaf.TheVariants as leaf
 use Rattle.cc_program.specs.declared.value.Part.{Part}
 use Rattle.cc_program.specs.declared.value.Part.TheVariants as part
 use Rattle.cc_program.specs.declared.value.Root.TheVariants as root
-use Rattle.cc_syntax.specs.Folding.{Constant, NoConstant, Value, Traps}
-use Rattle.cc_syntax.specs.Initial.{bound_of}
-use Rattle.cc_syntax.specs.Values.{ValueType, NoValue, Integer, PlaceType, object_place, element_of, member_of}
+use Rattle.cc_operands.specs.CcSyntax.Folding.{Constant, NoConstant, Value, Traps}
+use Rattle.cc_operands.specs.CcSyntax.Initial.{bound_of}
+use Rattle.cc_operands.specs.CcSyntax.Values.{ValueType, NoValue, Integer, PlaceType, object_place, element_of, member_of}
 
 -- an object that the path leads to, or an element of the array that it leads to, or the end of that; and its type
 pub record Spot : Type 0 where

@@ -3,7 +3,7 @@ use Rattle.cc_initial.specs.Addresses.{Spot, Located, NotConstant, Trapping, AtN
 use Rattle.cc_initial.specs.declared.spot.Located.{Located as CodeLocated}
 use Rattle.cc_initial.specs.declared.spot.Located.TheVariants as located
 use Rattle.cc_initial.specs.declared.spot.Spot.{Spot as CodeSpot}
-use Rattle.cc_typed.specs.View.{place_view}
+use Rattle.cc_operands.specs.CcTyped.View.{place_view}
 
 abbrev pub spot_view : CodeSpot → Spot
 spot_view s = record { object = s.object; path = s.path; element = s.element; index = s.index; count = s.count; type = place_view s.ctype }

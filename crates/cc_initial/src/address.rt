@@ -8,9 +8,9 @@ ghost use Rattle.cc_operands.specs.View.{operand_view, constant_view};
 
 use crate::spot::{Located, whole_object};
 use crate::statics::Statics;
-use cc_num::NoMemory;
+use cc_operands::syntax::{Address, Expr, Leaf, Place, Root, Structure};
 use cc_operands::{Breach, Constant, Operand, OperandType, Rule};
-use cc_syntax::{Address, Expr, Leaf, Place, Root, Structure};
+use cc_program::num::NoMemory;
 use std::alloc::Global;
 
 /// The number that a constant is.

@@ -4,12 +4,12 @@ ghost use Rattle.std.specs.Prelude.{◌≡◌, IfOk};
 ghost use Rattle.std.specs.Option.{option_copied};
 ghost use Rattle.cc_initial.specs.Addresses.{path_into as path_into_of, element_found, element_by as element_by_of, element_at as element_at_of, member_spot as member_spot_of, member_at as member_at_of, moved_index as moved_index_of, moved_to as moved_to_of, moved_address as moved_address_of, whole_object as whole_object_of};
 ghost use Rattle.cc_initial.specs.View.{spot_view, located_view};
-ghost use Rattle.cc_syntax.specs.Values.{member_of};
-ghost use Rattle.cc_typed.specs.View.{place_view};
+ghost use Rattle.cc_operands.specs.CcSyntax.Values.{member_of};
+ghost use Rattle.cc_operands.specs.CcTyped.View.{place_view};
 
-use cc_num::{List, NoMemory};
-use cc_syntax::{CType, Part, Structure};
-use cc_typed::{PlaceType, bound_of, object_place};
+use cc_operands::syntax::{CType, Part, Structure};
+use cc_operands::typed_crate::{PlaceType, bound_of, object_place};
+use cc_program::num::{List, NoMemory};
 use std::alloc::Global;
 
 /// An object that the path leads to, or an element of the array that it leads to, or the end of that.

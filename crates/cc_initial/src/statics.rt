@@ -2,7 +2,7 @@ ghost use Rattle.std.specs.Prelude.{◌≡◌, ℕ, Option};
 ghost use Rattle.std.specs.Option.{option_copied};
 ghost use Rattle.cc_program.specs.declared.types.CType.{CType as TypeOf};
 
-use cc_syntax::CType;
+use cc_operands::syntax::CType;
 
 /// The static objects, devices and functions that are known, by their numbers.
 pub trait Statics {

@@ -3,7 +3,7 @@ use Rattle.std.proofs.Common.{arith, ◌≡◌, ◌∙◌, ◌+◌, ◌-◌, ◌
 use Rattle.cc_initialisers.specs.Initialisers.{Step, char_or_zero, chars_given}
 use Rattle.std.proofs.lemmas.List.{append-nil}
 use Rattle.cc_initialisers.proofs.Filling.{dropped, gone}
-use Rattle.cc_syntax.specs.Values.{ValueType}
+use Rattle.cc_operands.specs.CcSyntax.Values.{ValueType}
 
 module _ (at : ℕ) (constant : Bool) (t : ValueType) (bytes : List ℕ) where
   -- so many characters from the i-th on

@@ -1,7 +1,7 @@
 -- Scalars of elements, one behind the other.
 use Rattle.std.proofs.Common.{arith, ◌≡◌, ◌∙◌, ◌+◌, ◌-◌, ◌<◌, ℕ, suc, List, ◌++◌, ap, sym, append_assoc}
 use Rattle.cc_initialisers.specs.Scalars.{index_at, elements_from}
-use Rattle.cc_num.specs.declared.target.Target.{Target}
+use Rattle.cc_program.specs.CcNum.declared.target.Target.{Target}
 use Rattle.cc_program.specs.declared.expr.Place.{Place, Element}
 
 pub element-placed : (target : Target) (scalars : Place → List Place) (array : Place) (n i : ℕ) (before after whole : List Place) → i < n →

@@ -4,8 +4,8 @@ use Rattle.cc_initialisers.specs.Contents.{Contents, Scalar, Elements, NoMember,
 use Rattle.cc_initialisers.specs.Counts.{sum_of, count_step, initialisers_in, initialisers_among}
 use Rattle.cc_initialisers.specs.View.{member_view, members_view}
 use Rattle.cc_initialisers.specs.declared.content.Members.{Members as CodeMembers}
-use Rattle.cc_syntax.specs.Types.{Named}
-use Rattle.cc_syntax.proofs.Shapes.{read_at}
+use Rattle.cc_operands.specs.CcSyntax.Types.{Named}
+use Rattle.cc_operands.proofs.CcSyntax.Shapes.{read_at}
 use Rattle.cc_tree.specs.declared.at.At.{At}
 use Rattle.cc_tree.specs.declared.unit.Given.{Given, Many, out-Given, fold_out-Given, map-Given}
 use Rattle.cc_tree.specs.declared.unit.Given.TheVariants.{outs-Many}

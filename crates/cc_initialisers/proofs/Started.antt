@@ -8,7 +8,7 @@ use Rattle.cc_initialisers.specs.Initialisers.{Step, Give, Init, Initialiser, Fi
 use Rattle.cc_initialisers.proofs.Filling.{drop_past}
 use Rattle.cc_initialisers.proofs.Layers.{initialiser-One, initialiser-Many}
 use Rattle.cc_operands.specs.declared.rule.Rule.TheVariants as rule
-use Rattle.cc_syntax.specs.Values.{ValueType}
+use Rattle.cc_operands.specs.CcSyntax.Values.{ValueType}
 use Rattle.cc_tree.specs.declared.at.At.{At}
 use Rattle.cc_tree.specs.declared.tree.Tree.{Tree}
 use Rattle.cc_tree.specs.declared.unit.Given.{Given, One, Many}

@@ -1,8 +1,8 @@
 -- The places of the scalars of an object, in the order in which they are given their first values.
 use Rattle.std.specs.Prelude.{ℕ, zero, suc, pos, true, false, List, [], ◌∷◌, ◌++◌}
 use Rattle.cc_initialisers.specs.Contents.{Contents, Scalar, Elements, NoMember, Members}
-use Rattle.cc_lex.specs.declared.token.Suffix.{Suffix}
-use Rattle.cc_num.specs.declared.target.Target.{Target}
+use Rattle.cc_operands.specs.CcLex.declared.token.Suffix.{Suffix}
+use Rattle.cc_program.specs.CcNum.declared.target.Target.{Target}
 use Rattle.cc_operands.specs.Operands.{number_type}
 use Rattle.cc_program.specs.declared.expr.Expr.{Expr, Const}
 use Rattle.cc_program.specs.declared.expr.Place.{Place, Element, Member}

@@ -10,8 +10,8 @@ use Rattle.cc_initialisers.specs.declared.content.Part.{Part as CodePart}
 use Rattle.cc_initialisers.specs.declared.step.Step.{Step as CodeStep}
 use Rattle.cc_initialisers.specs.declared.step.Step.TheVariants as step
 use Rattle.cc_operands.specs.View.{type_view}
-use Rattle.cc_syntax.specs.Types.{Named}
-use Rattle.cc_typed.specs.View.{value_view}
+use Rattle.cc_operands.specs.CcSyntax.Types.{Named}
+use Rattle.cc_operands.specs.CcTyped.View.{value_view}
 
 abbrev pub part_view : CodePart → Contents
 part_view p = contents_over (structure_inside p.structures.now p.depth) p.ctype.now p.constant

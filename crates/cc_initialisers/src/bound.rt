@@ -8,8 +8,8 @@ ghost use Rattle.cc_initialisers.specs.View.{content_view};
 use crate::content::{Content, Part};
 use crate::given::text;
 use crate::walk::started;
-use cc_num::NoMemory;
-use cc_syntax::{CType, Structure};
+use cc_operands::syntax::{CType, Structure};
+use cc_program::num::NoMemory;
 use cc_tree::{At, Given};
 use std::alloc::Global;
 

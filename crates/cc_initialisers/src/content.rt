@@ -5,11 +5,11 @@ ghost use Rattle.std.specs.Option.{option_copied};
 ghost use Rattle.cc_initialisers.specs.Contents.{NoMember, members_at as members_at_of, structure_inside, contents as contents_of};
 ghost use Rattle.cc_initialisers.specs.Initialisers.{is_char as is_char_of, is_char_type as is_char_type_of, is_scalar_object, takes_text as takes_text_of, is_character as is_character_of};
 ghost use Rattle.cc_initialisers.specs.View.{part_view, member_view, members_view, content_view};
-ghost use Rattle.cc_typed.specs.View.{value_view};
+ghost use Rattle.cc_operands.specs.CcTyped.View.{value_view};
 
-use cc_num::{IntType, Name, at};
-use cc_syntax::{CType, Shape, Structure};
-use cc_typed::{ValueType, pointer_to};
+use cc_operands::syntax::{CType, Shape, Structure};
+use cc_operands::typed_crate::{ValueType, pointer_to};
+use cc_program::num::{IntType, Name, at};
 
 /// A part of an object: its type, whether it is part of something const, and how deep structures may nest in it.
 #[derive(Clone, Copy)]

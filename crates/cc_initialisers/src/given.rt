@@ -9,8 +9,8 @@ ghost use Rattle.cc_tree.specs.declared.tree.Tree.{out-Tree};
 
 use crate::content::Content;
 use crate::step::{Step, put, put_breach};
-use cc_num::NoMemory;
 use cc_operands::Rule;
+use cc_program::num::NoMemory;
 use cc_tree::{At, Given, Tree};
 use std::alloc::Global;
 

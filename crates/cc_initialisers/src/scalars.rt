@@ -6,10 +6,10 @@ ghost use Rattle.cc_initialisers.specs.Scalars.{index_at as index_at_of, element
 ghost use Rattle.cc_initialisers.specs.View.{part_view, members_view, content_view};
 
 use crate::content::{Content, Members, Part};
-use cc_lex::Suffix;
-use cc_num::{Boxed, NoMemory, Target};
+use cc_operands::lex::Suffix;
 use cc_operands::number_type;
-use cc_syntax::{CType, Expr, Place, Structure};
+use cc_operands::syntax::{CType, Expr, Place, Structure};
+use cc_program::num::{Boxed, NoMemory, Target};
 use std::alloc::Global;
 
 /// The number of an element, as it would be written.

@@ -4,12 +4,12 @@ ghost use Rattle.std.specs.Prelude.{◌≡◌, ◌++◌, ◌∷◌, [], OnOk};
 ghost use Rattle.std.specs.Option.{option_copied};
 ghost use Rattle.cc_initialisers.specs.Initialisers.{Give, Zero, char_or_zero, breaks};
 ghost use Rattle.cc_initialisers.specs.View.{step_view, steps_of};
-ghost use Rattle.cc_typed.specs.View.{value_view};
+ghost use Rattle.cc_operands.specs.CcTyped.View.{value_view};
 
-use cc_num::NoMemory;
+use cc_operands::typed_crate::ValueType;
 use cc_operands::{OperandType, Rule, owned};
+use cc_program::num::NoMemory;
 use cc_tree::{At, Tree};
-use cc_typed::ValueType;
 use std::alloc::Global;
 
 /// One thing that is done for an initialiser (C99 6.7.8).

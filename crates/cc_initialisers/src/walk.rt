@@ -5,16 +5,16 @@ ghost use Rattle.cc_initialisers.specs.Contents.{contents};
 ghost use Rattle.cc_initialisers.specs.Counts.{initialisers_among};
 ghost use Rattle.cc_initialisers.specs.Initialisers.{chars_given as chars_given_of, text_by as text_by_of, text_given as text_given_of, string_for as string_for_of, all_taken, scalar_given as scalar_given_of, scalar_filled as scalar_filled_of, sole as sole_of, list_braced, repeated, elided as elided_of, started as started_of, here, behind, initialised as initialised_of, aggregate_initialised as aggregate_initialised_of};
 ghost use Rattle.cc_initialisers.specs.View.{part_view, members_view, content_view, step_view, steps_of};
-ghost use Rattle.cc_typed.specs.View.{value_view};
+ghost use Rattle.cc_operands.specs.CcTyped.View.{value_view};
 
 use crate::content::{Content, Members, Part};
 use crate::given::{nothing_left, refuse, string_for};
 use crate::step::{Step, put_breach, put_character, put_given, put_zero};
-use cc_num::{NoMemory, at};
 use cc_operands::Rule;
-use cc_syntax::{CType, Structure};
+use cc_operands::syntax::{CType, Structure};
+use cc_operands::typed_crate::ValueType;
+use cc_program::num::{NoMemory, at};
 use cc_tree::{At, Given};
-use cc_typed::ValueType;
 use std::alloc::Global;
 
 /// A string: its characters, and zeros for the rest.

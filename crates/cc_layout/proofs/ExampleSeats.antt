@@ -1,8 +1,8 @@
 -- The seats of the examples, by evaluation of the definition.
 use Rattle.std.proofs.Common.{◌≡◌, ◌||◌, ◌*◌, ℕ, Bool, true, false, List, [], ◌∷◌, refl, ap, ◌∙◌}
-use Rattle.cc_num.specs.declared.int_type.IntType.{IntType}
-use Rattle.cc_num.specs.Integers.{bytes_of}
-use Rattle.cc_num.specs.declared.int_type.IntType.TheVariants as int
+use Rattle.cc_program.specs.CcNum.declared.int_type.IntType.{IntType}
+use Rattle.cc_program.specs.CcNum.Integers.{bytes_of}
+use Rattle.cc_program.specs.CcNum.declared.int_type.IntType.TheVariants as int
 use Rattle.cc_program.proofs.QualifierLemmas.{parts_const, const-opens}
 use Rattle.cc_program.specs.Qualifiers.{of_element, is_const}
 use Rattle.cc_program.specs.declared.types.CType.{CType}

@@ -5,7 +5,7 @@ ghost use Rattle.cc_program.specs.Qualifiers.{is_const};
 ghost use Rattle.cc_layout.specs.Seats.{ram as ram_of, seats as seats_of};
 ghost use Rattle.cc_syntax.specs.Layout.{HasSizes};
 
-use cc_num::NoMemory;
+use cc_program::num::NoMemory;
 use cc_syntax::{Object, Program, layout_of};
 use std::alloc::Global;
 

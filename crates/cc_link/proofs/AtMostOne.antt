@@ -3,7 +3,7 @@ use Rattle.std.proofs.Common.{◌≡◌, ◌∙◌, List, map, None, Some, ap, s
 use Rattle.cc_causes.specs.declared.fault.LinkFault.{LinkFault}
 use Rattle.cc_link.proofs.Unique.{one_numbering, one_firsts}
 use Rattle.cc_link.specs.Linked.{Links, Breaks, first_cause, program}
-use Rattle.cc_num.specs.declared.target.Target.{Target}
+use Rattle.cc_program.specs.CcNum.declared.target.Target.{Target}
 use Rattle.cc_program.specs.declared.program.Program.{Program}
 use Rattle.cc_program.specs.declared.program.Roles.{Roles}
 use Rattle.cc_structures.specs.Structures.{Known, Numbering, AreNumbered}

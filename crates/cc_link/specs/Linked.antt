@@ -6,7 +6,7 @@ use Rattle.cc_causes.specs.Causes.{cause}
 use Rattle.cc_causes.specs.Entries.{entry_at}
 use Rattle.cc_causes.specs.declared.fault.LinkFault.{LinkFault}
 use Rattle.cc_linked_names.specs.Given.{tags, name_at, local_names, reserved_names}
-use Rattle.cc_num.specs.declared.target.Target.{Target}
+use Rattle.cc_program.specs.CcNum.declared.target.Target.{Target}
 use Rattle.cc_program.specs.declared.func.Entry.{Entry}
 use Rattle.cc_program.specs.declared.func.Func.{Func}
 use Rattle.cc_program.specs.declared.object.Device.{Device}

@@ -1,6 +1,6 @@
 -- What a program has beside its target and its roles.
 use Rattle.cc_link.specs.declared.linking.Parts.{Parts}
-use Rattle.cc_num.specs.declared.target.Target.{Target}
+use Rattle.cc_program.specs.CcNum.declared.target.Target.{Target}
 use Rattle.cc_program.specs.declared.program.Program.{Program}
 use Rattle.cc_program.specs.declared.program.Roles.{Roles}
 

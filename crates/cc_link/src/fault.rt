@@ -2,7 +2,7 @@ ghost use Rattle.std.specs.Prelude.{◌≡◌};
 ghost use Rattle.cc_link.specs.declared.fault.LinkEnd.TheVariants.{NoMemory as NoRoom};
 
 use cc_causes::LinkFault;
-use cc_num::NoMemory;
+use cc_program::num::NoMemory;
 
 /// Why linking gives no program.
 #[derive(Debug, Drop)]

@@ -5,8 +5,8 @@ ghost use Rattle.cc_link.specs.Kept.{AreGathered};
 
 use crate::tables::{Table, table_of};
 use cc_linked_names::{Given, given_names};
-use cc_num::NoMemory;
 use cc_program::Roles;
+use cc_program::num::NoMemory;
 use cc_structures::{Structures, structures_of};
 use cc_things::{Text, Things, mentions, things_of};
 use std::alloc::Global;

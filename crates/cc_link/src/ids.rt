@@ -7,7 +7,7 @@ ghost use Rattle.cc_things.specs.Mentions.{Mention as MentionOf, mentions_from};
 ghost use Rattle.cc_unit.specs.declared.ids.Id.{Id as IdOf};
 
 use cc_causes::structures_in;
-use cc_num::{List, NoMemory, at};
+use cc_program::num::{List, NoMemory, at};
 use cc_things::Text;
 use cc_unit::{Id, Ids};
 use std::alloc::Global;

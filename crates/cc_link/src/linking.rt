@@ -5,7 +5,7 @@ ghost use Rattle.cc_link.specs.Kept.{AreGathered};
 ghost use Rattle.cc_link.specs.Linked.{Links, all_ids as all_ids_of, first_cause, program};
 ghost use Rattle.cc_link.specs.Parts.{with_parts};
 ghost use Rattle.cc_link.specs.Tells.{Tells};
-ghost use Rattle.cc_num.specs.declared.target.Target.{Target as TargetOf};
+ghost use Rattle.cc_program.specs.CcNum.declared.target.Target.{Target as TargetOf};
 ghost use Rattle.cc_structures.specs.View.{knowns_of};
 ghost use Rattle.cc_things.specs.declared.text.Text.{Text as TextOf};
 
@@ -14,7 +14,7 @@ use crate::gathered::{Gathered, gather};
 use crate::ids::all_ids;
 use crate::parts::{devices, funcs, main_number, objects, structures};
 use cc_causes::{LinkFault, first_fault};
-use cc_num::{List, NoMemory, Target};
+use cc_program::num::{List, NoMemory, Target};
 use cc_program::{Device, Func, Object, Program, Roles, Structure};
 use cc_things::Text;
 use cc_unit::Ids;

@@ -13,7 +13,7 @@ ghost use Rattle.cc_things.specs.View.{thing_view, view_of};
 use cc_causes::{entry_at, structures_in};
 use cc_definitions::{definition, function_of, is_named_main, thing_at};
 use cc_linked_names::Given;
-use cc_num::{List, Name, NoMemory, at};
+use cc_program::num::{List, Name, NoMemory, at};
 use cc_program::{Device, Entry, Func, Leaf, Object, Roles, Structure, copy_list};
 use cc_relocation::{relocated_device, relocated_func, relocated_object, relocated_structure};
 use cc_structures::Known;

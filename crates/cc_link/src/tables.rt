@@ -8,8 +8,8 @@ ghost use Rattle.cc_things.specs.View.{thing_view};
 
 use cc_definitions::{defined, devices, kinds_of};
 use cc_linked_names::position_at;
-use cc_num::NoMemory;
 use cc_order::first_positions;
+use cc_program::num::NoMemory;
 use cc_things::Thing;
 use cc_unit::Id;
 use std::alloc::Global;

@@ -12,9 +12,9 @@ use Rattle.cc_scopes.specs.State.{State, Name, designated, named_here, bind, wit
 use Rattle.cc_scopes.specs.declared.designated.Designated.{Designated}
 use Rattle.cc_scopes.specs.declared.designated.Designated.TheVariants.{Linked}
 use Rattle.cc_scopes.specs.declared.unit.Declared.{Declared}
-use Rattle.cc_unit.specs.declared.unit.Linkage.{Linkage}
-use Rattle.cc_unit.specs.declared.unit.Linkage.TheVariants as linkage
-use Rattle.cc_unit.specs.declared.unit.UnitKind.{UnitKind}
+use Rattle.cc_scopes.specs.CcUnit.declared.unit.Linkage.{Linkage}
+use Rattle.cc_scopes.specs.CcUnit.declared.unit.Linkage.TheVariants as linkage
+use Rattle.cc_scopes.specs.CcUnit.declared.unit.UnitKind.{UnitKind}
 use Rattle.cc_linkage.specs.declared.linkage.DeclaredAs.{DeclaredAs}
 use Rattle.cc_linkage.specs.declared.linkage.DeclaredAs.TheVariants.{AsStatic, AsObject, AsExtern}
 

@@ -9,7 +9,7 @@ ghost use Rattle.cc_syntax.specs.Sound.{main_name};
 
 use crate::linkage::DeclaredAs;
 use crate::types::{is_main_shape, may_be};
-use cc_num::at;
+use cc_program::num::at;
 use cc_scopes::{Declared, Designated, Linkage, State};
 use cc_syntax::CType;
 

@@ -4,8 +4,8 @@ ghost use Rattle.std.specs.Prelude.{◌≡◌, IfOk};
 ghost use Rattle.cc_linkage.specs.Linkage.{linkage_of as linkage_of_asked, new_declared as new_declared_of, declared, declared_as};
 ghost use Rattle.cc_scopes.specs.View.{state_of};
 
-use cc_num::{Name, NoMemory};
 use cc_program::copy_list;
+use cc_program::num::{Name, NoMemory};
 use cc_scopes::{Declared, Designated, Linkage, State, UnitKind};
 use cc_syntax::CType;
 use std::alloc::Global;

@@ -6,9 +6,9 @@ ghost use Rattle.cc_syntax.specs.SameTypes.{same_type as same_type_of};
 ghost use Rattle.cc_syntax.specs.Sound.{is_plain_int as is_plain_int_of, is_plain_void as is_plain_void_of};
 ghost use Rattle.cc_linkage.specs.Linkage.{same_element as same_element_of, may_be as may_be_of, is_main_result as is_main_result_of, is_main_shape as is_main_shape_of};
 
-use cc_num::IntType;
+use cc_program::num::IntType;
+use cc_scopes::typed::{is_unqualified, is_void, same_flag, same_int, same_shape};
 use cc_syntax::{CType, Shape};
-use cc_typed::{is_unqualified, is_void, same_flag, same_int, same_shape};
 
 /// Whether two types are the same one, with their qualifiers.
 #[tactic(auto, unfolding(cc_syntax::specs::SameTypes::comparison_of, cc_syntax::specs::SameTypes::shape_comparison))]

@@ -6,7 +6,7 @@ use Rattle.cc_names.specs.Names.{Wish, Own, Numbered, names_for}
 use Rattle.cc_program.specs.declared.func.Func.{Func}
 use Rattle.cc_program.specs.declared.program.Roles.{Roles}
 use Rattle.cc_structures.specs.Structures.{Known, tag_of}
-use Rattle.cc_syntax.specs.Names.{intrinsic_names}
+use Rattle.cc_typed.specs.CcSyntax.Names.{intrinsic_names}
 use Rattle.cc_things.specs.Things.{Thing, own_name}
 use Rattle.cc_things.specs.declared.text.Text.{Text}
 

@@ -8,16 +8,16 @@ ghost use Rattle.cc_names.specs.Holds.{Holds};
 ghost use Rattle.cc_names.specs.Names.{names_for as names_for_wishes};
 ghost use Rattle.cc_names.specs.View.{HaveSame};
 ghost use Rattle.cc_structures.specs.View.{knowns_of};
-ghost use Rattle.cc_syntax.specs.Names.{intrinsic_names};
+ghost use Rattle.cc_typed.specs.CcSyntax.Names.{intrinsic_names};
 ghost use Rattle.cc_things.specs.View.{thing_view};
 
 use crate::reserved::reserve;
 use crate::wishes::{local_wishes, tag_wishes, thing_wishes};
 use cc_definitions::named;
 use cc_names::{Names, Taken, inner_names_for, names_for};
-use cc_num::{List as ListOf, Name, NoMemory, at};
 use cc_order::first_positions;
 use cc_program::Roles;
+use cc_program::num::{List as ListOf, Name, NoMemory, at};
 use cc_structures::Known;
 use cc_things::{Text, Thing};
 use std::alloc::Global;

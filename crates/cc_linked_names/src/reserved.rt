@@ -3,11 +3,11 @@
 ghost use Rattle.std.specs.Prelude.{◌≡◌, ◌++◌, ℕ, List, [], OnOk, flat_map};
 ghost use Rattle.cc_linked_names.specs.Given.{reserved_names};
 ghost use Rattle.cc_names.specs.Holds.{Holds};
-ghost use Rattle.cc_syntax.specs.Names.{intrinsic_names};
+ghost use Rattle.cc_typed.specs.CcSyntax.Names.{intrinsic_names};
 
 use cc_names::Taken;
-use cc_num::{List as ListOf, Name, NoMemory};
 use cc_program::Roles;
+use cc_program::num::{List as ListOf, Name, NoMemory};
 use cc_things::Text;
 use std::alloc::Global;
 

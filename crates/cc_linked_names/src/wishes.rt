@@ -11,8 +11,8 @@ ghost use Rattle.cc_things.specs.View.{thing_view};
 
 use cc_definitions::{function_of, own_name, thing_at};
 use cc_names::Wish;
-use cc_num::{Name, NoMemory};
 use cc_program::Func;
+use cc_program::num::{Name, NoMemory};
 use cc_structures::Known;
 use cc_things::Thing;
 use std::alloc::Global;

@@ -9,8 +9,8 @@ use Rattle.cc_structures.specs.Structures.{Numbering, type_in}
 use Rattle.cc_relocated_units.proofs.ProgramOrder.{filter-passes}
 use Rattle.cc_structures.proofs.Elements.{In, any-in, in-any, in-map, in-map_from}
 use Rattle.cc_structures.proofs.OrderLemmas.{in-filter}
-use Rattle.cc_syntax.proofs.Prefixes.{both_true}
-use Rattle.cc_syntax.proofs.SameLemmas.{compared}
+use Rattle.cc_operands.proofs.CcSyntax.Prefixes.{both_true}
+use Rattle.cc_operands.proofs.CcSyntax.SameLemmas.{compared}
 use Rattle.cc_things.specs.Mentions.{Mention, mentions}
 use Rattle.cc_things.specs.Things.{Identity, External, Numbered, Single, same_identity, identity_of, external_or, numbered_or, address_or, identities, Thing, thing_of, things_in, things, own_name, name_of, is_external, is_external_linkage, is_device_kind, is_definition, is_defined, is_used, is_device}
 use Rattle.cc_things.specs.declared.text.Text.{Text}

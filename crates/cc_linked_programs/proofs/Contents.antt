@@ -14,10 +14,10 @@ use Rattle.cc_linked_programs.proofs.Definitions.{DefinedAt, FunctionAt, defined
 use Rattle.cc_linked_programs.proofs.Functions.{FuncOf, func_of, given-from}
 use Rattle.cc_linked_programs.proofs.Units.{unit_renumbered, units_of}
 use Rattle.cc_linked_programs.proofs.ViewNumbers.{objects-in}
-use Rattle.cc_num.proofs.Conversions.{few_bytes}
-use Rattle.cc_num.specs.Integers.{bytes_of}
-use Rattle.cc_num.specs.declared.int_type.IntType.{IntType}
-use Rattle.cc_num.specs.declared.target.Target.{Target}
+use Rattle.cc_program.proofs.CcNum.Conversions.{few_bytes}
+use Rattle.cc_program.specs.CcNum.Integers.{bytes_of}
+use Rattle.cc_program.specs.CcNum.declared.int_type.IntType.{IntType}
+use Rattle.cc_program.specs.CcNum.declared.target.Target.{Target}
 use Rattle.cc_program.proofs.Each.{Each}
 use Rattle.cc_program.specs.declared.func.Func.{Func}
 use Rattle.cc_program.specs.declared.object.Object.{Object}
@@ -33,11 +33,11 @@ use Rattle.cc_relocated_units.specs.Units.{unit_view, IsSoundFunction, IsSoundKi
 use Rattle.cc_structures.proofs.Elements.{In, any-in}
 use Rattle.cc_structures.proofs.WordLaws.{level-renumbered}
 use Rattle.cc_structures.specs.Structures.{AreNumbered, Known, Numbering}
-use Rattle.cc_syntax.proofs.KindRolls.{parts_kind, kind-opens}
-use Rattle.cc_syntax.specs.Initial.{IsInitial}
-use Rattle.cc_syntax.specs.Kinds.{is_object_type, qualified_kind, shape_kind}
-use Rattle.cc_syntax.specs.Names.{intrinsic_names}
-use Rattle.cc_syntax.specs.Views.{View, kind_in, of_program}
+use Rattle.cc_operands.proofs.CcSyntax.KindRolls.{parts_kind, kind-opens}
+use Rattle.cc_operands.specs.CcSyntax.Initial.{IsInitial}
+use Rattle.cc_operands.specs.CcSyntax.Kinds.{is_object_type, qualified_kind, shape_kind}
+use Rattle.cc_operands.specs.CcSyntax.Names.{intrinsic_names}
+use Rattle.cc_operands.specs.CcSyntax.Views.{View, kind_in, of_program}
 use Rattle.cc_things.specs.Mentions.{Mention}
 use Rattle.cc_things.specs.Things.{Thing, things, is_func_kind}
 use Rattle.cc_things.specs.declared.text.Text.{Text}

@@ -8,7 +8,7 @@ use Rattle.cc_definitions.specs.Definitions.{devices, functions, objects}
 use Rattle.cc_link.specs.Linked.{Links, all_ids, device_at, func_at, object_at, structure_of}
 use Rattle.cc_linked_names.specs.Given.{name_at, reserved_names}
 use Rattle.cc_linked_names.specs.Given as linked
-use Rattle.cc_num.specs.declared.target.Target.{Target}
+use Rattle.cc_program.specs.CcNum.declared.target.Target.{Target}
 use Rattle.cc_program.specs.declared.func.Func.{Func}
 use Rattle.cc_program.specs.declared.program.Program.{Program}
 use Rattle.cc_program.specs.declared.program.Roles.{Roles}
@@ -16,13 +16,13 @@ use Rattle.cc_relocation.specs.Relocated.{local_with}
 use Rattle.cc_structures.proofs.Elements.{In}
 use Rattle.cc_structures.specs.Structures.{structures}
 use Rattle.cc_structures.specs.View.{units_of}
-use Rattle.cc_syntax.specs.Names.{intrinsic_names, local_names}
-use Rattle.cc_syntax.specs.Sound.{have_ids}
-use Rattle.cc_syntax.specs.Types.{Named}
+use Rattle.cc_operands.specs.CcSyntax.Names.{intrinsic_names, local_names}
+use Rattle.cc_operands.specs.CcSyntax.Sound.{have_ids}
+use Rattle.cc_operands.specs.CcSyntax.Types.{Named}
 use Rattle.cc_things.specs.Mentions.{mentions}
 use Rattle.cc_things.specs.Things.{is_device, things}
 use Rattle.cc_things.specs.declared.text.Text.{Text}
-use Rattle.cc_words.specs.Names.{is_name}
+use Rattle.cc_program.specs.CcWords.Names.{is_name}
 use Rattle.cc_linked_programs.specs.Few.{FewTexts, EachOfText}
 use Rattle.cc_linked_programs.proofs.Listed.{length-functions, length-numbers, length-objects, local-numbers}
 use Rattle.cc_linked_programs.proofs.NameLists.{in-filter_map}

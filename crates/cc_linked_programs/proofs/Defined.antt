@@ -6,8 +6,8 @@ use Rattle.std.proofs.lemmas.Bool.{eq-eqb}
 use Rattle.std.proofs.lemmas.Option.{slice_get_within, get_or_from_slice_get}
 use Rattle.cc_causes.specs.Causes.{cause_of_things}
 use Rattle.cc_definitions.specs.Definitions.{definition}
-use Rattle.cc_num.specs.declared.int_type.IntType.{IntType}
-use Rattle.cc_num.specs.declared.target.Target.{Target}
+use Rattle.cc_program.specs.CcNum.declared.int_type.IntType.{IntType}
+use Rattle.cc_program.specs.CcNum.declared.target.Target.{Target}
 use Rattle.cc_program.specs.declared.object.Device.{Device}
 use Rattle.cc_program.specs.declared.types.CType.{CType}
 use Rattle.cc_program.specs.declared.types.Shape.{out-Shape}
@@ -20,8 +20,8 @@ use Rattle.cc_relocated_units.specs.Units.{unit_view, IsSoundUnit, IsSoundName, 
 use Rattle.cc_structures.specs.Structures.{Numbering, numbers_of, type_in}
 use Rattle.cc_structures.proofs.Elements.{In, any-in}
 use Rattle.cc_structures.proofs.WordLaws.{constant-kept, level-renumbered}
-use Rattle.cc_syntax.specs.SameTypes.{same_int}
-use Rattle.cc_syntax.proofs.SameLemmas.{int_same}
+use Rattle.cc_operands.specs.CcSyntax.SameTypes.{same_int}
+use Rattle.cc_operands.proofs.CcSyntax.SameLemmas.{int_same}
 use Rattle.cc_things.specs.Mentions.{Mention, mentions}
 use Rattle.cc_things.specs.Things.{Identity, External, Numbered, Single, identity_of, external_or, numbered_or, address_or, position_of_type, Thing, thing_of, things, is_defined, is_device, is_definition, is_device_kind}
 use Rattle.cc_things.specs.declared.text.Text.{Text}

@@ -9,7 +9,7 @@ use Rattle.cc_linked_programs.proofs.ThingLists.{found-in}
 use Rattle.cc_linked_programs.proofs.ThingSources.{is_mention}
 use Rattle.cc_linked_programs.proofs.Defined.{at_all, each_named}
 use Rattle.cc_linked_programs.proofs.ViewNumbers.{functions-in}
-use Rattle.cc_num.specs.declared.target.Target.{Target}
+use Rattle.cc_program.specs.CcNum.declared.target.Target.{Target}
 use Rattle.cc_program.specs.declared.func.Entry.{Entry}
 use Rattle.cc_program.specs.declared.func.Func.{Func}
 use Rattle.cc_relocated_units.specs.Units.{unit_view, IsSoundUnit, IsSoundName, IsSoundKind, IsSoundFunctionName}

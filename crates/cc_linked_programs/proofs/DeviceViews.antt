@@ -7,7 +7,7 @@ use Rattle.std.proofs.Math.ListN.{get_or-eq_default}
 use Rattle.cc_causes.specs.Causes.{cause_of_things}
 use Rattle.cc_definitions.specs.Definitions.{thing_at, devices}
 use Rattle.cc_link.specs.Linked.{id_at, device_at, device_by, device_in}
-use Rattle.cc_num.specs.declared.target.Target.{Target}
+use Rattle.cc_program.specs.CcNum.declared.target.Target.{Target}
 use Rattle.cc_program.specs.declared.object.Device.{Device}
 use Rattle.cc_relocation.specs.Relocated.{device_with}
 use Rattle.cc_linked_programs.proofs.Agreeing.{first_of, from_identity, mention_in}

@@ -11,8 +11,8 @@ use Rattle.cc_linked_programs.proofs.Definitions.{MentionAt, mention_at, thing-w
 use Rattle.cc_linked_programs.proofs.Functions.{Given, given-from}
 use Rattle.cc_linked_programs.proofs.Used.{in-slice}
 use Rattle.cc_linked_programs.proofs.ViewNumbers.{devices-in}
-use Rattle.cc_num.specs.declared.int_type.IntType.{IntType}
-use Rattle.cc_num.specs.declared.target.Target.{Target}
+use Rattle.cc_program.specs.CcNum.declared.int_type.IntType.{IntType}
+use Rattle.cc_program.specs.CcNum.declared.target.Target.{Target}
 use Rattle.cc_program.specs.declared.object.Device.{Device}
 use Rattle.cc_program.specs.declared.program.Program.{Program}
 use Rattle.cc_program.specs.declared.program.Roles.{Roles}
@@ -20,10 +20,10 @@ use Rattle.cc_relocation.specs.Relocated.{device_with}
 use Rattle.cc_relocated_units.specs.Units.{unit_view, IsSoundDevice, IsSoundKind, IsSoundUnit}
 use Rattle.cc_structures.proofs.Elements.{In, in-any}
 use Rattle.cc_structures.specs.Structures.{Known, Numbering}
-use Rattle.cc_syntax.proofs.Prefixes.{both_true}
-use Rattle.cc_syntax.proofs.SameLemmas.{int_same}
-use Rattle.cc_syntax.specs.SameTypes.{same_flag, same_int}
-use Rattle.cc_syntax.specs.Sound.{devices_differ, is_device, is_numbered, is_same_device}
+use Rattle.cc_operands.proofs.CcSyntax.Prefixes.{both_true}
+use Rattle.cc_operands.proofs.CcSyntax.SameLemmas.{int_same}
+use Rattle.cc_operands.specs.CcSyntax.SameTypes.{same_flag, same_int}
+use Rattle.cc_operands.specs.CcSyntax.Sound.{devices_differ, is_device, is_numbered, is_same_device}
 use Rattle.cc_things.specs.Mentions.{Mention, mentions}
 use Rattle.cc_things.specs.Things.{Identity, Numbered, Single, Thing, address_or, external_or, identity_of, is_there, numbered_or, own_name, position_of_type, thing_of, things, name_of as mention_name, is_defined, is_device as is_device_thing}
 use Rattle.cc_things.specs.declared.text.Text.{Text}

@@ -11,7 +11,7 @@ use Rattle.cc_linked_programs.proofs.Named.{NameOf, has_name_by, name_there}
 use Rattle.cc_linked_names.specs.Given.{name_at, reserved_names}
 use Rattle.cc_linked_programs.proofs.ThingLists.{found-in}
 use Rattle.cc_linked_programs.proofs.Definitions.{DefinedAt, MentionAt, mention_at, thing-within}
-use Rattle.cc_num.specs.declared.target.Target.{Target}
+use Rattle.cc_program.specs.CcNum.declared.target.Target.{Target}
 use Rattle.cc_program.specs.declared.func.Entry.{Entry}
 use Rattle.cc_program.specs.declared.func.Entry.TheVariants as entry
 use Rattle.cc_program.specs.declared.func.Func.{Func}
@@ -21,7 +21,7 @@ use Rattle.cc_linked_programs.proofs.HandlerViews.{not_bad}
 use Rattle.cc_relocated_units.specs.Units.{unit_view, IsSoundKind, IsSoundUnit, is_attributed}
 use Rattle.cc_structures.proofs.Elements.{In, any-in}
 use Rattle.cc_structures.specs.Structures.{Known, Numbering}
-use Rattle.cc_syntax.specs.Sound.{entry_fits, is_handler_name}
+use Rattle.cc_operands.specs.CcSyntax.Sound.{entry_fits, is_handler_name}
 use Rattle.cc_things.specs.Mentions.{Mention}
 use Rattle.cc_things.specs.Things.{Thing, things, is_defined, is_definition, is_device, is_device_kind, is_there, is_used, own_name}
 use Rattle.cc_things.specs.declared.text.Text.{Text}

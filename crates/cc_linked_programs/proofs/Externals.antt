@@ -6,7 +6,7 @@ use Rattle.cc_linked_programs.proofs.Apart.{one_place}
 use Rattle.cc_linked_programs.proofs.Agreeing.{external_identity, first_of}
 use Rattle.cc_linked_programs.proofs.Definitions.{MentionAt, mention_at}
 use Rattle.cc_linked_programs.proofs.Defined.{each_named}
-use Rattle.cc_num.specs.declared.target.Target.{Target}
+use Rattle.cc_program.specs.CcNum.declared.target.Target.{Target}
 use Rattle.cc_relocated_units.specs.Units.{IsSoundUnit}
 use Rattle.cc_structures.proofs.Elements.{in-any}
 use Rattle.cc_things.specs.Mentions.{Mention, mentions}

@@ -11,8 +11,8 @@ use Rattle.cc_linked_programs.proofs.Contents.{FuncIn}
 use Rattle.cc_linked_names.specs.Given.{name_at, reserved_names}
 use Rattle.cc_linked_programs.proofs.Definitions.{DefinedAt, FunctionAt, thing-within}
 use Rattle.cc_linked_programs.proofs.Units.{units_of}
-use Rattle.cc_num.specs.declared.int_type.IntType.TheVariants as int
-use Rattle.cc_num.specs.declared.target.Target.{Target}
+use Rattle.cc_program.specs.CcNum.declared.int_type.IntType.TheVariants as int
+use Rattle.cc_program.specs.CcNum.declared.target.Target.{Target}
 use Rattle.cc_program.specs.declared.func.Func.{Func}
 use Rattle.cc_program.specs.declared.program.Program.{Program}
 use Rattle.cc_program.specs.declared.program.Roles.{Roles}
@@ -24,11 +24,11 @@ use Rattle.cc_relocated_units.proofs.Types.{unqualified_kept, void_kept}
 use Rattle.cc_relocated_units.specs.Units.{IsSoundUnit, is_main_name, is_main_sig}
 use Rattle.cc_structures.proofs.WordLaws.{level-renumbered, renumbered_level, sig_level}
 use Rattle.cc_structures.specs.Structures.{AreNumbered, Known, Numbering}
-use Rattle.cc_syntax.specs.Names.{are_names, file_names}
-use Rattle.cc_syntax.specs.Operators.{is_handler, is_unqualified}
-use Rattle.cc_syntax.specs.SameTypes.{is_int_shape}
-use Rattle.cc_syntax.specs.Sound.{form_fits, is_main, is_plain_int, is_plain_void, main_name, takes_nothing}
-use Rattle.cc_syntax.specs.Values.{is_void}
+use Rattle.cc_operands.specs.CcSyntax.Names.{are_names, file_names}
+use Rattle.cc_operands.specs.CcSyntax.Operators.{is_handler, is_unqualified}
+use Rattle.cc_operands.specs.CcSyntax.SameTypes.{is_int_shape}
+use Rattle.cc_operands.specs.CcSyntax.Sound.{form_fits, is_main, is_plain_int, is_plain_void, main_name, takes_nothing}
+use Rattle.cc_operands.specs.CcSyntax.Values.{is_void}
 use Rattle.cc_things.specs.Mentions.{Mention}
 use Rattle.cc_things.specs.Things.{Thing, is_external, is_func, own_name, things}
 use Rattle.cc_things.specs.declared.text.Text.{Text}

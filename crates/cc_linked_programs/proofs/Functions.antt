@@ -8,7 +8,7 @@ use Rattle.cc_link.specs.Linked.{all_ids, func_at, ids_in, name_or_none}
 use Rattle.cc_linked_names.specs.Given.{local_wishes, local_wishes_in, locals_for}
 use Rattle.cc_linked_programs.proofs.ThingLists.{given-at}
 use Rattle.cc_names.specs.Names.{Wish, Own, names_for, name_for}
-use Rattle.cc_num.specs.declared.target.Target.{Target}
+use Rattle.cc_program.specs.CcNum.declared.target.Target.{Target}
 use Rattle.cc_program.specs.declared.func.Func.{Func}
 use Rattle.cc_program.specs.declared.program.Roles.{Roles}
 use Rattle.cc_linked_programs.proofs.HandlerViews.{local_at, local_in, func_is}
@@ -16,7 +16,7 @@ use Rattle.cc_relocation.specs.Relocated.{func_with}
 use Rattle.cc_relocated_units.specs.Units.{IsSoundUnit}
 use Rattle.cc_structures.specs.Structures.{Numbering}
 use Rattle.cc_structures.proofs.Elements.{In}
-use Rattle.cc_syntax.specs.Types.{Named}
+use Rattle.cc_operands.specs.CcSyntax.Types.{Named}
 use Rattle.cc_things.specs.Mentions.{Mention}
 use Rattle.cc_things.specs.Things.{Thing, things}
 use Rattle.cc_things.specs.declared.text.Text.{Text}

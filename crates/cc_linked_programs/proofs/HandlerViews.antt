@@ -15,7 +15,7 @@ use Rattle.cc_linked_programs.proofs.ThingLists.{found-in, not-found, below-in}
 use Rattle.cc_linked_programs.proofs.ThingSources.{one_mention, its_thing, number_of, number_within}
 use Rattle.cc_linked_programs.proofs.Defined.{sound_mention, each_named, numbered_identity}
 use Rattle.cc_names.specs.Names.{names_for}
-use Rattle.cc_num.specs.declared.target.Target.{Target}
+use Rattle.cc_program.specs.CcNum.declared.target.Target.{Target}
 use Rattle.cc_program.specs.declared.func.Entry.{Entry}
 use Rattle.cc_program.specs.declared.func.Entry.TheVariants as entry
 use Rattle.cc_program.specs.declared.func.Func.{Func}

@@ -19,7 +19,7 @@ use Rattle.cc_linked_programs.proofs.Used.{in-slice}
 use Rattle.cc_linked_programs.proofs.ViewNumbers.{in-defined}
 use Rattle.cc_linked_programs.proofs.Shapes.{no_object}
 use Rattle.cc_linked_programs.specs.FunctionTypes.{is_function_shape}
-use Rattle.cc_num.specs.declared.target.Target.{Target}
+use Rattle.cc_program.specs.CcNum.declared.target.Target.{Target}
 use Rattle.cc_program.specs.declared.func.Entry.{Entry}
 use Rattle.cc_program.specs.declared.func.Func.{Func}
 use Rattle.cc_program.specs.declared.program.Program.{Program}
@@ -32,9 +32,9 @@ use Rattle.cc_relocated_units.specs.Units.{unit_view, IsSoundKind, IsSoundUnit}
 use Rattle.cc_structures.proofs.Elements.{In, any-in, in-any, in-map}
 use Rattle.cc_structures.proofs.OrderLemmas.{filter-in}
 use Rattle.cc_structures.specs.Structures.{Known, Numbering}
-use Rattle.cc_syntax.proofs.Prefixes.{both_true}
-use Rattle.cc_syntax.specs.Names.{intrinsic_names}
-use Rattle.cc_syntax.specs.Sound.{handlers_are_there}
+use Rattle.cc_operands.proofs.CcSyntax.Prefixes.{both_true}
+use Rattle.cc_operands.specs.CcSyntax.Names.{intrinsic_names}
+use Rattle.cc_operands.specs.CcSyntax.Sound.{handlers_are_there}
 use Rattle.cc_things.specs.Mentions.{Mention}
 use Rattle.cc_things.specs.Things.{Thing, things, is_definition, is_device, is_func_kind}
 use Rattle.cc_things.specs.declared.text.Text.{Text}

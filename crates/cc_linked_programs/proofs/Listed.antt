@@ -17,8 +17,8 @@ use Rattle.cc_program.specs.declared.program.Roles.{Roles}
 use Rattle.cc_relocation.specs.Relocated.{device_with, func_with}
 use Rattle.cc_structures.proofs.Elements.{In, any-in, in-cases, in-left, in-right}
 use Rattle.cc_structures.proofs.OrderLemmas.{filter-in, in-filter}
-use Rattle.cc_syntax.specs.Names.{device_names, with_name}
-use Rattle.cc_syntax.specs.SameTypes.{same_flag}
+use Rattle.cc_operands.specs.CcSyntax.Names.{device_names, with_name}
+use Rattle.cc_operands.specs.CcSyntax.SameTypes.{same_flag}
 use Rattle.cc_things.specs.Mentions.{Mention}
 use Rattle.cc_things.specs.Things.{Thing, is_definition, is_defined, is_device, is_device_kind, is_external, is_there, own_name}
 use Rattle.cc_unit.specs.declared.ids.Ids.{Ids}

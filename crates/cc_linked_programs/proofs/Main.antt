@@ -17,7 +17,7 @@ use Rattle.cc_linked_programs.proofs.Functions.{func_from, func_there}
 use Rattle.cc_linked_programs.proofs.ViewNumbers.{in-defined}
 use Rattle.cc_linked_programs.proofs.Shapes.{function_is}
 use Rattle.cc_linked_programs.specs.FunctionTypes.{is_function_type}
-use Rattle.cc_num.specs.declared.target.Target.{Target}
+use Rattle.cc_program.specs.CcNum.declared.target.Target.{Target}
 use Rattle.cc_program.specs.declared.func.Func.{Func}
 use Rattle.cc_program.specs.declared.object.Object.{Object}
 use Rattle.cc_program.specs.declared.program.Program.{Program}
@@ -27,16 +27,16 @@ use Rattle.cc_relocated_units.specs.Units.{unit_view, IsSoundKind, IsSoundUnit}
 use Rattle.cc_structures.proofs.Elements.{In, any-in, in-any}
 use Rattle.cc_structures.proofs.OrderLemmas.{filter-in}
 use Rattle.cc_structures.specs.Structures.{Known, Numbering}
-use Rattle.cc_syntax.proofs.Prefixes.{both_true}
-use Rattle.cc_syntax.specs.Names.{are_names, device_names, file_names, intrinsic_names}
-use Rattle.cc_syntax.specs.Sound.{is_main_there, main_name}
+use Rattle.cc_operands.proofs.CcSyntax.Prefixes.{both_true}
+use Rattle.cc_operands.specs.CcSyntax.Names.{are_names, device_names, file_names, intrinsic_names}
+use Rattle.cc_operands.specs.CcSyntax.Sound.{is_main_there, main_name}
 use Rattle.cc_things.specs.Mentions.{Mention}
 use Rattle.cc_things.specs.Things.{Thing, things, is_defined, is_external, is_func, is_func_kind, own_name}
 use Rattle.cc_things.specs.View.{no_thing}
 use Rattle.cc_things.specs.declared.text.Text.{Text}
 use Rattle.cc_unit.specs.declared.unit.UnitKind.{UnitKind}
 use Rattle.cc_unit.specs.declared.unit.UnitKind.TheVariants as kind
-use Rattle.cc_words.specs.Names.{are_distinct, is_name}
+use Rattle.cc_program.specs.CcWords.Names.{are_distinct, is_name}
 use Rattle.cc_linked_programs.proofs.Entries.{is_there_by}
 use Rattle.cc_linked_programs.proofs.Places.{PlacedBy, bytes-itself, distinct-left, distinct-places, distinct-right, in-place, placed-by}
 use Rattle.cc_linked_programs.specs.Named.{IsMainNamed}

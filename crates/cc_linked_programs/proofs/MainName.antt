@@ -12,15 +12,15 @@ use Rattle.cc_linked_names.specs.Given.{file_names, reserved_names, tags, thing_
 use Rattle.cc_linked_programs.proofs.ThingLists.{Positioned, positioned}
 use Rattle.cc_linked_programs.proofs.Definitions.{thing-within}
 use Rattle.cc_names.specs.Names.{Wish, Own, Numbered, is_among, name_for, names_for, new_name, with_number}
-use Rattle.cc_num.specs.declared.target.Target.{Target}
+use Rattle.cc_program.specs.CcNum.declared.target.Target.{Target}
 use Rattle.cc_program.specs.declared.program.Roles.{Roles}
 use Rattle.cc_relocated_units.specs.Units.{IsSoundUnit}
 use Rattle.cc_structures.proofs.Elements.{In, in-left}
 use Rattle.cc_structures.specs.Structures.{Known}
-use Rattle.cc_syntax.proofs.Prefixes.{both_true}
-use Rattle.cc_syntax.specs.Names.{intrinsic_names}
-use Rattle.cc_syntax.specs.SameTypes.{same_flag}
-use Rattle.cc_syntax.specs.Sound.{main_name}
+use Rattle.cc_operands.proofs.CcSyntax.Prefixes.{both_true}
+use Rattle.cc_operands.specs.CcSyntax.Names.{intrinsic_names}
+use Rattle.cc_operands.specs.CcSyntax.SameTypes.{same_flag}
+use Rattle.cc_operands.specs.CcSyntax.Sound.{main_name}
 use Rattle.cc_things.specs.Things.{Thing, is_device, is_external, is_there, own_name, things}
 use Rattle.cc_things.specs.declared.text.Text.{Text}
 use Rattle.cc_linked_programs.proofs.Externals.{external_at, one_external}

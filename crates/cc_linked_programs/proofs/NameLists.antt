@@ -7,7 +7,7 @@ use Rattle.std.proofs.lemmas.Bool.{and_parts, and_from, or_right}
 use Rattle.cc_given_names.proofs.Among.{among-first, first-apart, rest-distinct}
 use Rattle.cc_names.specs.Names.{is_among}
 use Rattle.cc_structures.proofs.Elements.{In}
-use Rattle.cc_words.specs.Names.{are_distinct}
+use Rattle.cc_program.specs.CcWords.Names.{are_distinct}
 
 pub in-at : {X : Type 0} (xs : List X) (i : ℕ) (x : X) → slice_get xs i ≡ Some x → In x xs
 in-at [] i x e = absurd (cc)

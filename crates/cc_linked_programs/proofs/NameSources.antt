@@ -16,9 +16,9 @@ use Rattle.cc_structures.proofs.Elements.{In, in-cases, in-map_from}
 use Rattle.cc_structures.proofs.OrderLemmas.{in-filter}
 use Rattle.cc_structures.specs.Structures.{Known, Numbering, known_in, known_from, structures, tag_of, tag_or, number_of, firsts_of, is_complete, in_program_order, AreNumbered}
 use Rattle.cc_structures.specs.View.{units_of}
-use Rattle.cc_syntax.specs.Names.{local_names}
-use Rattle.cc_syntax.specs.Sound.{have_ids}
-use Rattle.cc_syntax.specs.Types.{Named}
+use Rattle.cc_operands.specs.CcSyntax.Names.{local_names}
+use Rattle.cc_operands.specs.CcSyntax.Sound.{have_ids}
+use Rattle.cc_operands.specs.CcSyntax.Types.{Named}
 use Rattle.cc_things.specs.Mentions.{Mention, mentions}
 use Rattle.cc_things.specs.Things.{Identity, same_identity, identity_of, with_identity, identities, is_of, thing_of, things_in, things, Thing, own_name, name_of, is_definition}
 use Rattle.cc_things.specs.View.{no_thing}
@@ -28,8 +28,8 @@ use Rattle.cc_unit.specs.declared.unit.UnitKind.{UnitKind}
 use Rattle.cc_unit.specs.declared.unit.UnitKind.TheVariants as kind
 use Rattle.cc_unit.specs.declared.unit.UnitName.{UnitName}
 use Rattle.cc_unit.specs.declared.unit.UnitStructure.{UnitStructure}
-use Rattle.cc_words.specs.Names.{is_name}
-use Rattle.cc_words.specs.Words.{word_of}
+use Rattle.cc_program.specs.CcWords.Names.{is_name}
+use Rattle.cc_program.specs.CcWords.Words.{word_of}
 use Rattle.cc_linked_programs.specs.Few.{EachOfText}
 use Rattle.cc_linked_programs.proofs.NameLists.{in-at, at-in, all-at, all-in, all-map}
 use Rattle.cc_linked_programs.proofs.NameNumbers.{length-both, length-filter}

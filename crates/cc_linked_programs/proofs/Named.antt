@@ -13,8 +13,8 @@ use Rattle.cc_program.specs.declared.program.Roles.{Roles}
 use Rattle.cc_structures.proofs.Elements.{In, in-cases, in-left, in-right}
 use Rattle.cc_structures.proofs.OrderLemmas.{filter-in}
 use Rattle.cc_structures.specs.Structures.{Known}
-use Rattle.cc_syntax.specs.Names.{intrinsic_names}
-use Rattle.cc_syntax.specs.SameTypes.{same_flag}
+use Rattle.cc_operands.specs.CcSyntax.Names.{intrinsic_names}
+use Rattle.cc_operands.specs.CcSyntax.SameTypes.{same_flag}
 use Rattle.cc_things.specs.Things.{Thing, is_device, is_external, is_there}
 
 module _ (ts : List Thing) where

@@ -16,7 +16,7 @@ use Rattle.cc_linked_names.specs.Given.{local_wishes, local_wishes_in, name_at, 
 use Rattle.cc_linked_names.specs.Given as linked
 use Rattle.cc_linked_programs.proofs.ThingLists.{positioned}
 use Rattle.cc_names.specs.Names.{Own, is_among}
-use Rattle.cc_num.specs.declared.target.Target.{Target}
+use Rattle.cc_program.specs.CcNum.declared.target.Target.{Target}
 use Rattle.cc_program.specs.declared.func.Func.{Func}
 use Rattle.cc_program.specs.declared.program.Program.{Program}
 use Rattle.cc_program.specs.declared.program.Roles.{Roles}
@@ -24,13 +24,13 @@ use Rattle.cc_relocation.specs.Relocated.{func_with, local_with}
 use Rattle.cc_structures.proofs.Elements.{In}
 use Rattle.cc_structures.specs.Structures.{Known, Numbering, structures}
 use Rattle.cc_structures.specs.View.{units_of}
-use Rattle.cc_syntax.specs.Names.{are_names, device_names, file_names, intrinsic_names, local_names, tags}
-use Rattle.cc_syntax.specs.Types.{Named}
+use Rattle.cc_operands.specs.CcSyntax.Names.{are_names, device_names, file_names, intrinsic_names, local_names, tags}
+use Rattle.cc_operands.specs.CcSyntax.Types.{Named}
 use Rattle.cc_things.specs.Mentions.{Mention}
 use Rattle.cc_things.specs.Things.{Thing, things}
 use Rattle.cc_things.specs.declared.text.Text.{Text}
 use Rattle.cc_unit.specs.declared.ids.Ids.{Ids}
-use Rattle.cc_words.specs.Names.{are_distinct, is_name}
+use Rattle.cc_program.specs.CcWords.Names.{are_distinct, is_name}
 use Rattle.cc_linked_programs.specs.Few.{FewTexts, EachOfText}
 use Rattle.cc_linked_programs.proofs.Listed.{all-apart, defined-in, device-names, func-names, function-defined, local-numbers, object-defined, object-names}
 use Rattle.cc_linked_programs.proofs.NameLists.{among-at, in-filter_map, one-position, all-at}

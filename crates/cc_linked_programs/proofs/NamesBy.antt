@@ -6,7 +6,7 @@ use Rattle.std.proofs.lemmas.Bool.{and_from, false_from_ne_true, or_cases}
 use Rattle.cc_given_names.proofs.Among.{same-text, distinct-cons}
 use Rattle.cc_names.specs.Names.{is_among}
 use Rattle.cc_structures.proofs.Elements.{In}
-use Rattle.cc_words.specs.Names.{are_distinct}
+use Rattle.cc_program.specs.CcWords.Names.{are_distinct}
 use Rattle.cc_linked_programs.proofs.NameNumbers.{Apart}
 
 module _ (name_of : ℕ → Option (List ℕ)) where

@@ -6,7 +6,7 @@ use Rattle.std.specs.List.{list_any}
 use Rattle.cc_causes.specs.Causes.{cause_of_things}
 use Rattle.cc_definitions.specs.Definitions.{thing_at, definition, objects}
 use Rattle.cc_link.specs.Linked.{all_ids, id_at, ids_in, object_at, object_in, name_or_none}
-use Rattle.cc_num.specs.declared.target.Target.{Target}
+use Rattle.cc_program.specs.CcNum.declared.target.Target.{Target}
 use Rattle.cc_program.specs.declared.object.Object.{Object}
 use Rattle.cc_program.specs.declared.value.Leaf.{Leaf}
 use Rattle.cc_linked_programs.proofs.Agreeing.{used_there, mention_in}

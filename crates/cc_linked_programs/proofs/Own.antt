@@ -9,14 +9,14 @@ use Rattle.cc_linked_programs.proofs.ThingLists.{in-found}
 use Rattle.cc_linked_programs.proofs.Definitions.{defined_at}
 use Rattle.cc_linked_programs.proofs.Defined.{at_all}
 use Rattle.cc_names.specs.Names.{is_among}
-use Rattle.cc_num.specs.declared.target.Target.{Target}
+use Rattle.cc_program.specs.CcNum.declared.target.Target.{Target}
 use Rattle.cc_program.specs.declared.program.Roles.{Roles}
 use Rattle.cc_relocated_units.specs.Units.{IsSoundUnit, is_main_name}
 use Rattle.cc_structures.proofs.Elements.{in-any}
 use Rattle.cc_structures.specs.Structures.{Numbering}
-use Rattle.cc_syntax.proofs.Prefixes.{both_true}
-use Rattle.cc_syntax.specs.Names.{intrinsic_names}
-use Rattle.cc_syntax.specs.Sound.{main_name}
+use Rattle.cc_operands.proofs.CcSyntax.Prefixes.{both_true}
+use Rattle.cc_operands.specs.CcSyntax.Names.{intrinsic_names}
+use Rattle.cc_operands.specs.CcSyntax.Sound.{main_name}
 use Rattle.cc_things.specs.Things.{things, is_defined, is_definition}
 use Rattle.cc_things.specs.View.{no_thing}
 use Rattle.cc_things.specs.declared.text.Text.{Text}

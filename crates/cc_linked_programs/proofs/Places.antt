@@ -9,8 +9,8 @@ use Rattle.std.proofs.lemmas.Option.{slice_get-get_or}
 use Rattle.std.proofs.lemmas.Slice.Eq.{bytes_eq-Decides}
 use Rattle.cc_structures.proofs.ClassLemmas.{position-passes, position-within}
 use Rattle.cc_structures.proofs.Elements.{In, any-in}
-use Rattle.cc_syntax.proofs.Prefixes.{both_true}
-use Rattle.cc_words.specs.Names.{are_distinct}
+use Rattle.cc_operands.proofs.CcSyntax.Prefixes.{both_true}
+use Rattle.cc_program.specs.CcWords.Names.{are_distinct}
 
 -- ---- the first that passes a test
 

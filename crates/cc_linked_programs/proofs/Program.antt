@@ -10,7 +10,7 @@ use Rattle.cc_linked_names.specs.Given.{name_at, reserved_names, tags}
 use Rattle.cc_relocated_units.proofs.Standing.{in-order-program, named-first-program}
 use Rattle.cc_linked_programs.proofs.Agreeing.{first_none, second_none}
 use Rattle.cc_linked_programs.proofs.Units.{all_stand, tags-as_many, units_of}
-use Rattle.cc_num.specs.declared.target.Target.{Target}
+use Rattle.cc_program.specs.CcNum.declared.target.Target.{Target}
 use Rattle.cc_program.specs.declared.func.Func.{Func}
 use Rattle.cc_program.specs.declared.object.Object.{Object}
 use Rattle.cc_program.specs.declared.program.Program.{Program}
@@ -18,8 +18,8 @@ use Rattle.cc_program.specs.declared.program.Roles.{Roles}
 use Rattle.cc_relocated_units.specs.Units.{IsSoundUnit}
 use Rattle.cc_structures.proofs.Elements.{In}
 use Rattle.cc_structures.specs.Structures.{AreNumbered, Known, Numbering}
-use Rattle.cc_syntax.specs.Programs.{IsInitial}
-use Rattle.cc_syntax.specs.Sound.{IsFunc, IsSound, is_object}
+use Rattle.cc_operands.specs.CcSyntax.Programs.{IsInitial}
+use Rattle.cc_operands.specs.CcSyntax.Sound.{IsFunc, IsSound, is_object}
 use Rattle.cc_things.specs.Things.{things}
 use Rattle.cc_things.specs.declared.text.Text.{Text}
 use Rattle.cc_linked_programs.proofs.Entries.{entry_there}

@@ -18,16 +18,16 @@ use Rattle.cc_relocated_units.proofs.Statements.{body_numbered}
 use Rattle.cc_relocation.specs.Relocated.{func_with, local_with}
 use Rattle.cc_relocated_units.specs.Units.{IsSoundFunction}
 use Rattle.cc_structures.proofs.WordLaws.{renumbered_sig_level, sig_level}
-use Rattle.cc_syntax.proofs.Prefixes.{both_true}
-use Rattle.cc_syntax.proofs.SameLemmas.{compared, shape_of_same}
-use Rattle.cc_syntax.specs.Expressions.{type_of}
-use Rattle.cc_num.specs.declared.target.Target.{Target}
-use Rattle.cc_syntax.specs.Kinds.{Kind, kind_of, is_object_type, is_plain_scalar, is_result}
-use Rattle.cc_syntax.specs.SameTypes.{Comparison, comparison_of, compare_shape, compare_sig, compare_type, same_flag, same_shape, shape_comparison}
-use Rattle.cc_syntax.specs.Sound.{are_parameters, is_automatic}
-use Rattle.cc_syntax.specs.Statements.{is_sound_body}
-use Rattle.cc_syntax.specs.Types.{Named}
-use Rattle.cc_syntax.specs.Views.{View, kind_in}
+use Rattle.cc_operands.proofs.CcSyntax.Prefixes.{both_true}
+use Rattle.cc_operands.proofs.CcSyntax.SameLemmas.{compared, shape_of_same}
+use Rattle.cc_operands.specs.CcSyntax.Expressions.{type_of}
+use Rattle.cc_program.specs.CcNum.declared.target.Target.{Target}
+use Rattle.cc_operands.specs.CcSyntax.Kinds.{Kind, kind_of, is_object_type, is_plain_scalar, is_result}
+use Rattle.cc_operands.specs.CcSyntax.SameTypes.{Comparison, comparison_of, compare_shape, compare_sig, compare_type, same_flag, same_shape, shape_comparison}
+use Rattle.cc_operands.specs.CcSyntax.Sound.{are_parameters, is_automatic}
+use Rattle.cc_operands.specs.CcSyntax.Statements.{is_sound_body}
+use Rattle.cc_operands.specs.CcSyntax.Types.{Named}
+use Rattle.cc_operands.specs.CcSyntax.Views.{View, kind_in}
 use Rattle.cc_unit.specs.Mentioned.{all_of, in_stmt}
 use Rattle.cc_unit.specs.Renumbered.{shape_renumbered, shape_step, sig_renumbered, sig_step, stmt_renumbered, type_renumbered, type_step}
 use Rattle.cc_unit.specs.declared.ids.Ids.{Ids}

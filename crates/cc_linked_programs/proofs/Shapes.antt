@@ -1,6 +1,6 @@
 -- Whether a type is a device's or a function's is kept by other numbers; and no function is an object.
 use Rattle.std.proofs.Common.{◌≡◌, ◌∙◌, ℕ, Bool, true, false, true≢false, ◌&&◌, ◌||◌, List, refl, ap, sym}
-use Rattle.cc_num.specs.declared.int_type.IntType.{IntType}
+use Rattle.cc_program.specs.CcNum.declared.int_type.IntType.{IntType}
 use Rattle.cc_program.specs.Qualifiers.{is_const, of_element}
 use Rattle.cc_program.specs.declared.types.CType.{CType}
 use Rattle.cc_program.specs.declared.types.Shape.{Shape, out-Shape}
@@ -9,9 +9,9 @@ use Rattle.cc_program.specs.declared.types.Sig.{Sig}
 use Rattle.cc_program.proofs.QualifierLemmas.{const-opens, parts_const}
 use Rattle.cc_relocated_units.specs.Units.{is_integer_shape, is_register_type}
 use Rattle.cc_structures.proofs.WordLaws.{renumbered_level, level-renumbered, volatile-kept}
-use Rattle.cc_syntax.specs.Kinds.{is_object_type, is_sig, qualified_kind, shape_kind}
-use Rattle.cc_syntax.specs.Views.{View, kind_in}
-use Rattle.cc_syntax.proofs.KindRolls.{parts_kind, kind-opens}
+use Rattle.cc_operands.specs.CcSyntax.Kinds.{is_object_type, is_sig, qualified_kind, shape_kind}
+use Rattle.cc_operands.specs.CcSyntax.Views.{View, kind_in}
+use Rattle.cc_operands.proofs.CcSyntax.KindRolls.{parts_kind, kind-opens}
 use Rattle.cc_unit.specs.Renumbered.{type_renumbered}
 use Rattle.cc_linked_programs.specs.FunctionTypes.{is_function_shape, is_function_type}
 

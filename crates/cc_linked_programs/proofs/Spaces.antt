@@ -18,11 +18,11 @@ use Rattle.cc_program.specs.declared.program.Roles.{Roles}
 use Rattle.cc_structures.proofs.Elements.{In}
 use Rattle.cc_structures.specs.Structures.{Known, structures}
 use Rattle.cc_structures.specs.View.{units_of}
-use Rattle.cc_syntax.specs.Names.{intrinsic_names}
+use Rattle.cc_operands.specs.CcSyntax.Names.{intrinsic_names}
 use Rattle.cc_things.specs.Mentions.{mentions}
 use Rattle.cc_things.specs.Things.{Thing, things}
 use Rattle.cc_things.specs.declared.text.Text.{Text}
-use Rattle.cc_words.specs.Names.{are_distinct, is_name}
+use Rattle.cc_program.specs.CcWords.Names.{are_distinct, is_name}
 use Rattle.cc_linked_programs.specs.Few.{FewTexts, EachOfText}
 use Rattle.cc_linked_programs.proofs.Listed.{length-functions, length-named}
 use Rattle.cc_linked_programs.proofs.NameSources.{length-things, local-few, local-wished, tags-wished, things-wished}

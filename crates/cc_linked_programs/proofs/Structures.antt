@@ -5,7 +5,7 @@ use Rattle.std.proofs.lemmas.Option.{slice_get-map}
 use Rattle.cc_relocated_units.specs.Linked.{linked, untagged, structures_of, AllStand}
 use Rattle.cc_relocated_units.proofs.Standing.{at-number, kind-same}
 use Rattle.cc_relocated_units.proofs.UnitPlaces.{known, in-unit}
-use Rattle.cc_num.specs.declared.target.Target.{Target}
+use Rattle.cc_program.specs.CcNum.declared.target.Target.{Target}
 use Rattle.cc_operands.specs.Qualified.{plain}
 use Rattle.cc_program.specs.declared.types.CType.{CType}
 use Rattle.cc_program.specs.declared.types.Shape.{Struct, out-Shape}
@@ -17,9 +17,9 @@ use Rattle.cc_relocated_units.specs.Renumbering.{MemberTypes}
 use Rattle.cc_relocated_units.proofs.UnitKinds.{unit_kind}
 use Rattle.cc_structures.specs.Structures.{Known, Numbering, numbers_of, AreNumbered}
 use Rattle.cc_structures.proofs.WordLaws.{number_by, level-renumbered, constant-kept, volatile-kept}
-use Rattle.cc_syntax.specs.Kinds.{Kind, IsStructure, IsIncomplete, extent_in, extent_kind, kind_of, shape_kind, qualified_kind}
-use Rattle.cc_syntax.specs.Types.{Named}
-use Rattle.cc_syntax.proofs.KindRolls.{parts_kind, kind-opens}
+use Rattle.cc_operands.specs.CcSyntax.Kinds.{Kind, IsStructure, IsIncomplete, extent_in, extent_kind, kind_of, shape_kind, qualified_kind}
+use Rattle.cc_operands.specs.CcSyntax.Types.{Named}
+use Rattle.cc_operands.proofs.CcSyntax.KindRolls.{parts_kind, kind-opens}
 use Rattle.cc_unit.specs.Renumbered.{type_renumbered}
 use Rattle.cc_unit.specs.declared.unit.TypedUnit.{TypedUnit}
 use Rattle.cc_unit.specs.declared.unit.UnitStructure.{UnitStructure}

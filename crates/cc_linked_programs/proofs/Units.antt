@@ -9,7 +9,7 @@ use Rattle.cc_link.specs.Linked.{all_ids, ids_in, program}
 use Rattle.cc_linked_names.specs.Given.{name_at, reserved_names, tag_wish, tags}
 use Rattle.cc_relocated_units.specs.Linked.{AllStand, AreStanding}
 use Rattle.cc_linked_programs.proofs.Structures.{extents_numbered, structures_numbered}
-use Rattle.cc_num.specs.declared.target.Target.{Target}
+use Rattle.cc_program.specs.CcNum.declared.target.Target.{Target}
 use Rattle.cc_program.specs.declared.program.Program.{Program}
 use Rattle.cc_program.specs.declared.program.Roles.{Roles}
 use Rattle.cc_program.specs.declared.types.Structure.{Structure}
@@ -17,7 +17,7 @@ use Rattle.cc_relocated_units.specs.Renumbering.{MemberTypes, Renumbers}
 use Rattle.cc_linked_programs.proofs.Views.{devices_numbered, statics_numbered}
 use Rattle.cc_relocated_units.specs.Units.{unit_view, IsSoundUnit}
 use Rattle.cc_structures.specs.Structures.{AreNumbered, Known, Numbering, numbers_of}
-use Rattle.cc_syntax.specs.Views.{View, of_program}
+use Rattle.cc_operands.specs.CcSyntax.Views.{View, of_program}
 use Rattle.cc_things.specs.Things.{Thing, things}
 use Rattle.cc_things.specs.declared.text.Text.{Text}
 use Rattle.cc_unit.specs.Mentioned.{mentioned}

@@ -15,7 +15,7 @@ use Rattle.cc_linked_programs.proofs.Defined.{each_named, not_defined, same_devi
 use Rattle.cc_linked_programs.proofs.ViewNumbers.{function-id}
 use Rattle.cc_linked_programs.proofs.Objects.{ids_structures, no_device}
 use Rattle.cc_linked_programs.proofs.Shapes.{function_is}
-use Rattle.cc_num.specs.declared.target.Target.{Target}
+use Rattle.cc_program.specs.CcNum.declared.target.Target.{Target}
 use Rattle.cc_program.specs.declared.func.Entry.{Entry}
 use Rattle.cc_program.specs.declared.func.Func.{Func}
 use Rattle.cc_program.specs.declared.program.Program.{Program}
@@ -31,10 +31,10 @@ use Rattle.cc_relocated_units.specs.Units.{unit_view, function_as, function_shap
 use Rattle.cc_structures.specs.Structures.{Known, Numbering, numbers_of, type_in}
 use Rattle.cc_structures.proofs.Elements.{In, any-in, in-any}
 use Rattle.cc_structures.proofs.WordLaws.{level-renumbered}
-use Rattle.cc_syntax.specs.Names.{intrinsic_names}
-use Rattle.cc_syntax.specs.Operators.{function_type, when}
-use Rattle.cc_syntax.specs.Values.{ValueType, ToFunction}
-use Rattle.cc_syntax.specs.Views.{View, of_program}
+use Rattle.cc_operands.specs.CcSyntax.Names.{intrinsic_names}
+use Rattle.cc_operands.specs.CcSyntax.Operators.{function_type, when}
+use Rattle.cc_operands.specs.CcSyntax.Values.{ValueType, ToFunction}
+use Rattle.cc_operands.specs.CcSyntax.Views.{View, of_program}
 use Rattle.cc_things.specs.Mentions.{Mention, mentions}
 use Rattle.cc_things.specs.Things.{Thing, identity_of, thing_of, things, is_defined, is_device, is_device_kind, is_func_kind, is_used}
 use Rattle.cc_things.specs.declared.text.Text.{Text}

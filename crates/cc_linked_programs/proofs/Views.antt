@@ -13,8 +13,8 @@ use Rattle.cc_linked_programs.proofs.DeviceViews.{device_there}
 use Rattle.cc_linked_programs.proofs.Objects.{defined_object, object_defined, ids_structures}
 use Rattle.cc_linked_programs.proofs.Shapes.{const_int, no_object}
 use Rattle.cc_linked_programs.specs.FunctionTypes.{is_function_type}
-use Rattle.cc_num.specs.declared.int_type.IntType.{IntType}
-use Rattle.cc_num.specs.declared.target.Target.{Target}
+use Rattle.cc_program.specs.CcNum.declared.int_type.IntType.{IntType}
+use Rattle.cc_program.specs.CcNum.declared.target.Target.{Target}
 use Rattle.cc_operand_types.proofs.Rolls.{place-roll}
 use Rattle.cc_program.specs.declared.expr.Expr.TheOpen as one
 use Rattle.cc_program.specs.declared.expr.Place.{Place, Static, Device as DeviceAt}
@@ -35,11 +35,11 @@ use Rattle.cc_operand_types.specs.Reduced.{ReducedPlace, Devices, Defined}
 use Rattle.cc_structures.specs.Structures.{Known, Numbering, numbers_of}
 use Rattle.cc_structures.proofs.Elements.{In}
 use Rattle.cc_structures.proofs.WordLaws.{level-renumbered, constant-kept}
-use Rattle.cc_syntax.specs.Types.{Named}
-use Rattle.cc_syntax.specs.Values.{PlaceType, DevicePlace, ObjectPlace, object_place, scalar_shape, implies}
-use Rattle.cc_syntax.proofs.AlikeLemmas.{implies_itself}
-use Rattle.cc_syntax.specs.Views.{View, of_program}
-use Rattle.cc_syntax.specs.Expressions.{place_type}
+use Rattle.cc_operands.specs.CcSyntax.Types.{Named}
+use Rattle.cc_operands.specs.CcSyntax.Values.{PlaceType, DevicePlace, ObjectPlace, object_place, scalar_shape, implies}
+use Rattle.cc_operands.proofs.CcSyntax.AlikeLemmas.{implies_itself}
+use Rattle.cc_operands.specs.CcSyntax.Views.{View, of_program}
+use Rattle.cc_operands.specs.CcSyntax.Expressions.{place_type}
 use Rattle.cc_things.specs.Mentions.{Mention, mentions}
 use Rattle.cc_things.specs.Things.{Thing, identity_of, thing_of, things, is_defined, is_device}
 use Rattle.cc_things.specs.declared.text.Text.{Text}

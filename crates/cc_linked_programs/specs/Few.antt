@@ -3,7 +3,7 @@ use Rattle.std.specs.Prelude.{◌≡◌, ℕ, true, List, length, flat_map, Some
 use Rattle.cc_relocated_units.specs.Units.{IsOfText}
 use Rattle.cc_structures.specs.Structures.{structures}
 use Rattle.cc_structures.specs.View.{units_of}
-use Rattle.cc_syntax.specs.Sound.{have_ids}
+use Rattle.cc_operands.specs.CcSyntax.Sound.{have_ids}
 use Rattle.cc_things.specs.Mentions.{mentions}
 use Rattle.cc_things.specs.declared.text.Text.{Text}
 

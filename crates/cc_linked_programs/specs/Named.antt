@@ -11,8 +11,8 @@ use Rattle.cc_program.specs.declared.program.Roles.{Roles}
 use Rattle.cc_relocated_units.specs.Units.{is_main_name}
 use Rattle.cc_structures.proofs.Elements.{In}
 use Rattle.cc_structures.specs.Structures.{Known}
-use Rattle.cc_syntax.specs.Names.{are_names, file_names, intrinsic_names, local_names, tags}
-use Rattle.cc_syntax.specs.Sound.{have_ids, main_name}
+use Rattle.cc_operands.specs.CcSyntax.Names.{are_names, file_names, intrinsic_names, local_names, tags}
+use Rattle.cc_operands.specs.CcSyntax.Sound.{have_ids, main_name}
 use Rattle.cc_things.specs.Things.{is_there, things}
 use Rattle.cc_things.specs.declared.text.Text.{Text}
 use Rattle.cc_unit.specs.declared.unit.TypedUnit.{TypedUnit}

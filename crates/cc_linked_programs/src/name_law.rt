@@ -1,13 +1,13 @@
 ghost use Rattle.std.specs.Prelude.{◌≡◌, ◌++◌, true, List, length};
 ghost use Rattle.cc_link.specs.Linked.{Links};
-ghost use Rattle.cc_num.specs.declared.target.Target.{Target};
+ghost use Rattle.cc_program.specs.CcNum.declared.target.Target.{Target};
 ghost use Rattle.cc_program.specs.declared.func.Func.{Func};
 ghost use Rattle.cc_program.specs.declared.program.Program.{Program};
 ghost use Rattle.cc_program.specs.declared.program.Roles.{Roles};
 ghost use Rattle.cc_linked_programs.specs.Few.{FewTexts, EachOfText};
 ghost use Rattle.cc_structures.proofs.Elements.{In};
-ghost use Rattle.cc_syntax.specs.Names.{are_names, file_names, local_names, tags};
-ghost use Rattle.cc_syntax.specs.Sound.{have_ids};
+ghost use Rattle.cc_operands.specs.CcSyntax.Names.{are_names, file_names, local_names, tags};
+ghost use Rattle.cc_operands.specs.CcSyntax.Sound.{have_ids};
 ghost use Rattle.cc_things.specs.declared.text.Text.{Text};
 
 /// What holds of the names and of the counts of the program that few sources link to (C99 6.2.3). The call does nothing.

@@ -1,10 +1,10 @@
 ghost use Rattle.std.specs.Prelude.{◌≡◌, ℕ, List, Some, slice_get};
 ghost use Rattle.cc_link.specs.Linked.{Links};
-ghost use Rattle.cc_num.specs.declared.target.Target.{Target};
+ghost use Rattle.cc_program.specs.CcNum.declared.target.Target.{Target};
 ghost use Rattle.cc_program.specs.declared.program.Program.{Program};
 ghost use Rattle.cc_program.specs.declared.program.Roles.{Roles};
 ghost use Rattle.cc_relocated_units.specs.Units.{IsSoundUnit};
-ghost use Rattle.cc_syntax.specs.Sound.{IsSound};
+ghost use Rattle.cc_operands.specs.CcSyntax.Sound.{IsSound};
 ghost use Rattle.cc_things.specs.declared.text.Text.{Text};
 ghost use Rattle.cc_linked_programs.specs.Named.{AreFew, AreNamed, HasOwnMain};
 

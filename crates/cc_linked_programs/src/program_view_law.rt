@@ -1,7 +1,7 @@
 ghost use Rattle.std.specs.Prelude.{◌≡◌, ℕ, true, List, None, Option, Some, slice_get};
 ghost use Rattle.cc_causes.specs.Causes.{bad_handler};
 ghost use Rattle.cc_causes.specs.Entries.{entry_at};
-ghost use Rattle.cc_num.specs.declared.target.Target.{Target};
+ghost use Rattle.cc_program.specs.CcNum.declared.target.Target.{Target};
 ghost use Rattle.cc_program.specs.declared.program.Roles.{Roles};
 ghost use Rattle.cc_relocated_units.specs.Units.{IsSoundUnit};
 ghost use Rattle.cc_structures.proofs.Elements.{In};

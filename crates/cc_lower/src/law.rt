@@ -6,9 +6,9 @@ ghost use Rattle.cc_layout.specs.Seats.{ram};
 ghost use Rattle.cc_lower.specs.Lowered.{HasIds, lowered};
 ghost use Rattle.cc_lower_sound.specs.Folded.{has_folded_expressions};
 ghost use Rattle.cc_program.specs.declared.program.Program.{Program};
-ghost use Rattle.cc_steps.specs.Runs.{Follows, Answers};
-ghost use Rattle.cc_syntax.specs.Normal.{IsNormal};
-ghost use Rattle.cc_syntax.specs.Sound.{IsSound};
+ghost use Rattle.cc_states.specs.CcSteps.Runs.{Follows, Answers};
+ghost use Rattle.cc_states.specs.CcSyntax.Normal.{IsNormal};
+ghost use Rattle.cc_states.specs.CcSyntax.Sound.{IsSound};
 
 use cc_lower_bodies_follows::expression_laws;
 use cc_lower_continues_follows::lowering_laws;

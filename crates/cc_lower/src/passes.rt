@@ -3,13 +3,13 @@
 ghost use Rattle.std.specs.Prelude.{◌≡◌, ◌^◌, nat_lt, length, IfOk, OnOk};
 ghost use Rattle.std.specs.List.{list_all};
 ghost use Rattle.cc_lower.specs.Lowered.{HasIds, lowered};
-ghost use Rattle.cc_syntax.specs.Sizes.{AreSized};
+ghost use Rattle.cc_states.specs.CcSyntax.Sizes.{AreSized};
 
 use cc_lower_bodies::lower_expressions;
 use cc_lower_continues::lower_continues;
 use cc_lower_numbers::number_program;
 use cc_lower_statements::lower_statements;
-use cc_num::NoMemory;
+use cc_program::num::NoMemory;
 use cc_program::{Func, Program};
 use std::alloc::Global;
 

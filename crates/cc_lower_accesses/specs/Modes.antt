@@ -1,7 +1,7 @@
 -- What expressions, places and their parts become in a function of a program, by a word each.
 use Rattle.std.specs.Prelude.{ℕ, pos, Bool, List, [], map, Option, Some, None, option_and_then, is_some, if◌then◌else◌}
-use Rattle.cc_num.specs.declared.int_type.IntType.{IntType}
-use Rattle.cc_num.specs.declared.op.BinOp.{BinOp}
+use Rattle.cc_program.specs.CcNum.declared.int_type.IntType.{IntType}
+use Rattle.cc_program.specs.CcNum.declared.op.BinOp.{BinOp}
 use Rattle.cc_program.specs.declared.expr.Expr.{Expr, Const, Load, Intr, Qualify, Move, Gap, Compare, Assign, out-Expr}
 use Rattle.cc_program.specs.declared.expr.Expr.TheOpen as one
 use Rattle.cc_program.specs.declared.expr.Intr.{Intr as Intrinsic}

@@ -5,7 +5,7 @@ ghost use Rattle.cc_lower_accesses.specs.Assigned.{among};
 ghost use Rattle.cc_registers.specs.Kept.{AreKept};
 ghost use Rattle.cc_lower_accesses.specs.Modes.{as_locals, one_of, two_of, read_of, right_of, whole_read_of, new_of, changed_of, change_of, stepped_of, step_value_of, step_of, callee_of};
 ghost use Rattle.cc_syntax.specs.Sizes.{AreSized};
-ghost use Rattle.cc_typed.specs.View.{value_view};
+ghost use Rattle.cc_eval.specs.CcTyped.View.{value_view};
 ghost use Rattle.cc_lower_expressions.specs.Expressions.{set as set_of, unused as unused_of, is_callee as is_callee_of, is_idle as is_idle_of};
 ghost use Rattle.cc_program.specs.declared.expr.Expr.{out-Expr};
 ghost use Rattle.cc_syntax.specs.Forms.{form_of};
@@ -14,9 +14,9 @@ ghost use Rattle.cc_syntax.specs.Programs.{type_of as type_of_of};
 use crate::body::Body;
 use crate::folded::sum_or_difference;
 use crate::temporaries::{assign, fresh, into, is_same_type, load, set};
-use cc_num::{BinOp, Boxed, IntType, List, Name, NoMemory};
+use cc_eval::typed::ValueType;
+use cc_program::num::{BinOp, Boxed, IntType, List, Name, NoMemory};
 use cc_program::{CType, Expr, Place, Stmt};
-use cc_typed::ValueType;
 
 /// Whether nothing is left of a value that nobody uses.
 fn is_idle(e: &Expr) -> bool

@@ -6,11 +6,11 @@ ghost use Rattle.cc_syntax.specs.Programs.{type_of as type_of_of, place_type as 
 ghost use Rattle.cc_syntax.specs.Registers.{is_register as is_register_of};
 ghost use Rattle.cc_syntax.specs.Sizes.{AreSized};
 ghost use Rattle.cc_syntax.specs.Values.{read_from};
-ghost use Rattle.cc_typed.specs.View.{value_view};
+ghost use Rattle.cc_eval.specs.CcTyped.View.{value_view};
 
-use cc_num::{Target, at};
+use cc_eval::typed::{Scope, ValueType};
+use cc_program::num::{Target, at};
 use cc_program::{Expr, Func, Place, Program};
-use cc_typed::{Scope, ValueType};
 use std::alloc::Global;
 
 /// A function of a program.

@@ -7,7 +7,7 @@ ghost use Rattle.cc_registers.specs.Kept.{AreKept};
 ghost use Rattle.cc_syntax.specs.Effects.{also, is_soft as is_soft_of, effects_of, place_effects_of, all_assigned};
 
 use crate::body::Body;
-use cc_num::NoMemory;
+use cc_program::num::NoMemory;
 use cc_program::{Expr, Place};
 
 fn is_among(list: &[u32], register: u32) -> bool

@@ -8,14 +8,14 @@ ghost use Rattle.cc_syntax.specs.Forms.{form_of};
 ghost use Rattle.cc_syntax.specs.Operators.{is_comparison as is_comparison_of, unary_result as unary_result_of};
 ghost use Rattle.cc_syntax.specs.Values.{Integer};
 ghost use Rattle.cc_eval.specs.Eval.{is_back as is_back_of, one_more_type as one_more_type_of, sum_or_difference as sum_or_difference_of};
-ghost use Rattle.cc_typed.specs.View.{value_view};
+ghost use Rattle.cc_eval.specs.CcTyped.View.{value_view};
 
 use crate::body::Body;
 use crate::temporaries::declared_type;
-use cc_num::{BinOp, Boxed, IntType, NoMemory, UnOp, promote, usual};
+use cc_eval::typed::{ValueType, same_int};
 use cc_operands::Constant;
 use cc_program::Expr;
-use cc_typed::{ValueType, same_int};
+use cc_program::num::{BinOp, Boxed, IntType, NoMemory, UnOp, promote, usual};
 use std::alloc::Global;
 
 fn constant_in(e: &Expr) -> Constant

@@ -5,13 +5,13 @@ ghost use Rattle.cc_lower_expressions.specs.Expressions.{temp, set as set_of};
 ghost use Rattle.cc_lower_accesses.specs.Modes.{as_locals};
 ghost use Rattle.cc_lower_expressions.specs.Temporaries.{declared_type as declared_type_of, is_same_type as is_same_type_of, is_same_value as is_same_value_of};
 ghost use Rattle.cc_operands.specs.Qualified.{plain as plain_of, type_of_value};
-ghost use Rattle.cc_typed.specs.View.{value_view};
+ghost use Rattle.cc_eval.specs.CcTyped.View.{value_view};
 ghost use Rattle.cc_program.specs.declared.types.Shape.{Pointer as PointerTo, Func as FuncShape};
 
-use cc_num::{Boxed, IntType, List, Name, NoMemory};
+use cc_eval::typed::{ValueType, alike, same_flag, same_int};
 use cc_operands::qualified_as;
+use cc_program::num::{Boxed, IntType, List, Name, NoMemory};
 use cc_program::{CType, Expr, Place, Shape, Sig, Stmt};
-use cc_typed::{ValueType, alike, same_flag, same_int};
 use std::alloc::Global;
 
 fn plain(shape: Shape) -> CType

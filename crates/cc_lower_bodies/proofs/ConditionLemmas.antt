@@ -13,8 +13,8 @@ use Rattle.cc_program.specs.declared.stmt.Stmt.{Stmt, If}
 use Rattle.cc_program.proofs.Each.{Each}
 use Rattle.cc_program.proofs.ExprInduction.{Parts, PlaceParts, by_expr}
 use Rattle.cc_program.proofs.FoldFusion.{fused}
-use Rattle.cc_syntax.specs.Effects.{Registers, Effects, also, effects_of}
-use Rattle.cc_syntax.specs.Types.{Named}
+use Rattle.cc_eval.specs.CcSyntax.Effects.{Registers, Effects, also, effects_of}
+use Rattle.cc_eval.specs.CcSyntax.Types.{Named}
 use Rattle.cc_lower_expressions.specs.Expressions.{Temps, Piece, piece, Make, Lowers}
 use Rattle.cc_lower_expressions.specs.Statements as whole
 use Rattle.cc_lower_accesses.specs.Modes.{as_locals, operand_of}

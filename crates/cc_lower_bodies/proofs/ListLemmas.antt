@@ -10,7 +10,7 @@ use Rattle.cc_lower_expressions.specs.Statements.{lower_in, lower_case_in, lower
 use Rattle.cc_lower_accesses.proofs.AccessRules.{locals-append, locals-length}
 use Rattle.cc_lower_accesses.proofs.Opened.{then-assoc}
 use Rattle.cc_lower_accesses.specs.Modes.{as_locals}
-use Rattle.cc_syntax.specs.Types.{Named}
+use Rattle.cc_eval.specs.CcSyntax.Types.{Named}
 use Rattle.cc_lower_bodies.specs.Lists.{list_made, cases_made}
 
 -- ---- lists

@@ -9,13 +9,13 @@ use Rattle.cc_program.specs.declared.stmt.Case.{Case}
 use Rattle.cc_program.specs.declared.stmt.Stmt.{Stmt, Do, If, While, DoWhile, For, Switch, Break, Continue, Return, Empty, Block, out-Stmt, map-Stmt, fold_out-Stmt}
 use Rattle.cc_program.specs.declared.stmt.Stmt.TheVariants.{outs-Do, outs-If, outs-While, outs-DoWhile, outs-For, outs-Switch, outs-Break, outs-Continue, outs-Return, outs-Empty, outs-Block}
 use Rattle.cc_program.specs.declared.stmt.Stmt.TheOpen as is
-use Rattle.cc_syntax.specs.Effects.{no_one}
+use Rattle.cc_eval.specs.CcSyntax.Effects.{no_one}
 use Rattle.cc_lower_expressions.specs.Expressions.{Temps, Piece, piece, Make}
 use Rattle.cc_lower_accesses.specs.Modes.{as_locals, operand_of, effect_of}
 use Rattle.cc_lower_expressions.specs.Statements.{lower_in, lower_case_in, lower, lower_case}
 use Rattle.cc_lower_accesses.proofs.AccessRules.{locals-append, locals-length}
 use Rattle.cc_lower_accesses.proofs.Opened.{none-behind}
-use Rattle.cc_syntax.specs.Types.{Named}
+use Rattle.cc_eval.specs.CcSyntax.Types.{Named}
 use Rattle.cc_lower_bodies.specs.Conditions.{Guarding, nest, conditions_of}
 use Rattle.cc_lower_bodies.specs.Lists.{list_made, cases_made, guarded_of, forked_of}
 use Rattle.cc_lower_bodies.proofs.ConditionLemmas.{guard-is}

@@ -7,7 +7,7 @@ use Rattle.cc_program.specs.declared.expr.Place.{Place, roll-Place, map-Place}
 use Rattle.cc_program.specs.declared.func.Func.{Func}
 use Rattle.cc_program.specs.declared.program.Program.{Program}
 use Rattle.cc_program.specs.declared.stmt.Stmt.{Stmt, If}
-use Rattle.cc_syntax.specs.Effects.{Registers, also, effects_of}
+use Rattle.cc_eval.specs.CcSyntax.Effects.{Registers, also, effects_of}
 use Rattle.cc_lower_bodies.specs.declared.conditions.Condition.{Condition}
 use Rattle.cc_lower_expressions.specs.Expressions.{Piece, piece, Lowers}
 use Rattle.cc_lower_accesses.specs.Modes.{operand_of}

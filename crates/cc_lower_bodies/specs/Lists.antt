@@ -5,7 +5,7 @@ use Rattle.cc_program.specs.declared.func.Func.{Func}
 use Rattle.cc_program.specs.declared.program.Program.{Program}
 use Rattle.cc_program.specs.declared.stmt.Case.{Case}
 use Rattle.cc_program.specs.declared.stmt.Stmt.{Stmt}
-use Rattle.cc_syntax.specs.Effects.{no_one}
+use Rattle.cc_eval.specs.CcSyntax.Effects.{no_one}
 use Rattle.cc_lower_accesses.specs.Modes.{operand_of}
 use Rattle.cc_lower_expressions.specs.Expressions.{Make, ◌>>=◌, fork}
 use Rattle.cc_lower_expressions.specs.Statements.{condition, lower_list, lower_cases}

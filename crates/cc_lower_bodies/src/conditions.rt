@@ -5,11 +5,11 @@ ghost use Rattle.cc_lower_accesses.specs.Assigned.{among};
 ghost use Rattle.cc_registers.specs.Kept.{AreKept};
 ghost use Rattle.cc_lower_accesses.specs.Modes.{as_locals};
 ghost use Rattle.cc_lower_bodies.specs.Conditions.{condition_view, nest, alone_of, conditions_of};
-ghost use Rattle.cc_syntax.specs.Sizes.{AreSized};
+ghost use Rattle.cc_eval.specs.CcSyntax.Sizes.{AreSized};
 
 use cc_lower_accesses::Body;
 use cc_lower_operands::operand;
-use cc_num::{Boxed, List, Name, NoMemory};
+use cc_program::num::{Boxed, List, Name, NoMemory};
 use cc_program::{CType, Expr, Stmt};
 use std::alloc::Global;
 

@@ -5,12 +5,12 @@ ghost use Rattle.cc_registers.specs.Kept.{AreKept};
 ghost use Rattle.cc_lower_accesses.specs.Modes.{as_locals};
 ghost use Rattle.cc_lower_bodies.specs.Conditions.{condition_view, nest};
 ghost use Rattle.cc_lower_expressions.specs.Statements.{lower as lower_of};
-ghost use Rattle.cc_syntax.specs.Sizes.{AreSized};
+ghost use Rattle.cc_eval.specs.CcSyntax.Sizes.{AreSized};
 
 use crate::conditions::{Condition, guarded};
 use cc_lower_accesses::Body;
 use cc_lower_operands::operand;
-use cc_num::{Boxed, List, Name, NoMemory};
+use cc_program::num::{Boxed, List, Name, NoMemory};
 use cc_program::{CType, Case, Expr, Stmt};
 use std::alloc::Global;
 

@@ -2,11 +2,11 @@
 
 ghost use Rattle.std.specs.Prelude.{◌≡◌, map, IfOk};
 ghost use Rattle.cc_lower_expressions.specs.Programs.{lower_func as lower_func_of, lower_expressions_program};
-ghost use Rattle.cc_syntax.specs.Sizes.{AreSized};
+ghost use Rattle.cc_eval.specs.CcSyntax.Sizes.{AreSized};
 
 use crate::statements::lower_list;
 use cc_lower_accesses::Body;
-use cc_num::{List, NoMemory};
+use cc_program::num::{List, NoMemory};
 use cc_program::{Func, Program, copy_list, copy_named};
 use cc_registers::registers_of;
 use std::alloc::Global;

@@ -5,7 +5,7 @@ ghost use Rattle.cc_registers.specs.Kept.{AreKept};
 ghost use Rattle.cc_lower_accesses.specs.Modes.{as_locals};
 ghost use Rattle.cc_lower_bodies.specs.Lists.{list_made, cases_made, guarded_of};
 ghost use Rattle.cc_lower_expressions.specs.Statements.{lower as lower_of, lower_case as lower_case_of};
-ghost use Rattle.cc_syntax.specs.Sizes.{AreSized};
+ghost use Rattle.cc_eval.specs.CcSyntax.Sizes.{AreSized};
 
 use crate::conditions::put_conditions;
 use crate::made::{
@@ -13,7 +13,7 @@ use crate::made::{
 };
 use cc_lower_accesses::Body;
 use cc_lower_operands::{effect, operand};
-use cc_num::{List, Name, NoMemory};
+use cc_program::num::{List, Name, NoMemory};
 use cc_program::{CType, Case, Expr, Stmt, copy_list};
 use std::alloc::Global;
 

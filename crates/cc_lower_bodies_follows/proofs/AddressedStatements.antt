@@ -1,9 +1,9 @@
 -- What a function's statements become takes the addresses of the locals of which the statements take them.
 use Rattle.std.proofs.Common.{◌≡◌, ℕ, Bool, true, false, ◌||◌, List, [], ◌∷◌, map, Some, None, refl, ap, sym, ◌∙◌, subst, if◌then◌else◌}
 use Rattle.std.specs.List.{list_any}
-use Rattle.cc_eval.specs.Context.{Context}
-use Rattle.cc_eval.specs.Eval.{Meaning}
-use Rattle.cc_eval.proofs.Links.{level}
+use Rattle.cc_states.specs.CcEval.Context.{Context}
+use Rattle.cc_states.specs.CcEval.Eval.{Meaning}
+use Rattle.cc_states.proofs.CcEval.Links.{level}
 use Rattle.cc_program.specs.declared.expr.Expr.{Expr, roll-Expr, map-Expr, fold-roll-Expr}
 use Rattle.cc_program.specs.declared.expr.Expr.TheOpen as one
 use Rattle.cc_program.specs.declared.expr.Place.{Place, roll-Place, fold-Place}
@@ -17,8 +17,8 @@ use Rattle.cc_program.proofs.Each.{Each}
 use Rattle.cc_program.proofs.ExprInduction.{Parts, by_expr}
 use Rattle.cc_program.proofs.FoldFusion.{fused}
 use Rattle.cc_program.proofs.StmtInduction.{StmtParts, CaseParts, by_stmts}
-use Rattle.cc_syntax.specs.Effects.{Registers, also, no_one}
-use Rattle.cc_syntax.specs.Registers.{is_taken_in}
+use Rattle.cc_states.specs.CcSyntax.Effects.{Registers, also, no_one}
+use Rattle.cc_states.specs.CcSyntax.Registers.{is_taken_in}
 use Rattle.cc_lower_expressions.specs.Expressions.{Make, Lowering, done, ◌>>=◌, emit, fork}
 use Rattle.cc_lower_expressions.specs.Statements.{in_turn, all_made, if_operand, Condition, lowered, guard_by, condition_step, place_itself, condition, choice, returned, lower_in, lower_case_in, lower, lower_case, lower_list}
 use Rattle.cc_lower_expressions.specs.Temporaries.{declared_type, is_same_type}

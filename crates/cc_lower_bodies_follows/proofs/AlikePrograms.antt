@@ -4,8 +4,8 @@ use Rattle.std.proofs.Math.Path.{fun_ext}
 use Rattle.std.proofs.lemmas.Bool.{lt-ltb}
 use Rattle.std.proofs.lemmas.Option.{slice_get-map}
 use Rattle.std.specs.Prelude.{nat_lt, option_and_then}
-use Rattle.cc_eval.specs.Context.{local_type, object_type, are_alike, path_to, named_by}
-use Rattle.cc_eval.specs.Eval.{Designation}
+use Rattle.cc_states.specs.CcEval.Context.{local_type, object_type, are_alike, path_to, named_by}
+use Rattle.cc_states.specs.CcEval.Eval.{Designation}
 use Rattle.cc_lower_expressions.specs.Programs.{temporaries, lowered_body, lower_func}
 use Rattle.cc_program.specs.Qualifiers.{of_element, is_volatile}
 use Rattle.cc_program.specs.declared.func.Func.{Func}
@@ -20,13 +20,13 @@ use Rattle.cc_program.specs.declared.value.Part.{Part}
 use Rattle.cc_program.specs.declared.value.Root.{Root}
 use Rattle.cc_program.specs.declared.value.Root.TheVariants as root
 use Rattle.cc_program.proofs.QualifierLemmas.{parts_volatile, volatile-opens}
-use Rattle.cc_steps.proofs.ScalarPlaces.{IsFlat, scalar_flat}
-use Rattle.cc_syntax.specs.Expressions.{of_one}
-use Rattle.cc_syntax.specs.Initial.{place_at}
-use Rattle.cc_syntax.specs.Registers.{may_be_register, is_addressed, is_register}
-use Rattle.cc_syntax.specs.Types.{Named}
-use Rattle.cc_syntax.specs.Values.{PlaceType, object_place, element_of, scalar_shape, scalar_value}
-use Rattle.cc_syntax.specs.Views.{of_program}
+use Rattle.cc_states.proofs.CcSteps.ScalarPlaces.{IsFlat, scalar_flat}
+use Rattle.cc_states.specs.CcSyntax.Expressions.{of_one}
+use Rattle.cc_states.specs.CcSyntax.Initial.{place_at}
+use Rattle.cc_states.specs.CcSyntax.Registers.{may_be_register, is_addressed, is_register}
+use Rattle.cc_states.specs.CcSyntax.Types.{Named}
+use Rattle.cc_states.specs.CcSyntax.Values.{PlaceType, object_place, element_of, scalar_shape, scalar_value}
+use Rattle.cc_states.specs.CcSyntax.Views.{of_program}
 use Rattle.cc_lower_sound.proofs.Bools.{first_true, second_true}
 use Rattle.cc_lower_sound.proofs.ChangedFunctions.{view_same}
 use Rattle.cc_lower_sound.proofs.TypedAddresses.{below}

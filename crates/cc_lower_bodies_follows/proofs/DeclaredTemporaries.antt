@@ -1,7 +1,7 @@
 -- Each temporary of a lowered function is a register, and is declared with the type of what is put there.
 use Rattle.std.proofs.Common.{◌≡◌, ℕ, suc, ◌+◌, true, List, [], ◌∷◌, ◌++◌, length, map, Option, Some, option_map, slice_get, refl, ap, ◌∙◌, sym, subst, arith}
 use Rattle.std.specs.Prelude.{option_and_then}
-use Rattle.cc_eval.specs.Eval.{Designation, designation}
+use Rattle.cc_states.specs.CcEval.Eval.{Designation, designation}
 use Rattle.cc_lower_expressions.specs.Expressions.{Temps}
 use Rattle.cc_lower_expressions.specs.Programs.{made_of, lower_func}
 use Rattle.cc_lower_expressions.specs.Temporaries.{declared_type}
@@ -9,11 +9,11 @@ use Rattle.cc_operand_types.specs.Typed.{Agree, Same, Pointers as AgreePointers}
 use Rattle.cc_program.specs.declared.expr.Place.{Local}
 use Rattle.cc_program.specs.declared.func.Func.{Func}
 use Rattle.cc_program.specs.declared.program.Program.{Program}
-use Rattle.cc_syntax.specs.Registers.{is_register}
-use Rattle.cc_syntax.specs.Sound.{any_names, IsFuncBy, IsTypedProgram}
-use Rattle.cc_syntax.specs.Types.{Named}
-use Rattle.cc_syntax.specs.Values.{ValueType, object_place, read_from, scalar_value}
-use Rattle.cc_syntax.specs.Views.{of_program}
+use Rattle.cc_states.specs.CcSyntax.Registers.{is_register}
+use Rattle.cc_states.specs.CcSyntax.Sound.{any_names, IsFuncBy, IsTypedProgram}
+use Rattle.cc_states.specs.CcSyntax.Types.{Named}
+use Rattle.cc_states.specs.CcSyntax.Values.{ValueType, object_place, read_from, scalar_value}
+use Rattle.cc_states.specs.CcSyntax.Views.{of_program}
 use Rattle.cc_lower_sound.specs.Statements.{are_plain, has_plain_statements}
 use Rattle.cc_lower_sound.proofs.KeptRegisters.{temporaries_registers}
 use Rattle.cc_lower_sound.proofs.Pieces.{IsGood, AreGood, Declared as AllAre}

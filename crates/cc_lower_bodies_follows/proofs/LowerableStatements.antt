@@ -1,7 +1,7 @@
 -- Statements that are lowered right, part by part; and those of the functions of a typed program are.
 use Rattle.std.proofs.Common.{◌≡◌, ℕ, ℤ, Bool, true, false, ◌&&◌, ◌||◌, List, [], ◌∷◌, map, Option, Some, None, is_some, slice_get, refl, ap, sym, ◌∙◌, subst}
 use Rattle.std.specs.List.{list_all, list_any, flat_map}
-use Rattle.cc_eval.proofs.Links.{type_linked}
+use Rattle.cc_states.proofs.CcEval.Links.{type_linked}
 use Rattle.cc_program.specs.declared.expr.Expr.{Expr, out-Expr}
 use Rattle.cc_program.specs.declared.expr.Expr.TheOpen as one
 use Rattle.cc_program.specs.declared.expr.Place.{Place}
@@ -11,14 +11,14 @@ use Rattle.cc_program.specs.declared.stmt.Case.{Case, out-Case, roll-out-Case}
 use Rattle.cc_program.specs.declared.stmt.Stmt.{Stmt, out-Stmt, roll-out-Stmt}
 use Rattle.cc_program.specs.declared.stmt.Stmt.TheOpen as is
 use Rattle.cc_program.proofs.Each.{Each}
-use Rattle.cc_syntax.specs.Expressions.{type_of}
-use Rattle.cc_syntax.specs.Forms.{form_at, form_of}
-use Rattle.cc_syntax.specs.Normal.{is_one}
-use Rattle.cc_syntax.specs.Registers.{is_address_taken, is_taken_in, is_addressed}
-use Rattle.cc_syntax.specs.Sound.{any_names, IsFuncBy, IsTypedProgram}
-use Rattle.cc_syntax.specs.Statements.{SoundWhere, Labelled, is_condition, labels_fit, are_apart, has_label, returns}
-use Rattle.cc_syntax.specs.Values.{ValueType, scalar_value}
-use Rattle.cc_syntax.specs.Views.{of_program}
+use Rattle.cc_states.specs.CcSyntax.Expressions.{type_of}
+use Rattle.cc_states.specs.CcSyntax.Forms.{form_at, form_of}
+use Rattle.cc_states.specs.CcSyntax.Normal.{is_one}
+use Rattle.cc_states.specs.CcSyntax.Registers.{is_address_taken, is_taken_in, is_addressed}
+use Rattle.cc_states.specs.CcSyntax.Sound.{any_names, IsFuncBy, IsTypedProgram}
+use Rattle.cc_states.specs.CcSyntax.Statements.{SoundWhere, Labelled, is_condition, labels_fit, are_apart, has_label, returns}
+use Rattle.cc_states.specs.CcSyntax.Values.{ValueType, scalar_value}
+use Rattle.cc_states.specs.CcSyntax.Views.{of_program}
 use Rattle.cc_lower_sound.specs.Statements.{is_plain, are_plain, has_plain_statements}
 use Rattle.cc_lower_sound.proofs.AddressReading.{stmt_at, stmt-taken-roll, taken_case, case-taken-roll}
 use Rattle.cc_lower_sound.proofs.Bools.{first_true, second_true}

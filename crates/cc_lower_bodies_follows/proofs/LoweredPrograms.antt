@@ -1,18 +1,18 @@
 -- The lowered program follows a typed source whose loops are `while (1)`, and answers it.
 use Rattle.std.proofs.Common.{◌≡◌, ℕ, ℤ, true, List, [], ◌∷◌, length, Option, Some, None, refl, arith}
 use Rattle.std.specs.Prelude.{slice_get}
-use Rattle.cc_eval.specs.declared.action.Action.{Action}
+use Rattle.cc_states.specs.CcEval.declared.action.Action.{Action}
 use Rattle.cc_program.specs.declared.expr.Expr.{Expr}
 use Rattle.cc_program.specs.declared.func.Func.{Func}
 use Rattle.cc_program.specs.declared.program.Program.{Program}
 use Rattle.cc_program.specs.declared.stmt.Stmt.{Stmt, out-Stmt}
 use Rattle.cc_program.proofs.Each.{Each}
 use Rattle.cc_states.specs.States.{IsState}
-use Rattle.cc_steps.specs.Rows.{rows_of}
-use Rattle.cc_steps.specs.Runs.{Follows, Answers}
-use Rattle.cc_steps.specs.State.{Active, Memory, State}
-use Rattle.cc_steps.specs.Turn.{start, turn}
-use Rattle.cc_syntax.specs.Sound.{IsTypedProgram, is_main_there}
+use Rattle.cc_states.specs.CcSteps.Rows.{rows_of}
+use Rattle.cc_states.specs.CcSteps.Runs.{Follows, Answers}
+use Rattle.cc_states.specs.CcSteps.State.{Active, Memory, State}
+use Rattle.cc_states.specs.CcSteps.Turn.{start, turn}
+use Rattle.cc_states.specs.CcSyntax.Sound.{IsTypedProgram, is_main_there}
 use Rattle.cc_lower_continues_follows.proofs.Rows.{rows_kept}
 use Rattle.cc_lower_expressions.specs.Programs.{made_of, temporaries, lowered_body, lower_expressions_program}
 use Rattle.cc_lower_sound.specs.Statements.{has_plain_statements}

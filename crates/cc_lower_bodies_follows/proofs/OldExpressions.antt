@@ -7,11 +7,11 @@ use Rattle.cc_program.specs.declared.expr.Expr.TheOpen as one
 use Rattle.cc_program.specs.declared.expr.Place.{Place, roll-Place, map-Place, fold-roll-Place}
 use Rattle.cc_program.proofs.Each.{Each}
 use Rattle.cc_program.proofs.ExprInduction.{Parts, PlaceParts, by_expr}
-use Rattle.cc_eval.specs.Context.{Context}
-use Rattle.cc_eval.specs.Eval.{Meaning, Designation}
-use Rattle.cc_eval.proofs.Links.{level, place_level}
-use Rattle.cc_syntax.specs.Types.{Named}
-use Rattle.cc_syntax.specs.Values.{object_place}
+use Rattle.cc_states.specs.CcEval.Context.{Context}
+use Rattle.cc_states.specs.CcEval.Eval.{Meaning, Designation}
+use Rattle.cc_states.proofs.CcEval.Links.{level, place_level}
+use Rattle.cc_states.specs.CcSyntax.Types.{Named}
+use Rattle.cc_states.specs.CcSyntax.Values.{object_place}
 use Rattle.cc_lower_sound.proofs.Bools.{two}
 use Rattle.cc_lower_sound.proofs.TypedAddresses.{below}
 use Rattle.cc_lower_expressions_follows.specs.Old.{old_step, place_old_step, is_old, is_old_place}

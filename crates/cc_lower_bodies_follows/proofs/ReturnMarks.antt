@@ -3,14 +3,14 @@ use Rattle.std.proofs.Common.{◌≡◌, ◌⊎◌, inl, inr, ℕ, Bool, true, f
 use Rattle.std.proofs.lemmas.Bool.{eqb-true}
 use Rattle.std.specs.List.{list_all}
 use Rattle.std.specs.Prelude.{slice_get, ◌==◌}
-use Rattle.cc_num.specs.declared.int_type.IntType.TheVariants as int
-use Rattle.cc_eval.specs.declared.action.Action.TheVariants.{Call}
-use Rattle.cc_eval.specs.declared.mark.Mark.{Mark}
-use Rattle.cc_eval.specs.declared.mark.Mark.TheVariants.{Gave, Did}
-use Rattle.cc_eval.specs.Eval.{next_of}
-use Rattle.cc_eval.specs.Progress.{Progress, Known, Waits, Traps, no_value}
-use Rattle.cc_eval.proofs.Links.{type_linked}
-use Rattle.cc_eval.proofs.Works.{answers_of}
+use Rattle.cc_program.specs.CcNum.declared.int_type.IntType.TheVariants as int
+use Rattle.cc_states.specs.CcEval.declared.action.Action.TheVariants.{Call}
+use Rattle.cc_states.specs.CcEval.declared.mark.Mark.{Mark}
+use Rattle.cc_states.specs.CcEval.declared.mark.Mark.TheVariants.{Gave, Did}
+use Rattle.cc_states.specs.CcEval.Eval.{next_of}
+use Rattle.cc_states.specs.CcEval.Progress.{Progress, Known, Waits, Traps, no_value}
+use Rattle.cc_states.proofs.CcEval.Links.{type_linked}
+use Rattle.cc_states.proofs.CcEval.Works.{answers_of}
 use Rattle.cc_program.specs.declared.expr.Expr.{Expr}
 use Rattle.cc_program.specs.declared.func.Func.{Func}
 use Rattle.cc_program.specs.declared.program.Program.{Program}
@@ -21,8 +21,8 @@ use Rattle.cc_program.specs.declared.types.CType.{CType}
 use Rattle.cc_program.specs.declared.types.Sig.{out-Sig}
 use Rattle.cc_program.specs.declared.value.Address.TheVariants as address
 use Rattle.cc_program.specs.declared.value.Value.{Value}
-use Rattle.cc_steps.specs.State.{Active}
-use Rattle.cc_steps.specs.Step.{worked, is_return, gives_nothing, progress_in, progress_of, return_mark}
+use Rattle.cc_states.specs.CcSteps.State.{Active}
+use Rattle.cc_states.specs.CcSteps.Step.{worked, is_return, gives_nothing, progress_in, progress_of, return_mark}
 use Rattle.cc_states.specs.Answers.{IsMarkOf, result_in}
 use Rattle.cc_states.specs.States.{may_break, may_continue, worked_at, expression_of, AreMarks, context_in, IsActive}
 use Rattle.cc_states.specs.Typed.{HasType}
@@ -34,12 +34,12 @@ use Rattle.cc_states.proofs.SoundLemmas.{typed, parts}
 use Rattle.cc_states.proofs.TestLemmas.{not_void, plain}
 use Rattle.cc_states.proofs.TurnLemmas.{function_sound, main_there}
 use Rattle.cc_states.proofs.TypedLemmas.{promoted_value, widened}
-use Rattle.cc_syntax.specs.Effects.{no_one}
-use Rattle.cc_syntax.specs.Operators.{is_handler}
-use Rattle.cc_syntax.specs.Programs.{type_of, is_sound_stmt, returns, sound_step}
-use Rattle.cc_syntax.specs.Sound.{any_names, IsFuncBy, IsTypedProgram, is_main, is_plain_int, is_plain_void, takes_nothing}
-use Rattle.cc_syntax.specs.Values.{ValueType, Integer, is_assignable_some, is_void, scalar_value}
-use Rattle.cc_syntax.proofs.Prefixes.{both_true}
+use Rattle.cc_states.specs.CcSyntax.Effects.{no_one}
+use Rattle.cc_states.specs.CcSyntax.Operators.{is_handler}
+use Rattle.cc_states.specs.CcSyntax.Programs.{type_of, is_sound_stmt, returns, sound_step}
+use Rattle.cc_states.specs.CcSyntax.Sound.{any_names, IsFuncBy, IsTypedProgram, is_main, is_plain_int, is_plain_void, takes_nothing}
+use Rattle.cc_states.specs.CcSyntax.Values.{ValueType, Integer, is_assignable_some, is_void, scalar_value}
+use Rattle.cc_states.proofs.CcSyntax.Prefixes.{both_true}
 use Rattle.cc_meaning_simulations.specs.LocalSimulations.{IsResult}
 use Rattle.cc_meaning_simulations.specs.Transitions.{ControlState, Transition, Jumps, Returns, control_state, transition_at, transition_in}
 use Rattle.cc_lower_expressions_follows.proofs.WholeMarks.{ReturnsFit}

@@ -2,9 +2,9 @@
 use Rattle.std.proofs.Common.{◌≡◌, Bool, true, not, ◌&&◌, length, Option, slice_get, ap, ◌∙◌}
 use Rattle.std.proofs.lemmas.Bool.{lt-ltb}
 use Rattle.cc_program.specs.declared.program.Program.{Program}
-use Rattle.cc_syntax.specs.Registers.{may_be_register, is_addressed, is_register}
-use Rattle.cc_syntax.specs.Sound.{IsTypedProgram}
-use Rattle.cc_syntax.specs.Types.{Named}
+use Rattle.cc_states.specs.CcSyntax.Registers.{may_be_register, is_addressed, is_register}
+use Rattle.cc_states.specs.CcSyntax.Sound.{IsTypedProgram}
+use Rattle.cc_states.specs.CcSyntax.Types.{Named}
 use Rattle.cc_lower_expressions.specs.Programs.{temporaries, lower_func}
 use Rattle.cc_lower_sound.specs.Statements.{has_plain_statements}
 use Rattle.cc_lower_expressions_follows.proofs.WholePrograms.{SameRegisters}

@@ -6,10 +6,10 @@ use Rattle.cc_program.specs.declared.program.Program.{Program}
 use Rattle.cc_program.specs.declared.stmt.Stmt.{Stmt}
 use Rattle.cc_program.specs.declared.types.Sig.{out-Sig}
 use Rattle.cc_states.specs.Answers.{TakesAddressesOf}
-use Rattle.cc_syntax.specs.Expressions.{type_of}
-use Rattle.cc_syntax.specs.Registers.{is_taken_in, is_addressed}
-use Rattle.cc_syntax.specs.Statements.{is_sound_stmt}
-use Rattle.cc_syntax.specs.Views.{of_program}
+use Rattle.cc_states.specs.CcSyntax.Expressions.{type_of}
+use Rattle.cc_states.specs.CcSyntax.Registers.{is_taken_in, is_addressed}
+use Rattle.cc_states.specs.CcSyntax.Statements.{is_sound_stmt}
+use Rattle.cc_states.specs.CcSyntax.Views.{of_program}
 use Rattle.cc_lower_sound.specs.Statements.{is_plain}
 use Rattle.cc_lower_expressions_follows.specs.Old.{is_old}
 use Rattle.cc_lower_expressions_follows.specs.Trees.{Setting, context_p}

@@ -3,7 +3,7 @@
 ghost use Rattle.std.specs.Prelude.{◌≡◌, map};
 ghost use Rattle.cc_lower_continues.specs.Continues.{any_continues, any_case_continues, flagging, case_flagging};
 
-use cc_num::List;
+use cc_program::num::List;
 use cc_program::{Case, Stmt};
 
 #[cycle(continues)]

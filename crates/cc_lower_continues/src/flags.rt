@@ -3,7 +3,7 @@
 ghost use Rattle.std.specs.Prelude.{◌≡◌, ◌∷◌, [], IfOk};
 ghost use Rattle.cc_lower_continues.specs.Continues.{assign_flag as assign_flag_of, read_flag as read_flag_of, leave_unless as leave_unless_of, test_but_first as test_but_first_of, flagged_do as flagged_do_of};
 
-use cc_num::{Boxed, IntType, List, NoMemory};
+use cc_program::num::{Boxed, IntType, List, NoMemory};
 use cc_program::{Expr, Place, Stmt};
 use std::alloc::Global;
 

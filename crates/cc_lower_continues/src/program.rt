@@ -4,7 +4,7 @@ ghost use Rattle.std.specs.Prelude.{◌≡◌, ◌++◌, map, IfOk};
 ghost use Rattle.cc_lower_continues.specs.Continues.{flag_locals, flagged_func as flagged_func_of, flagged_program};
 
 use crate::statements::flagged_list;
-use cc_num::{IntType, List, Name, NoMemory};
+use cc_program::num::{IntType, List, Name, NoMemory};
 use cc_program::{CType, Func, Program, Shape, copy_list};
 use std::alloc::Global;
 

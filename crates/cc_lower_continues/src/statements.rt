@@ -6,7 +6,7 @@ ghost use Rattle.cc_lower_continues.specs.Continues.{any_continues, needs_flag, 
 use crate::continues::list_continues;
 use crate::flags::flagged_do;
 use cc_lower_statements::is_nonzero_constant;
-use cc_num::{Boxed, List, NoMemory};
+use cc_program::num::{Boxed, List, NoMemory};
 use cc_program::{Case, Expr, Stmt, copy_list};
 use std::alloc::Global;
 

@@ -2,7 +2,7 @@
 use Rattle.std.proofs.Common.{◌≡◌, ℕ, ◌+◌, Bool, true, false, ◌||◌, List, [], ◌∷◌, map, refl, ap, sym, ◌∙◌}
 use Rattle.std.specs.List.{list_any}
 use Rattle.std.specs.Prelude.{pos}
-use Rattle.cc_num.specs.declared.int_type.IntType.TheVariants as int
+use Rattle.cc_program.specs.CcNum.declared.int_type.IntType.TheVariants as int
 use Rattle.cc_program.specs.declared.expr.Expr.{Expr, roll-Expr, fold-roll-Expr}
 use Rattle.cc_program.specs.declared.expr.Expr.TheOpen as one
 use Rattle.cc_program.specs.declared.expr.Place.{roll-Place, fold-roll-Place}
@@ -12,7 +12,7 @@ use Rattle.cc_program.specs.declared.stmt.Stmt.{Stmt, roll-Stmt, map-Stmt, fold-
 use Rattle.cc_program.specs.declared.stmt.Stmt.TheOpen as is
 use Rattle.cc_program.proofs.Each.{Each}
 use Rattle.cc_program.proofs.StmtInduction.{StmtParts, CaseParts, by_stmts}
-use Rattle.cc_syntax.specs.Registers.{PlaceUse, address_step, is_address_taken, place_use, use_step, is_taken_in_optional, stmt_step, is_taken_in, is_addressed}
+use Rattle.cc_states.specs.CcSyntax.Registers.{PlaceUse, address_step, is_address_taken, place_use, use_step, is_taken_in_optional, stmt_step, is_taken_in, is_addressed}
 use Rattle.cc_meaning_simulations.specs.Bodies.{extended}
 use Rattle.cc_lower_statements.specs.Statements.{break_statement, constant_one, endless_loop}
 use Rattle.cc_lower_continues.specs.Continues.{CaseFlagging, Flagging, any_continues, assign_flag, case_flagging, cases_become, do_flagging, flagged_body, flagged_do, flagged_list, flagging, flagging_in, flags_of, leave_unless, needs_flag, new_body, new_locals, read_flag, test_but_first}

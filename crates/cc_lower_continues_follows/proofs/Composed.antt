@@ -9,17 +9,17 @@ use Rattle.cc_program.specs.declared.stmt.Stmt.{Stmt, roll-Stmt, out-roll-Stmt, 
 use Rattle.cc_program.specs.declared.stmt.Stmt.TheOpen as is
 use Rattle.cc_program.proofs.Each.{Each}
 use Rattle.cc_program.proofs.StmtInduction.{StmtParts, CaseParts, by_stmts}
-use Rattle.cc_eval.specs.declared.action.Action.{Action}
-use Rattle.cc_steps.specs.Rows.{rows_of}
-use Rattle.cc_steps.specs.State.{Active, Memory, State}
-use Rattle.cc_steps.specs.Turn.{start, turn}
+use Rattle.cc_states.specs.CcEval.declared.action.Action.{Action}
+use Rattle.cc_states.specs.CcSteps.Rows.{rows_of}
+use Rattle.cc_states.specs.CcSteps.State.{Active, Memory, State}
+use Rattle.cc_states.specs.CcSteps.Turn.{start, turn}
 use Rattle.cc_states.proofs.StartLemmas.{start_state}
 use Rattle.cc_states.proofs.TurnLemmas.{turn_state}
 use Rattle.cc_states.specs.States.{IsState}
-use Rattle.cc_syntax.specs.Sound.{IsTypedProgram, is_main_there}
+use Rattle.cc_states.specs.CcSyntax.Sound.{IsTypedProgram, is_main_there}
 use Rattle.cc_lower_continues_follows.proofs.Steps as steps
-use Rattle.cc_steps.specs.Runs.{Follows, Answers}
-use Rattle.cc_steps.proofs.RunLaws.{Follows-trans, Answers-trans}
+use Rattle.cc_states.specs.CcSteps.Runs.{Follows, Answers}
+use Rattle.cc_states.proofs.CcSteps.RunLaws.{Follows-trans, Answers-trans}
 use Rattle.cc_lower_follows.proofs.Lowered as low
 use Rattle.cc_meaning_simulations.specs.Bodies.{extended}
 use Rattle.cc_meaning_simulations.specs.LocalSimulations.{is_action_visible}

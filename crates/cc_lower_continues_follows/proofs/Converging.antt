@@ -1,18 +1,18 @@
 -- A program whose `do`s have flags and its source converge wherever the source goes on with a list of its function.
 use Rattle.std.proofs.Common.{◌≡◌, ◌≤◌, ◌<◌, ℕ, ◌+◌, Bool, true, false, List, [], ◌∷◌, ◌++◌, option_map, Option, Some, None, slice_get, refl, ap, sym, ◌∙◌, subst, if◌then◌else◌}
 use Rattle.std.specs.Prelude.{pos}
-use Rattle.cc_cells.specs.Cells.{with_scalar}
-use Rattle.cc_control.specs.declared.phase.Phase.{Phase}
-use Rattle.cc_control.specs.declared.phase.Phase.TheVariants.{First, Test}
-use Rattle.cc_control.specs.Control.{is_loop, is_left_by_break, behind_body, opening, first_phase}
-use Rattle.cc_eval.specs.declared.action.Action.TheVariants.{Read, Write}
-use Rattle.cc_eval.specs.declared.mark.Mark.{Mark}
-use Rattle.cc_eval.specs.declared.mark.Mark.TheVariants.{Gave, Did}
-use Rattle.cc_eval.specs.Context.{Context, is_seen}
-use Rattle.cc_eval.specs.Eval.{Meaning, next_of}
-use Rattle.cc_eval.specs.Progress.{Progress, Known}
+use Rattle.cc_states.specs.CcCells.Cells.{with_scalar}
+use Rattle.cc_states.specs.CcControl.declared.phase.Phase.{Phase}
+use Rattle.cc_states.specs.CcControl.declared.phase.Phase.TheVariants.{First, Test}
+use Rattle.cc_states.specs.CcControl.Control.{is_loop, is_left_by_break, behind_body, opening, first_phase}
+use Rattle.cc_states.specs.CcEval.declared.action.Action.TheVariants.{Read, Write}
+use Rattle.cc_states.specs.CcEval.declared.mark.Mark.{Mark}
+use Rattle.cc_states.specs.CcEval.declared.mark.Mark.TheVariants.{Gave, Did}
+use Rattle.cc_states.specs.CcEval.Context.{Context, is_seen}
+use Rattle.cc_states.specs.CcEval.Eval.{Meaning, next_of}
+use Rattle.cc_states.specs.CcEval.Progress.{Progress, Known}
 use Rattle.cc_program.specs.declared.expr.Expr.{Expr, roll-Expr}
-use Rattle.cc_num.specs.declared.int_type.IntType.TheVariants as int
+use Rattle.cc_program.specs.CcNum.declared.int_type.IntType.TheVariants as int
 use Rattle.cc_program.specs.declared.expr.Expr.TheOpen as one
 use Rattle.cc_program.specs.declared.expr.Place.{roll-Place}
 use Rattle.cc_program.specs.declared.func.Func.{Func}
@@ -24,10 +24,10 @@ use Rattle.cc_program.specs.declared.value.Value.{Value}
 use Rattle.cc_program.specs.declared.value.Value.TheVariants.{Int}
 use Rattle.cc_program.proofs.Each.{Each}
 use Rattle.cc_program.proofs.StmtInduction.{StmtParts, by_stmt}
-use Rattle.cc_syntax.specs.Effects.{no_one}
-use Rattle.cc_syntax.specs.Values.{PlaceType, object_place}
-use Rattle.cc_steps.specs.Step.{worked, passed, is_return, is_known, is_past, progress_in, progress_at}
-use Rattle.cc_values.specs.Values.{is_true}
+use Rattle.cc_states.specs.CcSyntax.Effects.{no_one}
+use Rattle.cc_states.specs.CcSyntax.Values.{PlaceType, object_place}
+use Rattle.cc_states.specs.CcSteps.Step.{worked, passed, is_return, is_known, is_past, progress_in, progress_at}
+use Rattle.cc_states.specs.CcValues.Values.{is_true}
 use Rattle.cc_meaning_simulations.specs.Bodies.{all_extended, extended}
 use Rattle.cc_meaning_simulations.specs.Continuations.{Continuation, Remainder, begin_with, in_arm, next_continuation, remainder, resume}
 use Rattle.cc_meaning_simulations.specs.LocalSimulations.{Converges, Matched, QSteps}

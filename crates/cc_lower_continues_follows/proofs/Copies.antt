@@ -11,7 +11,7 @@ use Rattle.cc_program.specs.declared.program.Program.{Program}
 use Rattle.cc_program.specs.declared.stmt.Case.{Case, out-Case, out-roll-Case}
 use Rattle.cc_program.specs.declared.stmt.Stmt.{Stmt, out-Stmt, out-roll-Stmt, map-Stmt}
 use Rattle.cc_program.specs.declared.stmt.Stmt.TheOpen as is
-use Rattle.cc_control.specs.Control.{bodies, from_label, is_label, is_default}
+use Rattle.cc_states.specs.CcControl.Control.{bodies, from_label, is_label, is_default}
 use Rattle.cc_meaning_simulations.specs.Continuations.{found_case}
 use Rattle.cc_meaning_simulations.specs.NamedLocals.{names_below}
 use Rattle.cc_lower_continues.specs.Continues.{CaseFlagging, Flagging, any_continues, case_flagging, cases_become, do_flagging, flagged_do, flagged_list, flagging, flagging_in, flags_in_cases, flags_of, needs_flag}

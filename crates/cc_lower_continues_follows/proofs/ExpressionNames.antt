@@ -1,12 +1,12 @@
 -- Statements whose expressions name locals below a number only.
 use Rattle.std.proofs.Common.{◌≡◌, ℕ, Bool, true, false, ◌&&◌, List, [], ◌∷◌, map, Option, Some, None, refl}
-use Rattle.cc_control.specs.declared.phase.Phase.{Phase}
-use Rattle.cc_control.specs.declared.phase.Phase.TheVariants.{First, Test, Again}
+use Rattle.cc_states.specs.CcControl.declared.phase.Phase.{Phase}
+use Rattle.cc_states.specs.CcControl.declared.phase.Phase.TheVariants.{First, Test, Again}
 use Rattle.cc_program.specs.declared.expr.Expr.{Expr}
 use Rattle.cc_program.specs.declared.stmt.Case.{Case, out-Case, fold-Case, fold_out-Case}
 use Rattle.cc_program.specs.declared.stmt.Stmt.{Stmt, out-Stmt, map-Stmt, fold-Stmt, fold_out-Stmt}
 use Rattle.cc_program.specs.declared.stmt.Stmt.TheOpen as is
-use Rattle.cc_steps.specs.Step.{worked, passed}
+use Rattle.cc_states.specs.CcSteps.Step.{worked, passed}
 use Rattle.cc_meaning_simulations.specs.NamedLocals.{names_below}
 
 pub both_left : (a b : Bool) → (a && b) ≡ true → a ≡ true

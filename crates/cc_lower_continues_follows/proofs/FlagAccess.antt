@@ -1,7 +1,7 @@
 -- What the reads and writes of a flag ask for.
 use Rattle.std.proofs.Common.{◌≡◌, ℕ, Bool, false, List, [], Option, Some, option_map, slice_get, ap, ◌∙◌}
 use Rattle.std.specs.Prelude.{pos}
-use Rattle.cc_num.specs.declared.int_type.IntType.TheVariants as int
+use Rattle.cc_program.specs.CcNum.declared.int_type.IntType.TheVariants as int
 use Rattle.cc_program.specs.declared.expr.Expr.{Expr, roll-Expr, fold-roll-Expr}
 use Rattle.cc_program.specs.declared.expr.Expr.TheOpen as one
 use Rattle.cc_program.specs.declared.expr.Place.{Place as PlaceOf, roll-Place, fold-roll-Place}
@@ -9,16 +9,16 @@ use Rattle.cc_program.specs.declared.value.Cell.{Cell}
 use Rattle.cc_program.specs.declared.value.Cell.TheVariants as cell
 use Rattle.cc_program.specs.declared.value.Root.TheVariants as root
 use Rattle.cc_program.specs.declared.value.Value.TheVariants.{Int}
-use Rattle.cc_eval.specs.declared.action.Action.TheVariants.{Read, Write}
-use Rattle.cc_eval.specs.declared.action.Manner.{Manner}
-use Rattle.cc_eval.specs.declared.mark.Mark.{Mark}
-use Rattle.cc_eval.specs.declared.spots.Spot.TheVariants as spot
-use Rattle.cc_eval.specs.Context.{Context, cell_at, is_seen}
-use Rattle.cc_eval.specs.Eval.{Meaning, Designation, manner, expr_meaning, place_meaning, meaning, designation, next_of}
-use Rattle.cc_eval.specs.Progress.{ask, needs, given}
-use Rattle.cc_syntax.specs.Effects.{no_one}
-use Rattle.cc_syntax.specs.Expressions.{of_two}
-use Rattle.cc_syntax.specs.Values.{PlaceType, object_place}
+use Rattle.cc_states.specs.CcEval.declared.action.Action.TheVariants.{Read, Write}
+use Rattle.cc_states.specs.CcEval.declared.action.Manner.{Manner}
+use Rattle.cc_states.specs.CcEval.declared.mark.Mark.{Mark}
+use Rattle.cc_states.specs.CcEval.declared.spots.Spot.TheVariants as spot
+use Rattle.cc_states.specs.CcEval.Context.{Context, cell_at, is_seen}
+use Rattle.cc_states.specs.CcEval.Eval.{Meaning, Designation, manner, expr_meaning, place_meaning, meaning, designation, next_of}
+use Rattle.cc_states.specs.CcEval.Progress.{ask, needs, given}
+use Rattle.cc_states.specs.CcSyntax.Effects.{no_one}
+use Rattle.cc_states.specs.CcSyntax.Expressions.{of_two}
+use Rattle.cc_states.specs.CcSyntax.Values.{PlaceType, object_place}
 
 module _ (c : Context) (k : ℕ) (t : PlaceType) (typed : option_map (λ l. object_place l.1) (slice_get c.func.locals k) ≡ Some t) (plain : is_seen (Some t) ≡ false) where
   abbrev here : Cell

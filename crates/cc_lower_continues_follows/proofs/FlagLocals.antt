@@ -1,10 +1,10 @@
 -- The flags are locals of the new program: scalars whose accesses are no events, and which are there when a function is opened.
 use Rattle.std.proofs.Common.{arith, ◌≡◌, ◌≤◌, ◌<◌, ℕ, zero, suc, ◌+◌, Bool, true, false, ◌||◌, List, [], ◌∷◌, ◌++◌, length, replicate, Option, Some, None, slice_get, refl, ap, ◌∙◌, subst}
 use Rattle.std.specs.Prelude.{is_some}
-use Rattle.cc_syntax.specs.Types.{Named}
-use Rattle.cc_cells.proofs.CountLemmas.{count-Int}
-use Rattle.cc_eval.specs.Context.{is_seen}
-use Rattle.cc_num.specs.declared.int_type.IntType.TheVariants as int
+use Rattle.cc_states.specs.CcSyntax.Types.{Named}
+use Rattle.cc_states.proofs.CcCells.CountLemmas.{count-Int}
+use Rattle.cc_states.specs.CcEval.Context.{is_seen}
+use Rattle.cc_program.specs.CcNum.declared.int_type.IntType.TheVariants as int
 use Rattle.cc_program.specs.declared.program.Program.{Program}
 use Rattle.cc_program.specs.declared.types.CType.{CType, fold-CType, fold_out-CType}
 use Rattle.cc_program.specs.declared.types.Shape.{Shape, out-Shape, fold-Shape, fold_out-Shape, map-Shape}
@@ -14,8 +14,8 @@ use Rattle.cc_program.specs.declared.types.Sig.{Sig, fold-Sig}
 use Rattle.cc_program.specs.declared.types.Structure.{Structure}
 use Rattle.cc_program.specs.declared.value.Value.{Value}
 use Rattle.cc_program.specs.Qualifiers.{is_volatile, of_element}
-use Rattle.cc_steps.specs.State.{local_with, locals_with}
-use Rattle.cc_syntax.specs.Values.{scalar_value, scalar_shape, object_place}
+use Rattle.cc_states.specs.CcSteps.State.{local_with, locals_with}
+use Rattle.cc_states.specs.CcSyntax.Values.{scalar_value, scalar_shape, object_place}
 use Rattle.cc_meaning_simulations.specs.Bodies.{AddsScalars}
 use Rattle.cc_lower_continues.specs.Continues.{flag_locals, flags_of, new_locals, unsigned_char}
 

@@ -2,8 +2,8 @@
 use Rattle.std.proofs.Common.{arith, ◌≡◌, ◌≤◌, ◌<◌, ◌∙◌, ◌∷◌, ◌++◌, ◌+◌, ◌&&◌, ℕ, ℤ, Bool, true, false, List, [], map, Option, Some, None, option_map, refl, ap, sym, subst, if◌then◌else◌}
 use Rattle.std.specs.Prelude.{pos, is_some}
 use Rattle.std.specs.List.{list_all, flat_map}
-use Rattle.cc_num.specs.declared.int_type.IntType.TheVariants as int
-use Rattle.cc_num.specs.Integers.{is_value_of}
+use Rattle.cc_program.specs.CcNum.declared.int_type.IntType.TheVariants as int
+use Rattle.cc_program.specs.CcNum.Integers.{is_value_of}
 use Rattle.cc_program.specs.declared.expr.Expr.{Expr, roll-Expr}
 use Rattle.cc_program.specs.declared.expr.Expr.TheOpen as term
 use Rattle.cc_program.specs.declared.expr.Place.{Place, roll-Place}
@@ -21,13 +21,13 @@ use Rattle.cc_program.proofs.Each.{Each}
 use Rattle.cc_program.proofs.QualifierLemmas.{const-opens, parts_const}
 use Rattle.cc_program.proofs.StmtInduction.{StmtParts, CaseParts, by_stmts}
 use Rattle.cc_states.proofs.SoundLemmas.{labelled, parts}
-use Rattle.cc_syntax.proofs.SameLemmas.{and_true, int_itself}
-use Rattle.cc_syntax.specs.Expressions.{of_one, of_two, place_type}
-use Rattle.cc_syntax.specs.Operators.{assignment_type, when}
-use Rattle.cc_syntax.specs.Programs.{is_sound_stmt, sound_step, is_typed, is_optional_condition, returns}
-use Rattle.cc_syntax.specs.Statements.{Labelled, SoundWhere, are_apart, has_label, is_condition, labels_fit, sound_case}
-use Rattle.cc_syntax.specs.Values.{Integer, PlaceType, ValueType, is_assignable_some, object_place, read_from, scalar_shape, scalar_value, written_to}
-use Rattle.cc_syntax.specs.Views.{of_program}
+use Rattle.cc_states.proofs.CcSyntax.SameLemmas.{and_true, int_itself}
+use Rattle.cc_states.specs.CcSyntax.Expressions.{of_one, of_two, place_type}
+use Rattle.cc_states.specs.CcSyntax.Operators.{assignment_type, when}
+use Rattle.cc_states.specs.CcSyntax.Programs.{is_sound_stmt, sound_step, is_typed, is_optional_condition, returns}
+use Rattle.cc_states.specs.CcSyntax.Statements.{Labelled, SoundWhere, are_apart, has_label, is_condition, labels_fit, sound_case}
+use Rattle.cc_states.specs.CcSyntax.Values.{Integer, PlaceType, ValueType, is_assignable_some, object_place, read_from, scalar_shape, scalar_value, written_to}
+use Rattle.cc_states.specs.CcSyntax.Views.{of_program}
 use Rattle.cc_meaning_simulations.specs.Bodies.{extended}
 use Rattle.cc_lower_statements.specs.Statements.{break_statement, constant_one, endless_loop}
 use Rattle.cc_lower_continues.specs.Continues.{CaseFlagging, Flagging, any_continues, assign_flag, case_flagging, case_flagging_in, cases_become, do_flagging, flagged_body, flagged_do, flagged_list, flagging, flagging_in, flags_in_cases, flags_of, leave_unless, needs_flag, new_body, new_locals, read_flag, test_but_first, unsigned_char}

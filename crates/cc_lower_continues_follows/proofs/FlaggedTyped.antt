@@ -10,15 +10,15 @@ use Rattle.cc_program.specs.declared.types.CType.{CType}
 use Rattle.cc_program.specs.declared.types.Shape.{Shape}
 use Rattle.cc_program.specs.declared.types.Shape.TheOpen as shape
 use Rattle.cc_program.specs.declared.types.Sig.{Sig, out-Sig}
-use Rattle.cc_syntax.proofs.SameLemmas.{and_true}
-use Rattle.cc_syntax.proofs.KindRolls.{kind-opens, parts_kind}
-use Rattle.cc_syntax.specs.Expressions as typing
-use Rattle.cc_syntax.specs.Kinds.{is_object_type, qualified_kind, shape_kind}
-use Rattle.cc_syntax.specs.SameTypes.{same_shape}
-use Rattle.cc_syntax.specs.Sound.{IsFuncBy, IsTypedProgram, any_names, are_parameters, is_automatic, is_local}
-use Rattle.cc_syntax.specs.Statements as statements
-use Rattle.cc_syntax.specs.Types.{Named}
-use Rattle.cc_syntax.specs.Views.{View, of_program}
+use Rattle.cc_states.proofs.CcSyntax.SameLemmas.{and_true}
+use Rattle.cc_states.proofs.CcSyntax.KindRolls.{kind-opens, parts_kind}
+use Rattle.cc_states.specs.CcSyntax.Expressions as typing
+use Rattle.cc_states.specs.CcSyntax.Kinds.{is_object_type, qualified_kind, shape_kind}
+use Rattle.cc_states.specs.CcSyntax.SameTypes.{same_shape}
+use Rattle.cc_states.specs.CcSyntax.Sound.{IsFuncBy, IsTypedProgram, any_names, are_parameters, is_automatic, is_local}
+use Rattle.cc_states.specs.CcSyntax.Statements as statements
+use Rattle.cc_states.specs.CcSyntax.Types.{Named}
+use Rattle.cc_states.specs.CcSyntax.Views.{View, of_program}
 use Rattle.cc_lower_continues.specs.Continues.{HasFewLocals, flag_locals, flagged_func, flagged_program, flags_of, new_body, new_locals, unsigned_char}
 use Rattle.cc_lower_continues_follows.proofs.ExpressionNames.{both_left, both_right}
 use Rattle.cc_lower_continues_follows.proofs.FlaggedStatements.{flagged_sound, not_const}

@@ -13,19 +13,19 @@ use Rattle.cc_program.proofs.StmtInduction.{StmtParts, CaseParts, by_stmts}
 use Rattle.cc_states.proofs.SoundLemmas.{labelled, parts, sound-opens}
 use Rattle.cc_lower_statements.specs.Statements.{break_statement, constant_one, is_nonzero_constant, needed_test, needed_test_if, optional_statement, guarded, endless_loop, lower, lower_case, lower_list, lower_cases}
 use Rattle.cc_lower_statements.proofs.Layers.{lower_layer, lower-out, lower_case-out}
-use Rattle.cc_syntax.proofs.SameLemmas.{and_true}
-use Rattle.cc_syntax.specs.Expressions.{type_of}
-use Rattle.cc_syntax.specs.Programs.{is_sound_stmt, sound_step, is_typed, is_optional_condition}
-use Rattle.cc_syntax.specs.Statements.{SoundWhere, Labelled, is_condition, sound_case, labels_fit, are_apart, has_label}
-use Rattle.cc_syntax.specs.Values.{ValueType}
-use Rattle.cc_syntax.specs.Views.{of_program}
-use Rattle.cc_num.specs.declared.int_type.IntType.TheVariants as int
-use Rattle.cc_num.specs.declared.target.Target.{Target}
-use Rattle.cc_num.specs.Integers.{least_of_bits, most_of_bits}
-use Rattle.cc_num.proofs.Conversions.{int_bytes_is}
+use Rattle.cc_states.proofs.CcSyntax.SameLemmas.{and_true}
+use Rattle.cc_states.specs.CcSyntax.Expressions.{type_of}
+use Rattle.cc_states.specs.CcSyntax.Programs.{is_sound_stmt, sound_step, is_typed, is_optional_condition}
+use Rattle.cc_states.specs.CcSyntax.Statements.{SoundWhere, Labelled, is_condition, sound_case, labels_fit, are_apart, has_label}
+use Rattle.cc_states.specs.CcSyntax.Values.{ValueType}
+use Rattle.cc_states.specs.CcSyntax.Views.{of_program}
+use Rattle.cc_program.specs.CcNum.declared.int_type.IntType.TheVariants as int
+use Rattle.cc_program.specs.CcNum.declared.target.Target.{Target}
+use Rattle.cc_program.specs.CcNum.Integers.{least_of_bits, most_of_bits}
+use Rattle.cc_program.proofs.CcNum.Conversions.{int_bytes_is}
 use Rattle.cc_program.specs.declared.expr.Expr.TheOpen as term
-use Rattle.cc_syntax.specs.Values.{Integer}
-use Rattle.cc_syntax.specs.Operators.{when}
+use Rattle.cc_states.specs.CcSyntax.Values.{Integer}
+use Rattle.cc_states.specs.CcSyntax.Operators.{when}
 use Rattle.cc_lower_continues_follows.proofs.TypedNames.{type-roll}
 use Rattle.cc_lower_continues_follows.proofs.ExpressionNames.{both_left, both_right}
 

@@ -5,10 +5,10 @@ use Rattle.cc_program.specs.declared.func.Func.{Func}
 use Rattle.cc_program.specs.declared.program.Program.{Program}
 use Rattle.cc_program.specs.declared.types.Sig.{out-Sig}
 use Rattle.cc_lower_statements.specs.Statements.{lower_body, lower_func, lower_program}
-use Rattle.cc_syntax.specs.Expressions as typing
-use Rattle.cc_syntax.specs.Sound.{IsFuncBy, IsTypedProgram, any_names}
-use Rattle.cc_syntax.specs.Statements as statements
-use Rattle.cc_syntax.specs.Views.{View}
+use Rattle.cc_states.specs.CcSyntax.Expressions as typing
+use Rattle.cc_states.specs.CcSyntax.Sound.{IsFuncBy, IsTypedProgram, any_names}
+use Rattle.cc_states.specs.CcSyntax.Statements as statements
+use Rattle.cc_states.specs.CcSyntax.Views.{View}
 use Rattle.cc_lower_continues_follows.proofs.LoweredStatements.{lowered_sound}
 use Rattle.cc_lower_continues_follows.proofs.TypedPrograms.{program_typed, view_same}
 

@@ -5,10 +5,10 @@ use Rattle.cc_program.specs.declared.expr.Expr.TheOpen as one
 use Rattle.cc_program.specs.declared.expr.Place.{Place, roll-Place, map-Place}
 use Rattle.cc_program.proofs.Each.{Each}
 use Rattle.cc_program.proofs.ExprInduction.{Parts, PlaceParts, by_expr}
-use Rattle.cc_syntax.specs.Expressions.{expr_step, place_step, place_type, type_of}
-use Rattle.cc_syntax.specs.Types.{Named}
-use Rattle.cc_syntax.specs.Values.{PlaceType, ValueType, object_place}
-use Rattle.cc_syntax.specs.Views.{View}
+use Rattle.cc_states.specs.CcSyntax.Expressions.{expr_step, place_step, place_type, type_of}
+use Rattle.cc_states.specs.CcSyntax.Types.{Named}
+use Rattle.cc_states.specs.CcSyntax.Values.{PlaceType, ValueType, object_place}
+use Rattle.cc_states.specs.CcSyntax.Views.{View}
 use Rattle.cc_meaning_simulations.specs.NamedLocals.{all_in, names_below, names_step, place_names_below, place_names_step}
 use Rattle.cc_meaning_simulations.proofs.MoreLocals.{get_before, names-roll, place_names-roll}
 use Rattle.cc_lower_continues_follows.proofs.ExpressionNames.{both_left, both_right}

@@ -2,11 +2,11 @@
 use Rattle.std.proofs.Common.{◌≡◌, ◌≤◌, ◌<◌, ℕ, ◌+◌, ◌==◌, Bool, true, false, List, [], ◌∷◌, Option, Some, option_map, option_and_then, slice_get, slice_set, refl, ap, sym, ◌∙◌, subst}
 use Rattle.std.specs.Prelude.{pos}
 use Rattle.std.proofs.lemmas.Bool.{eq-eqb, eqb-true}
-use Rattle.cc_cells.specs.Cells.{scalar_in, with_scalar}
-use Rattle.cc_control.specs.declared.phase.Phase.{Phase}
-use Rattle.cc_control.specs.declared.phase.Phase.TheVariants.{First, Test}
-use Rattle.cc_control.specs.Control.{behind_body}
-use Rattle.cc_eval.specs.declared.mark.Mark.{Mark}
+use Rattle.cc_states.specs.CcCells.Cells.{scalar_in, with_scalar}
+use Rattle.cc_states.specs.CcControl.declared.phase.Phase.{Phase}
+use Rattle.cc_states.specs.CcControl.declared.phase.Phase.TheVariants.{First, Test}
+use Rattle.cc_states.specs.CcControl.Control.{behind_body}
+use Rattle.cc_states.specs.CcEval.declared.mark.Mark.{Mark}
 use Rattle.cc_program.specs.declared.expr.Expr.{Expr}
 use Rattle.cc_program.specs.declared.func.Func.{Func}
 use Rattle.cc_program.specs.declared.program.Program.{Program}
@@ -15,12 +15,12 @@ use Rattle.cc_program.specs.declared.stmt.Stmt.{Stmt, out-Stmt}
 use Rattle.cc_program.specs.declared.stmt.Stmt.TheOpen as is
 use Rattle.cc_program.specs.declared.value.Value.{Value}
 use Rattle.cc_program.specs.declared.value.Value.TheVariants.{Int}
-use Rattle.cc_steps.specs.Access.{content}
-use Rattle.cc_steps.specs.declared.content.Content.TheVariants.{Holds}
+use Rattle.cc_states.specs.CcSteps.Access.{content}
+use Rattle.cc_states.specs.CcSteps.declared.content.Content.TheVariants.{Holds}
 use Rattle.cc_meaning_simulations.specs.Continuations.{Remainder, remainder}
 use Rattle.cc_meaning_simulations.specs.LocalSteps.{LocalState, Locals, local_state}
 use Rattle.cc_meaning_simulations.specs.NamedLocals.{names_below}
-use Rattle.cc_steps.proofs.CellsApart.{elsewhere, written_here}
+use Rattle.cc_states.proofs.CcSteps.CellsApart.{elsewhere, written_here}
 use Rattle.cc_lower_follows.proofs.Relation.{control_of, loop_remainder}
 use Rattle.cc_lower_continues.specs.Continues.{flagged_body, flagged_do, flags_of, leave_unless}
 use Rattle.cc_lower_continues_follows.proofs.Copies.{Copies, Mirrors, first, flag_hidden, hidden, is_flag}

@@ -1,18 +1,18 @@
 -- With more locals in its functions a program spells the events of a typed one's states alike: they name none of the new ones.
 use Rattle.std.proofs.Common.{◌≡◌, ℕ, ℤ, ◌==◌, ◌||◌, Bool, true, false, List, [], ◌∷◌, ◌++◌, length, Option, Some, None, option_map, slice_get, refl, ap, sym, ◌∙◌, subst, if◌then◌else◌}
-use Rattle.cc_syntax.specs.Types.{Named}
+use Rattle.cc_states.specs.CcSyntax.Types.{Named}
 use Rattle.std.proofs.lemmas.Bool.{eqb-true, ltb-false}
 use Rattle.std.proofs.lemmas.List.{map-append}
 use Rattle.std.proofs.lemmas.Option.{slice_get_past}
 use Rattle.std.specs.Prelude.{is_some, nat_lt}
-use Rattle.cc_cells.specs.Cells.{scalar_in}
-use Rattle.cc_eval.specs.Context.{local_type, object_type}
-use Rattle.cc_eval.specs.declared.action.Action.{Action}
-use Rattle.cc_eval.specs.declared.action.Action.TheVariants.{Read, Write, Choose, Call, Flag, Save}
-use Rattle.cc_eval.specs.declared.action.Manner.{Manner}
-use Rattle.cc_eval.specs.declared.mark.Mark.TheVariants.{Gave}
-use Rattle.cc_eval.specs.Progress.{Progress, Known, Waits, Traps, no_value}
-use Rattle.cc_num.specs.Integers.{converted}
+use Rattle.cc_states.specs.CcCells.Cells.{scalar_in}
+use Rattle.cc_states.specs.CcEval.Context.{local_type, object_type}
+use Rattle.cc_states.specs.CcEval.declared.action.Action.{Action}
+use Rattle.cc_states.specs.CcEval.declared.action.Action.TheVariants.{Read, Write, Choose, Call, Flag, Save}
+use Rattle.cc_states.specs.CcEval.declared.action.Manner.{Manner}
+use Rattle.cc_states.specs.CcEval.declared.mark.Mark.TheVariants.{Gave}
+use Rattle.cc_states.specs.CcEval.Progress.{Progress, Known, Waits, Traps, no_value}
+use Rattle.cc_program.specs.CcNum.Integers.{converted}
 use Rattle.cc_program.specs.declared.func.Func.{Func}
 use Rattle.cc_program.specs.declared.object.Device.{Device}
 use Rattle.cc_program.specs.declared.program.Program.{Program}
@@ -37,19 +37,19 @@ use Rattle.cc_states.proofs.StateLemmas.{asked, same_opening, static_there, loca
 use Rattle.cc_states.specs.Answers.{IsAction}
 use Rattle.cc_states.specs.States.{AreStatics, worked_at, IsActive, AreActive, IsState}
 use Rattle.cc_states.specs.Typed.{cell_type, IsOpened, IsAddress, HasType, MayHave, place_in}
-use Rattle.cc_steps.specs.declared.content.Content.{Content}
-use Rattle.cc_steps.specs.declared.content.Content.TheVariants.{Gone, Unwritten, Holds}
-use Rattle.cc_steps.specs.declared.event.End.TheVariants.{Trap}
-use Rattle.cc_steps.specs.declared.event.Event.{Event}
-use Rattle.cc_steps.specs.declared.event.Event.TheVariants as event
-use Rattle.cc_steps.specs.Access.{content, local_content, is_open, with_local}
-use Rattle.cc_steps.specs.Rows.{Name, Into, Spelled, Static, Auto, ToFunction as SpelledFunction, ToObject as SpelledObject, Row, Reads, Writes, Enters, step_in, steps, func_name, local_in, object_spelled, cell_spelled, address_spelled, value_spelled, row_of, rows_of}
-use Rattle.cc_steps.specs.State.{Active, State}
-use Rattle.cc_steps.specs.Step.{stopped, with_stack, with_flag, marked, return_mark, goes_to, next_place, with_event, static_content, content_at, gives_nothing, did, cell_position, has_read, input_read, read, has_written, write, opened_if, call, returned, fallen, is_return, done, stepped, perform, active_step, progress_of, worked, proceed}
-use Rattle.cc_steps.specs.Turn.{is_going, entering, turn_by, turn}
-use Rattle.cc_syntax.specs.Expressions.{of_one}
-use Rattle.cc_syntax.specs.Initial.{place_at, step_into, names}
-use Rattle.cc_syntax.specs.Values.{ValueType, NoValue, Integer, ToObject, ToFunction, PlaceType, DevicePlace, ObjectPlace, FunctionPlace, read_from, scalar_shape, pointer_shape}
+use Rattle.cc_states.specs.CcSteps.declared.content.Content.{Content}
+use Rattle.cc_states.specs.CcSteps.declared.content.Content.TheVariants.{Gone, Unwritten, Holds}
+use Rattle.cc_states.specs.CcSteps.declared.event.End.TheVariants.{Trap}
+use Rattle.cc_states.specs.CcSteps.declared.event.Event.{Event}
+use Rattle.cc_states.specs.CcSteps.declared.event.Event.TheVariants as event
+use Rattle.cc_states.specs.CcSteps.Access.{content, local_content, is_open, with_local}
+use Rattle.cc_states.specs.CcSteps.Rows.{Name, Into, Spelled, Static, Auto, ToFunction as SpelledFunction, ToObject as SpelledObject, Row, Reads, Writes, Enters, step_in, steps, func_name, local_in, object_spelled, cell_spelled, address_spelled, value_spelled, row_of, rows_of}
+use Rattle.cc_states.specs.CcSteps.State.{Active, State}
+use Rattle.cc_states.specs.CcSteps.Step.{stopped, with_stack, with_flag, marked, return_mark, goes_to, next_place, with_event, static_content, content_at, gives_nothing, did, cell_position, has_read, input_read, read, has_written, write, opened_if, call, returned, fallen, is_return, done, stepped, perform, active_step, progress_of, worked, proceed}
+use Rattle.cc_states.specs.CcSteps.Turn.{is_going, entering, turn_by, turn}
+use Rattle.cc_states.specs.CcSyntax.Expressions.{of_one}
+use Rattle.cc_states.specs.CcSyntax.Initial.{place_at, step_into, names}
+use Rattle.cc_states.specs.CcSyntax.Values.{ValueType, NoValue, Integer, ToObject, ToFunction, PlaceType, DevicePlace, ObjectPlace, FunctionPlace, read_from, scalar_shape, pointer_shape}
 use Rattle.cc_meaning_simulations.specs.Bodies.{all_extended, extended}
 use Rattle.cc_meaning_simulations.proofs.MoreLocals.{funcs_same, get_before}
 

@@ -2,13 +2,13 @@
 use Rattle.std.proofs.Common.{inl, arith, ◌≡◌, ◌≤◌, ◌<◌, ℕ, ℤ, ◌+◌, Bool, true, false, ◌&&◌, List, [], ◌∷◌, ◌++◌, length, Option, Some, None, slice_get, refl, ap, sym, ◌∙◌, subst, if◌then◌else◌}
 use Rattle.cc_meaning_simulations.proofs.HiddenLocals as hidden_locals
 use Rattle.std.specs.Prelude.{pos}
-use Rattle.cc_cells.specs.Cells.{with_scalar}
-use Rattle.cc_control.specs.declared.phase.Phase.{Phase}
-use Rattle.cc_control.specs.declared.phase.Phase.TheVariants.{First, Test, Again}
-use Rattle.cc_control.specs.Control.{is_loop, is_left_by_break, behind_body}
-use Rattle.cc_eval.specs.declared.action.Action.{Action}
-use Rattle.cc_eval.specs.declared.mark.Mark.{Mark}
-use Rattle.cc_eval.specs.Progress.{Progress, Known, Waits, Traps, no_value}
+use Rattle.cc_states.specs.CcCells.Cells.{with_scalar}
+use Rattle.cc_states.specs.CcControl.declared.phase.Phase.{Phase}
+use Rattle.cc_states.specs.CcControl.declared.phase.Phase.TheVariants.{First, Test, Again}
+use Rattle.cc_states.specs.CcControl.Control.{is_loop, is_left_by_break, behind_body}
+use Rattle.cc_states.specs.CcEval.declared.action.Action.{Action}
+use Rattle.cc_states.specs.CcEval.declared.mark.Mark.{Mark}
+use Rattle.cc_states.specs.CcEval.Progress.{Progress, Known, Waits, Traps, no_value}
 use Rattle.cc_program.specs.declared.expr.Expr.{Expr}
 use Rattle.cc_program.specs.declared.func.Func.{Func}
 use Rattle.cc_program.specs.declared.program.Program.{Program}
@@ -19,12 +19,12 @@ use Rattle.cc_program.specs.declared.value.Value.{Value}
 use Rattle.cc_program.specs.declared.value.Value.TheVariants.{Int}
 use Rattle.std.specs.Prelude.{nat_le}
 use Rattle.std.proofs.lemmas.Bool.{leb-true, ltb-true}
-use Rattle.cc_steps.specs.Rows.{rows_of}
-use Rattle.cc_steps.specs.Runs.{Follows, Answers, begins_at, is_empty}
-use Rattle.cc_steps.specs.State.{Active, Memory, State, locals_with}
-use Rattle.cc_steps.specs.Step.{worked, passed, is_return, is_known, is_past, is_passed, number_in, progress_in}
-use Rattle.cc_steps.specs.Turn.{start, turn}
-use Rattle.cc_values.specs.Values.{is_true}
+use Rattle.cc_states.specs.CcSteps.Rows.{rows_of}
+use Rattle.cc_states.specs.CcSteps.Runs.{Follows, Answers, begins_at, is_empty}
+use Rattle.cc_states.specs.CcSteps.State.{Active, Memory, State, locals_with}
+use Rattle.cc_states.specs.CcSteps.Step.{worked, passed, is_return, is_known, is_past, is_passed, number_in, progress_in}
+use Rattle.cc_states.specs.CcSteps.Turn.{start, turn}
+use Rattle.cc_states.specs.CcValues.Values.{is_true}
 use Rattle.cc_meaning_simulations.specs.Bodies.{all_extended, extended}
 use Rattle.cc_meaning_simulations.specs.Continuations.{Continuation, Remainder, break_out, continue_on, enclosing, found_case, in_arm, in_cases, in_loop, next_continuation, remainder, resume}
 use Rattle.cc_meaning_simulations.specs.LocalSimulations.{AreAlike, Awaits, Converges, Matched, QSteps, is_action_visible}

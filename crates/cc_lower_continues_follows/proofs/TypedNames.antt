@@ -1,6 +1,6 @@
 -- In a typed function each expression names locals of the function.
 use Rattle.std.proofs.Common.{◌≡◌, ℕ, ℤ, Bool, true, false, ◌&&◌, List, [], ◌∷◌, map, length, Option, Some, None, option_map, slice_get, refl, ap, sym, ◌∙◌, if◌then◌else◌}
-use Rattle.cc_syntax.specs.Types.{Named}
+use Rattle.cc_states.specs.CcSyntax.Types.{Named}
 use Rattle.std.proofs.lemmas.Bool.{ltb-false}
 use Rattle.std.proofs.lemmas.Option.{slice_get_past}
 use Rattle.std.specs.Prelude.{is_some, nat_lt}
@@ -21,14 +21,14 @@ use Rattle.cc_program.proofs.Each.{Each}
 use Rattle.cc_program.proofs.ExprInduction.{Parts, PlaceParts, by_expr}
 use Rattle.cc_program.proofs.StmtInduction.{StmtParts, CaseParts, by_stmts}
 use Rattle.cc_states.proofs.SoundLemmas.{labelled, parts, sound-opens}
-use Rattle.cc_syntax.specs.Expressions.{of_one, of_two, expr_step, place_step, type_of, place_type}
-use Rattle.cc_syntax.specs.Operators.{call_type, intrinsic_type, choice_type}
-use Rattle.cc_syntax.specs.Programs.{is_sound_stmt, sound_step, is_typed, is_optional_condition, returns}
-use Rattle.cc_syntax.specs.Sound.{IsTypedProgram, IsFuncBy, any_names}
-use Rattle.cc_syntax.specs.Statements.{SoundWhere, Labelled, is_condition, sound_case, labels_fit}
-use Rattle.cc_syntax.specs.Values.{ValueType, NoValue, Integer, ToObject, ToFunction, PlaceType, object_place, is_assignable_some, are_assignable, scalar_value}
-use Rattle.cc_syntax.specs.Views.{View, of_program}
-use Rattle.cc_syntax.proofs.Parts.{all_at}
+use Rattle.cc_states.specs.CcSyntax.Expressions.{of_one, of_two, expr_step, place_step, type_of, place_type}
+use Rattle.cc_states.specs.CcSyntax.Operators.{call_type, intrinsic_type, choice_type}
+use Rattle.cc_states.specs.CcSyntax.Programs.{is_sound_stmt, sound_step, is_typed, is_optional_condition, returns}
+use Rattle.cc_states.specs.CcSyntax.Sound.{IsTypedProgram, IsFuncBy, any_names}
+use Rattle.cc_states.specs.CcSyntax.Statements.{SoundWhere, Labelled, is_condition, sound_case, labels_fit}
+use Rattle.cc_states.specs.CcSyntax.Values.{ValueType, NoValue, Integer, ToObject, ToFunction, PlaceType, object_place, is_assignable_some, are_assignable, scalar_value}
+use Rattle.cc_states.specs.CcSyntax.Views.{View, of_program}
+use Rattle.cc_states.proofs.CcSyntax.Parts.{all_at}
 use Rattle.cc_meaning_simulations.specs.NamedLocals.{all_in, names_below, names_step, place_names_below, place_names_step}
 use Rattle.cc_meaning_simulations.proofs.MoreLocals.{names-roll, place_names-roll}
 use Rattle.cc_lower_continues_follows.proofs.ExpressionNames.{all_true, are_below, are_cases_below, both_left, both_right, is_below, is_below-out, is_below_in, is_case_below, is_case_below-out, optional_below}

@@ -8,10 +8,10 @@ use Rattle.cc_program.specs.declared.func.Func.{Func}
 use Rattle.cc_program.specs.declared.object.Object.{Object}
 use Rattle.cc_program.specs.declared.program.Program.{Program}
 use Rattle.cc_meaning_simulations.specs.Bodies.{with_funcs}
-use Rattle.cc_syntax.specs.Initial as values
-use Rattle.cc_syntax.specs.Operators.{function_type}
-use Rattle.cc_syntax.specs.Sound.{IsFuncBy, IsTypedProgram, any_names, have_ids, is_main_there, main_name}
-use Rattle.cc_syntax.specs.Views.{View, of_program}
+use Rattle.cc_states.specs.CcSyntax.Initial as values
+use Rattle.cc_states.specs.CcSyntax.Operators.{function_type}
+use Rattle.cc_states.specs.CcSyntax.Sound.{IsFuncBy, IsTypedProgram, any_names, have_ids, is_main_there, main_name}
+use Rattle.cc_states.specs.CcSyntax.Views.{View, of_program}
 
 module _ (new : Func → Func) (P : Program) (name : (f : Func) → (new f).name ≡ f.name) (ctype : (f : Func) → function_type (Some (new f)) ≡ function_type (Some f)) where
   abbrev Q : Program

@@ -3,10 +3,10 @@ use Rattle.std.proofs.Common.{◌≡◌, ℕ, ◌==◌, Bool, true, false, not, 
 use Rattle.std.proofs.lemmas.Bool.{eqb-true, ltb-false}
 use Rattle.std.proofs.lemmas.Option.{slice_get_past}
 use Rattle.std.specs.Prelude.{nat_lt}
-use Rattle.cc_eval.specs.Context.{local_type}
-use Rattle.cc_eval.specs.declared.action.Action.{Action}
-use Rattle.cc_eval.specs.declared.action.Action.TheVariants.{Read, Write, Choose, Call, Flag, Save}
-use Rattle.cc_eval.specs.Progress.{Progress, Known, Waits, Traps}
+use Rattle.cc_states.specs.CcEval.Context.{local_type}
+use Rattle.cc_states.specs.CcEval.declared.action.Action.{Action}
+use Rattle.cc_states.specs.CcEval.declared.action.Action.TheVariants.{Read, Write, Choose, Call, Flag, Save}
+use Rattle.cc_states.specs.CcEval.Progress.{Progress, Known, Waits, Traps}
 use Rattle.cc_program.specs.declared.func.Func.{Func}
 use Rattle.cc_program.specs.declared.program.Program.{Program}
 use Rattle.cc_program.specs.declared.stmt.Case.{Case}
@@ -21,11 +21,11 @@ use Rattle.cc_states.proofs.StateLemmas.{asked, same_opening}
 use Rattle.cc_states.specs.Answers.{IsAction}
 use Rattle.cc_states.specs.States.{worked_at, expression_of, IsActive, AreActive, IsState}
 use Rattle.cc_states.specs.Typed.{cell_type, IsThere}
-use Rattle.cc_steps.specs.State.{Active, Memory}
-use Rattle.cc_steps.specs.Step.{is_return, progress_of, worked}
-use Rattle.cc_syntax.specs.Expressions.{of_one}
-use Rattle.cc_syntax.specs.Initial.{place_at}
-use Rattle.cc_syntax.specs.Values.{ValueType, PlaceType, read_from}
+use Rattle.cc_states.specs.CcSteps.State.{Active, Memory}
+use Rattle.cc_states.specs.CcSteps.Step.{is_return, progress_of, worked}
+use Rattle.cc_states.specs.CcSyntax.Expressions.{of_one}
+use Rattle.cc_states.specs.CcSyntax.Initial.{place_at}
+use Rattle.cc_states.specs.CcSyntax.Values.{ValueType, PlaceType, read_from}
 use Rattle.cc_meaning_simulations.specs.LocalSimulations.{is_visible, is_cell_visible, is_action_visible}
 use Rattle.cc_meaning_simulations.specs.StepSimulations.{going}
 use Rattle.cc_meaning_simulations.specs.Transitions.{ControlState, Jumps, Performs, Returns, control_state, transition, transition_at, transition_in}

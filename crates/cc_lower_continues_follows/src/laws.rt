@@ -4,8 +4,8 @@ ghost use Rattle.std.specs.Prelude.{All};
 ghost use Rattle.cc_lower_continues.specs.Continues.{HasFewLocals, flagged_program};
 ghost use Rattle.cc_lower_statements.specs.Statements.{lower_program};
 ghost use Rattle.cc_program.specs.declared.program.Program.{Program};
-ghost use Rattle.cc_steps.specs.Runs.{Follows, Answers};
-ghost use Rattle.cc_syntax.specs.Sound.{IsTypedProgram};
+ghost use Rattle.cc_states.specs.CcSteps.Runs.{Follows, Answers};
+ghost use Rattle.cc_states.specs.CcSyntax.Sound.{IsTypedProgram};
 
 /// Each run of the program that a typed one becomes, with flags where a `do` has a `continue` of its own and then with lowered
 /// statements, has the trace and the end of a run of its source, and each run of the source with entries at boundaries is matched

@@ -2,13 +2,13 @@
 -- left of an expression is pure. An expression is lowered as an operand, as the whole right side of an assignment to a register,
 -- or as an expression statement. New temporaries are the locals from a number on, in the order of the lists.
 use Rattle.std.specs.Prelude.{ℕ, ◌+◌, nat_le, pos, Bool, true, false, ◌||◌, List, [], ◌∷◌, ◌++◌, map, length, Option, Some, None, is_some, option_and_then, if◌then◌else◌}
-use Rattle.cc_num.specs.declared.int_type.IntType.{IntType}
-use Rattle.cc_num.specs.declared.int_type.IntType.TheVariants as int
-use Rattle.cc_num.specs.declared.op.BinOp.{BinOp}
-use Rattle.cc_num.specs.declared.op.BinOp.TheVariants as op
-use Rattle.cc_num.specs.declared.op.UnOp.{UnOp}
-use Rattle.cc_num.specs.declared.target.Target.{Target}
-use Rattle.cc_num.specs.Promotions.{promoted}
+use Rattle.cc_program.specs.CcNum.declared.int_type.IntType.{IntType}
+use Rattle.cc_program.specs.CcNum.declared.int_type.IntType.TheVariants as int
+use Rattle.cc_program.specs.CcNum.declared.op.BinOp.{BinOp}
+use Rattle.cc_program.specs.CcNum.declared.op.BinOp.TheVariants as op
+use Rattle.cc_program.specs.CcNum.declared.op.UnOp.{UnOp}
+use Rattle.cc_program.specs.CcNum.declared.target.Target.{Target}
+use Rattle.cc_program.specs.CcNum.Promotions.{promoted}
 use Rattle.cc_program.specs.declared.expr.Expr.{Expr, Const, Null, Load, AddrOf, Un, Bin, Conv, Qualify, Move, Gap, Compare, Assign, Call, Intr, out-Expr, roll-Expr, map-Expr, fold-Expr}
 use Rattle.cc_program.specs.declared.expr.Expr.TheOpen as one
 use Rattle.cc_program.specs.declared.expr.Place.{Place, Local, Element, Member, Deref, out-Place, roll-Place, map-Place, fold-Place}
@@ -16,14 +16,14 @@ use Rattle.cc_program.specs.declared.func.Func.{Func}
 use Rattle.cc_program.specs.declared.program.Program.{Program}
 use Rattle.cc_program.specs.declared.stmt.Stmt.{Stmt, Do, If}
 use Rattle.cc_program.specs.declared.types.CType.{CType}
-use Rattle.cc_syntax.specs.Effects.{Registers, also, Effects, PlaceEffects, is_soft, all_assigned, effect_step, place_effect_step}
-use Rattle.cc_syntax.specs.Folding.{Constant, NoConstant, Value, Traps, unary_constant, binary_constant, converted_constant}
-use Rattle.cc_syntax.specs.Forms.{Form, ConstantForm, FunctionForm, LoadForm, AssignForm, CallForm, IntrinsicForm, OtherForm, form_of}
-use Rattle.cc_syntax.specs.Operators.{is_comparison, unary_result}
-use Rattle.cc_syntax.specs.Programs.{expr_step, place_step}
-use Rattle.cc_syntax.specs.Registers.{is_register}
-use Rattle.cc_syntax.specs.SameTypes.{same_int}
-use Rattle.cc_syntax.specs.Values.{ValueType, NoValue, Integer, ToObject, ToFunction, PlaceType, read_from}
+use Rattle.cc_eval.specs.CcSyntax.Effects.{Registers, also, Effects, PlaceEffects, is_soft, all_assigned, effect_step, place_effect_step}
+use Rattle.cc_eval.specs.CcSyntax.Folding.{Constant, NoConstant, Value, Traps, unary_constant, binary_constant, converted_constant}
+use Rattle.cc_eval.specs.CcSyntax.Forms.{Form, ConstantForm, FunctionForm, LoadForm, AssignForm, CallForm, IntrinsicForm, OtherForm, form_of}
+use Rattle.cc_eval.specs.CcSyntax.Operators.{is_comparison, unary_result}
+use Rattle.cc_eval.specs.CcSyntax.Programs.{expr_step, place_step}
+use Rattle.cc_eval.specs.CcSyntax.Registers.{is_register}
+use Rattle.cc_eval.specs.CcSyntax.SameTypes.{same_int}
+use Rattle.cc_eval.specs.CcSyntax.Values.{ValueType, NoValue, Integer, ToObject, ToFunction, PlaceType, read_from}
 use Rattle.cc_eval.specs.Eval.{is_back, sum_or_difference, one_more_type}
 
 -- the types of new temporaries

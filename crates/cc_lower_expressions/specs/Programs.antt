@@ -3,7 +3,7 @@ use Rattle.std.specs.Prelude.{[], List, ◌++◌, map, length}
 use Rattle.cc_program.specs.declared.func.Func.{Func}
 use Rattle.cc_program.specs.declared.program.Program.{Program}
 use Rattle.cc_program.specs.declared.stmt.Stmt.{Stmt}
-use Rattle.cc_syntax.specs.Types.{Named}
+use Rattle.cc_eval.specs.CcSyntax.Types.{Named}
 use Rattle.cc_lower_expressions.specs.Expressions.{Piece}
 use Rattle.cc_lower_expressions.specs.Statements.{lower_list}
 use Rattle.cc_lower_expressions.specs.Temporaries.{declared_type}

@@ -8,7 +8,7 @@ use Rattle.cc_program.specs.declared.program.Program.{Program}
 use Rattle.cc_program.specs.declared.stmt.Case.{Case, roll-Case, fold-Case}
 use Rattle.cc_program.specs.declared.stmt.Stmt.{Stmt, While, DoWhile, For, Switch, Break, Continue, Return, Empty, Block, fold-Stmt}
 use Rattle.cc_program.specs.declared.stmt.Stmt.TheOpen as is
-use Rattle.cc_syntax.specs.Effects.{Registers, also, no_one}
+use Rattle.cc_eval.specs.CcSyntax.Effects.{Registers, also, no_one}
 use Rattle.cc_lower_expressions.specs.Expressions.{Piece, piece, Make, done, ◌>>=◌, emit, fork, with_both, Lowering, lowering}
 use Rattle.cc_lower_expressions.specs.Temporaries.{declared_type, is_same_type}
 

@@ -1,11 +1,11 @@
 -- The types that temporaries are declared with, and when two values are of one type.
 use Rattle.std.specs.Prelude.{Bool, true, false, ◌&&◌, Option, Some, None}
-use Rattle.cc_num.specs.declared.int_type.IntType.TheVariants as int
+use Rattle.cc_program.specs.CcNum.declared.int_type.IntType.TheVariants as int
 use Rattle.cc_operands.specs.Qualified.{plain, type_of_value}
 use Rattle.cc_program.specs.declared.types.CType.{CType}
 use Rattle.cc_program.specs.declared.types.Shape.{Int}
-use Rattle.cc_syntax.specs.SameTypes.{same_flag, same_int, same_sig, alike}
-use Rattle.cc_syntax.specs.Values.{ValueType, NoValue, Integer, ToObject, ToFunction}
+use Rattle.cc_eval.specs.CcSyntax.SameTypes.{same_flag, same_int, same_sig, alike}
+use Rattle.cc_eval.specs.CcSyntax.Values.{ValueType, NoValue, Integer, ToObject, ToFunction}
 
 -- without qualifiers; what a pointer points to is const and volatile as its flags say. No temporary has a type other than a scalar.
 abbrev pub declared_type : Option ValueType → CType

@@ -9,8 +9,8 @@ use Rattle.cc_program.specs.declared.expr.Place.TheVariants.{rolls-Local}
 use Rattle.cc_program.specs.declared.stmt.Stmt.{Stmt, Do, If, fold-roll-Stmt}
 use Rattle.cc_program.specs.declared.stmt.Stmt.TheVariants.{rolls-Do, rolls-If}
 use Rattle.cc_program.specs.declared.stmt.Stmt.TheOpen as is
-use Rattle.cc_syntax.specs.Registers.{PlaceUse, address_step, use_step, is_address_taken, place_use, stmt_step, is_taken_in}
-use Rattle.cc_syntax.specs.Values.{ValueType}
+use Rattle.cc_states.specs.CcSyntax.Registers.{PlaceUse, address_step, use_step, is_address_taken, place_use, stmt_step, is_taken_in}
+use Rattle.cc_states.specs.CcSyntax.Values.{ValueType}
 use Rattle.cc_lower_expressions.specs.Expressions.{Make, done, ◌>>=◌, fresh, emit, fork, into, temp, set, mapped, with_both, branch}
 
 -- ---- truths

@@ -2,11 +2,11 @@
 use Rattle.std.proofs.Common.{◌≡◌, ℕ, ℤ, pos, Bool, true, false, ◌||◌, List, map, Option, Some, None, refl, ap, sym, ◌∙◌, if◌then◌else◌}
 use Rattle.std.specs.Prelude.{is_some}
 use Rattle.std.specs.List.{list_any}
-use Rattle.cc_num.specs.declared.int_type.IntType.{IntType}
-use Rattle.cc_num.specs.declared.op.BinOp.{BinOp}
-use Rattle.cc_num.specs.declared.op.BinOp.TheVariants as op
-use Rattle.cc_num.specs.declared.op.UnOp.{UnOp}
-use Rattle.cc_num.specs.Promotions.{promoted}
+use Rattle.cc_program.specs.CcNum.declared.int_type.IntType.{IntType}
+use Rattle.cc_program.specs.CcNum.declared.op.BinOp.{BinOp}
+use Rattle.cc_program.specs.CcNum.declared.op.BinOp.TheVariants as op
+use Rattle.cc_program.specs.CcNum.declared.op.UnOp.{UnOp}
+use Rattle.cc_program.specs.CcNum.Promotions.{promoted}
 use Rattle.cc_program.specs.declared.expr.Expr.{Expr, Const, Null, Load, Un, Bin, Conv, Move, Compare, Assign, Call, Intr, out-Expr, roll-Expr, roll-out-Expr, map-Expr}
 use Rattle.cc_program.specs.declared.expr.Expr.TheOpen as one
 use Rattle.cc_program.specs.declared.expr.Expr.TheVariants.{rolls-Const, rolls-Null, rolls-Un, rolls-Bin, rolls-Conv, rolls-Move, rolls-Compare, rolls-Call, rolls-Intr}
@@ -16,14 +16,14 @@ use Rattle.cc_program.specs.declared.func.Func.{Func}
 use Rattle.cc_program.specs.declared.program.Program.{Program}
 use Rattle.cc_program.specs.declared.stmt.Stmt.{Do}
 use Rattle.cc_program.specs.declared.types.CType.{CType}
-use Rattle.cc_syntax.specs.Effects.{Registers, is_soft, also}
-use Rattle.cc_syntax.specs.Folding.{Constant, NoConstant, Value as ConstantOf, Traps, unary_constant, binary_constant, converted_constant}
-use Rattle.cc_syntax.specs.Forms.{form_at, form_of}
-use Rattle.cc_syntax.specs.Operators.{unary_result}
-use Rattle.cc_syntax.specs.Registers.{PlaceUse, address_step, is_address_taken, place_use}
-use Rattle.cc_syntax.specs.SameTypes.{same_int}
-use Rattle.cc_syntax.specs.Values.{ValueType, NoValue, Integer, ToObject, ToFunction}
-use Rattle.cc_eval.specs.Eval.{is_back, sum_or_difference}
+use Rattle.cc_states.specs.CcSyntax.Effects.{Registers, is_soft, also}
+use Rattle.cc_states.specs.CcSyntax.Folding.{Constant, NoConstant, Value as ConstantOf, Traps, unary_constant, binary_constant, converted_constant}
+use Rattle.cc_states.specs.CcSyntax.Forms.{form_at, form_of}
+use Rattle.cc_states.specs.CcSyntax.Operators.{unary_result}
+use Rattle.cc_states.specs.CcSyntax.Registers.{PlaceUse, address_step, is_address_taken, place_use}
+use Rattle.cc_states.specs.CcSyntax.SameTypes.{same_int}
+use Rattle.cc_states.specs.CcSyntax.Values.{ValueType, NoValue, Integer, ToObject, ToFunction}
+use Rattle.cc_states.specs.CcEval.Eval.{is_back, sum_or_difference}
 use Rattle.cc_lower_expressions.specs.Expressions.{Make, Lowers, Lowering, PlaceLowering, done, ◌>>=◌, fresh, emit, into, temp, set, from_one, is_idle, value_of, number_of, constant_in, constant_or, binary_type, whole_by, unused, effect_by, place_and, read_at, read, assigned_value, assignment, right_value, right_alone, folded_un, folded_bin, folded_conv, conv_unless, truth_of, changed, whole_right, whole_read, read_unused, change, changed_value, change_alone, step_type, stepped, step_value, step_alone}
 use Rattle.cc_lower_expressions_follows.proofs.Addressed.{takes, place_takes, takes-rolled, takes-Load, takes-temp, taken-Do, taken-put, taken-set, Has, no_more, has_done, has_emit, has_into, has_into_with, has_then, has_fresh, has_both, has_mapped, has_behind, has_before, or_none, or_same, or_again, or_twice, or_turned}
 use Rattle.cc_lower_expressions_follows.proofs.NumberLaws.{unary_folds, binary_folds, conversion_folds}

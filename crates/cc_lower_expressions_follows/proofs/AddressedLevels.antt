@@ -2,9 +2,9 @@
 use Rattle.std.proofs.Common.{◌≡◌, ℕ, ◌+◌, pos, Bool, true, false, ◌||◌, List, [], ◌∷◌, map, length, Option, Some, None, refl, ap, sym, ◌∙◌, subst, if◌then◌else◌}
 use Rattle.std.specs.Prelude.{option_and_then}
 use Rattle.std.specs.List.{list_any}
-use Rattle.cc_num.specs.declared.int_type.IntType.{IntType}
-use Rattle.cc_num.specs.declared.int_type.IntType.TheVariants as int
-use Rattle.cc_num.specs.declared.op.BinOp.{BinOp}
+use Rattle.cc_program.specs.CcNum.declared.int_type.IntType.{IntType}
+use Rattle.cc_program.specs.CcNum.declared.int_type.IntType.TheVariants as int
+use Rattle.cc_program.specs.CcNum.declared.op.BinOp.{BinOp}
 use Rattle.cc_program.specs.declared.expr.Expr.{Expr, Const, AddrOf, Qualify, Move, Gap, Compare, Call, Intr, roll-Expr, map-Expr, fold-roll-Expr}
 use Rattle.cc_program.specs.declared.expr.Expr.TheOpen as one
 use Rattle.cc_program.specs.declared.expr.Expr.TheVariants.{rolls-AddrOf, rolls-Qualify, rolls-Gap}
@@ -16,17 +16,17 @@ use Rattle.cc_program.specs.declared.types.CType.{CType}
 use Rattle.cc_program.proofs.Each.{Each}
 use Rattle.cc_program.proofs.ExprInduction.{Parts, PlaceParts, by_expr}
 use Rattle.cc_program.proofs.FoldFusion.{place_fused}
-use Rattle.cc_syntax.specs.Effects.{Registers, also}
-use Rattle.cc_syntax.specs.Expressions as typing
-use Rattle.cc_syntax.specs.Expressions.{of_one}
-use Rattle.cc_syntax.specs.Forms.{form_of}
-use Rattle.cc_syntax.specs.Operators.{change_type, after_type}
-use Rattle.cc_syntax.specs.Programs.{expr_step, place_step}
-use Rattle.cc_syntax.specs.Registers.{PlaceUse, address_step, use_step, is_address_taken, place_use}
-use Rattle.cc_syntax.specs.Values.{ValueType, NoValue, Integer, ToObject, ToFunction, read_from, written_to}
-use Rattle.cc_eval.specs.Context.{Context}
-use Rattle.cc_eval.specs.Eval.{Meaning, Designation, meaning, designation}
-use Rattle.cc_eval.proofs.Links.{level, place_level, place_type_linked}
+use Rattle.cc_states.specs.CcSyntax.Effects.{Registers, also}
+use Rattle.cc_states.specs.CcSyntax.Expressions as typing
+use Rattle.cc_states.specs.CcSyntax.Expressions.{of_one}
+use Rattle.cc_states.specs.CcSyntax.Forms.{form_of}
+use Rattle.cc_states.specs.CcSyntax.Operators.{change_type, after_type}
+use Rattle.cc_states.specs.CcSyntax.Programs.{expr_step, place_step}
+use Rattle.cc_states.specs.CcSyntax.Registers.{PlaceUse, address_step, use_step, is_address_taken, place_use}
+use Rattle.cc_states.specs.CcSyntax.Values.{ValueType, NoValue, Integer, ToObject, ToFunction, read_from, written_to}
+use Rattle.cc_states.specs.CcEval.Context.{Context}
+use Rattle.cc_states.specs.CcEval.Eval.{Meaning, Designation, meaning, designation}
+use Rattle.cc_states.proofs.CcEval.Links.{level, place_level, place_type_linked}
 use Rattle.cc_states.proofs.GivenLemmas.{read_as_written}
 use Rattle.cc_states.proofs.Options.{with_one, with_two}
 use Rattle.cc_lower_expressions.specs.Expressions.{Piece, Make, Lowers, Lowering, PlaceLowering, done, ◌>>=◌, fork, emit, temp, set, from_one, from_two, unused, is_callee, value_of, int_value, arm_as, condition_of, branch_alone, is_void_value, intr_operand, choose_void, choose_value, all_args, arguments, truth_of, arm_of, both_value, either_value, call_of, by_temp, call, lower_step, place_lower_step, lowering, place_lowering}

@@ -1,10 +1,10 @@
 -- Types that agree: what is read, and where a place leads, is the same, and so is what the rules of types make of them.
 use Rattle.std.proofs.Common.{◌≡◌, ℕ, ℤ, Bool, true, false, ◌&&◌, List, Option, Some, None, refl, ap, sym, ◌∙◌, subst}
 use Rattle.std.specs.Prelude.{nat_lt, option_map, option_and_then, if◌then◌else◌}
-use Rattle.cc_num.specs.declared.int_type.IntType.{IntType}
-use Rattle.cc_num.specs.declared.int_type.IntType.TheVariants as int
-use Rattle.cc_num.specs.declared.op.BinOp.{BinOp}
-use Rattle.cc_num.specs.declared.target.Target.{Target}
+use Rattle.cc_program.specs.CcNum.declared.int_type.IntType.{IntType}
+use Rattle.cc_program.specs.CcNum.declared.int_type.IntType.TheVariants as int
+use Rattle.cc_program.specs.CcNum.declared.op.BinOp.{BinOp}
+use Rattle.cc_program.specs.CcNum.declared.target.Target.{Target}
 use Rattle.cc_program.specs.declared.expr.Expr.TheOpen as one
 use Rattle.cc_program.specs.declared.program.Program.{Program}
 use Rattle.cc_program.specs.declared.types.CType.{CType, fold_out-CType}
@@ -15,21 +15,21 @@ use Rattle.cc_program.specs.declared.types.Structure.{Structure}
 use Rattle.cc_program.specs.declared.value.Address.{Address}
 use Rattle.cc_program.specs.declared.value.Address.TheVariants as address
 use Rattle.cc_program.specs.declared.value.Value.{Value}
-use Rattle.cc_syntax.specs.Expressions.{of_two, expr_step, place_step, pointer_type}
-use Rattle.cc_syntax.specs.Initial.{bound_of}
-use Rattle.cc_num.specs.Results.{is_shift}
-use Rattle.cc_syntax.specs.Operators.{when, when_assignable, is_integer, is_of, is_promoted_value, second_fits, is_comparison, moved_type, gap_type, comparison_type, difference_type, subscript_type}
-use Rattle.cc_syntax.specs.SameTypes.{alike, is_void_shape}
-use Rattle.cc_syntax.specs.Types.{Named, complete_shape, is_complete}
-use Rattle.cc_syntax.specs.Values.{ValueType, NoValue, Integer, ToObject, ToFunction, PlaceType, DevicePlace, ObjectPlace, FunctionPlace, read_from, is_assignable, implies, is_void, element_of, element_shape, member_shape}
-use Rattle.cc_syntax.specs.Views.{View}
-use Rattle.cc_syntax.proofs.SameLemmas.{Alike, SameShape, Arrays}
-use Rattle.cc_syntax.proofs.AlikeLemmas.{shares, tested, alike_mirrored, alike_joined, alike-scalar, alike-bound}
-use Rattle.cc_eval.specs.Context.{Context, are_alike, named_by, path_to, designated, cell_of, cell_at, reached, element, element_in, member, is_seen}
-use Rattle.cc_eval.specs.Eval.{element_at}
-use Rattle.cc_eval.specs.declared.spots.Spot.{Spot}
-use Rattle.cc_eval.specs.declared.spots.Spot.TheVariants as spot
-use Rattle.cc_values.specs.Values.{integer}
+use Rattle.cc_states.specs.CcSyntax.Expressions.{of_two, expr_step, place_step, pointer_type}
+use Rattle.cc_states.specs.CcSyntax.Initial.{bound_of}
+use Rattle.cc_program.specs.CcNum.Results.{is_shift}
+use Rattle.cc_states.specs.CcSyntax.Operators.{when, when_assignable, is_integer, is_of, is_promoted_value, second_fits, is_comparison, moved_type, gap_type, comparison_type, difference_type, subscript_type}
+use Rattle.cc_states.specs.CcSyntax.SameTypes.{alike, is_void_shape}
+use Rattle.cc_states.specs.CcSyntax.Types.{Named, complete_shape, is_complete}
+use Rattle.cc_states.specs.CcSyntax.Values.{ValueType, NoValue, Integer, ToObject, ToFunction, PlaceType, DevicePlace, ObjectPlace, FunctionPlace, read_from, is_assignable, implies, is_void, element_of, element_shape, member_shape}
+use Rattle.cc_states.specs.CcSyntax.Views.{View}
+use Rattle.cc_states.proofs.CcSyntax.SameLemmas.{Alike, SameShape, Arrays}
+use Rattle.cc_states.proofs.CcSyntax.AlikeLemmas.{shares, tested, alike_mirrored, alike_joined, alike-scalar, alike-bound}
+use Rattle.cc_states.specs.CcEval.Context.{Context, are_alike, named_by, path_to, designated, cell_of, cell_at, reached, element, element_in, member, is_seen}
+use Rattle.cc_states.specs.CcEval.Eval.{element_at}
+use Rattle.cc_states.specs.CcEval.declared.spots.Spot.{Spot}
+use Rattle.cc_states.specs.CcEval.declared.spots.Spot.TheVariants as spot
+use Rattle.cc_states.specs.CcValues.Values.{integer}
 use Rattle.cc_lower_expressions_follows.specs.Agreement.{TypesAgree, EqualTypes, Pointers, PlacesAgree, EqualPlaces, Objects}
 
 pub equal_types : {a b : Option ValueType} → a ≡ b → TypesAgree a b

@@ -1,11 +1,11 @@
 -- What holds of all answers of a tree, where its marks answer what was asked, holds at the ends of a simulation too.
 use Rattle.std.proofs.Common.{◌≡◌, ℕ, List, [], ◌∷◌, ◌++◌, Option, refl, ap, sym, ◌∙◌, subst}
 use Rattle.cc_program.specs.declared.program.Program.{Program}
-use Rattle.cc_eval.specs.declared.action.Action.{Action}
-use Rattle.cc_eval.specs.declared.mark.Mark.{Mark}
+use Rattle.cc_states.specs.CcEval.declared.action.Action.{Action}
+use Rattle.cc_states.specs.CcEval.declared.mark.Mark.{Mark}
 use Rattle.cc_program.specs.declared.value.Value.{Value}
-use Rattle.cc_eval.specs.Progress.{Progress, Known, Waits, Get, known, ask, and_then, bind, given}
-use Rattle.cc_eval.proofs.Works.{same_action}
+use Rattle.cc_states.specs.CcEval.Progress.{Progress, Known, Waits, Get, known, ask, and_then, bind, given}
+use Rattle.cc_states.proofs.CcEval.Works.{same_action}
 use Rattle.cc_states.specs.Answers.{IsMarkOf, AreAnswers, WorksIn}
 use Rattle.cc_lower_expressions_follows.specs.Trees.{Regs, Setting, after, Sim, Done, Left, Right, Both, Fail}
 

@@ -1,9 +1,9 @@
 -- A place that is no register leads to none, as an end of its simulation.
 use Rattle.std.proofs.Common.{ℕ, length, Option}
 use Rattle.cc_program.specs.declared.expr.Place.{Place}
-use Rattle.cc_syntax.specs.Effects.{Registers}
-use Rattle.cc_eval.specs.declared.spots.Spot.{Spot}
-use Rattle.cc_eval.specs.Eval.{Designation}
+use Rattle.cc_states.specs.CcSyntax.Effects.{Registers}
+use Rattle.cc_states.specs.CcEval.declared.spots.Spot.{Spot}
+use Rattle.cc_states.specs.CcEval.Eval.{Designation}
 use Rattle.cc_lower_expressions.specs.Expressions.{Piece}
 use Rattle.cc_lower_expressions_follows.specs.Trees.{Regs, Setting, Sim}
 use Rattle.cc_lower_expressions_follows.specs.Relation.{code_tree, Agree, Leads}

@@ -1,16 +1,16 @@
 -- The pieces of the lemmas are those of the pass: for each way, what the pass makes satisfies the claim.
 use Rattle.std.proofs.Common.{◌≡◌, ◌≤◌, ℕ, suc, ◌+◌, pos, Bool, true, false, List, [], ◌∷◌, ◌++◌, length, Option, None, refl, ap, sym, ◌∙◌, subst, arith, if◌then◌else◌, append-nil}
-use Rattle.cc_num.specs.declared.int_type.IntType.TheVariants as int
+use Rattle.cc_program.specs.CcNum.declared.int_type.IntType.TheVariants as int
 use Rattle.cc_program.specs.declared.program.Program.{Program}
 use Rattle.cc_program.specs.declared.func.Func.{Func}
 use Rattle.cc_program.specs.declared.types.CType.{CType}
 use Rattle.cc_program.specs.declared.stmt.Stmt.{Stmt, Do, If}
 use Rattle.cc_program.specs.declared.expr.Expr.{Expr, Assign, Const, out-Expr}
 use Rattle.cc_program.specs.declared.value.Value.{Value}
-use Rattle.cc_syntax.specs.Effects.{Registers, also, Effects}
-use Rattle.cc_syntax.specs.Values.{ValueType}
-use Rattle.cc_eval.specs.Eval.{Meaning, Designation, assigned as assigned_next, both, either, chosen_arm}
-use Rattle.cc_values.specs.Values.{truth, of_truth}
+use Rattle.cc_states.specs.CcSyntax.Effects.{Registers, also, Effects}
+use Rattle.cc_states.specs.CcSyntax.Values.{ValueType}
+use Rattle.cc_states.specs.CcEval.Eval.{Meaning, Designation, assigned as assigned_next, both, either, chosen_arm}
+use Rattle.cc_states.specs.CcValues.Values.{truth, of_truth}
 use Rattle.cc_lower_expressions.specs.Expressions.{Piece, piece, done, unless_pure, branch_alone, unused, is_idle, ◌>>=◌, Lowers, Lowering, PlaceLowering, temp, set, value_of, int_value, assigned_value, both_value, either_value, choose_value, truth_of}
 use Rattle.cc_lower_expressions_follows.specs.Trees.{Regs, Setting, context_p, Sim}
 use Rattle.cc_lower_expressions_follows.specs.Relation.{code_tree, Alike, Declared, Agree, Gives}

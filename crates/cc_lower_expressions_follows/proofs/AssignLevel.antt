@@ -3,10 +3,10 @@ use Rattle.std.proofs.Common.{◌≡◌, ◌≤◌, ℕ, suc, ◌+◌, true, [],
 use Rattle.cc_program.specs.declared.stmt.Stmt.{Do}
 use Rattle.cc_program.specs.declared.expr.Expr.{Expr, Assign}
 use Rattle.cc_program.specs.declared.expr.Place.{Place, Local}
-use Rattle.cc_syntax.specs.Effects.{Registers, also, only, Effects, PlaceEffects}
-use Rattle.cc_syntax.specs.Registers.{is_register}
-use Rattle.cc_eval.specs.Context.{Context}
-use Rattle.cc_eval.specs.Eval.{Meaning, Designation, designation, assigned as assigned_next}
+use Rattle.cc_states.specs.CcSyntax.Effects.{Registers, also, only, Effects, PlaceEffects}
+use Rattle.cc_states.specs.CcSyntax.Registers.{is_register}
+use Rattle.cc_states.specs.CcEval.Context.{Context}
+use Rattle.cc_states.specs.CcEval.Eval.{Meaning, Designation, designation, assigned as assigned_next}
 use Rattle.cc_lower_expressions.specs.Expressions.{Piece, piece, onto, emit, ◌>>=◌, Lowers, Lowering, PlaceLowering, temp, set, value_of, number_of, assigned_value, assignment, place_and}
 use Rattle.cc_lower_expressions_follows.specs.Trees.{Regs, Setting, context_p, context_q, Sim}
 use Rattle.cc_lower_expressions_follows.specs.Relation.{code_tree, Alike, Declared, IsTemp, Agree, Gives}

@@ -3,10 +3,10 @@ use Rattle.std.proofs.Common.{◌≡◌, ◌≤◌, ℕ, suc, ◌+◌, List, [],
 use Rattle.std.proofs.Math.Path.{fun_ext}
 use Rattle.cc_program.specs.declared.value.Value.{Value}
 use Rattle.cc_program.specs.declared.value.Cell.{Cell}
-use Rattle.cc_eval.specs.Progress.{Get, known, ask, bind, needs}
-use Rattle.cc_eval.specs.declared.action.Action.TheVariants.{Write}
+use Rattle.cc_states.specs.CcEval.Progress.{Get, known, ask, bind, needs}
+use Rattle.cc_states.specs.CcEval.declared.action.Action.TheVariants.{Write}
 use Rattle.cc_lower_expressions_follows.specs.Trees.{IsSharedCell, Regs, Setting, Sim, Done, Runs}
-use Rattle.cc_syntax.specs.Effects.{Registers, also}
+use Rattle.cc_states.specs.CcSyntax.Effects.{Registers, also}
 use Rattle.cc_lower_expressions_follows.specs.Relation.{Agree, Holds, Post, Wrote}
 use Rattle.cc_program.specs.declared.stmt.Stmt.{Stmt}
 use Rattle.cc_lower_expressions_follows.specs.Relation.{stmt_tree}

@@ -2,13 +2,13 @@
 use Rattle.std.proofs.Common.{◌≡◌, ◌≤◌, ℕ, suc, ◌+◌, List, [], ◌∷◌, ◌++◌, Option, Some, None, Bool, true, false, ◌||◌, refl, subst, ap, sym, ◌∙◌, arith, if◌then◌else◌}
 use Rattle.std.proofs.Math.Path.{fun_ext}
 use Rattle.cc_program.specs.declared.value.Value.{Value}
-use Rattle.cc_eval.specs.Progress.{Get, known, ask, bind, needs, chosen}
-use Rattle.cc_eval.specs.declared.action.Action.TheVariants.{Choose}
-use Rattle.cc_eval.specs.declared.mark.Mark.TheVariants.{Chose}
+use Rattle.cc_states.specs.CcEval.Progress.{Get, known, ask, bind, needs, chosen}
+use Rattle.cc_states.specs.CcEval.declared.action.Action.TheVariants.{Choose}
+use Rattle.cc_states.specs.CcEval.declared.mark.Mark.TheVariants.{Chose}
 use Rattle.cc_lower_expressions_follows.specs.Trees.{Regs, Setting, Stuck, Sim, Done, Left, Right, Fail, Runs, Chooses}
-use Rattle.cc_syntax.specs.Effects.{Registers, also}
+use Rattle.cc_states.specs.CcSyntax.Effects.{Registers, also}
 use Rattle.cc_lower_expressions_follows.specs.Relation.{forked, Agree, Kept, Post, Wrote}
-use Rattle.cc_values.specs.Values.{truth}
+use Rattle.cc_states.specs.CcValues.Values.{truth}
 use Rattle.cc_program.specs.declared.stmt.Stmt.{Stmt}
 use Rattle.cc_lower_expressions_follows.specs.Relation.{stmt_tree}
 use Rattle.cc_lower_expressions_follows.proofs.TreeLaws.{bind-assoc, sim_bind, sim_right}

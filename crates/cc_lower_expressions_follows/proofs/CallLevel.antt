@@ -4,10 +4,10 @@ use Rattle.cc_program.specs.declared.program.Program.{Program}
 use Rattle.cc_program.specs.declared.func.Func.{Func}
 use Rattle.cc_program.specs.declared.types.CType.{CType}
 use Rattle.cc_program.specs.declared.expr.Expr.{Expr, Call as Calling}
-use Rattle.cc_syntax.specs.Effects.{Registers, also}
-use Rattle.cc_syntax.specs.Forms.{form_of}
-use Rattle.cc_syntax.specs.Values.{ValueType}
-use Rattle.cc_eval.specs.Eval.{Meaning, assigned_by, called as called_next}
+use Rattle.cc_states.specs.CcSyntax.Effects.{Registers, also}
+use Rattle.cc_states.specs.CcSyntax.Forms.{form_of}
+use Rattle.cc_states.specs.CcSyntax.Values.{ValueType}
+use Rattle.cc_states.specs.CcEval.Eval.{Meaning, assigned_by, called as called_next}
 use Rattle.cc_lower_expressions.specs.Expressions.{Piece, mapped, from_two, temp, Lowers, Lowering, arguments, all_args, is_callee, by_temp, called, whole_right, right_value, right_alone}
 use Rattle.cc_lower_expressions_follows.specs.Trees.{Setting}
 use Rattle.cc_lower_expressions_follows.specs.Relation.{Alike, Declared}
@@ -18,8 +18,8 @@ use Rattle.cc_lower_expressions_follows.proofs.Operands.{declared_left, declared
 use Rattle.cc_lower_expressions_follows.proofs.TakenModes.{touches_nothing, IsTaken, taken_works}
 use Rattle.cc_program.specs.declared.value.Address.{Address}
 use Rattle.cc_program.specs.declared.value.Value.{Value}
-use Rattle.cc_eval.specs.declared.action.Action.{Action}
-use Rattle.cc_eval.specs.declared.action.Action.TheVariants.{Call}
+use Rattle.cc_states.specs.CcEval.declared.action.Action.{Action}
+use Rattle.cc_states.specs.CcEval.declared.action.Action.TheVariants.{Call}
 
 abbrev call_action : Address × List Value → Action
 call_action c = Call c.0 c.1

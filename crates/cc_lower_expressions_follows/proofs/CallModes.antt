@@ -6,13 +6,13 @@ use Rattle.std.proofs.lemmas.List.{length-append}
 use Rattle.cc_program.specs.declared.expr.Expr.{Expr}
 use Rattle.cc_program.specs.declared.value.Address.{Address}
 use Rattle.cc_program.specs.declared.value.Value.{Value}
-use Rattle.cc_syntax.specs.Effects.{Registers, no_one, also}
-use Rattle.cc_syntax.specs.Registers.{is_register}
-use Rattle.cc_syntax.specs.Values.{ValueType}
-use Rattle.cc_eval.specs.Context.{Context}
-use Rattle.cc_eval.specs.Eval.{Meaning, meaning, each, assigned_by, all_good, called}
-use Rattle.cc_eval.specs.Progress.{Get, known, bind, needs}
-use Rattle.cc_values.specs.Values.{address_in}
+use Rattle.cc_states.specs.CcSyntax.Effects.{Registers, no_one, also}
+use Rattle.cc_states.specs.CcSyntax.Registers.{is_register}
+use Rattle.cc_states.specs.CcSyntax.Values.{ValueType}
+use Rattle.cc_states.specs.CcEval.Context.{Context}
+use Rattle.cc_states.specs.CcEval.Eval.{Meaning, meaning, each, assigned_by, all_good, called}
+use Rattle.cc_states.specs.CcEval.Progress.{Get, known, bind, needs}
+use Rattle.cc_states.specs.CcValues.Values.{address_in}
 use Rattle.cc_lower_expressions.specs.Expressions.{Piece, piece, temp, set}
 use Rattle.cc_lower_expressions_follows.specs.Trees.{Regs, with_reg, Setting, context_q, Stuck, Ends, Other, Sim, Done, Runs, Is}
 use Rattle.cc_lower_expressions_follows.specs.Relation.{code_tree, Alike, Agree, Post, Gives}

@@ -7,16 +7,16 @@ use Rattle.cc_program.specs.declared.expr.Expr.{Expr, Call as Calling, Assign}
 use Rattle.cc_program.specs.declared.expr.Place.{Local}
 use Rattle.cc_program.specs.declared.value.Address.{Address}
 use Rattle.cc_program.specs.declared.value.Value.{Value}
-use Rattle.cc_syntax.specs.Effects.{Registers, no_one, also, Effects}
-use Rattle.cc_syntax.specs.Registers.{is_register}
-use Rattle.cc_eval.specs.declared.action.Action.TheVariants.{Call}
-use Rattle.cc_eval.specs.declared.mark.Mark.{Mark}
-use Rattle.cc_eval.specs.declared.mark.Mark.TheVariants.{Gave, Did, Chose}
-use Rattle.cc_eval.specs.Context.{Context}
-use Rattle.cc_eval.specs.Eval.{Meaning, meaning, each, assigned_by, all_good, called}
-use Rattle.cc_eval.specs.Progress.{Get, known, ask, bind, needs, given, no_value}
+use Rattle.cc_states.specs.CcSyntax.Effects.{Registers, no_one, also, Effects}
+use Rattle.cc_states.specs.CcSyntax.Registers.{is_register}
+use Rattle.cc_states.specs.CcEval.declared.action.Action.TheVariants.{Call}
+use Rattle.cc_states.specs.CcEval.declared.mark.Mark.{Mark}
+use Rattle.cc_states.specs.CcEval.declared.mark.Mark.TheVariants.{Gave, Did, Chose}
+use Rattle.cc_states.specs.CcEval.Context.{Context}
+use Rattle.cc_states.specs.CcEval.Eval.{Meaning, meaning, each, assigned_by, all_good, called}
+use Rattle.cc_states.specs.CcEval.Progress.{Get, known, ask, bind, needs, given, no_value}
 use Rattle.cc_states.specs.Answers.{IsMarkOf}
-use Rattle.cc_values.specs.Values.{address_in}
+use Rattle.cc_states.specs.CcValues.Values.{address_in}
 use Rattle.cc_lower_expressions.specs.Expressions.{Piece, piece, Lowering, set, arguments, all_args}
 use Rattle.cc_lower_expressions_follows.specs.Trees.{Regs, Setting, context_p, context_q, register_cell, Other, Sim, Done, Runs, Is}
 use Rattle.cc_lower_expressions_follows.specs.Relation.{code_tree, stmt_tree, finished, Alike, Declared, Agree, Gives}

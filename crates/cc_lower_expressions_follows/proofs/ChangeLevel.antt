@@ -2,8 +2,8 @@
 use Rattle.std.proofs.Common.{◌≡◌, ◌<◌, ◌≤◌, ℕ, suc, ◌+◌, Bool, true, false, not, List, [], ◌∷◌, ◌++◌, length, Option, Some, None, refl, ap, sym, ◌∙◌, subst, arith, if◌then◌else◌}
 use Rattle.std.specs.Prelude.{option_and_then}
 use Rattle.std.proofs.lemmas.List.{length-append, append_assoc}
-use Rattle.cc_num.specs.declared.int_type.IntType.{IntType}
-use Rattle.cc_num.specs.declared.op.BinOp.{BinOp}
+use Rattle.cc_program.specs.CcNum.declared.int_type.IntType.{IntType}
+use Rattle.cc_program.specs.CcNum.declared.op.BinOp.{BinOp}
 use Rattle.cc_program.specs.declared.program.Program.{Program}
 use Rattle.cc_program.specs.declared.func.Func.{Func}
 use Rattle.cc_program.specs.declared.types.CType.{CType}
@@ -11,17 +11,17 @@ use Rattle.cc_program.specs.declared.stmt.Stmt.{Stmt, Do}
 use Rattle.cc_program.specs.declared.expr.Expr.{Expr, Load, Assign}
 use Rattle.cc_program.specs.declared.expr.Place.{Place, Local}
 use Rattle.cc_program.specs.declared.value.Value.{Value}
-use Rattle.cc_syntax.specs.Effects.{Registers, no_one, also, only, is_soft, PlaceEffects, Effects as EffectsOf}
-use Rattle.cc_syntax.specs.Registers.{is_register}
-use Rattle.cc_syntax.specs.Values.{ValueType, read_from}
-use Rattle.cc_eval.specs.Context.{Context}
-use Rattle.cc_eval.specs.Eval.{Meaning, Designation, meaning, designation, value_type, changed as changed_values, changed_by}
+use Rattle.cc_states.specs.CcSyntax.Effects.{Registers, no_one, also, only, is_soft, PlaceEffects, Effects as EffectsOf}
+use Rattle.cc_states.specs.CcSyntax.Registers.{is_register}
+use Rattle.cc_states.specs.CcSyntax.Values.{ValueType, read_from}
+use Rattle.cc_states.specs.CcEval.Context.{Context}
+use Rattle.cc_states.specs.CcEval.Eval.{Meaning, Designation, meaning, designation, value_type, changed as changed_values, changed_by}
 use Rattle.cc_lower_expressions.specs.Expressions.{Piece, piece, onto, joined, into, done, emit, ◌>>=◌, Lowering, PlaceLowering, temp, set, value_of, changed, changed_value, change_alone}
 use Rattle.cc_lower_expressions_follows.specs.Trees.{Regs, Setting, context_p, context_q, Sim}
 use Rattle.cc_lower_expressions_follows.specs.Relation.{code_tree, Alike, ValueOf, Declared, IsTemp, Agree, Gives}
 use Rattle.cc_lower_expressions_follows.specs.Claims.{After, Worked, good, IsOperand, IsLocal, Operands, Effects, IsRight, IsRightPlace}
-use Rattle.cc_eval.specs.Eval.{fetched}
-use Rattle.cc_eval.specs.Progress.{bind}
+use Rattle.cc_states.specs.CcEval.Eval.{fetched}
+use Rattle.cc_states.specs.CcEval.Progress.{bind}
 use Rattle.cc_lower_expressions_follows.proofs.Opened.{at-Local}
 use Rattle.cc_lower_expressions_follows.proofs.Answered.{AllAnswers}
 use Rattle.cc_lower_expressions_follows.proofs.ChangeOwn.{new_value, change_own_alone, change_own_value}

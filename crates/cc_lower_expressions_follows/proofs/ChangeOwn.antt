@@ -2,18 +2,18 @@
 use Rattle.std.proofs.Common.{◌≡◌, ◌<◌, ◌≤◌, ◌==◌, ◌||◌, ℕ, ◌+◌, Bool, true, false, [], ◌∷◌, ◌++◌, length, Option, Some, refl, ap, sym, ◌∙◌, subst, arith}
 use Rattle.std.proofs.Math.Path.{fun_ext}
 use Rattle.std.proofs.lemmas.List.{length-append}
-use Rattle.cc_num.specs.declared.int_type.IntType.{IntType}
-use Rattle.cc_num.specs.declared.op.BinOp.{BinOp}
+use Rattle.cc_program.specs.CcNum.declared.int_type.IntType.{IntType}
+use Rattle.cc_program.specs.CcNum.declared.op.BinOp.{BinOp}
 use Rattle.cc_program.specs.declared.expr.Expr.{Expr}
 use Rattle.cc_program.specs.declared.expr.Place.{Local}
 use Rattle.cc_program.specs.declared.value.Value.{Value}
-use Rattle.cc_syntax.specs.Effects.{Registers, no_one, also, only}
-use Rattle.cc_syntax.specs.Registers.{is_register}
-use Rattle.cc_syntax.specs.Values.{ValueType}
-use Rattle.cc_eval.specs.declared.spots.Spot.{Spot}
-use Rattle.cc_eval.specs.Context.{Context}
-use Rattle.cc_eval.specs.Eval.{Meaning, Designation, meaning, designation, fetched, stored, value_type, changed as changed_values, changed_by, changed_with, assigned as assigned_next}
-use Rattle.cc_eval.specs.Progress.{Get, known, bind}
+use Rattle.cc_states.specs.CcSyntax.Effects.{Registers, no_one, also, only}
+use Rattle.cc_states.specs.CcSyntax.Registers.{is_register}
+use Rattle.cc_states.specs.CcSyntax.Values.{ValueType}
+use Rattle.cc_states.specs.CcEval.declared.spots.Spot.{Spot}
+use Rattle.cc_states.specs.CcEval.Context.{Context}
+use Rattle.cc_states.specs.CcEval.Eval.{Meaning, Designation, meaning, designation, fetched, stored, value_type, changed as changed_values, changed_by, changed_with, assigned as assigned_next}
+use Rattle.cc_states.specs.CcEval.Progress.{Get, known, bind}
 use Rattle.cc_lower_expressions.specs.Expressions.{Piece, piece, temp, set}
 use Rattle.cc_lower_expressions_follows.specs.Trees.{Regs, with_reg, Done, Setting, context_p, context_q, Sim}
 use Rattle.cc_lower_expressions_follows.specs.Relation.{code_tree, Alike, ValueOf, Agree, Post, Wrote, Gives}

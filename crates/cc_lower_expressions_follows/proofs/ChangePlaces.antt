@@ -1,23 +1,23 @@
 -- `place op= value` alone, and `place++` and `place--`, of a place that is no register.
 use Rattle.std.proofs.Common.{◌≡◌, ◌≤◌, ℕ, ◌+◌, pos, Bool, true, false, [], ◌∷◌, ◌++◌, length, Option, Some, None, refl, ap, sym, ◌∙◌, subst}
-use Rattle.cc_num.specs.declared.int_type.IntType.{IntType}
-use Rattle.cc_num.specs.declared.op.BinOp.{BinOp}
+use Rattle.cc_program.specs.CcNum.declared.int_type.IntType.{IntType}
+use Rattle.cc_program.specs.CcNum.declared.op.BinOp.{BinOp}
 use Rattle.cc_program.specs.declared.stmt.Stmt.{Do}
 use Rattle.cc_program.specs.declared.expr.Expr.{Expr, Load, Assign}
 use Rattle.cc_program.specs.declared.expr.Place.{Place}
 use Rattle.cc_program.specs.declared.value.Cell.{Cell}
 use Rattle.cc_program.specs.declared.value.Value.{Value}
 use Rattle.cc_program.specs.declared.value.Value.TheVariants.{Int}
-use Rattle.cc_syntax.specs.Effects.{Registers, no_one, also, is_soft}
-use Rattle.cc_syntax.specs.Registers.{is_register}
-use Rattle.cc_eval.specs.declared.action.Manner.{Manner}
-use Rattle.cc_eval.specs.declared.action.Action.TheVariants.{Read}
-use Rattle.cc_eval.specs.declared.spots.Spot.{Spot}
-use Rattle.cc_eval.specs.Context.{Context, is_seen, reached}
-use Rattle.cc_eval.specs.Eval.{Meaning, Designation, meaning, designation, manner, place_and_value, value_type, fetched, changed as changed_values, changed_by, stepped_by_one, sum_or_difference, one_more_type}
-use Rattle.cc_eval.specs.declared.mark.Mark.{Mark}
+use Rattle.cc_states.specs.CcSyntax.Effects.{Registers, no_one, also, is_soft}
+use Rattle.cc_states.specs.CcSyntax.Registers.{is_register}
+use Rattle.cc_states.specs.CcEval.declared.action.Manner.{Manner}
+use Rattle.cc_states.specs.CcEval.declared.action.Action.TheVariants.{Read}
+use Rattle.cc_states.specs.CcEval.declared.spots.Spot.{Spot}
+use Rattle.cc_states.specs.CcEval.Context.{Context, is_seen, reached}
+use Rattle.cc_states.specs.CcEval.Eval.{Meaning, Designation, meaning, designation, manner, place_and_value, value_type, fetched, changed as changed_values, changed_by, stepped_by_one, sum_or_difference, one_more_type}
+use Rattle.cc_states.specs.CcEval.declared.mark.Mark.{Mark}
 use Rattle.cc_states.specs.Answers.{IsMarkOf}
-use Rattle.cc_eval.specs.Progress.{Get, Known, known, ask, bind, needs, given}
+use Rattle.cc_states.specs.CcEval.Progress.{Get, Known, known, ask, bind, needs, given}
 use Rattle.cc_lower_expressions.specs.Expressions.{Piece, temp, set}
 use Rattle.cc_lower_expressions_follows.specs.Trees.{Regs, Setting, context_p, context_q, Other, Sim, Runs, Is}
 use Rattle.cc_lower_expressions_follows.specs.Relation.{code_tree, stmt_tree, Alike, ValueOf, Agree, Gives, Leads}

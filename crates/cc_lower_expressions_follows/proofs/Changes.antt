@@ -4,12 +4,12 @@ use Rattle.std.proofs.Common.{◌≡◌, ◌≤◌, ℕ, ◌+◌, Bool, true, Li
 use Rattle.cc_program.specs.declared.stmt.Stmt.{Stmt}
 use Rattle.cc_program.specs.declared.value.Cell.{Cell}
 use Rattle.cc_program.specs.declared.value.Value.{Value}
-use Rattle.cc_syntax.specs.Effects.{Registers}
-use Rattle.cc_syntax.specs.Registers.{is_register}
-use Rattle.cc_eval.specs.declared.action.Manner.{Manner}
-use Rattle.cc_eval.specs.declared.action.Action.TheVariants.{Read}
-use Rattle.cc_eval.specs.declared.mark.Mark.{Mark}
-use Rattle.cc_eval.specs.Progress.{Get, known, ask, bind, needs, given}
+use Rattle.cc_states.specs.CcSyntax.Effects.{Registers}
+use Rattle.cc_states.specs.CcSyntax.Registers.{is_register}
+use Rattle.cc_states.specs.CcEval.declared.action.Manner.{Manner}
+use Rattle.cc_states.specs.CcEval.declared.action.Action.TheVariants.{Read}
+use Rattle.cc_states.specs.CcEval.declared.mark.Mark.{Mark}
+use Rattle.cc_states.specs.CcEval.Progress.{Get, known, ask, bind, needs, given}
 use Rattle.cc_states.specs.Answers.{IsMarkOf}
 use Rattle.cc_lower_expressions.specs.Expressions.{temp}
 use Rattle.cc_lower_expressions_follows.specs.Trees.{IsSharedCell, Regs, with_reg, Setting, Stuck, Ends, Sim, Done, Runs}

@@ -1,9 +1,9 @@
 -- Code behind code.
 use Rattle.std.proofs.Common.{◌≡◌, ◌≤◌, ℕ, ◌+◌, List, [], ◌∷◌, ◌++◌, map, refl, subst, ap, sym, ◌∙◌, arith}
 use Rattle.std.proofs.lemmas.List.{map-append}
-use Rattle.cc_eval.specs.Progress.{Get, known, bind}
+use Rattle.cc_states.specs.CcEval.Progress.{Get, known, bind}
 use Rattle.cc_lower_expressions_follows.specs.Trees.{Regs, Setting, Sim, Done}
-use Rattle.cc_syntax.specs.Effects.{Registers, also}
+use Rattle.cc_states.specs.CcSyntax.Effects.{Registers, also}
 use Rattle.cc_lower_expressions_follows.specs.Relation.{all, Agree, Post}
 use Rattle.cc_program.specs.declared.stmt.Stmt.{Stmt}
 use Rattle.cc_lower_expressions_follows.specs.Relation.{stmt_tree}

@@ -6,14 +6,14 @@ use Rattle.cc_program.specs.declared.expr.Place.{Place}
 use Rattle.cc_program.specs.declared.value.Value.{Value}
 use Rattle.cc_program.specs.declared.value.Value.TheVariants.{Int, Place as Pointer}
 use Rattle.cc_program.specs.declared.value.Address.TheVariants as address
-use Rattle.cc_syntax.specs.Effects.{Registers, no_one}
-use Rattle.cc_syntax.specs.Values.{ValueType}
-use Rattle.cc_eval.specs.declared.action.Action.{Action}
-use Rattle.cc_eval.specs.declared.mark.Mark.{Mark}
-use Rattle.cc_eval.specs.Context.{Context}
-use Rattle.cc_eval.specs.Eval.{Meaning, meaning}
-use Rattle.cc_eval.specs.Progress.{Progress, Known, Waits, Get, known, needs}
-use Rattle.cc_eval.proofs.Links.{level}
+use Rattle.cc_states.specs.CcSyntax.Effects.{Registers, no_one}
+use Rattle.cc_states.specs.CcSyntax.Values.{ValueType}
+use Rattle.cc_states.specs.CcEval.declared.action.Action.{Action}
+use Rattle.cc_states.specs.CcEval.declared.mark.Mark.{Mark}
+use Rattle.cc_states.specs.CcEval.Context.{Context}
+use Rattle.cc_states.specs.CcEval.Eval.{Meaning, meaning}
+use Rattle.cc_states.specs.CcEval.Progress.{Progress, Known, Waits, Get, known, needs}
+use Rattle.cc_states.proofs.CcEval.Links.{level}
 use Rattle.cc_lower_expressions.specs.Expressions.{Piece, piece, onto, done, into, Lowers, is_idle, whole_by, effect_by}
 use Rattle.cc_lower_expressions_follows.specs.Trees.{Regs, Setting, context_q, RunsBy, Is, Steps, Sim, Done}
 use Rattle.cc_lower_expressions_follows.specs.Relation.{code_tree, Alike, Declared, Agree, Post, Wrote, Ran, Gives}

@@ -2,16 +2,16 @@
 use Rattle.std.proofs.Common.{◌≡◌, ◌<◌, ◌≤◌, ℕ, ◌+◌, List, [], ◌∷◌, ◌++◌, Option, Some, Bool, true, false, refl, subst, sym, ◌∙◌, arith}
 use Rattle.cc_program.specs.declared.value.Value.{Value}
 use Rattle.cc_program.specs.declared.value.Cell.{Cell}
-use Rattle.cc_eval.specs.declared.action.Manner.{Manner}
-use Rattle.cc_eval.specs.declared.action.Action.{Action}
-use Rattle.cc_eval.specs.declared.mark.Mark.{Mark}
-use Rattle.cc_eval.specs.Progress.{Get, known, ask, bind, needs, given}
-use Rattle.cc_eval.specs.declared.action.Action.TheVariants.{Read}
-use Rattle.cc_eval.specs.declared.mark.Mark.TheVariants.{Gave}
+use Rattle.cc_states.specs.CcEval.declared.action.Manner.{Manner}
+use Rattle.cc_states.specs.CcEval.declared.action.Action.{Action}
+use Rattle.cc_states.specs.CcEval.declared.mark.Mark.{Mark}
+use Rattle.cc_states.specs.CcEval.Progress.{Get, known, ask, bind, needs, given}
+use Rattle.cc_states.specs.CcEval.declared.action.Action.TheVariants.{Read}
+use Rattle.cc_states.specs.CcEval.declared.mark.Mark.TheVariants.{Gave}
 use Rattle.cc_lower_expressions_follows.specs.Trees.{IsShared, Regs, with_reg, register_cell, Setting, Refused, Sim, Done, Left, Runs, Own, Reads, CanGive}
-use Rattle.cc_syntax.specs.Registers.{is_register}
+use Rattle.cc_states.specs.CcSyntax.Registers.{is_register}
 use Rattle.cc_states.specs.Answers.{IsMarkOf}
-use Rattle.cc_syntax.specs.Effects.{Registers, no_one}
+use Rattle.cc_states.specs.CcSyntax.Effects.{Registers, no_one}
 use Rattle.cc_lower_expressions_follows.specs.Relation.{Agree, Kept, Post}
 use Rattle.cc_program.specs.declared.stmt.Stmt.{Stmt}
 use Rattle.cc_lower_expressions_follows.specs.Relation.{stmt_tree}

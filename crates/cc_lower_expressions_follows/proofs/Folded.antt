@@ -1,10 +1,10 @@
 -- Operators and conversions over constants are constants of the values that they give.
 use Rattle.std.proofs.Common.{◌≡◌, ℤ, Bool, true, ◌&&◌, [], Option, Some, None, refl, ap, sym, ◌∙◌, subst, if◌then◌else◌}
-use Rattle.cc_num.specs.declared.int_type.IntType.{IntType}
-use Rattle.cc_num.specs.declared.op.BinOp.{BinOp}
-use Rattle.cc_num.specs.declared.op.UnOp.{UnOp}
-use Rattle.cc_num.specs.declared.target.Target.{Target}
-use Rattle.cc_num.specs.Integers.{is_value_of}
+use Rattle.cc_program.specs.CcNum.declared.int_type.IntType.{IntType}
+use Rattle.cc_program.specs.CcNum.declared.op.BinOp.{BinOp}
+use Rattle.cc_program.specs.CcNum.declared.op.UnOp.{UnOp}
+use Rattle.cc_program.specs.CcNum.declared.target.Target.{Target}
+use Rattle.cc_program.specs.CcNum.Integers.{is_value_of}
 use Rattle.cc_program.specs.declared.expr.Expr.{Expr, Const, Un, Bin, Conv, out-Expr, roll-Expr, roll-out-Expr}
 use Rattle.cc_program.specs.declared.expr.Expr.TheOpen as one
 use Rattle.cc_program.specs.declared.expr.Expr.TheVariants.{rolls-Const}
@@ -12,17 +12,17 @@ use Rattle.cc_program.specs.declared.expr.Place.{Place}
 use Rattle.cc_program.specs.declared.types.CType.{CType}
 use Rattle.cc_program.specs.declared.value.Value.{Value}
 use Rattle.cc_program.specs.declared.value.Value.TheVariants.{Int}
-use Rattle.cc_syntax.specs.Effects.{no_one}
-use Rattle.cc_syntax.specs.Expressions as typing
-use Rattle.cc_syntax.specs.Folding.{Constant, NoConstant, Value as ConstantOf, Traps, unary_constant, binary_constant, converted_constant}
-use Rattle.cc_syntax.specs.Forms.{form_at, form_of}
-use Rattle.cc_syntax.specs.Operators.{unary_result, is_promoted, is_of, second_fits, is_integer, unary_type, binary_result, binary_type as type_of_binary, conversion_type}
-use Rattle.cc_syntax.specs.Values.{ValueType, Integer}
-use Rattle.cc_syntax.specs.Views.{of_program}
-use Rattle.cc_eval.specs.Context.{Context}
-use Rattle.cc_eval.specs.Eval.{Meaning, meaning}
-use Rattle.cc_eval.specs.Progress.{Known, Waits, Get, known}
-use Rattle.cc_values.specs.Values.{unary, binary, conversion}
+use Rattle.cc_states.specs.CcSyntax.Effects.{no_one}
+use Rattle.cc_states.specs.CcSyntax.Expressions as typing
+use Rattle.cc_states.specs.CcSyntax.Folding.{Constant, NoConstant, Value as ConstantOf, Traps, unary_constant, binary_constant, converted_constant}
+use Rattle.cc_states.specs.CcSyntax.Forms.{form_at, form_of}
+use Rattle.cc_states.specs.CcSyntax.Operators.{unary_result, is_promoted, is_of, second_fits, is_integer, unary_type, binary_result, binary_type as type_of_binary, conversion_type}
+use Rattle.cc_states.specs.CcSyntax.Values.{ValueType, Integer}
+use Rattle.cc_states.specs.CcSyntax.Views.{of_program}
+use Rattle.cc_states.specs.CcEval.Context.{Context}
+use Rattle.cc_states.specs.CcEval.Eval.{Meaning, meaning}
+use Rattle.cc_states.specs.CcEval.Progress.{Known, Waits, Get, known}
+use Rattle.cc_states.specs.CcValues.Values.{unary, binary, conversion}
 use Rattle.cc_states.specs.Typed.{MayHave}
 use Rattle.cc_states.proofs.Options.{when_is, with_one, with_two}
 use Rattle.cc_states.proofs.TypedLemmas.{has_unary, has_binary, has_conversion}

@@ -2,18 +2,18 @@
 use Rattle.std.proofs.Common.{◌≡◌, ◌≤◌, ℕ, suc, ◌+◌, pos, Bool, true, false, ◌||◌, [], ◌∷◌, ◌++◌, length, Option, Some, refl, ap, sym, ◌∙◌, subst, arith}
 use Rattle.std.proofs.Math.Path.{fun_ext}
 use Rattle.std.proofs.lemmas.List.{length-append}
-use Rattle.cc_num.specs.declared.int_type.IntType.TheVariants as int
+use Rattle.cc_program.specs.CcNum.declared.int_type.IntType.TheVariants as int
 use Rattle.cc_program.specs.declared.stmt.Stmt.{If}
 use Rattle.cc_program.specs.declared.expr.Expr.{Expr, Const}
 use Rattle.cc_program.specs.declared.value.Value.{Value}
 use Rattle.cc_program.specs.declared.value.Value.TheVariants.{Int}
-use Rattle.cc_syntax.specs.Effects.{Registers, no_one, also}
-use Rattle.cc_syntax.specs.Registers.{is_register}
-use Rattle.cc_syntax.specs.Values.{ValueType}
-use Rattle.cc_eval.specs.Context.{Context}
-use Rattle.cc_eval.specs.Eval.{Meaning, meaning, choice, as_condition, both, either, chosen_arm}
-use Rattle.cc_eval.specs.Progress.{Get, known, needs}
-use Rattle.cc_values.specs.Values.{truth, of_truth}
+use Rattle.cc_states.specs.CcSyntax.Effects.{Registers, no_one, also}
+use Rattle.cc_states.specs.CcSyntax.Registers.{is_register}
+use Rattle.cc_states.specs.CcSyntax.Values.{ValueType}
+use Rattle.cc_states.specs.CcEval.Context.{Context}
+use Rattle.cc_states.specs.CcEval.Eval.{Meaning, meaning, choice, as_condition, both, either, chosen_arm}
+use Rattle.cc_states.specs.CcEval.Progress.{Get, known, needs}
+use Rattle.cc_states.specs.CcValues.Values.{truth, of_truth}
 use Rattle.cc_lower_expressions.specs.Expressions.{Piece, piece, temp, set}
 use Rattle.cc_lower_expressions_follows.specs.Trees.{Regs, Setting, context_p, context_q, Sim, Done}
 use Rattle.cc_lower_expressions_follows.specs.Relation.{code_tree, Alike, IsTemp, Agree, Gives}

@@ -1,7 +1,7 @@
 -- What stays while code runs.
 use Rattle.std.proofs.Common.{◌≡◌, ◌≤◌, ℕ, Bool, true, false, ◌||◌, refl, ◌∙◌, arith}
 use Rattle.cc_lower_expressions_follows.specs.Trees.{Regs, Setting}
-use Rattle.cc_syntax.specs.Effects.{Registers, also}
+use Rattle.cc_states.specs.CcSyntax.Effects.{Registers, also}
 use Rattle.cc_lower_expressions_follows.specs.Relation.{Kept, Stays, Holds}
 
 first_false : (a b : Bool) → (a || b) ≡ false → a ≡ false

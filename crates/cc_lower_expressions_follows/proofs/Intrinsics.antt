@@ -3,16 +3,16 @@ use Rattle.std.proofs.Common.{true, ◌≡◌, ℕ, Bool, [], length, Option, So
 use Rattle.std.proofs.Math.Path.{fun_ext}
 use Rattle.cc_program.specs.declared.expr.Expr.{Expr}
 use Rattle.cc_program.specs.declared.value.Value.{Value}
-use Rattle.cc_syntax.specs.Effects.{Registers, no_one}
-use Rattle.cc_eval.specs.declared.action.Action.{Action}
-use Rattle.cc_eval.specs.declared.action.Action.TheVariants.{Flag, Save}
-use Rattle.cc_eval.specs.declared.mark.Mark.{Mark}
-use Rattle.cc_eval.specs.declared.mark.Mark.TheVariants.{Gave, Did, Chose}
-use Rattle.cc_eval.specs.Context.{Context}
-use Rattle.cc_eval.specs.Eval.{Meaning, meaning, restored}
-use Rattle.cc_eval.specs.Progress.{Get, known, ask, bind, needs, given, no_value}
+use Rattle.cc_states.specs.CcSyntax.Effects.{Registers, no_one}
+use Rattle.cc_states.specs.CcEval.declared.action.Action.{Action}
+use Rattle.cc_states.specs.CcEval.declared.action.Action.TheVariants.{Flag, Save}
+use Rattle.cc_states.specs.CcEval.declared.mark.Mark.{Mark}
+use Rattle.cc_states.specs.CcEval.declared.mark.Mark.TheVariants.{Gave, Did, Chose}
+use Rattle.cc_states.specs.CcEval.Context.{Context}
+use Rattle.cc_states.specs.CcEval.Eval.{Meaning, meaning, restored}
+use Rattle.cc_states.specs.CcEval.Progress.{Get, known, ask, bind, needs, given, no_value}
 use Rattle.cc_states.specs.Answers.{IsMarkOf}
-use Rattle.cc_values.specs.Values.{truth}
+use Rattle.cc_states.specs.CcValues.Values.{truth}
 use Rattle.cc_lower_expressions.specs.Expressions.{Piece, piece}
 use Rattle.cc_lower_expressions_follows.specs.Trees.{Setting, context_q, Other, Sim, Done, Runs, Is}
 use Rattle.cc_lower_expressions_follows.specs.Relation.{code_tree, Alike, Kept, Gives}

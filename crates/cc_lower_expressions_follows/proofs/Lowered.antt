@@ -2,10 +2,10 @@
 use Rattle.std.proofs.Common.{◌≤◌, ◌≡◌, ◌<◌, ℕ, ◌+◌, Bool, true, false, not, ◌&&◌, ◌||◌, List, [], ◌∷◌, ◌++◌, length, map, Option, Some, None, refl, ap, sym, ◌∙◌, subst, arith, if◌then◌else◌}
 use Rattle.std.proofs.lemmas.Bool.Decides.{nat_tests}
 use Rattle.std.specs.Prelude.{nat_lt, option_and_then}
-use Rattle.cc_num.specs.declared.int_type.IntType.{IntType}
-use Rattle.cc_num.specs.declared.op.BinOp.{BinOp}
-use Rattle.cc_num.specs.declared.op.UnOp.{UnOp}
-use Rattle.cc_num.specs.declared.target.Target.{Target}
+use Rattle.cc_program.specs.CcNum.declared.int_type.IntType.{IntType}
+use Rattle.cc_program.specs.CcNum.declared.op.BinOp.{BinOp}
+use Rattle.cc_program.specs.CcNum.declared.op.UnOp.{UnOp}
+use Rattle.cc_program.specs.CcNum.declared.target.Target.{Target}
 use Rattle.cc_program.specs.declared.expr.Expr.{Expr, AddrOf, Qualify, Move, Gap, Compare, Intr, roll-Expr, map-Expr, fold-roll-Expr}
 use Rattle.cc_program.specs.declared.expr.Expr.TheOpen as one
 use Rattle.cc_program.specs.declared.expr.Intr.{Intr as IntrKind}
@@ -15,18 +15,18 @@ use Rattle.cc_program.specs.declared.types.CType.{CType}
 use Rattle.cc_program.specs.declared.value.Value.{Value}
 use Rattle.cc_program.proofs.ExprInduction.{Parts, PlaceParts, by_expr, by_place}
 use Rattle.cc_program.proofs.FoldFusion.{fused, place_fused}
-use Rattle.cc_syntax.specs.Effects.{Registers, no_one, also, Effects, of_both, effect_step, place_effect_step, effects_of, place_effects_of}
-use Rattle.cc_syntax.specs.Expressions as typing
-use Rattle.cc_syntax.specs.Expressions.{of_one, of_two}
+use Rattle.cc_states.specs.CcSyntax.Effects.{Registers, no_one, also, Effects, of_both, effect_step, place_effect_step, effects_of, place_effects_of}
+use Rattle.cc_states.specs.CcSyntax.Expressions as typing
+use Rattle.cc_states.specs.CcSyntax.Expressions.{of_one, of_two}
 use Rattle.std.proofs.lemmas.List.{length-append}
-use Rattle.cc_syntax.specs.Programs.{expr_step, place_step}
-use Rattle.cc_syntax.specs.Registers.{is_register}
-use Rattle.cc_syntax.specs.Values.{ValueType, NoValue, Integer, ToObject, ToFunction, is_scalar, is_assignable, PlaceType, DevicePlace, ObjectPlace, FunctionPlace, read_from, written_to}
-use Rattle.cc_syntax.specs.Views.{View, of_program}
-use Rattle.cc_eval.specs.Context.{Context}
-use Rattle.cc_eval.specs.Eval.{Meaning, Designation, meaning, designation, sequence}
-use Rattle.cc_eval.proofs.Links.{level, place_level, type_linked, place_type_linked, effects_linked, place_effects_linked}
-use Rattle.cc_values.specs.Values.{truth, of_truth, unary, binary, conversion, movement, gap, comparison}
+use Rattle.cc_states.specs.CcSyntax.Programs.{expr_step, place_step}
+use Rattle.cc_states.specs.CcSyntax.Registers.{is_register}
+use Rattle.cc_states.specs.CcSyntax.Values.{ValueType, NoValue, Integer, ToObject, ToFunction, is_scalar, is_assignable, PlaceType, DevicePlace, ObjectPlace, FunctionPlace, read_from, written_to}
+use Rattle.cc_states.specs.CcSyntax.Views.{View, of_program}
+use Rattle.cc_states.specs.CcEval.Context.{Context}
+use Rattle.cc_states.specs.CcEval.Eval.{Meaning, Designation, meaning, designation, sequence}
+use Rattle.cc_states.proofs.CcEval.Links.{level, place_level, type_linked, place_type_linked, effects_linked, place_effects_linked}
+use Rattle.cc_states.specs.CcValues.Values.{truth, of_truth, unary, binary, conversion, movement, gap, comparison}
 use Rattle.cc_lower_expressions.specs.Expressions.{piece, int_value, truth_of, branch_alone, both_value, either_value, choose_value, choose_void, fork, is_void_value, ◌>>=◌, done, Lowers, Lowering, PlaceLowering, from_one, from_two, whole_by, effect_by, lower_step, place_lower_step, lowering, place_lowering, folded_un, folded_bin, folded_conv, intr_operand, read, value_of}
 use Rattle.cc_lower_expressions_follows.specs.Trees.{Regs, Setting, context_p, context_q}
 use Rattle.cc_lower_expressions_follows.specs.Relation.{code_tree, Alike, ValueOf, Gives}
@@ -56,10 +56,10 @@ use Rattle.cc_lower_expressions_follows.proofs.Intrinsics.{flag_action, flag_ste
 use Rattle.cc_program.specs.declared.expr.Intr.TheVariants as intr
 use Rattle.cc_lower_expressions_follows.proofs.CallLevel.{call_works}
 use Rattle.cc_lower_expressions_follows.proofs.Calls.{AllRight}
-use Rattle.cc_num.specs.declared.int_type.IntType.TheVariants as int
-use Rattle.cc_syntax.specs.Operators.{logical_type, assignment_type, after_type, points_to_object}
-use Rattle.cc_syntax.specs.Operators.{is_integer, change_type, is_comparison, changes_by, is_additive, is_of, is_promoted, second_fits, unary_type, unary_result, binary_type, binary_result, conversion_type}
-use Rattle.cc_syntax.specs.Types.{is_complete}
+use Rattle.cc_program.specs.CcNum.declared.int_type.IntType.TheVariants as int
+use Rattle.cc_states.specs.CcSyntax.Operators.{logical_type, assignment_type, after_type, points_to_object}
+use Rattle.cc_states.specs.CcSyntax.Operators.{is_integer, change_type, is_comparison, changes_by, is_additive, is_of, is_promoted, second_fits, unary_type, unary_result, binary_type, binary_result, conversion_type}
+use Rattle.cc_states.specs.CcSyntax.Types.{is_complete}
 use Rattle.cc_lower_expressions_follows.proofs.VoidChoices.{void_choice}
 use Rattle.cc_states.specs.Answers.{IsActivation, TakesAddressesOf, PlaceTakesAddressesOf}
 use Rattle.cc_lower_expressions_follows.proofs.Folded.{un_folded, conv_folded, bin_folded}

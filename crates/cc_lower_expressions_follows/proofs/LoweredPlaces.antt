@@ -6,16 +6,16 @@ use Rattle.cc_program.specs.declared.expr.Expr.{Expr}
 use Rattle.cc_program.specs.declared.expr.Expr.TheOpen as one
 use Rattle.cc_program.specs.declared.expr.Place.{Place, Element, Member, Deref}
 use Rattle.cc_program.specs.declared.value.Value.{Value}
-use Rattle.cc_syntax.specs.Effects.{Registers, no_one, also}
-use Rattle.cc_syntax.specs.Expressions as typing
-use Rattle.cc_syntax.specs.Expressions.{of_two}
-use Rattle.cc_syntax.specs.Views.{View, of_program}
-use Rattle.cc_eval.specs.declared.spots.Spot.{Spot}
-use Rattle.cc_eval.specs.declared.spots.Spot.TheVariants as spot
-use Rattle.cc_eval.specs.Context.{Context, member}
-use Rattle.cc_eval.specs.Eval.{Designation, meaning, designation, place_and_value, element_at}
-use Rattle.cc_eval.specs.Progress.{known, bind}
-use Rattle.cc_values.specs.Values.{address_in}
+use Rattle.cc_states.specs.CcSyntax.Effects.{Registers, no_one, also}
+use Rattle.cc_states.specs.CcSyntax.Expressions as typing
+use Rattle.cc_states.specs.CcSyntax.Expressions.{of_two}
+use Rattle.cc_states.specs.CcSyntax.Views.{View, of_program}
+use Rattle.cc_states.specs.CcEval.declared.spots.Spot.{Spot}
+use Rattle.cc_states.specs.CcEval.declared.spots.Spot.TheVariants as spot
+use Rattle.cc_states.specs.CcEval.Context.{Context, member}
+use Rattle.cc_states.specs.CcEval.Eval.{Designation, meaning, designation, place_and_value, element_at}
+use Rattle.cc_states.specs.CcEval.Progress.{known, bind}
+use Rattle.cc_states.specs.CcValues.Values.{address_in}
 use Rattle.cc_lower_expressions.specs.Expressions.{Piece, piece, mapped, joined}
 use Rattle.cc_lower_expressions_follows.specs.Trees.{Regs, Setting, context_p, context_q, Other, Sim, Done, Runs, Is}
 use Rattle.cc_lower_expressions_follows.specs.Relation.{code_tree, Alike, Gives, Leads}

@@ -1,22 +1,22 @@
 -- The new value of `op=`, and of `++` and `--`: its expression gives it, where what was read is of the type of the place.
 use Rattle.std.proofs.Common.{◌≡◌, pos, Bool, true, false, not, ◌&&◌, List, Option, Some, refl, ap, sym, ◌∙◌, subst, if◌then◌else◌}
 use Rattle.std.specs.Prelude.{option_and_then}
-use Rattle.cc_num.specs.declared.int_type.IntType.{IntType}
-use Rattle.cc_num.specs.declared.int_type.IntType.TheVariants as int
-use Rattle.cc_num.specs.declared.op.BinOp.{BinOp}
-use Rattle.cc_num.specs.declared.target.Target.{Target}
+use Rattle.cc_program.specs.CcNum.declared.int_type.IntType.{IntType}
+use Rattle.cc_program.specs.CcNum.declared.int_type.IntType.TheVariants as int
+use Rattle.cc_program.specs.CcNum.declared.op.BinOp.{BinOp}
+use Rattle.cc_program.specs.CcNum.declared.target.Target.{Target}
 use Rattle.cc_program.specs.declared.expr.Expr.{Expr, Const}
 use Rattle.cc_program.specs.declared.types.CType.{CType}
 use Rattle.cc_program.specs.declared.types.Structure.{Structure}
 use Rattle.cc_program.specs.declared.value.Value.{Value}
 use Rattle.cc_program.specs.declared.value.Value.TheVariants.{Int}
-use Rattle.cc_syntax.specs.Expressions.{of_one, of_two}
-use Rattle.cc_syntax.specs.Operators.{is_comparison, changes_by, change_type, after_type, binary_result}
-use Rattle.cc_syntax.specs.Values.{ValueType, NoValue, Integer, ToObject, ToFunction, PlaceType, read_from, written_to}
-use Rattle.cc_syntax.proofs.Prefixes.{both_true}
-use Rattle.cc_eval.specs.Context.{Context}
-use Rattle.cc_eval.specs.Eval.{Meaning, Designation, meaning, value_type, is_back, sum_or_difference, one_more_type, changed as changed_values}
-use Rattle.cc_values.specs.Values.{binary, conversion}
+use Rattle.cc_states.specs.CcSyntax.Expressions.{of_one, of_two}
+use Rattle.cc_states.specs.CcSyntax.Operators.{is_comparison, changes_by, change_type, after_type, binary_result}
+use Rattle.cc_states.specs.CcSyntax.Values.{ValueType, NoValue, Integer, ToObject, ToFunction, PlaceType, read_from, written_to}
+use Rattle.cc_states.proofs.CcSyntax.Prefixes.{both_true}
+use Rattle.cc_states.specs.CcEval.Context.{Context}
+use Rattle.cc_states.specs.CcEval.Eval.{Meaning, Designation, meaning, value_type, is_back, sum_or_difference, one_more_type, changed as changed_values}
+use Rattle.cc_states.specs.CcValues.Values.{binary, conversion}
 use Rattle.cc_states.specs.Typed.{MayHave}
 use Rattle.cc_states.proofs.GivenLemmas.{read_as_written}
 use Rattle.cc_states.proofs.Options.{when_true, with_one, with_two}

@@ -4,24 +4,24 @@ use Rattle.std.proofs.lemmas.Bool.Decides.{Decides-int_eq}
 use Rattle.std.proofs.lemmas.Int.{ints}
 use Rattle.std.specs.Prelude.{int_le, option_map}
 use Rattle.std.specs.Ordering.{int_eq}
-use Rattle.cc_num.specs.declared.int_type.IntType.{IntType}
-use Rattle.cc_num.specs.declared.int_type.IntType.TheVariants as int
-use Rattle.cc_num.specs.declared.op.BinOp.{BinOp}
-use Rattle.cc_num.specs.declared.op.BinOp.TheVariants as op
-use Rattle.cc_num.specs.declared.op.UnOp.{UnOp}
-use Rattle.cc_num.specs.declared.target.Target.{Target}
-use Rattle.cc_num.specs.Integers.{least_of_bits, most_of_bits, is_value_of, represents_all, converted}
-use Rattle.cc_num.specs.Promotions.{promoted}
-use Rattle.cc_num.specs.Results.{one_if, result_of, unary_result_of, is_shift}
-use Rattle.cc_num.proofs.Conversions.{int_bytes_is, converted-same}
-use Rattle.cc_num.proofs.PromotionLaws.{promoted-promoted}
-use Rattle.cc_num.proofs.ResultLaws.{is_value_from, value_from_test, truth_value, represents_test}
+use Rattle.cc_program.specs.CcNum.declared.int_type.IntType.{IntType}
+use Rattle.cc_program.specs.CcNum.declared.int_type.IntType.TheVariants as int
+use Rattle.cc_program.specs.CcNum.declared.op.BinOp.{BinOp}
+use Rattle.cc_program.specs.CcNum.declared.op.BinOp.TheVariants as op
+use Rattle.cc_program.specs.CcNum.declared.op.UnOp.{UnOp}
+use Rattle.cc_program.specs.CcNum.declared.target.Target.{Target}
+use Rattle.cc_program.specs.CcNum.Integers.{least_of_bits, most_of_bits, is_value_of, represents_all, converted}
+use Rattle.cc_program.specs.CcNum.Promotions.{promoted}
+use Rattle.cc_program.specs.CcNum.Results.{one_if, result_of, unary_result_of, is_shift}
+use Rattle.cc_program.proofs.CcNum.Conversions.{int_bytes_is, converted-same}
+use Rattle.cc_program.proofs.CcNum.PromotionLaws.{promoted-promoted}
+use Rattle.cc_program.proofs.CcNum.ResultLaws.{is_value_from, value_from_test, truth_value, represents_test}
 use Rattle.cc_program.specs.declared.value.Value.TheVariants.{Int}
-use Rattle.cc_syntax.specs.Folding.{Constant, NoConstant, Value as ConstantOf, Traps, result_constant, unary_constant, binary_constant, converted_constant}
-use Rattle.cc_syntax.specs.Operators.{is_promoted}
-use Rattle.cc_syntax.specs.SameTypes.{same_int}
-use Rattle.cc_syntax.proofs.SameLemmas.{int_itself}
-use Rattle.cc_values.specs.Values.{takes, is_true, unary, binary, conversion, truth, of_truth}
+use Rattle.cc_states.specs.CcSyntax.Folding.{Constant, NoConstant, Value as ConstantOf, Traps, result_constant, unary_constant, binary_constant, converted_constant}
+use Rattle.cc_states.specs.CcSyntax.Operators.{is_promoted}
+use Rattle.cc_states.specs.CcSyntax.SameTypes.{same_int}
+use Rattle.cc_states.proofs.CcSyntax.SameLemmas.{int_itself}
+use Rattle.cc_states.specs.CcValues.Values.{takes, is_true, unary, binary, conversion, truth, of_truth}
 
 -- ---- folding
 

@@ -1,8 +1,8 @@
 -- What expressions and places mean, opened at their tops.
 use Rattle.std.proofs.Common.{◌≡◌, ℕ, ℤ, Bool, List, Option, ap, sym, ◌∙◌}
-use Rattle.cc_num.specs.declared.int_type.IntType.{IntType}
-use Rattle.cc_num.specs.declared.op.BinOp.{BinOp}
-use Rattle.cc_num.specs.declared.op.UnOp.{UnOp}
+use Rattle.cc_program.specs.CcNum.declared.int_type.IntType.{IntType}
+use Rattle.cc_program.specs.CcNum.declared.op.BinOp.{BinOp}
+use Rattle.cc_program.specs.CcNum.declared.op.UnOp.{UnOp}
 use Rattle.cc_program.specs.declared.expr.Expr.{Expr, Const, Null, FuncAddr, Load, AddrOf, Un, Bin, Conv, Qualify, Move, Gap, Compare, Assign, Call, Intr, roll-Expr, map-Expr}
 use Rattle.cc_program.specs.declared.expr.Expr.TheVariants.{rolls-Const, rolls-Null, rolls-FuncAddr, rolls-Load, rolls-AddrOf, rolls-Un, rolls-Bin, rolls-Conv, rolls-Qualify, rolls-Move, rolls-Gap, rolls-Compare, rolls-Assign, rolls-Call, rolls-Intr}
 use Rattle.cc_program.specs.declared.expr.Expr.TheOpen as one
@@ -13,11 +13,11 @@ use Rattle.cc_program.specs.declared.stmt.Stmt.{Stmt, Do, If, fold-roll-Stmt}
 use Rattle.cc_program.specs.declared.stmt.Stmt.TheVariants.{rolls-Do, rolls-If}
 use Rattle.cc_program.specs.declared.stmt.Stmt.TheOpen as is
 use Rattle.cc_program.specs.declared.types.CType.{CType}
-use Rattle.cc_syntax.specs.Effects.{no_one}
-use Rattle.cc_eval.specs.Context.{Context}
-use Rattle.cc_eval.specs.Eval.{Meaning, Designation, expr_meaning, place_meaning, meaning, designation}
-use Rattle.cc_eval.specs.Progress.{Get}
-use Rattle.cc_eval.proofs.Links.{level, place_level}
+use Rattle.cc_states.specs.CcSyntax.Effects.{no_one}
+use Rattle.cc_states.specs.CcEval.Context.{Context}
+use Rattle.cc_states.specs.CcEval.Eval.{Meaning, Designation, expr_meaning, place_meaning, meaning, designation}
+use Rattle.cc_states.specs.CcEval.Progress.{Get}
+use Rattle.cc_states.proofs.CcEval.Links.{level, place_level}
 use Rattle.cc_lower_expressions_follows.specs.Trees.{Setting, context_q}
 use Rattle.cc_lower_expressions_follows.specs.Relation.{finished, forked, tree_step, stmt_tree, code_tree}
 

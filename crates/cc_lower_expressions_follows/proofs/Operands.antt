@@ -4,10 +4,10 @@ use Rattle.std.proofs.Math.Path.{fun_ext}
 use Rattle.std.proofs.lemmas.List.{length-append}
 use Rattle.cc_program.specs.declared.expr.Expr.{Expr}
 use Rattle.cc_program.specs.declared.value.Value.{Value}
-use Rattle.cc_syntax.specs.Effects.{Registers, no_one, also}
-use Rattle.cc_eval.specs.Context.{Context}
-use Rattle.cc_eval.specs.Eval.{Meaning, meaning, from_one as from_one_value, from_two as from_two_values}
-use Rattle.cc_eval.specs.Progress.{Get, known, bind}
+use Rattle.cc_states.specs.CcSyntax.Effects.{Registers, no_one, also}
+use Rattle.cc_states.specs.CcEval.Context.{Context}
+use Rattle.cc_states.specs.CcEval.Eval.{Meaning, meaning, from_one as from_one_value, from_two as from_two_values}
+use Rattle.cc_states.specs.CcEval.Progress.{Get, known, bind}
 use Rattle.cc_lower_expressions.specs.Expressions.{Temps, Lowers, done, from_one, from_two}
 use Rattle.cc_lower_expressions_follows.specs.Trees.{Regs, Setting, context_p, context_q, Sim, Done}
 use Rattle.cc_lower_expressions_follows.specs.Relation.{code_tree, Declared, Gives}

@@ -4,15 +4,15 @@ use Rattle.std.proofs.lemmas.Bool.Decides.{nat_tests}
 use Rattle.cc_program.specs.declared.stmt.Stmt.{Stmt}
 use Rattle.cc_program.specs.declared.expr.Place.{Local}
 use Rattle.cc_program.specs.declared.value.Value.{Value}
-use Rattle.cc_syntax.specs.Effects.{Registers, no_one, also, only}
-use Rattle.cc_syntax.specs.Registers.{is_register}
-use Rattle.cc_syntax.specs.Values.{ValueType, PlaceType}
-use Rattle.cc_eval.specs.declared.action.Action.TheVariants.{Write}
-use Rattle.cc_eval.specs.declared.mark.Mark.TheVariants.{Did}
-use Rattle.cc_eval.specs.declared.spots.Spot.{Spot}
-use Rattle.cc_eval.specs.Context.{Context, is_seen, reached}
-use Rattle.cc_eval.specs.Eval.{Meaning, Designation, meaning, designation, assigned as assigned_next}
-use Rattle.cc_eval.specs.Progress.{Get, known, ask, bind, needs}
+use Rattle.cc_states.specs.CcSyntax.Effects.{Registers, no_one, also, only}
+use Rattle.cc_states.specs.CcSyntax.Registers.{is_register}
+use Rattle.cc_states.specs.CcSyntax.Values.{ValueType, PlaceType}
+use Rattle.cc_states.specs.CcEval.declared.action.Action.TheVariants.{Write}
+use Rattle.cc_states.specs.CcEval.declared.mark.Mark.TheVariants.{Did}
+use Rattle.cc_states.specs.CcEval.declared.spots.Spot.{Spot}
+use Rattle.cc_states.specs.CcEval.Context.{Context, is_seen, reached}
+use Rattle.cc_states.specs.CcEval.Eval.{Meaning, Designation, meaning, designation, assigned as assigned_next}
+use Rattle.cc_states.specs.CcEval.Progress.{Get, known, ask, bind, needs}
 use Rattle.cc_states.specs.Typed.{HasType, cell_type}
 use Rattle.cc_lower_expressions.specs.Expressions.{temp, set}
 use Rattle.cc_lower_expressions_follows.specs.Trees.{Regs, with_reg, Setting, context_p, context_q, register_cell, Sim, Done, Left, Writes}

@@ -1,14 +1,14 @@
 -- A pure expression is worked quietly, in p and in q, and has the same value as long as the registers that it reads stay.
 use Rattle.std.proofs.Common.{◌≡◌, ◌<◌, ℕ, Bool, true, false, ◌&&◌, Option, Some, None, refl, ap, sym, ◌∙◌, subst}
 use Rattle.cc_program.specs.declared.value.Value.{Value}
-use Rattle.cc_syntax.specs.Effects.{Registers, no_one, also}
-use Rattle.cc_eval.specs.declared.action.Action.{Action}
-use Rattle.cc_eval.specs.declared.action.Action.TheVariants.{Choose}
-use Rattle.cc_eval.specs.declared.mark.Mark.{Mark}
-use Rattle.cc_eval.specs.declared.mark.Mark.TheVariants.{Chose}
-use Rattle.cc_eval.specs.Eval.{Meaning, Designation, from_one, from_two, both_values, choice, branch, outcome, arms}
-use Rattle.cc_eval.specs.Progress.{Get, known, bind}
-use Rattle.cc_values.specs.Values.{truth}
+use Rattle.cc_states.specs.CcSyntax.Effects.{Registers, no_one, also}
+use Rattle.cc_states.specs.CcEval.declared.action.Action.{Action}
+use Rattle.cc_states.specs.CcEval.declared.action.Action.TheVariants.{Choose}
+use Rattle.cc_states.specs.CcEval.declared.mark.Mark.{Mark}
+use Rattle.cc_states.specs.CcEval.declared.mark.Mark.TheVariants.{Chose}
+use Rattle.cc_states.specs.CcEval.Eval.{Meaning, Designation, from_one, from_two, both_values, choice, branch, outcome, arms}
+use Rattle.cc_states.specs.CcEval.Progress.{Get, known, bind}
+use Rattle.cc_states.specs.CcValues.Values.{truth}
 use Rattle.cc_lower_expressions_follows.specs.Trees.{Regs, Setting, Own, Other, RunsBy, RunsLeft, Runs, Is, Steps, Chooses}
 use Rattle.cc_lower_expressions_follows.proofs.TreeLaws.{runs_bind}
 

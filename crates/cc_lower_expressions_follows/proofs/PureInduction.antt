@@ -7,11 +7,11 @@ use Rattle.cc_program.specs.declared.expr.Expr.TheOpen as one
 use Rattle.cc_program.specs.declared.expr.Place.{Place, Local, roll-Place, map-Place, fold-roll-Place}
 use Rattle.cc_program.specs.declared.expr.Place.TheVariants.{rolls-Local}
 use Rattle.cc_program.proofs.ExprInduction.{Parts, PlaceParts, by_expr, by_place}
-use Rattle.cc_syntax.specs.Effects.{Registers}
-use Rattle.cc_syntax.specs.Registers.{is_register}
-use Rattle.cc_eval.specs.Context.{Context}
-use Rattle.cc_eval.specs.Eval.{Meaning, Designation, meaning, designation}
-use Rattle.cc_eval.proofs.Links.{level, place_level}
+use Rattle.cc_states.specs.CcSyntax.Effects.{Registers}
+use Rattle.cc_states.specs.CcSyntax.Registers.{is_register}
+use Rattle.cc_states.specs.CcEval.Context.{Context}
+use Rattle.cc_states.specs.CcEval.Eval.{Meaning, Designation, meaning, designation}
+use Rattle.cc_states.proofs.CcEval.Links.{level, place_level}
 use Rattle.cc_lower_expressions_follows.specs.Trees.{Setting, context_p, context_q}
 use Rattle.cc_lower_expressions_follows.specs.Relation.{Alike}
 use Rattle.cc_lower_expressions_follows.specs.Old.{old_step, place_old_step, is_old, is_old_place}

@@ -1,21 +1,21 @@
 -- A pure expression is worked quietly: by induction over expressions and places.
 use Rattle.std.proofs.Common.{◌≡◌, ℕ, ℤ, pos, Bool, true, false, ◌&&◌, Option, Some, refl, ap, sym, ◌∙◌, subst}
-use Rattle.cc_num.specs.declared.int_type.IntType.{IntType}
-use Rattle.cc_num.specs.declared.target.Target.{Target}
+use Rattle.cc_program.specs.CcNum.declared.int_type.IntType.{IntType}
+use Rattle.cc_program.specs.CcNum.declared.target.Target.{Target}
 use Rattle.cc_program.specs.declared.expr.Expr.{Expr}
 use Rattle.cc_program.specs.declared.expr.Expr.TheOpen as one
 use Rattle.cc_program.specs.declared.expr.Place.{Place}
 use Rattle.cc_program.specs.declared.types.CType.{CType}
 use Rattle.cc_program.specs.declared.value.Value.TheVariants.{Int, Place as PlaceValue}
 use Rattle.cc_program.specs.declared.value.Address.TheVariants as address
-use Rattle.cc_syntax.specs.Effects.{Registers, no_one, also}
-use Rattle.cc_syntax.specs.Expressions as typing
-use Rattle.cc_syntax.specs.Values.{ValueType, PlaceType}
-use Rattle.cc_syntax.specs.Views.{View, of_program}
-use Rattle.cc_eval.specs.Context.{Context}
-use Rattle.cc_eval.specs.Eval.{meaning, choice, as_condition}
-use Rattle.cc_eval.specs.Progress.{known}
-use Rattle.cc_values.specs.Values.{unary, binary, conversion, movement, gap, comparison, truth, of_truth}
+use Rattle.cc_states.specs.CcSyntax.Effects.{Registers, no_one, also}
+use Rattle.cc_states.specs.CcSyntax.Expressions as typing
+use Rattle.cc_states.specs.CcSyntax.Values.{ValueType, PlaceType}
+use Rattle.cc_states.specs.CcSyntax.Views.{View, of_program}
+use Rattle.cc_states.specs.CcEval.Context.{Context}
+use Rattle.cc_states.specs.CcEval.Eval.{meaning, choice, as_condition}
+use Rattle.cc_states.specs.CcEval.Progress.{known}
+use Rattle.cc_states.specs.CcValues.Values.{unary, binary, conversion, movement, gap, comparison, truth, of_truth}
 use Rattle.cc_lower_expressions_follows.specs.Trees.{Setting, context_p, context_q}
 use Rattle.cc_lower_expressions_follows.specs.Relation.{Alike}
 use Rattle.cc_lower_expressions_follows.specs.Old.{is_old}

@@ -7,20 +7,20 @@ use Rattle.cc_program.specs.declared.expr.Expr.TheOpen as one
 use Rattle.cc_program.specs.declared.expr.Place.{Place, Local}
 use Rattle.cc_program.specs.declared.value.Value.{Value}
 use Rattle.cc_program.specs.declared.value.Root.TheVariants as root
-use Rattle.cc_syntax.specs.Effects.{Registers, no_one, also, is_soft}
-use Rattle.cc_syntax.specs.Expressions as typing
-use Rattle.cc_syntax.specs.Expressions.{of_one, of_two}
-use Rattle.cc_syntax.specs.Registers.{is_register}
-use Rattle.cc_syntax.specs.Values.{ValueType, PlaceType, read_from}
-use Rattle.cc_syntax.specs.Views.{View, of_program}
-use Rattle.cc_eval.specs.declared.action.Action.TheVariants.{Read}
-use Rattle.cc_eval.specs.declared.mark.Mark.TheVariants.{Gave}
-use Rattle.cc_eval.specs.declared.spots.Spot.{Spot}
-use Rattle.cc_eval.specs.declared.spots.Spot.TheVariants as spot
-use Rattle.cc_eval.specs.Context.{Context, member}
-use Rattle.cc_eval.specs.Eval.{Meaning, Designation, meaning, designation, choice, place_and_value, element_at, address_of}
-use Rattle.cc_eval.specs.Progress.{known, bind}
-use Rattle.cc_values.specs.Values.{integer, address_in}
+use Rattle.cc_states.specs.CcSyntax.Effects.{Registers, no_one, also, is_soft}
+use Rattle.cc_states.specs.CcSyntax.Expressions as typing
+use Rattle.cc_states.specs.CcSyntax.Expressions.{of_one, of_two}
+use Rattle.cc_states.specs.CcSyntax.Registers.{is_register}
+use Rattle.cc_states.specs.CcSyntax.Values.{ValueType, PlaceType, read_from}
+use Rattle.cc_states.specs.CcSyntax.Views.{View, of_program}
+use Rattle.cc_states.specs.CcEval.declared.action.Action.TheVariants.{Read}
+use Rattle.cc_states.specs.CcEval.declared.mark.Mark.TheVariants.{Gave}
+use Rattle.cc_states.specs.CcEval.declared.spots.Spot.{Spot}
+use Rattle.cc_states.specs.CcEval.declared.spots.Spot.TheVariants as spot
+use Rattle.cc_states.specs.CcEval.Context.{Context, member}
+use Rattle.cc_states.specs.CcEval.Eval.{Meaning, Designation, meaning, designation, choice, place_and_value, element_at, address_of}
+use Rattle.cc_states.specs.CcEval.Progress.{known, bind}
+use Rattle.cc_states.specs.CcValues.Values.{integer, address_in}
 use Rattle.cc_lower_expressions_follows.specs.Trees.{Setting, context_p, context_q, register_cell, Runs, Is, Steps, Reads}
 use Rattle.cc_lower_expressions_follows.specs.Relation.{Alike}
 use Rattle.cc_lower_expressions_follows.specs.Old.{is_old, is_old_place}

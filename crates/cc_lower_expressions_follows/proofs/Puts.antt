@@ -5,11 +5,11 @@ use Rattle.cc_program.specs.declared.expr.Expr.{Expr, Assign}
 use Rattle.cc_program.specs.declared.expr.Place.{Place}
 use Rattle.cc_program.specs.declared.value.Cell.{Cell}
 use Rattle.cc_program.specs.declared.value.Value.{Value}
-use Rattle.cc_syntax.specs.Effects.{Registers, also}
-use Rattle.cc_eval.specs.declared.spots.Spot.{Spot}
-use Rattle.cc_eval.specs.Context.{Context, is_seen, reached}
-use Rattle.cc_eval.specs.Eval.{Meaning, Designation, meaning, designation, place_and_value, stored, assigned as assigned_next}
-use Rattle.cc_eval.specs.Progress.{Get, known, bind, needs}
+use Rattle.cc_states.specs.CcSyntax.Effects.{Registers, also}
+use Rattle.cc_states.specs.CcEval.declared.spots.Spot.{Spot}
+use Rattle.cc_states.specs.CcEval.Context.{Context, is_seen, reached}
+use Rattle.cc_states.specs.CcEval.Eval.{Meaning, Designation, meaning, designation, place_and_value, stored, assigned as assigned_next}
+use Rattle.cc_states.specs.CcEval.Progress.{Get, known, bind, needs}
 use Rattle.cc_lower_expressions.specs.Expressions.{Piece}
 use Rattle.cc_lower_expressions_follows.specs.Trees.{Regs, Setting, context_p, context_q, Sim, Done, Runs}
 use Rattle.cc_lower_expressions_follows.specs.Relation.{code_tree, stmt_tree, Alike, Agree, Gives, Leads}

@@ -2,11 +2,11 @@
 use Rattle.std.proofs.Common.{◌≡◌, ℕ, ℤ, Option, Some, None, refl, ap}
 use Rattle.std.specs.Prelude.{option_map, option_and_then}
 use Rattle.cc_program.specs.declared.value.Address.{Address}
-use Rattle.cc_syntax.specs.Values.{PlaceType, read_from}
-use Rattle.cc_syntax.specs.Expressions.{of_one}
-use Rattle.cc_eval.specs.declared.spots.Spot.{Spot}
-use Rattle.cc_eval.specs.declared.spots.Spot.TheVariants as spot
-use Rattle.cc_eval.specs.Context.{named_by, designated, cell_of, reached, element, member}
+use Rattle.cc_states.specs.CcSyntax.Values.{PlaceType, read_from}
+use Rattle.cc_states.specs.CcSyntax.Expressions.{of_one}
+use Rattle.cc_states.specs.CcEval.declared.spots.Spot.{Spot}
+use Rattle.cc_states.specs.CcEval.declared.spots.Spot.TheVariants as spot
+use Rattle.cc_states.specs.CcEval.Context.{named_by, designated, cell_of, reached, element, member}
 use Rattle.cc_lower_expressions_follows.specs.Trees.{Setting}
 use Rattle.cc_lower_expressions_follows.specs.Relation.{Alike}
 

@@ -5,10 +5,10 @@ use Rattle.cc_program.specs.declared.program.Program.{Program}
 use Rattle.cc_program.specs.declared.func.Func.{Func}
 use Rattle.cc_program.specs.declared.types.CType.{CType}
 use Rattle.cc_program.specs.declared.expr.Expr.{Load}
-use Rattle.cc_syntax.specs.Effects.{Registers}
-use Rattle.cc_syntax.specs.Values.{ValueType, read_from}
-use Rattle.cc_eval.specs.Eval.{Meaning, Designation, fetched}
-use Rattle.cc_eval.specs.Progress.{bind}
+use Rattle.cc_states.specs.CcSyntax.Effects.{Registers}
+use Rattle.cc_states.specs.CcSyntax.Values.{ValueType, read_from}
+use Rattle.cc_states.specs.CcEval.Eval.{Meaning, Designation, fetched}
+use Rattle.cc_states.specs.CcEval.Progress.{bind}
 use Rattle.cc_lower_expressions.specs.Expressions.{Piece, PlaceLowering, from_one, mapped, read, value_of, set, whole_by, whole_right, whole_read, read_unused, right_value}
 use Rattle.cc_lower_expressions_follows.specs.Trees.{Setting, context_p, Sim}
 use Rattle.cc_lower_expressions_follows.specs.Relation.{code_tree, Alike, Declared}

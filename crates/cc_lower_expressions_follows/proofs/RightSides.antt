@@ -5,10 +5,10 @@ use Rattle.std.proofs.lemmas.List.{append_assoc}
 use Rattle.cc_program.specs.declared.stmt.Stmt.{Stmt}
 use Rattle.cc_program.specs.declared.expr.Expr.{Expr}
 use Rattle.cc_program.specs.declared.value.Value.{Value}
-use Rattle.cc_syntax.specs.Effects.{Registers}
-use Rattle.cc_syntax.specs.Registers.{is_register}
-use Rattle.cc_syntax.specs.Values.{ValueType}
-use Rattle.cc_eval.specs.Eval.{Meaning}
+use Rattle.cc_states.specs.CcSyntax.Effects.{Registers}
+use Rattle.cc_states.specs.CcSyntax.Registers.{is_register}
+use Rattle.cc_states.specs.CcSyntax.Values.{ValueType}
+use Rattle.cc_states.specs.CcEval.Eval.{Meaning}
 use Rattle.cc_lower_expressions.specs.Expressions.{Piece, Lowers, onto, into, emit, set, temp, fresh, ◌>>=◌, right_value}
 use Rattle.cc_lower_expressions_follows.specs.Trees.{Regs, Setting, Sim}
 use Rattle.cc_lower_expressions_follows.specs.Relation.{code_tree, Alike, Declared, Agree, Wrote, Ran}

@@ -2,13 +2,13 @@
 use Rattle.std.proofs.Common.{◌≡◌, ℕ, [], Option, Some, None, Bool, true, false, refl, subst, sym, if◌then◌else◌}
 use Rattle.cc_program.specs.declared.value.Value.{Value}
 use Rattle.cc_program.specs.declared.value.Cell.{Cell}
-use Rattle.cc_eval.specs.declared.action.Action.{Action}
-use Rattle.cc_eval.specs.declared.mark.Mark.{Mark}
-use Rattle.cc_eval.specs.declared.action.Action.TheVariants.{Write, Choose}
-use Rattle.cc_eval.specs.declared.mark.Mark.TheVariants.{Did}
-use Rattle.cc_eval.specs.Progress.{Get, ask, bind, needs, given}
+use Rattle.cc_states.specs.CcEval.declared.action.Action.{Action}
+use Rattle.cc_states.specs.CcEval.declared.mark.Mark.{Mark}
+use Rattle.cc_states.specs.CcEval.declared.action.Action.TheVariants.{Write, Choose}
+use Rattle.cc_states.specs.CcEval.declared.mark.Mark.TheVariants.{Did}
+use Rattle.cc_states.specs.CcEval.Progress.{Get, ask, bind, needs, given}
 use Rattle.cc_lower_expressions_follows.specs.Trees.{IsSharedCell, IsShared, Regs, with_reg, register_cell, after, Setting, Writes, Ends, Stuck, Sim, Right, Both, Fail, Runs}
-use Rattle.cc_syntax.specs.Registers.{is_register}
+use Rattle.cc_states.specs.CcSyntax.Registers.{is_register}
 use Rattle.cc_states.specs.Answers.{IsMarkOf}
 use Rattle.cc_lower_expressions_follows.proofs.TreeLaws.{bind-assoc, sim_right}
 

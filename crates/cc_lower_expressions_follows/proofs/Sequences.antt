@@ -5,12 +5,12 @@ use Rattle.cc_program.specs.declared.stmt.Stmt.{Stmt}
 use Rattle.cc_program.specs.declared.expr.Expr.{Expr, AddrOf}
 use Rattle.cc_program.specs.declared.expr.Place.{Place}
 use Rattle.cc_program.specs.declared.value.Value.{Value}
-use Rattle.cc_syntax.specs.Effects.{Registers, no_one, also}
-use Rattle.cc_syntax.specs.Registers.{is_register}
-use Rattle.cc_eval.specs.declared.spots.Spot.{Spot}
-use Rattle.cc_eval.specs.Context.{Context}
-use Rattle.cc_eval.specs.Eval.{Meaning, Designation, meaning, designation, address_of, sequence}
-use Rattle.cc_eval.specs.Progress.{Get, known, bind, needs}
+use Rattle.cc_states.specs.CcSyntax.Effects.{Registers, no_one, also}
+use Rattle.cc_states.specs.CcSyntax.Registers.{is_register}
+use Rattle.cc_states.specs.CcEval.declared.spots.Spot.{Spot}
+use Rattle.cc_states.specs.CcEval.Context.{Context}
+use Rattle.cc_states.specs.CcEval.Eval.{Meaning, Designation, meaning, designation, address_of, sequence}
+use Rattle.cc_states.specs.CcEval.Progress.{Get, known, bind, needs}
 use Rattle.cc_lower_expressions.specs.Expressions.{Piece, piece, mapped, onto}
 use Rattle.cc_lower_expressions_follows.specs.Trees.{Regs, Setting, context_p, context_q, Other, Sim, Done, Runs, Is}
 use Rattle.cc_lower_expressions_follows.specs.Relation.{code_tree, Alike, Agree, Kept, Gives, Leads}

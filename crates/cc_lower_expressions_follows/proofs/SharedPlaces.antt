@@ -17,26 +17,26 @@ use Rattle.cc_program.specs.declared.value.Part.TheVariants as part
 use Rattle.cc_program.specs.declared.value.Root.{Root}
 use Rattle.cc_program.specs.declared.value.Root.TheVariants as root
 use Rattle.cc_program.specs.declared.value.Value.{Value}
-use Rattle.cc_syntax.specs.Effects.{Registers}
-use Rattle.cc_syntax.specs.Expressions.{of_one, of_two}
-use Rattle.cc_syntax.specs.Initial.{place_at, bound_of, names}
-use Rattle.cc_syntax.specs.Registers.{may_be_register, is_register, is_addressed}
-use Rattle.cc_syntax.specs.Types.{Named}
-use Rattle.cc_syntax.specs.Values.{ValueType, ToObject, ToFunction, PlaceType, DevicePlace, ObjectPlace, FunctionPlace, object_place, address_of, is_assignable_some}
-use Rattle.cc_eval.specs.Context.{Context, local_type, object_type, has_elements, path_to, named_by, designated, cell_of, cell_at, reached, element, element_in, member}
-use Rattle.cc_eval.specs.declared.mark.Mark.{Mark}
-use Rattle.cc_eval.specs.declared.spots.Spot.{Spot}
-use Rattle.cc_eval.specs.declared.spots.Spot.TheVariants as spot
-use Rattle.cc_eval.specs.Eval.{Meaning, Designation, meaning, designation, place_meaning, place_and_value, element_at}
-use Rattle.cc_eval.specs.Progress.{Known}
-use Rattle.cc_eval.proofs.Links.{place_level}
-use Rattle.cc_values.specs.Values.{integer, address_in}
+use Rattle.cc_states.specs.CcSyntax.Effects.{Registers}
+use Rattle.cc_states.specs.CcSyntax.Expressions.{of_one, of_two}
+use Rattle.cc_states.specs.CcSyntax.Initial.{place_at, bound_of, names}
+use Rattle.cc_states.specs.CcSyntax.Registers.{may_be_register, is_register, is_addressed}
+use Rattle.cc_states.specs.CcSyntax.Types.{Named}
+use Rattle.cc_states.specs.CcSyntax.Values.{ValueType, ToObject, ToFunction, PlaceType, DevicePlace, ObjectPlace, FunctionPlace, object_place, address_of, is_assignable_some}
+use Rattle.cc_states.specs.CcEval.Context.{Context, local_type, object_type, has_elements, path_to, named_by, designated, cell_of, cell_at, reached, element, element_in, member}
+use Rattle.cc_states.specs.CcEval.declared.mark.Mark.{Mark}
+use Rattle.cc_states.specs.CcEval.declared.spots.Spot.{Spot}
+use Rattle.cc_states.specs.CcEval.declared.spots.Spot.TheVariants as spot
+use Rattle.cc_states.specs.CcEval.Eval.{Meaning, Designation, meaning, designation, place_meaning, place_and_value, element_at}
+use Rattle.cc_states.specs.CcEval.Progress.{Known}
+use Rattle.cc_states.proofs.CcEval.Links.{place_level}
+use Rattle.cc_states.specs.CcValues.Values.{integer, address_in}
 use Rattle.cc_states.specs.Answers.{IsActivation, PlaceTakesAddressesOf}
 use Rattle.cc_states.specs.Typed.{is_register_in, IsInMemory, IsOpened, IsAddress, IsSpot, place_in}
 use Rattle.cc_states.proofs.EvalTypes.{designation_typed}
 use Rattle.cc_states.proofs.MemoryLemmas.{part_in_memory}
 use Rattle.cc_states.proofs.Options.{with_one, mapped}
-use Rattle.cc_eval.proofs.Works.{gives_made}
+use Rattle.cc_states.proofs.CcEval.Works.{gives_made}
 use Rattle.cc_lower_expressions_follows.specs.Trees.{Setting, context_p, is_own, IsSharedRoot, IsSharedCell}
 use Rattle.cc_lower_expressions_follows.specs.Claims.{IsApart}
 use Rattle.cc_lower_expressions_follows.proofs.Answered.{AllAnswers}

@@ -6,14 +6,14 @@ use Rattle.cc_program.specs.declared.expr.Place.{Place, Local}
 use Rattle.cc_program.specs.declared.stmt.Stmt.{Do}
 use Rattle.cc_program.specs.declared.value.Cell.{Cell}
 use Rattle.cc_program.specs.declared.value.Value.{Value}
-use Rattle.cc_syntax.specs.Effects.{Registers, no_one, also}
-use Rattle.cc_syntax.specs.Values.{PlaceType}
-use Rattle.cc_eval.specs.declared.action.Action.TheVariants.{Read, Write}
-use Rattle.cc_eval.specs.declared.mark.Mark.{Mark}
-use Rattle.cc_eval.specs.declared.spots.Spot.{Spot}
-use Rattle.cc_eval.specs.Context.{Context, is_seen, reached}
-use Rattle.cc_eval.specs.Eval.{Meaning, Designation, meaning, designation, stored, place_and_value, fetched, manner}
-use Rattle.cc_eval.specs.Progress.{Get, known, ask, bind, needs, given}
+use Rattle.cc_states.specs.CcSyntax.Effects.{Registers, no_one, also}
+use Rattle.cc_states.specs.CcSyntax.Values.{PlaceType}
+use Rattle.cc_states.specs.CcEval.declared.action.Action.TheVariants.{Read, Write}
+use Rattle.cc_states.specs.CcEval.declared.mark.Mark.{Mark}
+use Rattle.cc_states.specs.CcEval.declared.spots.Spot.{Spot}
+use Rattle.cc_states.specs.CcEval.Context.{Context, is_seen, reached}
+use Rattle.cc_states.specs.CcEval.Eval.{Meaning, Designation, meaning, designation, stored, place_and_value, fetched, manner}
+use Rattle.cc_states.specs.CcEval.Progress.{Get, known, ask, bind, needs, given}
 use Rattle.cc_lower_expressions.specs.Expressions.{set}
 use Rattle.cc_lower_expressions_follows.specs.Trees.{Regs, Setting, context_q, register_cell, Other, Runs, Is}
 use Rattle.cc_lower_expressions_follows.specs.Relation.{finished, stmt_tree, Gives, Leads}

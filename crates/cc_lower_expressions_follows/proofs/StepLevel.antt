@@ -10,11 +10,11 @@ use Rattle.cc_program.specs.declared.expr.Expr.{Expr, Load, Assign}
 use Rattle.cc_program.specs.declared.expr.Place.{Place, Local}
 use Rattle.cc_program.specs.declared.value.Value.{Value}
 use Rattle.cc_program.specs.declared.value.Value.TheVariants.{Int}
-use Rattle.cc_syntax.specs.Effects.{Registers, also, only, is_soft, PlaceEffects}
-use Rattle.cc_syntax.specs.Registers.{is_register}
-use Rattle.cc_syntax.specs.Values.{ValueType, read_from}
-use Rattle.cc_eval.specs.Context.{Context}
-use Rattle.cc_eval.specs.Eval.{Meaning, Designation, meaning, designation, value_type, fetched, changed as changed_values, stepped_by_one, sum_or_difference, one_more_type}
+use Rattle.cc_states.specs.CcSyntax.Effects.{Registers, also, only, is_soft, PlaceEffects}
+use Rattle.cc_states.specs.CcSyntax.Registers.{is_register}
+use Rattle.cc_states.specs.CcSyntax.Values.{ValueType, read_from}
+use Rattle.cc_states.specs.CcEval.Context.{Context}
+use Rattle.cc_states.specs.CcEval.Eval.{Meaning, Designation, meaning, designation, value_type, fetched, changed as changed_values, stepped_by_one, sum_or_difference, one_more_type}
 use Rattle.cc_lower_expressions.specs.Expressions.{Piece, piece, onto, into, done, emit, ◌>>=◌, PlaceLowering, temp, value_of, stepped, step_value, step_alone}
 use Rattle.cc_lower_expressions_follows.specs.Trees.{Regs, Setting, context_p, context_q, Sim}
 use Rattle.cc_lower_expressions_follows.specs.Relation.{code_tree, Alike, ValueOf, Declared, IsTemp, Agree, Gives}
@@ -28,7 +28,7 @@ use Rattle.cc_lower_expressions_follows.proofs.Owned.{Fits}
 use Rattle.cc_lower_expressions_follows.proofs.StepOwn.{new_none, step_own_value, step_own_alone, step_own_here}
 use Rattle.cc_lower_expressions_follows.specs.Agreement.{TypesAgree}
 use Rattle.cc_lower_expressions_follows.proofs.Agreement.{equal_types}
-use Rattle.cc_eval.specs.Progress.{bind}
+use Rattle.cc_states.specs.CcEval.Progress.{bind}
 use Rattle.cc_lower_expressions_follows.proofs.Answered.{AllAnswers}
 
 module _ (w : Setting) (alike : Alike w) (down : Bool) where

@@ -1,20 +1,20 @@
 -- `register++` and `register--`: what the register held goes to a temporary, and it is set to the new value.
 use Rattle.std.proofs.Common.{◌≡◌, ◌<◌, ◌≤◌, ◌==◌, ℕ, pos, Bool, true, false, not, [], ◌∷◌, Option, Some, None, refl, ap, sym, ◌∙◌, subst, arith}
 use Rattle.std.proofs.lemmas.Bool.Decides.{nat_tests}
-use Rattle.cc_num.specs.declared.int_type.IntType.{IntType}
+use Rattle.cc_program.specs.CcNum.declared.int_type.IntType.{IntType}
 use Rattle.cc_program.specs.declared.expr.Expr.{Expr, Load}
 use Rattle.cc_program.specs.declared.expr.Place.{Local}
 use Rattle.cc_program.specs.declared.value.Value.{Value}
 use Rattle.cc_program.specs.declared.value.Value.TheVariants.{Int}
-use Rattle.cc_syntax.specs.Effects.{Registers, no_one, only}
-use Rattle.cc_syntax.specs.Registers.{is_register}
-use Rattle.cc_syntax.specs.Values.{ValueType, NoValue, Integer, ToObject, ToFunction, PlaceType}
-use Rattle.cc_eval.specs.declared.action.Action.TheVariants.{Read, Write}
-use Rattle.cc_eval.specs.declared.mark.Mark.TheVariants.{Gave, Did}
-use Rattle.cc_eval.specs.declared.spots.Spot.{Spot}
-use Rattle.cc_eval.specs.Context.{Context, is_seen, reached}
-use Rattle.cc_eval.specs.Eval.{Meaning, Designation, meaning, designation, fetched, value_type, changed as changed_values, stepped_by_one, stepped_with, sum_or_difference, one_more_type}
-use Rattle.cc_eval.specs.Progress.{Get, known, bind, needs}
+use Rattle.cc_states.specs.CcSyntax.Effects.{Registers, no_one, only}
+use Rattle.cc_states.specs.CcSyntax.Registers.{is_register}
+use Rattle.cc_states.specs.CcSyntax.Values.{ValueType, NoValue, Integer, ToObject, ToFunction, PlaceType}
+use Rattle.cc_states.specs.CcEval.declared.action.Action.TheVariants.{Read, Write}
+use Rattle.cc_states.specs.CcEval.declared.mark.Mark.TheVariants.{Gave, Did}
+use Rattle.cc_states.specs.CcEval.declared.spots.Spot.{Spot}
+use Rattle.cc_states.specs.CcEval.Context.{Context, is_seen, reached}
+use Rattle.cc_states.specs.CcEval.Eval.{Meaning, Designation, meaning, designation, fetched, value_type, changed as changed_values, stepped_by_one, stepped_with, sum_or_difference, one_more_type}
+use Rattle.cc_states.specs.CcEval.Progress.{Get, known, bind, needs}
 use Rattle.cc_lower_expressions.specs.Expressions.{temp, set}
 use Rattle.cc_states.specs.Answers.{IsMarkOf}
 use Rattle.cc_lower_expressions_follows.specs.Trees.{Regs, with_reg, CanGive, Setting, context_p, context_q, register_cell, Stuck, Refused, Ends, Writes, Sim, Done, Left, Runs}

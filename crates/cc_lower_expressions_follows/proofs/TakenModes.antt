@@ -8,13 +8,13 @@ use Rattle.cc_program.specs.declared.stmt.Stmt.{Do}
 use Rattle.cc_program.specs.declared.expr.Expr.{Expr, Assign}
 use Rattle.cc_program.specs.declared.expr.Place.{Local}
 use Rattle.cc_program.specs.declared.value.Value.{Value}
-use Rattle.cc_syntax.specs.Effects.{Registers, no_one}
-use Rattle.cc_syntax.specs.Registers.{is_register}
-use Rattle.cc_syntax.specs.Values.{ValueType}
-use Rattle.cc_eval.specs.declared.action.Action.{Action}
-use Rattle.cc_eval.specs.declared.mark.Mark.{Mark}
-use Rattle.cc_eval.specs.Eval.{Meaning, meaning}
-use Rattle.cc_eval.specs.Progress.{Get, known, ask, bind, needs, given}
+use Rattle.cc_states.specs.CcSyntax.Effects.{Registers, no_one}
+use Rattle.cc_states.specs.CcSyntax.Registers.{is_register}
+use Rattle.cc_states.specs.CcSyntax.Values.{ValueType}
+use Rattle.cc_states.specs.CcEval.declared.action.Action.{Action}
+use Rattle.cc_states.specs.CcEval.declared.mark.Mark.{Mark}
+use Rattle.cc_states.specs.CcEval.Eval.{Meaning, meaning}
+use Rattle.cc_states.specs.CcEval.Progress.{Get, known, ask, bind, needs, given}
 use Rattle.cc_states.specs.Answers.{IsMarkOf}
 use Rattle.cc_lower_expressions.specs.Expressions.{Piece, piece, Lowers, temp, set, whole_right, right_value, right_alone}
 use Rattle.cc_lower_expressions_follows.specs.Trees.{IsShared, Regs, Setting, context_q, register_cell, Sim, Runs}
@@ -31,7 +31,7 @@ use Rattle.cc_lower_expressions_follows.proofs.Statements.{assign_local, finishe
 use Rattle.cc_lower_expressions_follows.proofs.Assigns.{store}
 use Rattle.cc_lower_expressions_follows.proofs.TreeLaws.{bind-assoc}
 use Rattle.std.proofs.Math.Path.{fun_ext}
-use Rattle.cc_eval.specs.declared.action.Action.TheVariants.{Read, Write, Choose, Call, Flag, Save}
+use Rattle.cc_states.specs.CcEval.declared.action.Action.TheVariants.{Read, Write, Choose, Call, Flag, Save}
 
 -- a step that reads and writes nothing itself
 abbrev pub touches_nothing : Action → Bool

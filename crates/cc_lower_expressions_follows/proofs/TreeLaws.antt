@@ -1,9 +1,9 @@
 -- Trees, one behind the other.
 use Rattle.std.proofs.Common.{◌≡◌, Option, Some, None, refl, subst, ap, sym}
 use Rattle.std.proofs.Math.Path.{fun_ext}
-use Rattle.cc_eval.specs.declared.action.Action.{Action}
-use Rattle.cc_eval.specs.declared.mark.Mark.{Mark}
-use Rattle.cc_eval.specs.Progress.{Progress, Known, Waits, Traps, Get, known, ask, and_then, bind, needs}
+use Rattle.cc_states.specs.CcEval.declared.action.Action.{Action}
+use Rattle.cc_states.specs.CcEval.declared.mark.Mark.{Mark}
+use Rattle.cc_states.specs.CcEval.Progress.{Progress, Known, Waits, Traps, Get, known, ask, and_then, bind, needs}
 use Rattle.cc_program.specs.declared.func.Func.{Func}
 use Rattle.cc_lower_expressions_follows.specs.Trees.{Regs, after, Setting, Ends, Stuck, Refused, Sim, Done, Left, Right, Both, Fail, RunsBy, RunsLeft, Runs, Is, Steps}
 

@@ -1,27 +1,27 @@
 -- `e != 0`, as the type rules write it, tells whether the value of a scalar type is not 0 and no null.
 use Rattle.std.proofs.Common.{◌≡◌, pos, Bool, true, false, ◌&&◌, Option, Some, None, refl, ap, sym, ◌∙◌, subst, if◌then◌else◌}
 use Rattle.std.proofs.lemmas.Option.{same_Some}
-use Rattle.cc_num.specs.declared.int_type.IntType.{IntType}
-use Rattle.cc_num.specs.declared.int_type.IntType.TheVariants as int
-use Rattle.cc_num.specs.declared.op.BinOp.TheVariants as op
-use Rattle.cc_num.specs.Integers.{is_value_of}
-use Rattle.cc_num.specs.Promotions.{promoted}
+use Rattle.cc_program.specs.CcNum.declared.int_type.IntType.{IntType}
+use Rattle.cc_program.specs.CcNum.declared.int_type.IntType.TheVariants as int
+use Rattle.cc_program.specs.CcNum.declared.op.BinOp.TheVariants as op
+use Rattle.cc_program.specs.CcNum.Integers.{is_value_of}
+use Rattle.cc_program.specs.CcNum.Promotions.{promoted}
 use Rattle.cc_program.specs.declared.expr.Expr.{Expr, Const, Null, Compare}
 use Rattle.cc_program.specs.declared.types.CType.{CType}
 use Rattle.cc_program.specs.declared.types.Sig.{Sig}
 use Rattle.cc_program.specs.declared.value.Address.TheVariants as address
 use Rattle.cc_program.specs.declared.value.Value.{Value}
 use Rattle.cc_program.specs.declared.value.Value.TheVariants.{Int, Place}
-use Rattle.cc_syntax.specs.Effects.{no_one}
-use Rattle.cc_syntax.specs.Expressions.{of_two}
-use Rattle.cc_syntax.specs.Operators.{logical_type}
-use Rattle.cc_syntax.specs.SameTypes.{same_int}
-use Rattle.cc_syntax.specs.Values.{ValueType, NoValue, Integer, ToObject, ToFunction, is_scalar}
-use Rattle.cc_syntax.proofs.Prefixes.{both_true}
-use Rattle.cc_syntax.proofs.SameLemmas.{int_same}
-use Rattle.cc_eval.specs.Context.{Context}
-use Rattle.cc_eval.specs.Eval.{Meaning}
-use Rattle.cc_values.specs.Values.{binary, conversion, comparison, truth, of_truth}
+use Rattle.cc_states.specs.CcSyntax.Effects.{no_one}
+use Rattle.cc_states.specs.CcSyntax.Expressions.{of_two}
+use Rattle.cc_states.specs.CcSyntax.Operators.{logical_type}
+use Rattle.cc_states.specs.CcSyntax.SameTypes.{same_int}
+use Rattle.cc_states.specs.CcSyntax.Values.{ValueType, NoValue, Integer, ToObject, ToFunction, is_scalar}
+use Rattle.cc_states.proofs.CcSyntax.Prefixes.{both_true}
+use Rattle.cc_states.proofs.CcSyntax.SameLemmas.{int_same}
+use Rattle.cc_states.specs.CcEval.Context.{Context}
+use Rattle.cc_states.specs.CcEval.Eval.{Meaning}
+use Rattle.cc_states.specs.CcValues.Values.{binary, conversion, comparison, truth, of_truth}
 use Rattle.cc_states.specs.Typed.{MayHave}
 use Rattle.cc_states.proofs.Options.{when_true, with_two}
 use Rattle.cc_lower_expressions.specs.Expressions.{folded_conv, conv_unless, truth_of}

@@ -2,8 +2,8 @@
 use Rattle.std.proofs.Common.{◌≡◌, ◌<◌, ℕ, pos, Bool, true, false, [], Option, Some, None, refl, ap, sym, ◌∙◌, subst, if◌then◌else◌}
 use Rattle.std.proofs.lemmas.Option.{same_Some}
 use Rattle.std.specs.Prelude.{option_map, option_and_then, slice_get}
-use Rattle.cc_num.specs.declared.int_type.IntType.{IntType}
-use Rattle.cc_num.specs.declared.op.BinOp.{BinOp}
+use Rattle.cc_program.specs.CcNum.declared.int_type.IntType.{IntType}
+use Rattle.cc_program.specs.CcNum.declared.op.BinOp.{BinOp}
 use Rattle.cc_program.specs.declared.expr.Expr.{Expr}
 use Rattle.cc_program.specs.declared.expr.Expr.TheOpen as one
 use Rattle.cc_program.specs.declared.expr.Place.{Place, Local, out-Place, roll-Place, roll-out-Place, fold-roll-Place}
@@ -11,23 +11,23 @@ use Rattle.cc_program.specs.declared.expr.Place.TheVariants.{rolls-Local}
 use Rattle.cc_program.specs.declared.func.Func.{Func}
 use Rattle.cc_program.specs.declared.value.Value.{Value}
 use Rattle.cc_program.specs.declared.value.Value.TheVariants.{Int}
-use Rattle.cc_syntax.specs.Effects.{Registers}
-use Rattle.cc_syntax.specs.Expressions.{of_one, of_two}
-use Rattle.cc_syntax.specs.Initial.{place_at}
-use Rattle.cc_syntax.specs.Operators.{assignment_type, change_type, after_type}
-use Rattle.cc_syntax.specs.Registers.{is_register, PlaceUse, address_step, use_step, is_address_taken, place_use}
-use Rattle.cc_syntax.specs.Values.{ValueType, PlaceType, object_place, read_from, written_to, is_assignable}
-use Rattle.cc_eval.specs.Context.{Context, local_type}
-use Rattle.cc_eval.specs.Eval.{Designation, meaning, designation, value_type, fetched, sum_or_difference, one_more_type, changed as changed_values}
-use Rattle.cc_eval.specs.Progress.{Get, known, bind, needs}
-use Rattle.cc_eval.proofs.Links.{place_level}
+use Rattle.cc_states.specs.CcSyntax.Effects.{Registers}
+use Rattle.cc_states.specs.CcSyntax.Expressions.{of_one, of_two}
+use Rattle.cc_states.specs.CcSyntax.Initial.{place_at}
+use Rattle.cc_states.specs.CcSyntax.Operators.{assignment_type, change_type, after_type}
+use Rattle.cc_states.specs.CcSyntax.Registers.{is_register, PlaceUse, address_step, use_step, is_address_taken, place_use}
+use Rattle.cc_states.specs.CcSyntax.Values.{ValueType, PlaceType, object_place, read_from, written_to, is_assignable}
+use Rattle.cc_states.specs.CcEval.Context.{Context, local_type}
+use Rattle.cc_states.specs.CcEval.Eval.{Designation, meaning, designation, value_type, fetched, sum_or_difference, one_more_type, changed as changed_values}
+use Rattle.cc_states.specs.CcEval.Progress.{Get, known, bind, needs}
+use Rattle.cc_states.proofs.CcEval.Links.{place_level}
 use Rattle.cc_states.specs.Answers.{IsActivation, IsMarkOf, IsStep, TakesAddressesOf, PlaceTakesAddressesOf, WorksIn as WorksWith}
 use Rattle.cc_states.specs.Typed.{HasType, MayHave, cell_type}
 use Rattle.cc_states.proofs.EvalTypes.{Spot-of, meaning_typed, designation_typed, typed_fetched}
 use Rattle.cc_states.proofs.GivenLemmas.{read_as_written, has_good, has_changed}
 use Rattle.cc_states.proofs.Options.{when_true, with_one, with_two}
 use Rattle.cc_states.proofs.TypedLemmas.{may_widen}
-use Rattle.cc_eval.proofs.Works.{works_known, works_bind, works_needs}
+use Rattle.cc_states.proofs.CcEval.Works.{works_known, works_bind, works_needs}
 use Rattle.cc_lower_expressions_follows.specs.Trees.{Setting, context_p, register_cell}
 use Rattle.cc_lower_expressions_follows.specs.Relation.{Alike, ValueOf}
 use Rattle.cc_lower_expressions_follows.specs.Claims.{good}

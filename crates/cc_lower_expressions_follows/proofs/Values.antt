@@ -1,8 +1,8 @@
 -- What is left of an expression gives its value quietly.
 use Rattle.std.proofs.Common.{◌≡◌, ℕ, ℤ, Bool, true, false, not, [], Option, Some, None, refl, ap, sym, ◌∙◌, subst, if◌then◌else◌}
-use Rattle.cc_num.specs.declared.int_type.IntType.{IntType}
-use Rattle.cc_num.specs.declared.op.BinOp.{BinOp}
-use Rattle.cc_num.specs.declared.op.UnOp.{UnOp}
+use Rattle.cc_program.specs.CcNum.declared.int_type.IntType.{IntType}
+use Rattle.cc_program.specs.CcNum.declared.op.BinOp.{BinOp}
+use Rattle.cc_program.specs.CcNum.declared.op.UnOp.{UnOp}
 use Rattle.cc_program.specs.declared.expr.Expr.{Expr, Const, Load, Un, Bin, Conv, Qualify, Move, Gap, Compare}
 use Rattle.cc_program.specs.declared.expr.Place.{Local}
 use Rattle.cc_program.specs.declared.types.CType.{CType}
@@ -11,18 +11,18 @@ use Rattle.cc_program.specs.declared.value.Cell.TheVariants as cell
 use Rattle.cc_program.specs.declared.value.Root.TheVariants as root
 use Rattle.cc_program.specs.declared.value.Value.{Value}
 use Rattle.cc_program.specs.declared.value.Value.TheVariants.{Int}
-use Rattle.cc_syntax.specs.Effects.{Registers, no_one, also, is_soft}
-use Rattle.cc_syntax.specs.Registers.{is_register}
-use Rattle.cc_syntax.specs.Values.{PlaceType}
-use Rattle.cc_eval.specs.declared.action.Action.TheVariants.{Read}
-use Rattle.cc_eval.specs.declared.action.Manner.{Manner}
-use Rattle.cc_eval.specs.declared.mark.Mark.TheVariants.{Gave}
-use Rattle.cc_eval.specs.declared.spots.Spot.{Spot}
-use Rattle.cc_eval.specs.declared.spots.Spot.TheVariants as spot
-use Rattle.cc_eval.specs.Context.{Context, is_seen, reached}
-use Rattle.cc_eval.specs.Eval.{Meaning, Designation, meaning, designation, from_one, from_two, fetched, manner}
-use Rattle.cc_eval.specs.Progress.{Get, known, ask, bind, needs, given}
-use Rattle.cc_values.specs.Values.{binary, unary, conversion, movement, gap, comparison}
+use Rattle.cc_states.specs.CcSyntax.Effects.{Registers, no_one, also, is_soft}
+use Rattle.cc_states.specs.CcSyntax.Registers.{is_register}
+use Rattle.cc_states.specs.CcSyntax.Values.{PlaceType}
+use Rattle.cc_states.specs.CcEval.declared.action.Action.TheVariants.{Read}
+use Rattle.cc_states.specs.CcEval.declared.action.Manner.{Manner}
+use Rattle.cc_states.specs.CcEval.declared.mark.Mark.TheVariants.{Gave}
+use Rattle.cc_states.specs.CcEval.declared.spots.Spot.{Spot}
+use Rattle.cc_states.specs.CcEval.declared.spots.Spot.TheVariants as spot
+use Rattle.cc_states.specs.CcEval.Context.{Context, is_seen, reached}
+use Rattle.cc_states.specs.CcEval.Eval.{Meaning, Designation, meaning, designation, from_one, from_two, fetched, manner}
+use Rattle.cc_states.specs.CcEval.Progress.{Get, known, ask, bind, needs, given}
+use Rattle.cc_states.specs.CcValues.Values.{binary, unary, conversion, movement, gap, comparison}
 use Rattle.cc_lower_expressions_follows.specs.Trees.{Regs, Setting, context_q, register_cell, Other, Runs, Is, Steps, Reads}
 use Rattle.cc_lower_expressions_follows.specs.Relation.{Gives}
 use Rattle.cc_lower_expressions_follows.proofs.TreeLaws.{runs_bind}

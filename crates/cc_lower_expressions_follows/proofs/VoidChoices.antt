@@ -4,14 +4,14 @@ use Rattle.std.proofs.Common.{◌≡◌, ◌≤◌, ℕ, ◌+◌, List, [], ◌�
 use Rattle.std.proofs.Math.Path.{fun_ext}
 use Rattle.cc_program.specs.declared.stmt.Stmt.{Stmt, If}
 use Rattle.cc_program.specs.declared.value.Value.{Value}
-use Rattle.cc_syntax.specs.Effects.{Registers, also}
-use Rattle.cc_eval.specs.Context.{Context}
-use Rattle.cc_eval.specs.Eval.{Meaning, meaning, chosen_arm}
-use Rattle.cc_eval.specs.declared.action.Action.TheVariants.{Choose}
-use Rattle.cc_eval.specs.declared.mark.Mark.TheVariants.{Chose}
-use Rattle.cc_eval.specs.Progress.{Traps, Get, known, ask, bind, needs, chosen}
-use Rattle.cc_values.specs.Values.{truth}
-use Rattle.cc_syntax.specs.Effects.{no_one}
+use Rattle.cc_states.specs.CcSyntax.Effects.{Registers, also}
+use Rattle.cc_states.specs.CcEval.Context.{Context}
+use Rattle.cc_states.specs.CcEval.Eval.{Meaning, meaning, chosen_arm}
+use Rattle.cc_states.specs.CcEval.declared.action.Action.TheVariants.{Choose}
+use Rattle.cc_states.specs.CcEval.declared.mark.Mark.TheVariants.{Chose}
+use Rattle.cc_states.specs.CcEval.Progress.{Traps, Get, known, ask, bind, needs, chosen}
+use Rattle.cc_states.specs.CcValues.Values.{truth}
+use Rattle.cc_states.specs.CcSyntax.Effects.{no_one}
 use Rattle.cc_program.specs.declared.expr.Expr.{Expr}
 use Rattle.cc_lower_expressions.specs.Expressions.{Piece}
 use Rattle.cc_lower_expressions_follows.specs.Trees.{Regs, Setting, context_q, Stuck, Sim, Left, Right, Fail, Runs, Chooses}

@@ -2,10 +2,10 @@
 use Rattle.std.proofs.Common.{◌≡◌, ◌<◌, ◌≤◌, ◌==◌, ℕ, ◌+◌, List, [], ◌∷◌, ◌++◌, Option, Some, true, false, refl, subst, ap, sym, ◌∙◌, arith}
 use Rattle.std.proofs.lemmas.Bool.Decides.{nat_tests}
 use Rattle.cc_program.specs.declared.value.Value.{Value}
-use Rattle.cc_eval.specs.Progress.{Get, known, bind, needs}
+use Rattle.cc_states.specs.CcEval.Progress.{Get, known, bind, needs}
 use Rattle.cc_lower_expressions_follows.specs.Trees.{Regs, with_reg, Setting, Stuck, Sim, Done, Runs}
-use Rattle.cc_syntax.specs.Registers.{is_register}
-use Rattle.cc_syntax.specs.Effects.{Registers}
+use Rattle.cc_states.specs.CcSyntax.Registers.{is_register}
+use Rattle.cc_states.specs.CcSyntax.Effects.{Registers}
 use Rattle.cc_lower_expressions_follows.specs.Relation.{Agree, Kept, Post, Wrote}
 use Rattle.cc_program.specs.declared.stmt.Stmt.{Stmt}
 use Rattle.cc_lower_expressions_follows.specs.Relation.{stmt_tree}

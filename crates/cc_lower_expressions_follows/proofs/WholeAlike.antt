@@ -1,12 +1,12 @@
 -- Where local states match, both make the same transition, and approach each other again behind it.
 use Rattle.std.proofs.Common.{◌≡◌, inr, ℕ, ℤ, Bool, true, false, List, [], ◌∷◌, ◌++◌, Option, Some, None, refl, ap, sym, ◌∙◌, subst}
 use Rattle.std.specs.Prelude.{slice_get, pos}
-use Rattle.cc_control.specs.declared.phase.Phase.TheVariants.{First, Test}
-use Rattle.cc_control.specs.Control.{behind_body}
-use Rattle.cc_eval.specs.declared.action.Action.{Action}
-use Rattle.cc_eval.specs.declared.action.Action.TheVariants.{Choose}
-use Rattle.cc_eval.specs.declared.mark.Mark.{Mark}
-use Rattle.cc_eval.specs.Progress.{Progress, Known, Waits, Get, known, and_then, bind, no_value}
+use Rattle.cc_states.specs.CcControl.declared.phase.Phase.TheVariants.{First, Test}
+use Rattle.cc_states.specs.CcControl.Control.{behind_body}
+use Rattle.cc_states.specs.CcEval.declared.action.Action.{Action}
+use Rattle.cc_states.specs.CcEval.declared.action.Action.TheVariants.{Choose}
+use Rattle.cc_states.specs.CcEval.declared.mark.Mark.{Mark}
+use Rattle.cc_states.specs.CcEval.Progress.{Progress, Known, Waits, Get, known, and_then, bind, no_value}
 use Rattle.cc_program.specs.declared.expr.Expr.{Expr, out-Expr}
 use Rattle.cc_program.specs.declared.func.Func.{Func}
 use Rattle.cc_program.specs.declared.program.Program.{Program}
@@ -15,10 +15,10 @@ use Rattle.cc_program.specs.declared.stmt.Stmt.{Stmt, out-Stmt}
 use Rattle.cc_program.specs.declared.stmt.Stmt.TheOpen as is
 use Rattle.cc_program.specs.declared.value.Value.{Value}
 use Rattle.cc_program.specs.declared.value.Value.TheVariants.{Int}
-use Rattle.cc_steps.specs.Step.{worked, progress_in, number_in}
-use Rattle.cc_values.specs.Values.{is_true}
+use Rattle.cc_states.specs.CcSteps.Step.{worked, progress_in, number_in}
+use Rattle.cc_states.specs.CcValues.Values.{is_true}
 use Rattle.cc_states.specs.Answers.{IsMarkOf}
-use Rattle.cc_eval.proofs.Works.{one_answer}
+use Rattle.cc_states.proofs.CcEval.Works.{one_answer}
 use Rattle.cc_meaning_simulations.specs.Continuations.{Remainder, remainder, resume, enclosing, in_arm, in_cases, found_case}
 use Rattle.cc_meaning_simulations.specs.LocalSimulations.{AreAlike as AlikeIn, Approaches, Expects}
 use Rattle.cc_meaning_simulations.specs.LocalSteps.{LocalState, Locals, local_state}

@@ -2,26 +2,26 @@
 use Rattle.std.proofs.Common.{◌≡◌, List, [], ◌∷◌, ◌++◌, map, Option, Some, None, true, false, refl, sym, ap, ◌∙◌, subst}
 use Rattle.std.specs.Prelude.{pos}
 use Rattle.std.proofs.lemmas.Bool.Decides.{Decides-int_eq}
-use Rattle.cc_eval.specs.declared.action.Action.{Action}
-use Rattle.cc_eval.specs.declared.action.Action.TheVariants as action
-use Rattle.cc_eval.specs.declared.mark.Mark.{Mark}
-use Rattle.cc_eval.specs.declared.spots.Spot.{Spot}
-use Rattle.cc_eval.specs.Context.{Context, reached, is_seen}
-use Rattle.cc_eval.specs.Eval.{Meaning, meaning, designation, place_and_value, stored, each, assigned_by, called_with, all_good}
-use Rattle.cc_eval.specs.Marks.{UsesFirst}
-use Rattle.cc_eval.specs.Progress.{Progress, Known, Waits, Traps, Get, known, ask, and_then, bind, needs, given}
-use Rattle.cc_eval.proofs.Links.{level}
-use Rattle.cc_eval.proofs.MeaningUses.{meaning_uses, designation_uses}
-use Rattle.cc_eval.proofs.Uses.{uses_known, uses_bind}
+use Rattle.cc_states.specs.CcEval.declared.action.Action.{Action}
+use Rattle.cc_states.specs.CcEval.declared.action.Action.TheVariants as action
+use Rattle.cc_states.specs.CcEval.declared.mark.Mark.{Mark}
+use Rattle.cc_states.specs.CcEval.declared.spots.Spot.{Spot}
+use Rattle.cc_states.specs.CcEval.Context.{Context, reached, is_seen}
+use Rattle.cc_states.specs.CcEval.Eval.{Meaning, meaning, designation, place_and_value, stored, each, assigned_by, called_with, all_good}
+use Rattle.cc_states.specs.CcEval.Marks.{UsesFirst}
+use Rattle.cc_states.specs.CcEval.Progress.{Progress, Known, Waits, Traps, Get, known, ask, and_then, bind, needs, given}
+use Rattle.cc_states.proofs.CcEval.Links.{level}
+use Rattle.cc_states.proofs.CcEval.MeaningUses.{meaning_uses, designation_uses}
+use Rattle.cc_states.proofs.CcEval.Uses.{uses_known, uses_bind}
 use Rattle.cc_program.specs.declared.expr.Expr.{Expr, out-Expr, roll-out-Expr}
 use Rattle.cc_program.specs.declared.expr.Expr.TheOpen as one
 use Rattle.cc_program.specs.declared.expr.Intr.TheVariants as intr
 use Rattle.cc_program.specs.declared.expr.Place.{Place}
 use Rattle.cc_program.specs.declared.value.Value.{Value}
 use Rattle.cc_program.specs.declared.value.Value.TheVariants.{Int}
-use Rattle.cc_syntax.specs.Effects.{Registers, also, no_one}
-use Rattle.cc_syntax.specs.Forms.{form_at, form_of}
-use Rattle.cc_values.specs.Values.{truth, address_in}
+use Rattle.cc_states.specs.CcSyntax.Effects.{Registers, also, no_one}
+use Rattle.cc_states.specs.CcSyntax.Forms.{form_at, form_of}
+use Rattle.cc_states.specs.CcValues.Values.{truth, address_in}
 use Rattle.cc_lower_expressions_follows.specs.Region.{is_step}
 use Rattle.cc_lower_expressions_follows.specs.WholeLists.{is_one_at}
 use Rattle.cc_lower_expressions_follows.proofs.Opened.{at_level}

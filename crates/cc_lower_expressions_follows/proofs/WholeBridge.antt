@@ -3,24 +3,24 @@
 use Rattle.std.proofs.Common.{◌≡◌, ◌⊎◌, inl, inr, ◌||◌, ◌==◌, ℕ, Bool, true, false, List, [], ◌∷◌, ◌++◌, Option, Some, None, refl, ap, sym, ◌∙◌, subst, append_assoc, if◌then◌else◌, arith}
 use Rattle.std.proofs.lemmas.Bool.Decides.{nat_tests}
 use Rattle.std.specs.Prelude.{slice_get}
-use Rattle.cc_control.specs.declared.phase.Phase.{Phase}
-use Rattle.cc_eval.specs.declared.action.Action.{Action}
-use Rattle.cc_eval.specs.declared.action.Action.TheVariants.{Read, Write, Choose}
-use Rattle.cc_eval.specs.declared.action.Manner.{Manner}
-use Rattle.cc_eval.specs.declared.mark.Mark.{Mark}
-use Rattle.cc_eval.specs.declared.mark.Mark.TheVariants.{Gave}
-use Rattle.cc_eval.specs.Progress.{Progress, Known, Waits, Get, known, and_then, bind}
-use Rattle.cc_eval.specs.Marks.{UsesFirst}
+use Rattle.cc_states.specs.CcControl.declared.phase.Phase.{Phase}
+use Rattle.cc_states.specs.CcEval.declared.action.Action.{Action}
+use Rattle.cc_states.specs.CcEval.declared.action.Action.TheVariants.{Read, Write, Choose}
+use Rattle.cc_states.specs.CcEval.declared.action.Manner.{Manner}
+use Rattle.cc_states.specs.CcEval.declared.mark.Mark.{Mark}
+use Rattle.cc_states.specs.CcEval.declared.mark.Mark.TheVariants.{Gave}
+use Rattle.cc_states.specs.CcEval.Progress.{Progress, Known, Waits, Get, known, and_then, bind}
+use Rattle.cc_states.specs.CcEval.Marks.{UsesFirst}
 use Rattle.cc_program.specs.declared.expr.Expr.{Expr}
 use Rattle.cc_program.specs.declared.func.Func.{Func}
 use Rattle.cc_program.specs.declared.stmt.Stmt.{Stmt, out-Stmt}
 use Rattle.cc_program.specs.declared.value.Value.{Value}
-use Rattle.cc_syntax.specs.Forms.{form_of}
-use Rattle.cc_syntax.specs.Registers.{is_register}
-use Rattle.cc_syntax.specs.Values.{ValueType}
+use Rattle.cc_states.specs.CcSyntax.Forms.{form_of}
+use Rattle.cc_states.specs.CcSyntax.Registers.{is_register}
+use Rattle.cc_states.specs.CcSyntax.Values.{ValueType}
 use Rattle.cc_states.specs.Answers.{IsMarkOf, AreItsMarks}
 use Rattle.cc_states.specs.Typed.{HasType, cell_type}
-use Rattle.cc_eval.proofs.Works.{one_answer}
+use Rattle.cc_states.proofs.CcEval.Works.{one_answer}
 use Rattle.cc_meaning_simulations.specs.Continuations.{Remainder, resume}
 use Rattle.cc_meaning_simulations.specs.LocalSimulations.{Approaches, Arrives, QGoes, PGoes, BothTrap}
 use Rattle.cc_meaning_simulations.specs.LocalSteps.{LocalState, Locals, Jump, TrapsNext, Trapping, local_state}

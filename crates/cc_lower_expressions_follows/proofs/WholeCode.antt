@@ -13,12 +13,12 @@ use Rattle.cc_program.specs.declared.stmt.Stmt.TheOpen as is
 use Rattle.cc_program.specs.declared.types.CType.{CType}
 use Rattle.cc_program.proofs.Each.{Each}
 use Rattle.cc_program.proofs.ExprInduction.{Parts, PlaceParts, by_expr}
-use Rattle.cc_num.specs.declared.int_type.IntType.{IntType}
-use Rattle.cc_num.specs.declared.int_type.IntType.TheVariants as int
-use Rattle.cc_num.specs.declared.op.BinOp.{BinOp}
-use Rattle.cc_syntax.specs.Effects.{Registers, Effects, also, is_soft}
-use Rattle.cc_syntax.specs.Forms.{form_at, form_of}
-use Rattle.cc_syntax.specs.Values.{ValueType}
+use Rattle.cc_program.specs.CcNum.declared.int_type.IntType.{IntType}
+use Rattle.cc_program.specs.CcNum.declared.int_type.IntType.TheVariants as int
+use Rattle.cc_program.specs.CcNum.declared.op.BinOp.{BinOp}
+use Rattle.cc_states.specs.CcSyntax.Effects.{Registers, Effects, also, is_soft}
+use Rattle.cc_states.specs.CcSyntax.Forms.{form_at, form_of}
+use Rattle.cc_states.specs.CcSyntax.Values.{ValueType}
 use Rattle.cc_lower_expressions.specs.Expressions.{Piece, piece, Make, Lowers, done, ◌>>=◌, fresh, emit, fork, into, temp, set, mapped, with_both, from_one, from_two, branch, unused, whole_by, effect_by, whole_right, whole_read, is_callee, read, read_at, call, arguments, all_args, intr_operand, place_and, changed, change, assigned_value, changed_value, change_alone, step_value, step_alone, stepped, both_value, either_value, choose_value, choose_void, condition_of, arm_of, arm_as, int_value, truth_of, folded_bin, number_of, is_idle, branch_alone, is_void_value, value_of, Lowering, PlaceLowering, lower_step, place_lower_step, lowering, place_lowering, operand_at, whole_at, effect_at, effects_at, type_at, itself_at}
 use Rattle.cc_lower_expressions_follows.specs.Region.{is_code, are_code, code_step, is_step}
 

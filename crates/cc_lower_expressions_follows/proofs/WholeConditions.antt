@@ -2,9 +2,9 @@
 -- of which the second one stands inside the first.
 use Rattle.std.proofs.Common.{arith, ◌≡◌, ◌≤◌, ◌<◌, ◌+◌, ◌&&◌, ℕ, pos, Bool, true, false, List, [], ◌∷◌, ◌++◌, length, Option, Some, refl, ap, sym, ◌∙◌, subst, if◌then◌else◌}
 use Rattle.std.specs.Prelude.{slice_get}
-use Rattle.cc_num.specs.Results.{one_if}
-use Rattle.cc_control.specs.declared.phase.Phase.TheVariants.{First}
-use Rattle.cc_control.specs.Control.{is_loop}
+use Rattle.cc_program.specs.CcNum.Results.{one_if}
+use Rattle.cc_states.specs.CcControl.declared.phase.Phase.TheVariants.{First}
+use Rattle.cc_states.specs.CcControl.Control.{is_loop}
 use Rattle.cc_program.specs.declared.expr.Expr.{Expr, roll-Expr, map-Expr, fold-roll-Expr}
 use Rattle.cc_program.specs.declared.expr.Expr.TheOpen as one
 use Rattle.cc_program.specs.declared.expr.Place.{Place, roll-Place, fold-Place}
@@ -17,13 +17,13 @@ use Rattle.cc_program.specs.declared.value.Value.TheVariants.{Int}
 use Rattle.cc_program.proofs.Each.{Each}
 use Rattle.cc_program.proofs.ExprInduction.{Parts, PlaceParts, by_expr}
 use Rattle.cc_program.proofs.FoldFusion.{fused}
-use Rattle.cc_syntax.specs.Effects.{Registers, no_one, also, Effects, effect_step, place_effect_step, effects_of}
-use Rattle.cc_syntax.specs.Registers.{is_register}
-use Rattle.cc_eval.specs.Context.{Context}
-use Rattle.cc_eval.specs.Eval.{Meaning, meaning, branch, outcome, arms, both}
-use Rattle.cc_eval.specs.Progress.{Get, known, bind}
-use Rattle.cc_eval.proofs.Links.{level, effects_linked}
-use Rattle.cc_values.specs.Values.{is_true, truth, of_truth}
+use Rattle.cc_states.specs.CcSyntax.Effects.{Registers, no_one, also, Effects, effect_step, place_effect_step, effects_of}
+use Rattle.cc_states.specs.CcSyntax.Registers.{is_register}
+use Rattle.cc_states.specs.CcEval.Context.{Context}
+use Rattle.cc_states.specs.CcEval.Eval.{Meaning, meaning, branch, outcome, arms, both}
+use Rattle.cc_states.specs.CcEval.Progress.{Get, known, bind}
+use Rattle.cc_states.proofs.CcEval.Links.{level, effects_linked}
+use Rattle.cc_states.specs.CcValues.Values.{is_true, truth, of_truth}
 use Rattle.cc_states.specs.Answers.{TakesAddressesOf}
 use Rattle.cc_states.proofs.AddressLemmas.{IfTaken, PlaceIfTaken, parts_at, rolled_takes}
 use Rattle.cc_meaning_simulations.specs.Continuations.{Remainder, remainder}

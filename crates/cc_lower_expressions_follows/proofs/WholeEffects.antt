@@ -1,17 +1,17 @@
 -- An expression statement: its code is run as it is, and then both go on behind it.
 use Rattle.std.proofs.Common.{◌≡◌, ◌≤◌, ◌⊎◌, inl, inr, ℕ, Bool, true, false, List, [], ◌∷◌, ◌++◌, Some, refl, ap, sym, ◌∙◌, subst}
 use Rattle.std.specs.Prelude.{slice_get}
-use Rattle.cc_control.specs.declared.phase.Phase.TheVariants.{First}
-use Rattle.cc_eval.specs.declared.action.Action.{Action}
-use Rattle.cc_eval.specs.declared.mark.Mark.{Mark}
-use Rattle.cc_eval.specs.Eval.{meaning}
-use Rattle.cc_eval.specs.Progress.{Known, Waits, Get, known, bind}
+use Rattle.cc_states.specs.CcControl.declared.phase.Phase.TheVariants.{First}
+use Rattle.cc_states.specs.CcEval.declared.action.Action.{Action}
+use Rattle.cc_states.specs.CcEval.declared.mark.Mark.{Mark}
+use Rattle.cc_states.specs.CcEval.Eval.{meaning}
+use Rattle.cc_states.specs.CcEval.Progress.{Known, Waits, Get, known, bind}
 use Rattle.cc_program.specs.declared.expr.Expr.{Expr}
 use Rattle.cc_program.specs.declared.stmt.Case.{Case}
 use Rattle.cc_program.specs.declared.stmt.Stmt.{Stmt, out-Stmt}
 use Rattle.cc_program.specs.declared.stmt.Stmt.TheOpen as is
 use Rattle.cc_program.specs.declared.value.Value.{Value}
-use Rattle.cc_syntax.specs.Effects.{no_one}
+use Rattle.cc_states.specs.CcSyntax.Effects.{no_one}
 use Rattle.cc_meaning_simulations.specs.Continuations.{Remainder, remainder, resume}
 use Rattle.cc_meaning_simulations.specs.LocalSimulations.{Approaches, PGoes}
 use Rattle.cc_meaning_simulations.specs.LocalSteps.{LocalState, Locals, Jump, local_state}

@@ -2,23 +2,23 @@
 -- arm, and else both go on behind the `if`.
 use Rattle.std.proofs.Common.{◌≡◌, inl, ◌||◌, ℕ, Bool, true, false, List, [], ◌∷◌, ◌++◌, Option, Some, None, refl, ap, sym, ◌∙◌, subst, append_assoc}
 use Rattle.std.specs.Prelude.{slice_get}
-use Rattle.cc_control.specs.declared.phase.Phase.TheVariants.{First}
-use Rattle.cc_control.specs.Control.{behind_body, is_loop}
-use Rattle.cc_eval.specs.declared.action.Action.{Action}
-use Rattle.cc_eval.specs.declared.action.Action.TheVariants.{Choose}
-use Rattle.cc_eval.specs.declared.mark.Mark.{Mark}
-use Rattle.cc_eval.specs.declared.mark.Mark.TheVariants.{Chose}
-use Rattle.cc_eval.specs.Eval.{meaning}
-use Rattle.cc_eval.specs.Progress.{Known, Waits, Traps, Get, known, bind}
+use Rattle.cc_states.specs.CcControl.declared.phase.Phase.TheVariants.{First}
+use Rattle.cc_states.specs.CcControl.Control.{behind_body, is_loop}
+use Rattle.cc_states.specs.CcEval.declared.action.Action.{Action}
+use Rattle.cc_states.specs.CcEval.declared.action.Action.TheVariants.{Choose}
+use Rattle.cc_states.specs.CcEval.declared.mark.Mark.{Mark}
+use Rattle.cc_states.specs.CcEval.declared.mark.Mark.TheVariants.{Chose}
+use Rattle.cc_states.specs.CcEval.Eval.{meaning}
+use Rattle.cc_states.specs.CcEval.Progress.{Known, Waits, Traps, Get, known, bind}
 use Rattle.cc_program.specs.declared.expr.Expr.{Expr}
 use Rattle.cc_program.specs.declared.stmt.Case.{Case}
 use Rattle.cc_program.specs.declared.stmt.Stmt.{Stmt, out-Stmt}
 use Rattle.cc_program.specs.declared.stmt.Stmt.TheOpen as is
 use Rattle.cc_program.specs.declared.value.Value.{Value}
-use Rattle.cc_values.specs.Values.{is_true}
+use Rattle.cc_states.specs.CcValues.Values.{is_true}
 use Rattle.cc_states.specs.Answers.{IsMarkOf}
-use Rattle.cc_syntax.specs.Effects.{no_one}
-use Rattle.cc_eval.proofs.Works.{one_answer}
+use Rattle.cc_states.specs.CcSyntax.Effects.{no_one}
+use Rattle.cc_states.proofs.CcEval.Works.{one_answer}
 use Rattle.cc_meaning_simulations.specs.Continuations.{Remainder, remainder, resume, enclosing, in_arm}
 use Rattle.cc_meaning_simulations.specs.LocalSimulations.{Approaches, Arrives, QGoes, PGoes, BothTrap}
 use Rattle.cc_meaning_simulations.specs.LocalSteps.{LocalState, Locals, Jump, Branch, Trapping, local_state}

@@ -1,17 +1,17 @@
 -- Where p goes on with lists of statements and q with what these become, local states approach each other.
 use Rattle.std.proofs.Common.{arith, ◌≡◌, ◌≤◌, ◌+◌, ℕ, suc, Bool, true, false, List, [], ◌∷◌, ◌++◌, length, Option, Some, None, refl, ap, sym, ◌∙◌, subst, if◌then◌else◌}
 use Rattle.std.specs.Prelude.{slice_get}
-use Rattle.cc_control.specs.declared.phase.Phase.{Phase}
-use Rattle.cc_control.specs.declared.phase.Phase.TheVariants.{First, Test}
-use Rattle.cc_control.specs.Control.{is_loop, opening, first_phase}
+use Rattle.cc_states.specs.CcControl.declared.phase.Phase.{Phase}
+use Rattle.cc_states.specs.CcControl.declared.phase.Phase.TheVariants.{First, Test}
+use Rattle.cc_states.specs.CcControl.Control.{is_loop, opening, first_phase}
 use Rattle.cc_program.specs.declared.expr.Expr.{Expr, out-Expr}
 use Rattle.cc_program.specs.declared.program.Program.{Program}
 use Rattle.cc_program.specs.declared.stmt.Case.{Case}
 use Rattle.cc_program.specs.declared.stmt.Stmt.{Stmt, out-Stmt, map-Stmt, fold_out-Stmt}
 use Rattle.cc_program.specs.declared.stmt.Stmt.TheOpen as is
 use Rattle.cc_program.proofs.Each.{Each}
-use Rattle.cc_steps.specs.Runs.{begins_at}
-use Rattle.cc_steps.specs.Step.{is_past, passed}
+use Rattle.cc_states.specs.CcSteps.Runs.{begins_at}
+use Rattle.cc_states.specs.CcSteps.Step.{is_past, passed}
 use Rattle.cc_meaning_simulations.specs.Continuations.{Continuation, Remainder, remainder, resume}
 use Rattle.cc_meaning_simulations.specs.LocalSimulations.{Approaches, Arrives}
 use Rattle.cc_meaning_simulations.specs.LocalSteps.{LocalState, Locals, local_state}

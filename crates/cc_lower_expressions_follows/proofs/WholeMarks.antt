@@ -2,17 +2,17 @@
 use Rattle.std.proofs.Common.{◌≡◌, ℕ, ℤ, Bool, true, false, List, [], ◌∷◌, Option, Some, None, option_map, refl, ap, sym, ◌∙◌, subst, if◌then◌else◌}
 use Rattle.std.specs.Prelude.{slice_get}
 use Rattle.std.proofs.lemmas.Option.{same_Some}
-use Rattle.cc_num.specs.declared.int_type.IntType.TheVariants as int
-use Rattle.cc_num.specs.Integers.{converted}
-use Rattle.cc_num.proofs.Conversions.{converted-IsValueOf}
-use Rattle.cc_num.proofs.ResultLaws.{is_value_from}
-use Rattle.cc_control.specs.Control.{Level}
-use Rattle.cc_eval.specs.declared.action.Action.{Action}
-use Rattle.cc_eval.specs.declared.action.Action.TheVariants.{Read, Write, Choose, Call, Flag, Save}
-use Rattle.cc_eval.specs.declared.action.Manner.{Manner}
-use Rattle.cc_eval.specs.declared.mark.Mark.{Mark}
-use Rattle.cc_eval.specs.declared.mark.Mark.TheVariants.{Gave, Did, Chose}
-use Rattle.cc_eval.specs.Progress.{Progress, Known, Waits, Traps}
+use Rattle.cc_program.specs.CcNum.declared.int_type.IntType.TheVariants as int
+use Rattle.cc_program.specs.CcNum.Integers.{converted}
+use Rattle.cc_program.proofs.CcNum.Conversions.{converted-IsValueOf}
+use Rattle.cc_program.proofs.CcNum.ResultLaws.{is_value_from}
+use Rattle.cc_states.specs.CcControl.Control.{Level}
+use Rattle.cc_states.specs.CcEval.declared.action.Action.{Action}
+use Rattle.cc_states.specs.CcEval.declared.action.Action.TheVariants.{Read, Write, Choose, Call, Flag, Save}
+use Rattle.cc_states.specs.CcEval.declared.action.Manner.{Manner}
+use Rattle.cc_states.specs.CcEval.declared.mark.Mark.{Mark}
+use Rattle.cc_states.specs.CcEval.declared.mark.Mark.TheVariants.{Gave, Did, Chose}
+use Rattle.cc_states.specs.CcEval.Progress.{Progress, Known, Waits, Traps}
 use Rattle.cc_program.specs.declared.expr.Expr.{Expr}
 use Rattle.cc_program.specs.declared.func.Func.{Func}
 use Rattle.cc_program.specs.declared.object.Device.{Device}
@@ -26,12 +26,12 @@ use Rattle.cc_program.specs.declared.value.Cell.{Cell}
 use Rattle.cc_program.specs.declared.value.Cell.TheVariants as cell
 use Rattle.cc_program.specs.declared.value.Value.{Value}
 use Rattle.cc_program.specs.declared.value.Value.TheVariants.{Int}
-use Rattle.cc_steps.specs.declared.content.Content.{Content}
-use Rattle.cc_steps.specs.declared.content.Content.TheVariants.{Gone, Unwritten, Holds}
-use Rattle.cc_steps.specs.State.{Active, Memory, State}
-use Rattle.cc_steps.specs.Step.{cell_position, content_at, is_return, progress_of, progress_in, return_mark, worked}
-use Rattle.cc_syntax.specs.Sound.{IsTypedProgram}
-use Rattle.cc_syntax.specs.Values.{ValueType, Integer}
+use Rattle.cc_states.specs.CcSteps.declared.content.Content.{Content}
+use Rattle.cc_states.specs.CcSteps.declared.content.Content.TheVariants.{Gone, Unwritten, Holds}
+use Rattle.cc_states.specs.CcSteps.State.{Active, Memory, State}
+use Rattle.cc_states.specs.CcSteps.Step.{cell_position, content_at, is_return, progress_of, progress_in, return_mark, worked}
+use Rattle.cc_states.specs.CcSyntax.Sound.{IsTypedProgram}
+use Rattle.cc_states.specs.CcSyntax.Values.{ValueType, Integer}
 use Rattle.cc_states.specs.Answers.{IsAction, IsMarkOf}
 use Rattle.cc_states.specs.States.{worked_at, expression_of, AreMarks, context_in, IsActive, IsStateOf, IsState}
 use Rattle.cc_states.specs.Typed.{HasType, AreArguments, cell_type}

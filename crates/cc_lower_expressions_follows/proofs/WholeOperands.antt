@@ -1,18 +1,18 @@
 -- A statement that goes on by a value: its code is run as its full expression, q works what is left, and then both have the value.
 use Rattle.std.proofs.Common.{◌≡◌, ◌≤◌, inl, ℕ, Bool, true, false, List, [], ◌∷◌, ◌++◌, Option, Some, None, refl, ap, sym, ◌∙◌, subst}
-use Rattle.cc_control.specs.declared.phase.Phase.TheVariants.{First}
-use Rattle.cc_eval.specs.declared.action.Action.{Action}
-use Rattle.cc_eval.specs.declared.mark.Mark.{Mark}
-use Rattle.cc_eval.specs.Eval.{meaning}
-use Rattle.cc_eval.specs.Progress.{Known, Waits, Get, known, bind}
+use Rattle.cc_states.specs.CcControl.declared.phase.Phase.TheVariants.{First}
+use Rattle.cc_states.specs.CcEval.declared.action.Action.{Action}
+use Rattle.cc_states.specs.CcEval.declared.mark.Mark.{Mark}
+use Rattle.cc_states.specs.CcEval.Eval.{meaning}
+use Rattle.cc_states.specs.CcEval.Progress.{Known, Waits, Get, known, bind}
 use Rattle.cc_program.specs.declared.expr.Expr.{Expr}
 use Rattle.cc_program.specs.declared.program.Program.{Program}
 use Rattle.cc_program.specs.declared.stmt.Case.{Case}
 use Rattle.cc_program.specs.declared.stmt.Stmt.{Stmt, out-Stmt}
 use Rattle.cc_program.specs.declared.stmt.Stmt.TheOpen as is
 use Rattle.cc_program.specs.declared.value.Value.{Value}
-use Rattle.cc_steps.specs.Runs.{begins_at}
-use Rattle.cc_syntax.specs.Effects.{no_one}
+use Rattle.cc_states.specs.CcSteps.Runs.{begins_at}
+use Rattle.cc_states.specs.CcSyntax.Effects.{no_one}
 use Rattle.cc_meaning_simulations.specs.Continuations.{Remainder, remainder, resume}
 use Rattle.cc_meaning_simulations.specs.LocalSimulations.{Approaches, Arrives, BothTrap}
 use Rattle.cc_meaning_simulations.specs.LocalSteps.{LocalState, Locals, Trapping, local_state}

@@ -3,11 +3,11 @@ use Rattle.std.proofs.Common.{arith, ◌≡◌, ◌<◌, inl, ◌||◌, ℕ, ℤ
 use Rattle.std.specs.Prelude.{slice_get, nat_le, nat_lt}
 use Rattle.std.proofs.lemmas.Bool.{leb-false, lt-ltb}
 use Rattle.std.proofs.lemmas.Option.{same_Some}
-use Rattle.cc_control.specs.declared.phase.Phase.TheVariants.{First}
-use Rattle.cc_eval.specs.declared.action.Action.{Action}
-use Rattle.cc_eval.specs.declared.mark.Mark.{Mark}
-use Rattle.cc_eval.specs.Progress.{Waits, Get}
-use Rattle.cc_eval.proofs.MeaningUses.{meaning_uses}
+use Rattle.cc_states.specs.CcControl.declared.phase.Phase.TheVariants.{First}
+use Rattle.cc_states.specs.CcEval.declared.action.Action.{Action}
+use Rattle.cc_states.specs.CcEval.declared.mark.Mark.{Mark}
+use Rattle.cc_states.specs.CcEval.Progress.{Waits, Get}
+use Rattle.cc_states.proofs.CcEval.MeaningUses.{meaning_uses}
 use Rattle.cc_program.specs.declared.expr.Expr.{Expr}
 use Rattle.cc_program.specs.declared.func.Func.{Func}
 use Rattle.cc_program.specs.declared.program.Program.{Program}
@@ -16,13 +16,13 @@ use Rattle.cc_program.specs.declared.stmt.Stmt.{Stmt, out-Stmt}
 use Rattle.cc_program.specs.declared.stmt.Stmt.TheOpen as is
 use Rattle.cc_program.specs.declared.value.Value.{Value}
 use Rattle.cc_program.proofs.Each.{Each}
-use Rattle.cc_steps.specs.Rows.{rows_of}
-use Rattle.cc_steps.specs.Runs.{Follows, Answers}
-use Rattle.cc_steps.specs.State.{Active, Memory, State, locals_with}
-use Rattle.cc_steps.specs.Step.{worked}
-use Rattle.cc_steps.specs.Turn.{start, turn}
-use Rattle.cc_syntax.specs.Effects.{no_one}
-use Rattle.cc_syntax.specs.Registers.{is_register}
+use Rattle.cc_states.specs.CcSteps.Rows.{rows_of}
+use Rattle.cc_states.specs.CcSteps.Runs.{Follows, Answers}
+use Rattle.cc_states.specs.CcSteps.State.{Active, Memory, State, locals_with}
+use Rattle.cc_states.specs.CcSteps.Step.{worked}
+use Rattle.cc_states.specs.CcSteps.Turn.{start, turn}
+use Rattle.cc_states.specs.CcSyntax.Effects.{no_one}
+use Rattle.cc_states.specs.CcSyntax.Registers.{is_register}
 use Rattle.cc_meaning_simulations.specs.Bodies.{all_extended, extended}
 use Rattle.cc_meaning_simulations.specs.Continuations.{Remainder, remainder}
 use Rattle.cc_meaning_simulations.specs.LocalSimulations.{AreAlike as AlikeIn, AreFitting, Approaches, Expects, is_action_visible}

@@ -2,23 +2,23 @@
 use Rattle.std.proofs.Common.{◌≡◌, Bool, true, false, ◌&&◌, List, [], ◌∷◌, ◌++◌, Option, Some, None, refl, ap, sym, ◌∙◌, subst, append_assoc, append-nil, if◌then◌else◌}
 use Rattle.std.specs.Prelude.{slice_get}
 use Rattle.std.proofs.Math.Path.{fun_ext}
-use Rattle.cc_control.specs.declared.phase.Phase.{Phase}
-use Rattle.cc_control.specs.Control.{is_loop, opening, first_phase, coming}
-use Rattle.cc_eval.specs.declared.mark.Mark.{Mark}
-use Rattle.cc_eval.specs.declared.action.Action.{Action}
-use Rattle.cc_eval.specs.declared.action.Action.TheVariants.{Choose}
-use Rattle.cc_eval.specs.Progress.{Progress, Known, Waits, Traps, Get, known, and_then, ask, bind, needs}
-use Rattle.cc_eval.specs.Marks.{IsUsed, UsesFirst}
+use Rattle.cc_states.specs.CcControl.declared.phase.Phase.{Phase}
+use Rattle.cc_states.specs.CcControl.Control.{is_loop, opening, first_phase, coming}
+use Rattle.cc_states.specs.CcEval.declared.mark.Mark.{Mark}
+use Rattle.cc_states.specs.CcEval.declared.action.Action.{Action}
+use Rattle.cc_states.specs.CcEval.declared.action.Action.TheVariants.{Choose}
+use Rattle.cc_states.specs.CcEval.Progress.{Progress, Known, Waits, Traps, Get, known, and_then, ask, bind, needs}
+use Rattle.cc_states.specs.CcEval.Marks.{IsUsed, UsesFirst}
 use Rattle.cc_program.specs.declared.expr.Expr.{Expr}
 use Rattle.cc_program.specs.declared.func.Func.{Func}
 use Rattle.cc_program.specs.declared.stmt.Case.{Case, fold-Case}
 use Rattle.cc_program.specs.declared.stmt.Stmt.{Stmt, out-Stmt, fold_out-Stmt, map-Stmt}
 use Rattle.cc_program.specs.declared.stmt.Stmt.TheOpen as is
 use Rattle.cc_program.specs.declared.value.Value.{Value}
-use Rattle.cc_steps.specs.Runs.{begins_at}
-use Rattle.cc_steps.specs.Step.{is_known, worked, progress_in}
-use Rattle.cc_syntax.specs.Forms.{form_of}
-use Rattle.cc_values.specs.Values.{truth, is_true}
+use Rattle.cc_states.specs.CcSteps.Runs.{begins_at}
+use Rattle.cc_states.specs.CcSteps.Step.{is_known, worked, progress_in}
+use Rattle.cc_states.specs.CcSyntax.Forms.{form_of}
+use Rattle.cc_states.specs.CcValues.Values.{truth, is_true}
 use Rattle.cc_meaning_simulations.specs.Continuations.{Continuation, Remainder, remainder, resume, in_arm, enclosing}
 use Rattle.cc_meaning_simulations.specs.Transitions.{ControlState, is_at_boundary, at_continuation, begun_there, jump_to, progress_there, settled_control_in, marked_control, Performs, Aborts, Jumps, transition_in, transition}
 use Rattle.cc_meaning_simulations.proofs.ContinuationLemmas.{begin_stands}

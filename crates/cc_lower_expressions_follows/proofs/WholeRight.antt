@@ -1,20 +1,20 @@
 -- Expressions that are lowered right do what they do from any registers that are the same, whichever activations were opened.
 use Rattle.std.proofs.Common.{◌≡◌, ◌≤◌, ◌<◌, ℕ, suc, true, false, List, [], ◌∷◌, ◌+◌, length, Option, Some, refl, subst}
 use Rattle.std.specs.Prelude.{slice_get}
-use Rattle.cc_eval.specs.declared.action.Action.TheVariants.{Write}
-use Rattle.cc_eval.specs.declared.mark.Mark.{Mark}
-use Rattle.cc_eval.specs.Eval.{Meaning, meaning}
-use Rattle.cc_eval.specs.Progress.{Get, Waits}
+use Rattle.cc_states.specs.CcEval.declared.action.Action.TheVariants.{Write}
+use Rattle.cc_states.specs.CcEval.declared.mark.Mark.{Mark}
+use Rattle.cc_states.specs.CcEval.Eval.{Meaning, meaning}
+use Rattle.cc_states.specs.CcEval.Progress.{Get, Waits}
 use Rattle.cc_program.specs.declared.expr.Expr.{Expr}
 use Rattle.cc_program.specs.declared.stmt.Stmt.{Stmt}
 use Rattle.cc_program.specs.declared.value.Value.{Value}
 use Rattle.cc_states.specs.Answers.{AreItsMarks, TakesAddressesOf, IsMarkOf}
 use Rattle.cc_states.specs.Typed.{HasType, cell_type}
 use Rattle.cc_states.proofs.EvalTypes.{meaning_typed}
-use Rattle.cc_eval.proofs.Works.{answers_of}
-use Rattle.cc_syntax.specs.Effects.{Registers, no_one}
-use Rattle.cc_syntax.specs.Registers.{is_register}
-use Rattle.cc_syntax.specs.Values.{ValueType}
+use Rattle.cc_states.proofs.CcEval.Works.{answers_of}
+use Rattle.cc_states.specs.CcSyntax.Effects.{Registers, no_one}
+use Rattle.cc_states.specs.CcSyntax.Registers.{is_register}
+use Rattle.cc_states.specs.CcSyntax.Values.{ValueType}
 use Rattle.cc_lower_expressions.specs.Expressions.{Piece, Temps}
 use Rattle.cc_lower_expressions.specs.Statements.{lowered}
 use Rattle.cc_lower_expressions.specs.Temporaries.{declared_type, is_same_type}

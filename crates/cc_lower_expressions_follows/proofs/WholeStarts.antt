@@ -1,13 +1,13 @@
 -- Each statement begins beside what it becomes, and so do lists.
 use Rattle.std.proofs.Common.{arith, ◌≡◌, ◌≤◌, ◌+◌, ℕ, Bool, true, List, [], ◌∷◌, ◌++◌, length, Some, None, refl, ap, sym, ◌∙◌, subst, append_assoc}
-use Rattle.cc_control.specs.declared.phase.Phase.TheVariants.{First, Test}
+use Rattle.cc_states.specs.CcControl.declared.phase.Phase.TheVariants.{First, Test}
 use Rattle.cc_program.specs.declared.expr.Expr.{Expr, out-Expr}
 use Rattle.cc_program.specs.declared.stmt.Case.{Case}
 use Rattle.cc_program.specs.declared.stmt.Stmt.{Stmt, While, Break, Continue, Return, If, out-Stmt}
 use Rattle.cc_program.specs.declared.stmt.Stmt.TheVariants.{outs-If, outs-While, outs-Break, outs-Continue, outs-Return}
 use Rattle.cc_program.specs.declared.stmt.Stmt.TheOpen as is
 use Rattle.cc_program.proofs.Each.{Each}
-use Rattle.cc_steps.specs.Runs.{begins_at}
+use Rattle.cc_states.specs.CcSteps.Runs.{begins_at}
 use Rattle.cc_meaning_simulations.specs.Continuations.{Remainder, remainder, resume}
 use Rattle.cc_meaning_simulations.specs.LocalSimulations.{Approaches, Arrives}
 use Rattle.cc_meaning_simulations.specs.LocalSteps.{LocalState, Locals, local_state}

@@ -2,19 +2,19 @@
 use Rattle.std.proofs.Common.{◌≡◌, inr, Bool, true, false, ◌&&◌, List, [], ◌∷◌, ◌++◌, Option, Some, None, refl, ap, sym, ◌∙◌, subst, append_assoc, append-nil, if◌then◌else◌}
 use Rattle.std.specs.Prelude.{slice_get}
 use Rattle.std.proofs.Math.Path.{fun_ext}
-use Rattle.cc_control.specs.declared.phase.Phase.{Phase}
-use Rattle.cc_eval.specs.declared.mark.Mark.{Mark}
-use Rattle.cc_eval.specs.declared.action.Action.{Action}
-use Rattle.cc_eval.specs.Progress.{Progress, Known, Waits, Traps, Get, known, and_then, needs}
-use Rattle.cc_eval.specs.Marks.{UsesFirst}
+use Rattle.cc_states.specs.CcControl.declared.phase.Phase.{Phase}
+use Rattle.cc_states.specs.CcEval.declared.mark.Mark.{Mark}
+use Rattle.cc_states.specs.CcEval.declared.action.Action.{Action}
+use Rattle.cc_states.specs.CcEval.Progress.{Progress, Known, Waits, Traps, Get, known, and_then, needs}
+use Rattle.cc_states.specs.CcEval.Marks.{UsesFirst}
 use Rattle.cc_program.specs.declared.expr.Expr.{Expr}
 use Rattle.cc_program.specs.declared.func.Func.{Func}
 use Rattle.cc_program.specs.declared.stmt.Case.{Case}
 use Rattle.cc_program.specs.declared.stmt.Stmt.{Stmt, out-Stmt}
 use Rattle.cc_program.specs.declared.stmt.Stmt.TheOpen as is
 use Rattle.cc_program.specs.declared.value.Value.{Value}
-use Rattle.cc_steps.specs.Runs.{is_empty, begins}
-use Rattle.cc_steps.specs.Step.{is_known, worked, progress_in}
+use Rattle.cc_states.specs.CcSteps.Runs.{is_empty, begins}
+use Rattle.cc_states.specs.CcSteps.Step.{is_known, worked, progress_in}
 use Rattle.cc_meaning_simulations.specs.Continuations.{Remainder, remainder, resume}
 use Rattle.cc_meaning_simulations.specs.Transitions.{ControlState, is_at_boundary, jump_to, progress_there, settled_control_in, marked_control, Performs, Aborts, transition_in, transition}
 use Rattle.cc_lower_expressions_follows.specs.Trees.{Setting, after}

@@ -4,22 +4,22 @@ use Rattle.std.specs.Prelude.{slice_get, is_some}
 use Rattle.std.proofs.lemmas.Bool.{lt-ltb}
 use Rattle.std.proofs.lemmas.List.{length-replicate}
 use Rattle.std.proofs.lemmas.Option.{same_Some}
-use Rattle.cc_cells.specs.Cells.{scalar_in}
-use Rattle.cc_cells.specs.Scalars.{zeros}
+use Rattle.cc_states.specs.CcCells.Cells.{scalar_in}
+use Rattle.cc_states.specs.CcCells.Scalars.{zeros}
 use Rattle.cc_program.specs.declared.func.Func.{Func}
 use Rattle.cc_program.specs.declared.program.Program.{Program}
 use Rattle.cc_program.specs.declared.types.Shape.{out-Shape}
 use Rattle.cc_program.specs.declared.types.Sig.{out-Sig}
 use Rattle.cc_program.specs.declared.value.Value.{Value}
-use Rattle.cc_eval.specs.Context.{local_type}
-use Rattle.cc_steps.specs.State.{Active, Memory, State, locals_with}
-use Rattle.cc_steps.specs.Turn.{start, turn}
-use Rattle.cc_syntax.specs.Expressions.{of_one}
-use Rattle.cc_syntax.specs.Initial.{place_at}
-use Rattle.cc_syntax.specs.Registers.{is_register, may_be_register, is_addressed}
-use Rattle.cc_syntax.specs.Sound.{IsTypedProgram}
-use Rattle.cc_syntax.specs.Types.{Named}
-use Rattle.cc_syntax.specs.Values.{ValueType, scalar_value, object_place, read_from}
+use Rattle.cc_states.specs.CcEval.Context.{local_type}
+use Rattle.cc_states.specs.CcSteps.State.{Active, Memory, State, locals_with}
+use Rattle.cc_states.specs.CcSteps.Turn.{start, turn}
+use Rattle.cc_states.specs.CcSyntax.Expressions.{of_one}
+use Rattle.cc_states.specs.CcSyntax.Initial.{place_at}
+use Rattle.cc_states.specs.CcSyntax.Registers.{is_register, may_be_register, is_addressed}
+use Rattle.cc_states.specs.CcSyntax.Sound.{IsTypedProgram}
+use Rattle.cc_states.specs.CcSyntax.Types.{Named}
+use Rattle.cc_states.specs.CcSyntax.Values.{ValueType, scalar_value, object_place, read_from}
 use Rattle.cc_states.specs.States.{AreLocals, IsState}
 use Rattle.cc_states.specs.Typed.{MayHave, AreArguments, cell_type}
 use Rattle.cc_states.proofs.KeepLemmas.{get_last, arguments_more}

@@ -3,21 +3,21 @@ use Rattle.std.proofs.Common.{◌≡◌, ◌∙◌, ◌∷◌, ◌==◌, ℕ, ze
 use Rattle.std.proofs.lemmas.Bool.Decides.{nat_tests}
 use Rattle.std.proofs.Math.Path.{fun_ext}
 use Rattle.std.specs.Prelude.{option_and_then, slice_get, slice_set}
-use Rattle.cc_cells.specs.Cells.{scalar_in, set_scalar, with_scalar}
+use Rattle.cc_states.specs.CcCells.Cells.{scalar_in, set_scalar, with_scalar}
 use Rattle.cc_program.specs.declared.func.Func.{Func}
 use Rattle.cc_program.specs.declared.program.Program.{Program}
 use Rattle.cc_program.specs.declared.value.Cell.{Cell}
 use Rattle.cc_program.specs.declared.value.Cell.TheVariants as cell
 use Rattle.cc_program.specs.declared.value.Root.TheVariants as root
 use Rattle.cc_program.specs.declared.value.Value.{Value}
-use Rattle.cc_eval.specs.declared.action.Action.{Action}
-use Rattle.cc_eval.specs.declared.action.Action.TheVariants.{Read, Write}
-use Rattle.cc_eval.specs.declared.action.Manner.{Manner}
-use Rattle.cc_eval.specs.declared.mark.Mark.{Mark}
-use Rattle.cc_eval.specs.declared.mark.Mark.TheVariants.{Gave, Did}
-use Rattle.cc_steps.specs.declared.content.Content.TheVariants.{Unwritten}
-use Rattle.cc_steps.specs.Access.{content}
-use Rattle.cc_syntax.specs.Registers.{is_register}
+use Rattle.cc_states.specs.CcEval.declared.action.Action.{Action}
+use Rattle.cc_states.specs.CcEval.declared.action.Action.TheVariants.{Read, Write}
+use Rattle.cc_states.specs.CcEval.declared.action.Manner.{Manner}
+use Rattle.cc_states.specs.CcEval.declared.mark.Mark.{Mark}
+use Rattle.cc_states.specs.CcEval.declared.mark.Mark.TheVariants.{Gave, Did}
+use Rattle.cc_states.specs.CcSteps.declared.content.Content.TheVariants.{Unwritten}
+use Rattle.cc_states.specs.CcSteps.Access.{content}
+use Rattle.cc_states.specs.CcSyntax.Registers.{is_register}
 use Rattle.cc_meaning_simulations.specs.LocalSteps.{LocalStep, Locals, ReadHidden, ReadUnwritten, WriteHidden, Branch, TrapsNext, ReadingUnwritten, local_state, own_local}
 use Rattle.cc_meaning_simulations.specs.Transitions.{ControlState, Performs, marked_control, transition}
 use Rattle.cc_lower_expressions_follows.specs.Trees.{Regs, with_reg, Setting, CanGive, register_cell, IsQuiet, Reads, Writes, Chooses, Fails}

@@ -2,11 +2,11 @@
 use Rattle.std.proofs.Common.{◌≡◌, true, [], Option, Some, None, option_map, is_some, refl, sym, ap, ◌∙◌, subst}
 use Rattle.std.specs.Prelude.{slice_get}
 use Rattle.std.proofs.lemmas.Option.{same_Some, slice_get-map}
-use Rattle.cc_num.specs.declared.int_type.IntType.TheVariants as int
+use Rattle.cc_program.specs.CcNum.declared.int_type.IntType.TheVariants as int
 use Rattle.cc_program.specs.declared.program.Program.{Program}
 use Rattle.cc_program.specs.declared.types.Shape.TheVariants.{outs-Int, outs-Pointer}
-use Rattle.cc_syntax.specs.Types.{Named}
-use Rattle.cc_syntax.specs.Values.{ValueType, NoValue, Integer, ToObject, ToFunction, scalar_shape, scalar_value}
+use Rattle.cc_states.specs.CcSyntax.Types.{Named}
+use Rattle.cc_states.specs.CcSyntax.Values.{ValueType, NoValue, Integer, ToObject, ToFunction, scalar_shape, scalar_value}
 use Rattle.cc_meaning_simulations.specs.Bodies.{AddsScalars}
 use Rattle.cc_lower_expressions.specs.Programs.{made_of, temporaries}
 use Rattle.cc_lower_expressions.specs.Temporaries.{declared_type}

@@ -2,14 +2,14 @@
 use Rattle.std.proofs.Common.{◌≡◌, ◌∙◌, ℕ, Bool, true, false, List, [], Option, Some, None, refl, ap, sym, subst}
 use Rattle.cc_program.specs.declared.func.Func.{Func}
 use Rattle.cc_program.specs.declared.value.Value.{Value}
-use Rattle.cc_eval.specs.declared.action.Action.{Action}
-use Rattle.cc_eval.specs.declared.action.Action.TheVariants.{Read, Write, Choose}
-use Rattle.cc_eval.specs.declared.action.Manner.{Manner}
-use Rattle.cc_eval.specs.declared.mark.Mark.{Mark}
-use Rattle.cc_eval.specs.declared.mark.Mark.TheVariants.{Gave, Chose}
-use Rattle.cc_eval.specs.Progress.{Progress, Known, Waits, Traps, Get, known}
+use Rattle.cc_states.specs.CcEval.declared.action.Action.{Action}
+use Rattle.cc_states.specs.CcEval.declared.action.Action.TheVariants.{Read, Write, Choose}
+use Rattle.cc_states.specs.CcEval.declared.action.Manner.{Manner}
+use Rattle.cc_states.specs.CcEval.declared.mark.Mark.{Mark}
+use Rattle.cc_states.specs.CcEval.declared.mark.Mark.TheVariants.{Gave, Chose}
+use Rattle.cc_states.specs.CcEval.Progress.{Progress, Known, Waits, Traps, Get, known}
 use Rattle.cc_states.specs.Answers.{IsMarkOf}
-use Rattle.cc_syntax.specs.Registers.{is_register}
+use Rattle.cc_states.specs.CcSyntax.Registers.{is_register}
 use Rattle.cc_lower_expressions_follows.specs.Trees.{Regs, with_reg, Setting, after, CanGive, register_cell, IsQuiet, Reads, Writes, Chooses, Fails, Stuck, Refused, is_own, IsShared}
 use Rattle.cc_lower_expressions_follows.specs.WholeTrees.{Does, Finish, OfP, OfQ, OfBoth, NoMore}
 

@@ -1,16 +1,16 @@
 -- The lowered program follows a typed source and answers it: what states say of their registers, marks and arguments is shown of typed programs.
 use Rattle.std.proofs.Common.{◌≡◌, ℕ, true, List, ◌∷◌, length, Option, Some, None, refl}
 use Rattle.std.specs.Prelude.{slice_get}
-use Rattle.cc_eval.specs.declared.action.Action.{Action}
+use Rattle.cc_states.specs.CcEval.declared.action.Action.{Action}
 use Rattle.cc_program.specs.declared.func.Func.{Func}
 use Rattle.cc_program.specs.declared.program.Program.{Program}
 use Rattle.cc_program.specs.declared.stmt.Stmt.{Stmt, out-Stmt}
 use Rattle.cc_program.proofs.Each.{Each}
 use Rattle.cc_states.specs.States.{IsState}
-use Rattle.cc_steps.specs.Rows.{rows_of}
-use Rattle.cc_steps.specs.Runs.{Follows, Answers}
-use Rattle.cc_steps.specs.State.{Active, Memory, State}
-use Rattle.cc_syntax.specs.Sound.{IsTypedProgram, is_main_there}
+use Rattle.cc_states.specs.CcSteps.Rows.{rows_of}
+use Rattle.cc_states.specs.CcSteps.Runs.{Follows, Answers}
+use Rattle.cc_states.specs.CcSteps.State.{Active, Memory, State}
+use Rattle.cc_states.specs.CcSyntax.Sound.{IsTypedProgram, is_main_there}
 use Rattle.cc_meaning_simulations.specs.LocalSimulations.{is_action_visible}
 use Rattle.cc_meaning_simulations.specs.LocalSteps.{LocalState, local_state_of}
 use Rattle.cc_meaning_simulations.specs.StepSimulations.{going}

@@ -3,12 +3,12 @@ use Rattle.std.proofs.Common.{arith, ◌≡◌, ◌<◌, ◌⊎◌, inl, inr, �
 use Rattle.std.specs.Prelude.{slice_get, nat_le, pos}
 use Rattle.std.proofs.lemmas.Bool.{eqb-true, eq-eqb, leb-true}
 use Rattle.std.proofs.lemmas.Option.{same_Some}
-use Rattle.cc_control.specs.declared.phase.Phase.TheVariants.{First, Test}
-use Rattle.cc_eval.specs.declared.action.Action.{Action}
-use Rattle.cc_eval.specs.declared.action.Action.TheVariants.{Read, Write, Choose, Call, Flag, Save}
-use Rattle.cc_eval.specs.declared.mark.Mark.{Mark}
-use Rattle.cc_eval.specs.Context.{local_type}
-use Rattle.cc_eval.specs.Progress.{Progress, Known, Waits, Traps, Get, known, and_then, bind, no_value}
+use Rattle.cc_states.specs.CcControl.declared.phase.Phase.TheVariants.{First, Test}
+use Rattle.cc_states.specs.CcEval.declared.action.Action.{Action}
+use Rattle.cc_states.specs.CcEval.declared.action.Action.TheVariants.{Read, Write, Choose, Call, Flag, Save}
+use Rattle.cc_states.specs.CcEval.declared.mark.Mark.{Mark}
+use Rattle.cc_states.specs.CcEval.Context.{local_type}
+use Rattle.cc_states.specs.CcEval.Progress.{Progress, Known, Waits, Traps, Get, known, and_then, bind, no_value}
 use Rattle.cc_program.specs.declared.expr.Expr.{Expr, out-Expr}
 use Rattle.cc_program.specs.declared.func.Func.{Func}
 use Rattle.cc_program.specs.declared.program.Program.{Program}
@@ -22,13 +22,13 @@ use Rattle.cc_program.specs.declared.value.Root.{Root}
 use Rattle.cc_program.specs.declared.value.Root.TheVariants as root
 use Rattle.cc_program.specs.declared.value.Value.{Value}
 use Rattle.cc_program.specs.declared.value.Value.TheVariants.{Int}
-use Rattle.cc_steps.specs.State.{Active, Memory}
-use Rattle.cc_steps.specs.Step.{is_return, progress_in, worked}
-use Rattle.cc_syntax.specs.Expressions.{of_one}
-use Rattle.cc_syntax.specs.Initial.{place_at}
-use Rattle.cc_syntax.specs.Registers.{is_register}
-use Rattle.cc_syntax.specs.Types.{Named}
-use Rattle.cc_syntax.specs.Values.{ValueType, object_place, read_from}
+use Rattle.cc_states.specs.CcSteps.State.{Active, Memory}
+use Rattle.cc_states.specs.CcSteps.Step.{is_return, progress_in, worked}
+use Rattle.cc_states.specs.CcSyntax.Expressions.{of_one}
+use Rattle.cc_states.specs.CcSyntax.Initial.{place_at}
+use Rattle.cc_states.specs.CcSyntax.Registers.{is_register}
+use Rattle.cc_states.specs.CcSyntax.Types.{Named}
+use Rattle.cc_states.specs.CcSyntax.Values.{ValueType, object_place, read_from}
 use Rattle.cc_states.specs.Answers.{IsAction, AreReached, IsCellReached, IsReached}
 use Rattle.cc_states.specs.States.{AreActive, IsState}
 use Rattle.cc_states.specs.Typed.{is_register_in, IsInMemory, IsOpened, IsThere, cell_type}

@@ -1,14 +1,14 @@
 -- Writes of locals that are no registers, by whichever activation, keep local states that match as they are.
 use Rattle.std.proofs.Common.{◌≡◌, ℕ, false, List, ◌∷◌, Some, refl, ap, sym, ◌∙◌, subst}
-use Rattle.cc_cells.specs.Cells.{with_scalar}
-use Rattle.cc_control.specs.declared.phase.Phase.{Phase}
-use Rattle.cc_control.specs.declared.phase.Phase.TheVariants.{First}
-use Rattle.cc_eval.specs.declared.mark.Mark.{Mark}
-use Rattle.cc_eval.specs.Progress.{Get, known}
+use Rattle.cc_states.specs.CcCells.Cells.{with_scalar}
+use Rattle.cc_states.specs.CcControl.declared.phase.Phase.{Phase}
+use Rattle.cc_states.specs.CcControl.declared.phase.Phase.TheVariants.{First}
+use Rattle.cc_states.specs.CcEval.declared.mark.Mark.{Mark}
+use Rattle.cc_states.specs.CcEval.Progress.{Get, known}
 use Rattle.cc_program.specs.declared.expr.Expr.{Expr}
 use Rattle.cc_program.specs.declared.stmt.Stmt.{Stmt}
 use Rattle.cc_program.specs.declared.value.Value.{Value}
-use Rattle.cc_syntax.specs.Registers.{is_register}
+use Rattle.cc_states.specs.CcSyntax.Registers.{is_register}
 use Rattle.cc_meaning_simulations.specs.Continuations.{Remainder}
 use Rattle.cc_meaning_simulations.specs.Transitions.{ControlState}
 use Rattle.cc_meaning_simulations.specs.LocalSteps.{LocalState, Locals, after_write, local_state}

@@ -2,8 +2,8 @@
 -- volatile; the outermost qualifiers in its type say nothing (C99 6.3.2.1, 6.5.16.1).
 use Rattle.std.specs.Prelude.{◌≡◌, Bool, true, Option, Some}
 use Rattle.cc_program.specs.declared.types.CType.{CType}
-use Rattle.cc_syntax.specs.SameTypes.{alike}
-use Rattle.cc_syntax.specs.Values.{ValueType, ToObject, PlaceType, ObjectPlace}
+use Rattle.cc_states.specs.CcSyntax.SameTypes.{alike}
+use Rattle.cc_states.specs.CcSyntax.Values.{ValueType, ToObject, PlaceType, ObjectPlace}
 
 pub data TypesAgree : Option ValueType → Option ValueType → Type 0 where
   EqualTypes : (t : Option ValueType) → TypesAgree t t

@@ -3,14 +3,14 @@ use Rattle.std.specs.Prelude.{◌≡◌, ◌<◌, ◌≤◌, ℕ, true, List, []
 use Rattle.cc_program.specs.declared.expr.Expr.{Expr}
 use Rattle.cc_program.specs.declared.expr.Place.{Place, Local}
 use Rattle.cc_program.specs.declared.value.Value.{Value}
-use Rattle.cc_syntax.specs.Effects.{Registers, no_one}
-use Rattle.cc_syntax.specs.Registers.{is_register}
-use Rattle.cc_syntax.specs.Values.{ValueType}
-use Rattle.cc_eval.specs.Eval.{Meaning, Designation, meaning, designation}
-use Rattle.cc_eval.specs.Progress.{Known, Get, known, bind, needs}
-use Rattle.cc_eval.specs.Context.{reached}
-use Rattle.cc_eval.specs.declared.mark.Mark.{Mark}
-use Rattle.cc_eval.specs.declared.spots.Spot.{Spot}
+use Rattle.cc_states.specs.CcSyntax.Effects.{Registers, no_one}
+use Rattle.cc_states.specs.CcSyntax.Registers.{is_register}
+use Rattle.cc_states.specs.CcSyntax.Values.{ValueType}
+use Rattle.cc_states.specs.CcEval.Eval.{Meaning, Designation, meaning, designation}
+use Rattle.cc_states.specs.CcEval.Progress.{Known, Get, known, bind, needs}
+use Rattle.cc_states.specs.CcEval.Context.{reached}
+use Rattle.cc_states.specs.CcEval.declared.mark.Mark.{Mark}
+use Rattle.cc_states.specs.CcEval.declared.spots.Spot.{Spot}
 use Rattle.cc_program.specs.declared.value.Cell.{Cell}
 use Rattle.cc_states.specs.Answers.{AreAnswers}
 use Rattle.cc_lower_expressions.specs.Expressions.{Piece, piece, Lowers, Lowering, PlaceLowering}

@@ -1,19 +1,19 @@
 -- Where an activation of q stands in code of expression statements and `if`s, and what it does next there.
 use Rattle.std.specs.Prelude.{◌≡◌, ℕ, Bool, true, false, ◌&&◌, List, [], ◌∷◌, ◌++◌, map, Option, Some}
-use Rattle.cc_control.specs.declared.phase.Phase.{Phase}
-use Rattle.cc_control.specs.Control.{Level, level, is_loop, close}
-use Rattle.cc_eval.specs.declared.mark.Mark.{Mark}
-use Rattle.cc_eval.specs.Eval.{meaning}
-use Rattle.cc_eval.specs.Progress.{Progress, Known, Get, known, trap, bind}
+use Rattle.cc_states.specs.CcControl.declared.phase.Phase.{Phase}
+use Rattle.cc_states.specs.CcControl.Control.{Level, level, is_loop, close}
+use Rattle.cc_states.specs.CcEval.declared.mark.Mark.{Mark}
+use Rattle.cc_states.specs.CcEval.Eval.{meaning}
+use Rattle.cc_states.specs.CcEval.Progress.{Progress, Known, Get, known, trap, bind}
 use Rattle.cc_program.specs.declared.expr.Expr.{Expr}
 use Rattle.cc_program.specs.declared.stmt.Case.{Case}
 use Rattle.cc_program.specs.declared.stmt.Stmt.{Stmt, out-Stmt, fold-Stmt}
 use Rattle.cc_program.specs.declared.stmt.Stmt.TheOpen as is
 use Rattle.cc_program.specs.declared.value.Value.{Value}
-use Rattle.cc_steps.specs.State.{Active}
-use Rattle.cc_steps.specs.Step.{begun_at}
-use Rattle.cc_syntax.specs.Effects.{no_one}
-use Rattle.cc_syntax.specs.Forms.{Form, AssignForm, CallForm, IntrinsicForm, ConstantForm, FunctionForm, LoadForm, OtherForm, form_of}
+use Rattle.cc_states.specs.CcSteps.State.{Active}
+use Rattle.cc_states.specs.CcSteps.Step.{begun_at}
+use Rattle.cc_states.specs.CcSyntax.Effects.{no_one}
+use Rattle.cc_states.specs.CcSyntax.Forms.{Form, AssignForm, CallForm, IntrinsicForm, ConstantForm, FunctionForm, LoadForm, OtherForm, form_of}
 use Rattle.cc_lower_expressions_follows.specs.Trees.{Setting, context_q}
 use Rattle.cc_lower_expressions_follows.specs.Relation.{finished, forked, code_tree}
 

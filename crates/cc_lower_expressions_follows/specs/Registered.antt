@@ -1,10 +1,10 @@
 -- The registers of an activation in a state.
 use Rattle.std.specs.Prelude.{◌≡◌, ℕ, true, List, Option, Some, None, if◌then◌else◌}
-use Rattle.cc_cells.specs.Cells.{scalar_in}
+use Rattle.cc_states.specs.CcCells.Cells.{scalar_in}
 use Rattle.cc_program.specs.declared.func.Func.{Func}
 use Rattle.cc_program.specs.declared.value.Value.{Value}
-use Rattle.cc_steps.specs.State.{Active}
-use Rattle.cc_syntax.specs.Registers.{is_register}
+use Rattle.cc_states.specs.CcSteps.State.{Active}
+use Rattle.cc_states.specs.CcSyntax.Registers.{is_register}
 use Rattle.cc_lower_expressions_follows.specs.Trees.{Regs}
 
 abbrev pub flat : Option (Option Value) → Option Value

@@ -5,17 +5,17 @@ use Rattle.cc_program.specs.declared.expr.Place.{Place, Local}
 use Rattle.cc_program.specs.declared.stmt.Stmt.{Stmt, fold-Stmt}
 use Rattle.cc_program.specs.declared.stmt.Stmt.TheOpen as is
 use Rattle.cc_program.specs.declared.value.Value.{Value}
-use Rattle.cc_syntax.specs.Effects.{Registers, no_one}
-use Rattle.cc_syntax.specs.Registers.{is_register}
-use Rattle.cc_syntax.specs.Values.{ValueType, PlaceType, read_from}
-use Rattle.cc_syntax.specs.Views.{of_program}
-use Rattle.cc_eval.specs.declared.action.Action.TheVariants.{Choose}
-use Rattle.cc_eval.specs.declared.spots.Spot.{Spot}
-use Rattle.cc_eval.specs.Context.{named_by, is_seen}
-use Rattle.cc_eval.specs.Eval.{meaning, designation}
-use Rattle.cc_eval.specs.Progress.{Get, known, trap, ask, bind, needs}
+use Rattle.cc_states.specs.CcSyntax.Effects.{Registers, no_one}
+use Rattle.cc_states.specs.CcSyntax.Registers.{is_register}
+use Rattle.cc_states.specs.CcSyntax.Values.{ValueType, PlaceType, read_from}
+use Rattle.cc_states.specs.CcSyntax.Views.{of_program}
+use Rattle.cc_states.specs.CcEval.declared.action.Action.TheVariants.{Choose}
+use Rattle.cc_states.specs.CcEval.declared.spots.Spot.{Spot}
+use Rattle.cc_states.specs.CcEval.Context.{named_by, is_seen}
+use Rattle.cc_states.specs.CcEval.Eval.{meaning, designation}
+use Rattle.cc_states.specs.CcEval.Progress.{Get, known, trap, ask, bind, needs}
 use Rattle.cc_states.specs.Typed.{MayHave}
-use Rattle.cc_values.specs.Values.{truth}
+use Rattle.cc_states.specs.CcValues.Values.{truth}
 use Rattle.cc_lower_expressions.specs.Expressions.{Temps}
 use Rattle.cc_lower_expressions_follows.specs.Trees.{Regs, Setting, context_p, context_q, Runs}
 use Rattle.cc_lower_expressions_follows.specs.Agreement.{TypesAgree}

@@ -1,16 +1,16 @@
 -- What states of the source say of its activations: which marks may come, and how functions are opened.
 use Rattle.std.specs.Prelude.{◌≡◌, ℕ, Bool, false, List, [], ◌∷◌, ◌++◌, length, Option, Some, None, slice_get}
-use Rattle.cc_eval.specs.declared.action.Action.{Action}
-use Rattle.cc_eval.specs.declared.mark.Mark.{Mark}
-use Rattle.cc_eval.specs.Progress.{Waits}
+use Rattle.cc_states.specs.CcEval.declared.action.Action.{Action}
+use Rattle.cc_states.specs.CcEval.declared.mark.Mark.{Mark}
+use Rattle.cc_states.specs.CcEval.Progress.{Waits}
 use Rattle.cc_program.specs.declared.expr.Expr.{Expr}
 use Rattle.cc_program.specs.declared.func.Func.{Func}
 use Rattle.cc_program.specs.declared.program.Program.{Program}
 use Rattle.cc_program.specs.declared.stmt.Stmt.{Stmt, out-Stmt}
 use Rattle.cc_program.specs.declared.value.Value.{Value}
-use Rattle.cc_control.specs.declared.phase.Phase.{Phase}
-use Rattle.cc_steps.specs.State.{locals_with}
-use Rattle.cc_steps.specs.Step.{worked}
+use Rattle.cc_states.specs.CcControl.declared.phase.Phase.{Phase}
+use Rattle.cc_states.specs.CcSteps.State.{locals_with}
+use Rattle.cc_states.specs.CcSteps.Step.{worked}
 use Rattle.cc_meaning_simulations.specs.Bodies.{all_extended, extended}
 use Rattle.cc_meaning_simulations.specs.LocalSteps.{LocalState}
 use Rattle.cc_lower_expressions.specs.Programs.{lowered_body, temporaries}

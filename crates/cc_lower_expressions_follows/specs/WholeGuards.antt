@@ -1,15 +1,15 @@
 -- Where an activation of q stands while that of p works the condition of an `if` without `else`: in the code of a part of the condition, behind
 -- which stands an `if` on the value of that part, with the code of the next part inside it, or with the arm.
 use Rattle.std.specs.Prelude.{◌≡◌, ℕ, Bool, true, false, List, [], ◌∷◌, ◌++◌, Option, Some, None, slice_get}
-use Rattle.cc_control.specs.declared.phase.Phase.TheVariants.{First}
-use Rattle.cc_eval.specs.declared.action.Action.TheVariants.{Choose}
-use Rattle.cc_eval.specs.declared.mark.Mark.TheVariants.{Chose}
-use Rattle.cc_eval.specs.Progress.{Waits, Traps, Get, known, bind}
+use Rattle.cc_states.specs.CcControl.declared.phase.Phase.TheVariants.{First}
+use Rattle.cc_states.specs.CcEval.declared.action.Action.TheVariants.{Choose}
+use Rattle.cc_states.specs.CcEval.declared.mark.Mark.TheVariants.{Chose}
+use Rattle.cc_states.specs.CcEval.Progress.{Waits, Traps, Get, known, bind}
 use Rattle.cc_program.specs.declared.expr.Expr.{Expr}
 use Rattle.cc_program.specs.declared.stmt.Stmt.{Stmt, out-Stmt}
 use Rattle.cc_program.specs.declared.stmt.Stmt.TheOpen as is
 use Rattle.cc_program.specs.declared.value.Value.{Value}
-use Rattle.cc_values.specs.Values.{is_true}
+use Rattle.cc_states.specs.CcValues.Values.{is_true}
 use Rattle.cc_meaning_simulations.specs.Continuations.{Remainder, remainder, resume}
 use Rattle.cc_lower_expressions_follows.specs.Trees.{Regs, Setting, after}
 use Rattle.cc_lower_expressions_follows.specs.Region.{are_code}

@@ -1,14 +1,14 @@
 -- Local states of p and q that match: where both do the same step next, jump, return, or come to the end of their function.
 use Rattle.std.specs.Prelude.{◌≡◌, true, List, [], ◌∷◌, Option, Some, None}
-use Rattle.cc_control.specs.declared.phase.Phase.TheVariants.{First, Test}
-use Rattle.cc_eval.specs.declared.action.Action.{Action}
-use Rattle.cc_eval.specs.declared.mark.Mark.{Mark}
-use Rattle.cc_eval.specs.Progress.{Get, Known, Waits, known, needs}
+use Rattle.cc_states.specs.CcControl.declared.phase.Phase.TheVariants.{First, Test}
+use Rattle.cc_states.specs.CcEval.declared.action.Action.{Action}
+use Rattle.cc_states.specs.CcEval.declared.mark.Mark.{Mark}
+use Rattle.cc_states.specs.CcEval.Progress.{Get, Known, Waits, known, needs}
 use Rattle.cc_program.specs.declared.expr.Expr.{Expr, out-Expr}
 use Rattle.cc_program.specs.declared.stmt.Stmt.{Stmt, out-Stmt}
 use Rattle.cc_program.specs.declared.stmt.Stmt.TheOpen as is
 use Rattle.cc_program.specs.declared.value.Value.{Value}
-use Rattle.cc_values.specs.Values.{is_true}
+use Rattle.cc_states.specs.CcValues.Values.{is_true}
 use Rattle.cc_meaning_simulations.specs.Continuations.{Remainder, remainder}
 use Rattle.cc_meaning_simulations.specs.LocalSteps.{LocalState, Locals, local_state}
 use Rattle.cc_meaning_simulations.specs.Transitions.{ControlState}

@@ -1,16 +1,16 @@
 -- Where activations of p and q are in the middle of a statement of p: what is left of a part of its full expression, and of the code that this became.
 use Rattle.std.specs.Prelude.{◌≡◌, ℕ, true, List, Option, Some, slice_get}
-use Rattle.cc_cells.specs.Cells.{scalar_in}
-use Rattle.cc_control.specs.declared.phase.Phase.{Phase}
-use Rattle.cc_eval.specs.declared.action.Action.{Action}
-use Rattle.cc_eval.specs.declared.mark.Mark.{Mark}
-use Rattle.cc_eval.specs.Progress.{Get, bind}
+use Rattle.cc_states.specs.CcCells.Cells.{scalar_in}
+use Rattle.cc_states.specs.CcControl.declared.phase.Phase.{Phase}
+use Rattle.cc_states.specs.CcEval.declared.action.Action.{Action}
+use Rattle.cc_states.specs.CcEval.declared.mark.Mark.{Mark}
+use Rattle.cc_states.specs.CcEval.Progress.{Get, bind}
 use Rattle.cc_program.specs.declared.expr.Expr.{Expr}
 use Rattle.cc_program.specs.declared.func.Func.{Func}
 use Rattle.cc_program.specs.declared.stmt.Stmt.{Stmt}
 use Rattle.cc_program.specs.declared.value.Value.{Value}
 use Rattle.cc_states.specs.Answers.{AreItsMarks, IsMarkOf}
-use Rattle.cc_syntax.specs.Registers.{is_register}
+use Rattle.cc_states.specs.CcSyntax.Registers.{is_register}
 use Rattle.cc_meaning_simulations.specs.Continuations.{Remainder}
 use Rattle.cc_meaning_simulations.specs.LocalSteps.{Locals}
 use Rattle.cc_meaning_simulations.specs.Transitions.{ControlState}

@@ -1,10 +1,10 @@
 -- Where the control of an activation of q stands in code of expression statements and `if`s, and that of p in the full expression of a statement.
 use Rattle.std.specs.Prelude.{◌≡◌, ◌⊎◌, Bool, true, false, List, [], ◌∷◌, ◌++◌, Option, Some}
-use Rattle.cc_control.specs.declared.phase.Phase.{Phase}
-use Rattle.cc_control.specs.Control.{is_loop}
-use Rattle.cc_eval.specs.declared.mark.Mark.{Mark}
-use Rattle.cc_eval.specs.Eval.{meaning}
-use Rattle.cc_eval.specs.Progress.{Progress, Known, Get, known, bind}
+use Rattle.cc_states.specs.CcControl.declared.phase.Phase.{Phase}
+use Rattle.cc_states.specs.CcControl.Control.{is_loop}
+use Rattle.cc_states.specs.CcEval.declared.mark.Mark.{Mark}
+use Rattle.cc_states.specs.CcEval.Eval.{meaning}
+use Rattle.cc_states.specs.CcEval.Progress.{Progress, Known, Get, known, bind}
 use Rattle.cc_program.specs.declared.expr.Expr.{Expr}
 use Rattle.cc_program.specs.declared.stmt.Case.{Case}
 use Rattle.cc_program.specs.declared.stmt.Stmt.{Stmt, out-Stmt}
@@ -12,7 +12,7 @@ use Rattle.cc_program.specs.declared.stmt.Stmt.TheOpen as is
 use Rattle.cc_program.specs.declared.value.Value.{Value}
 use Rattle.cc_meaning_simulations.specs.Continuations.{Remainder, remainder, resume}
 use Rattle.cc_meaning_simulations.specs.Transitions.{ControlState, control_at, jump_to}
-use Rattle.cc_syntax.specs.Effects.{no_one}
+use Rattle.cc_states.specs.CcSyntax.Effects.{no_one}
 use Rattle.cc_lower_expressions_follows.specs.Trees.{Setting, context_p}
 use Rattle.cc_lower_expressions_follows.specs.Claims.{good}
 use Rattle.cc_lower_expressions_follows.specs.Region.{AreCode, next_q, levels_tree, current, Kind}

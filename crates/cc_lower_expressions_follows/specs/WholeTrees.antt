@@ -2,13 +2,13 @@
 -- because its states are, and what both do is no access of a register of the activation.
 use Rattle.std.specs.Prelude.{◌≡◌, ℕ, true, [], Some}
 use Rattle.cc_program.specs.declared.value.Value.{Value}
-use Rattle.cc_eval.specs.declared.action.Action.{Action}
-use Rattle.cc_eval.specs.declared.mark.Mark.{Mark}
-use Rattle.cc_eval.specs.Progress.{Waits, Get, known}
+use Rattle.cc_states.specs.CcEval.declared.action.Action.{Action}
+use Rattle.cc_states.specs.CcEval.declared.mark.Mark.{Mark}
+use Rattle.cc_states.specs.CcEval.Progress.{Waits, Get, known}
 use Rattle.cc_states.specs.Answers.{IsMarkOf}
 use Rattle.cc_states.specs.Typed.{HasType, cell_type}
-use Rattle.cc_syntax.specs.Registers.{is_register}
-use Rattle.cc_syntax.specs.Values.{ValueType}
+use Rattle.cc_states.specs.CcSyntax.Registers.{is_register}
+use Rattle.cc_states.specs.CcSyntax.Values.{ValueType}
 use Rattle.cc_lower_expressions_follows.specs.Trees.{Regs, Setting, after, register_cell, IsShared, IsQuiet, Ends}
 
 module _ (w : Setting) where

@@ -12,7 +12,7 @@ use Rattle.cc_program.specs.declared.stmt.Stmt.{Stmt, roll-Stmt, map-Stmt, fold-
 use Rattle.cc_program.specs.declared.stmt.Stmt.TheOpen as is
 use Rattle.cc_program.proofs.Each.{Each}
 use Rattle.cc_program.proofs.StmtInduction.{StmtParts, CaseParts, by_stmts}
-use Rattle.cc_syntax.specs.Registers.{PlaceUse, address_step, is_address_taken, place_use, is_taken_in_optional, stmt_step, is_taken_in, is_addressed, use_step}
+use Rattle.cc_steps.specs.CcSyntax.Registers.{PlaceUse, address_step, is_address_taken, place_use, is_taken_in_optional, stmt_step, is_taken_in, is_addressed, use_step}
 use Rattle.cc_lower_statements.specs.Statements.{break_statement, constant_one, endless_loop, guarded, is_nonzero_constant, is_nonzero_constant_in, lower, lower_case, lower_cases, lower_func, lower_list, needed_test, needed_test_if, optional_statement}
 use Rattle.cc_lower_statements.proofs.Layers.{lower-out, lower_case-out, lower_layer}
 

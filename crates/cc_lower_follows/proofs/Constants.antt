@@ -2,18 +2,18 @@
 use Rattle.std.proofs.Common.{◌≡◌, zero, suc, ℤ, true, not, List, Option, Some, refl, ap, ◌∙◌}
 use Rattle.std.specs.Prelude.{pos, negsuc}
 use Rattle.std.specs.Ordering.{int_eq}
-use Rattle.cc_num.specs.declared.int_type.IntType.{IntType}
+use Rattle.cc_program.specs.CcNum.declared.int_type.IntType.{IntType}
 use Rattle.cc_program.specs.declared.expr.Expr.{Expr, out-Expr, roll-Expr, map-Expr, fold-roll-Expr, fold_out-Expr}
 use Rattle.cc_program.specs.declared.expr.Expr.TheOpen as one
 use Rattle.cc_program.specs.declared.expr.Place.{Place}
 use Rattle.cc_program.specs.declared.value.Value.{Value}
 use Rattle.cc_program.specs.declared.value.Value.TheVariants.{Int}
-use Rattle.cc_eval.specs.declared.mark.Mark.{Mark}
-use Rattle.cc_eval.specs.Context.{Context}
-use Rattle.cc_eval.specs.Eval.{Meaning, Designation, expr_meaning, place_meaning, meaning, designation, next_of}
-use Rattle.cc_eval.specs.Progress.{Progress, Known}
-use Rattle.cc_syntax.specs.Effects.{no_one}
-use Rattle.cc_values.specs.Values.{is_true}
+use Rattle.cc_steps.specs.CcEval.declared.mark.Mark.{Mark}
+use Rattle.cc_steps.specs.CcEval.Context.{Context}
+use Rattle.cc_steps.specs.CcEval.Eval.{Meaning, Designation, expr_meaning, place_meaning, meaning, designation, next_of}
+use Rattle.cc_steps.specs.CcEval.Progress.{Progress, Known}
+use Rattle.cc_steps.specs.CcSyntax.Effects.{no_one}
+use Rattle.cc_steps.specs.CcValues.Values.{is_true}
 use Rattle.cc_lower_statements.specs.Statements.{constant_one, is_nonzero_constant, is_nonzero_constant_in}
 
 module _ (c : Context) (ms : List Mark) where

@@ -12,11 +12,11 @@ use Rattle.cc_program.specs.declared.value.Value.{Value}
 use Rattle.cc_program.specs.declared.value.Value.TheVariants.{Int}
 use Rattle.cc_program.proofs.Each.{Each}
 use Rattle.cc_program.proofs.StmtInduction.{StmtParts, by_stmts}
-use Rattle.cc_control.specs.declared.phase.Phase.{Phase}
-use Rattle.cc_control.specs.declared.phase.Phase.TheVariants.{First, Test, Again}
-use Rattle.cc_control.specs.Control.{is_loop, is_left_by_break, behind_body, opening, first_phase, coming}
-use Rattle.cc_eval.specs.declared.mark.Mark.{Mark}
-use Rattle.cc_eval.specs.Progress.{Progress, Known, Waits, Traps, no_value}
+use Rattle.cc_steps.specs.CcControl.declared.phase.Phase.{Phase}
+use Rattle.cc_steps.specs.CcControl.declared.phase.Phase.TheVariants.{First, Test, Again}
+use Rattle.cc_steps.specs.CcControl.Control.{is_loop, is_left_by_break, behind_body, opening, first_phase, coming}
+use Rattle.cc_steps.specs.CcEval.declared.mark.Mark.{Mark}
+use Rattle.cc_steps.specs.CcEval.Progress.{Progress, Known, Waits, Traps, no_value}
 use Rattle.cc_steps.specs.Runs.{begins_at}
 use Rattle.cc_steps.specs.Step.{worked, passed, is_return, is_known, is_past, progress_in}
 use Rattle.cc_meaning_simulations.specs.Continuations.{Continuation, Remainder, begin_with, break_out, continue_on, enclosing, next_continuation, past, remainder, resume}

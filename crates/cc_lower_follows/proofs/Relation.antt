@@ -8,10 +8,10 @@ use Rattle.cc_program.specs.declared.program.Program.{Program}
 use Rattle.cc_program.specs.declared.stmt.Case.{Case, out-Case, fold_out-Case}
 use Rattle.cc_program.specs.declared.stmt.Stmt.{Stmt, out-Stmt, roll-Stmt, map-Stmt, fold_out-Stmt}
 use Rattle.cc_program.specs.declared.stmt.Stmt.TheOpen as is
-use Rattle.cc_control.specs.declared.phase.Phase.{Phase}
-use Rattle.cc_control.specs.declared.phase.Phase.TheVariants.{First, Test, Again}
-use Rattle.cc_control.specs.Control.{is_loop, coming}
-use Rattle.cc_eval.specs.declared.mark.Mark.{Mark}
+use Rattle.cc_steps.specs.CcControl.declared.phase.Phase.{Phase}
+use Rattle.cc_steps.specs.CcControl.declared.phase.Phase.TheVariants.{First, Test, Again}
+use Rattle.cc_steps.specs.CcControl.Control.{is_loop, coming}
+use Rattle.cc_steps.specs.CcEval.declared.mark.Mark.{Mark}
 use Rattle.cc_steps.specs.Step.{is_known}
 use Rattle.cc_meaning_simulations.specs.Continuations.{Remainder, continue_on, remainder, resume}
 use Rattle.cc_meaning_simulations.specs.Transitions.{ControlState, progress_there}

@@ -10,14 +10,14 @@ use Rattle.cc_program.specs.declared.stmt.Case.{Case, out-Case, out-roll-Case}
 use Rattle.cc_program.specs.declared.stmt.Stmt.{Stmt, out-Stmt, roll-Stmt, out-roll-Stmt}
 use Rattle.cc_program.specs.declared.stmt.Stmt.TheOpen as is
 use Rattle.cc_program.specs.declared.value.Value.{Value}
-use Rattle.cc_control.specs.declared.phase.Phase.{Phase}
-use Rattle.cc_control.specs.declared.phase.Phase.TheVariants.{First, Test, Again}
-use Rattle.cc_control.specs.Control.{is_loop, is_left_by_break, behind_body, coming, bodies, from_label, is_label, is_default}
-use Rattle.cc_eval.specs.declared.mark.Mark.{Mark}
-use Rattle.cc_eval.specs.Progress.{Progress, Known, Waits, Traps, no_value}
+use Rattle.cc_steps.specs.CcControl.declared.phase.Phase.{Phase}
+use Rattle.cc_steps.specs.CcControl.declared.phase.Phase.TheVariants.{First, Test, Again}
+use Rattle.cc_steps.specs.CcControl.Control.{is_loop, is_left_by_break, behind_body, coming, bodies, from_label, is_label, is_default}
+use Rattle.cc_steps.specs.CcEval.declared.mark.Mark.{Mark}
+use Rattle.cc_steps.specs.CcEval.Progress.{Progress, Known, Waits, Traps, no_value}
 use Rattle.cc_steps.specs.Runs.{begins_at, is_empty}
 use Rattle.cc_steps.specs.Step.{worked, passed, is_return, is_known, is_past, is_passed, number_in, progress_in}
-use Rattle.cc_values.specs.Values.{is_true}
+use Rattle.cc_steps.specs.CcValues.Values.{is_true}
 use Rattle.cc_meaning_simulations.specs.Continuations.{Continuation, Remainder, break_out, continue_on, enclosing, found_case, in_arm, in_cases, in_loop, next_continuation, remainder, resume}
 use Rattle.cc_meaning_simulations.specs.Locksteps.{AreControlsAlike, Matches, QJumps}
 use Rattle.cc_meaning_simulations.specs.Transitions.{ControlState, Jumps, Returns, Transition, at_continuation, control_at, is_at_boundary, jump_to, mark_added, marked_control, progress_there, settled_control_in, transition, transition_in}

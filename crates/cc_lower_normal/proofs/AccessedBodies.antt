@@ -28,9 +28,9 @@ use Rattle.cc_program.proofs.Each.{Each}
 use Rattle.cc_program.proofs.ExprInduction.{Parts, by_expr}
 use Rattle.cc_program.proofs.FoldFusion.{fused}
 use Rattle.cc_program.proofs.StmtInduction.{StmtParts, CaseParts, by_stmts}
-use Rattle.cc_syntax.specs.Effects.{Registers, also, no_one}
-use Rattle.cc_syntax.specs.Forms.{form_at, form_of}
-use Rattle.cc_syntax.specs.Normal.{is_one, devices_step, devices_of, devices_in, devices_in_text}
+use Rattle.cc_states.specs.CcSyntax.Effects.{Registers, also, no_one}
+use Rattle.cc_states.specs.CcSyntax.Forms.{form_at, form_of}
+use Rattle.cc_states.specs.CcSyntax.Normal.{is_one, devices_step, devices_of, devices_in, devices_in_text}
 
 module _ (d : ℕ) where
   -- `1` accesses nothing

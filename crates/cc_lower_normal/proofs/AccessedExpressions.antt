@@ -5,8 +5,8 @@ use Rattle.std.specs.Prelude.{nat_eq}
 use Rattle.std.proofs.lemmas.Bool.{true≢false, or_left, or_right}
 use Rattle.cc_accessed_operands.specs.Accessed.{PlaceAccess, of_place, accesses, place_access}
 use Rattle.cc_accessed_operands.proofs.Accesses.{or_either, no, accesses_at, place_access_at, accesses-roll, place-access-roll}
-use Rattle.cc_num.specs.declared.int_type.IntType.{IntType}
-use Rattle.cc_num.specs.declared.op.BinOp.{BinOp}
+use Rattle.cc_program.specs.CcNum.declared.int_type.IntType.{IntType}
+use Rattle.cc_program.specs.CcNum.declared.op.BinOp.{BinOp}
 use Rattle.cc_lower_expressions.specs.Expressions.{Piece, Make, done, ◌>>=◌, fresh, emit, fork, temp, set, into, mapped, Lowers, from_one, from_two, Lowering, PlaceLowering, value_of, number_of, all_args, arguments, whole_by, unused, effect_by, place_and, read_at, read, assigned_value, assignment, int_value, arm_as, condition_of, unless_pure, branch_alone, is_void_value, intr_operand, choose_void, choose_value, truth_of, whole_right, whole_read, read_unused, change, changed_value, change_alone, stepped, step_value, step_alone, arm_of, both_value, either_value, call_of, by_temp, called, call, is_callee, folded_un, folded_bin, folded_conv}
 use Rattle.cc_lower_expressions.specs.Temporaries.{declared_type, is_same_type}
 use Rattle.cc_lower_normal.proofs.AccessedPieces.{IsAt, Has, left, right, head, read_there, Gives, first, second, both_first, both_second, fork_first, fork_second, in_both, into_read, device_read_at, two_give, assigned_place, assigned_whole, assigned_device, changed_first, changed_device, alone_first, alone_device, once_first, once_device, stepped_first, stepped_device, step_alone_first, step_alone_device, branch_condition, branch_first, branch_second}
@@ -22,12 +22,12 @@ use Rattle.cc_program.specs.declared.program.Program.{Program}
 use Rattle.cc_program.specs.declared.stmt.Stmt.{Do}
 use Rattle.cc_program.proofs.Each.{Each}
 use Rattle.cc_program.proofs.ExprInduction.{Parts, PlaceParts, by_expr}
-use Rattle.cc_syntax.specs.Effects.{Registers, also, Effects, PlaceEffects, effects_of, place_effects_of}
-use Rattle.cc_syntax.specs.Expressions.{type_of, place_type}
-use Rattle.cc_syntax.specs.Forms.{form_of}
-use Rattle.cc_syntax.specs.Normal.{device_in}
-use Rattle.cc_syntax.specs.Values.{ValueType, PlaceType}
-use Rattle.cc_syntax.specs.Views.{of_program}
+use Rattle.cc_states.specs.CcSyntax.Effects.{Registers, also, Effects, PlaceEffects, effects_of, place_effects_of}
+use Rattle.cc_states.specs.CcSyntax.Expressions.{type_of, place_type}
+use Rattle.cc_states.specs.CcSyntax.Forms.{form_of}
+use Rattle.cc_states.specs.CcSyntax.Normal.{device_in}
+use Rattle.cc_states.specs.CcSyntax.Values.{ValueType, PlaceType}
+use Rattle.cc_states.specs.CcSyntax.Views.{of_program}
 
 abbrev call_pair : Expr → List Expr → Expr × List Expr
 call_pair e xs = (e, xs)

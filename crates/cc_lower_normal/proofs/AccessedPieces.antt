@@ -13,10 +13,10 @@ use Rattle.cc_program.specs.declared.expr.Place.{Place, Local, out-Place}
 use Rattle.cc_program.specs.declared.stmt.Stmt.{Stmt, Do, If, fold-roll-Stmt}
 use Rattle.cc_program.specs.declared.stmt.Stmt.TheOpen as is
 use Rattle.cc_program.specs.declared.stmt.Stmt.TheVariants.{rolls-Do}
-use Rattle.cc_syntax.specs.Effects.{Registers, also, is_soft}
-use Rattle.cc_syntax.specs.Forms.{form_of, form_at}
-use Rattle.cc_syntax.specs.Normal.{device_in, device_read, devices_accessed, devices_step, devices_of, devices_in}
-use Rattle.cc_syntax.specs.Values.{ValueType}
+use Rattle.cc_states.specs.CcSyntax.Effects.{Registers, also, is_soft}
+use Rattle.cc_states.specs.CcSyntax.Forms.{form_of, form_at}
+use Rattle.cc_states.specs.CcSyntax.Normal.{device_in, device_read, devices_accessed, devices_step, devices_of, devices_in}
+use Rattle.cc_states.specs.CcSyntax.Values.{ValueType}
 
 do_is : (e : Expr) → devices_of (Do e) ≡ devices_accessed (form_of e)
 do_is e = ap devices_of (sym (rolls-Do e)) ∙ fold-roll-Stmt (List ℕ) (List ℕ) devices_step (λ c. flat_map (λ ds. ds) c.body) (is.Do e)

@@ -8,7 +8,7 @@ use Rattle.cc_program.specs.declared.expr.Expr.TheOpen as one
 use Rattle.cc_program.specs.declared.expr.Place.{Place, roll-Place, map-Place, fold-roll-Place}
 use Rattle.cc_program.specs.declared.func.Func.{Func}
 use Rattle.cc_program.proofs.ExprInduction.{Parts, PlaceParts, by_expr}
-use Rattle.cc_syntax.specs.Effects.{Registers, Effects, PlaceEffects, is_soft, effect_step, place_effect_step, effects_of, place_effects_of}
+use Rattle.cc_states.specs.CcSyntax.Effects.{Registers, Effects, PlaceEffects, is_soft, effect_step, place_effect_step, effects_of, place_effects_of}
 
 module _ (d : ℕ) (f : Func) where
   abbrev effects_at : one.Expr-F Expr Place → Effects

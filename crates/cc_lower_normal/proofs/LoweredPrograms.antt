@@ -27,10 +27,10 @@ use Rattle.cc_lower_statements.specs.Statements as statements
 use Rattle.cc_lower_statements.specs.Statements.{lower_program}
 use Rattle.cc_program.specs.declared.func.Func.{Func}
 use Rattle.cc_program.specs.declared.program.Program.{Program}
-use Rattle.cc_syntax.specs.Normal.{IsNormal, devices_in_order}
-use Rattle.cc_syntax.specs.Sound.{IsSound, IsTypedProgram}
-use Rattle.cc_syntax.specs.Values.{ValueType}
-use Rattle.cc_syntax.proofs.NameRules.{sound-named, sound-typed}
+use Rattle.cc_states.specs.CcSyntax.Normal.{IsNormal, devices_in_order}
+use Rattle.cc_states.specs.CcSyntax.Sound.{IsSound, IsTypedProgram}
+use Rattle.cc_states.specs.CcSyntax.Values.{ValueType}
+use Rattle.cc_states.proofs.CcSyntax.NameRules.{sound-named, sound-typed}
 
 pub numbered_whole : (p : Program) → IsNormalButForNames p → AreNamesApartButForTemporaries p → AreDevicesInText p → IsNormal (numbered p)
 numbered_whole p h n d = numbered_normal p h.typed n d h.bodies

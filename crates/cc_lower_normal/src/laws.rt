@@ -8,8 +8,8 @@ ghost use Rattle.cc_lower_numbers_sound.specs.Names.{AreNamesApartButForTemporar
 ghost use Rattle.cc_lower_sound.specs.Folded.{has_folded_expressions};
 ghost use Rattle.cc_lower_sound.specs.Normal.{IsNormalButForNames};
 ghost use Rattle.cc_program.specs.declared.program.Program.{Program};
-ghost use Rattle.cc_syntax.specs.Normal.{IsNormal, devices_in_order};
-ghost use Rattle.cc_syntax.specs.Sound.{IsSound, IsTypedProgram};
+ghost use Rattle.cc_states.specs.CcSyntax.Normal.{IsNormal, devices_in_order};
+ghost use Rattle.cc_states.specs.CcSyntax.Sound.{IsSound, IsTypedProgram};
 
 /// What lowering leaves of a program, where no function has more locals than ids can number. The call does nothing.
 pub fn lowered_laws()

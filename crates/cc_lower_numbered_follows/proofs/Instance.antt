@@ -15,12 +15,12 @@ use Rattle.cc_lower_numbers_sound.proofs.Orders.{has, ordered-has, ordered-withi
 use Rattle.cc_program.specs.declared.func.Func.{Func}
 use Rattle.cc_program.specs.declared.program.Program.{Program}
 use Rattle.cc_program.specs.declared.types.Sig.{out-Sig}
-use Rattle.cc_steps.specs.Runs.{Follows, Answers}
-use Rattle.cc_syntax.proofs.Parts.{all_at}
-use Rattle.cc_syntax.specs.Normal.{devices_in_text}
-use Rattle.cc_syntax.specs.Registers.{is_register}
-use Rattle.cc_syntax.specs.Sound.{any_names, IsFuncBy, IsTypedProgram}
-use Rattle.cc_syntax.specs.Types.{Named}
+use Rattle.cc_states.specs.CcSteps.Runs.{Follows, Answers}
+use Rattle.cc_states.proofs.CcSyntax.Parts.{all_at}
+use Rattle.cc_states.specs.CcSyntax.Normal.{devices_in_text}
+use Rattle.cc_states.specs.CcSyntax.Registers.{is_register}
+use Rattle.cc_states.specs.CcSyntax.Sound.{any_names, IsFuncBy, IsTypedProgram}
+use Rattle.cc_states.specs.CcSyntax.Types.{Named}
 
 front_stays : {A : Type 0} (xs ys : List A) (k r : ℕ) → r < k → k ≤ length xs → slice_get (take k xs ++ ys) r ≡ slice_get xs r
 front_stays xs ys zero r h l = absurd (omega arith)

@@ -27,13 +27,13 @@ use Rattle.cc_program.specs.declared.types.CType.{CType}
 use Rattle.cc_program.specs.declared.types.Shape.{Shape}
 use Rattle.cc_program.specs.declared.types.Shape.TheOpen as shape
 use Rattle.cc_program.specs.declared.types.Sig.{Sig}
-use Rattle.cc_syntax.specs.Names.{are_names, file_names, local_names}
-use Rattle.cc_syntax.specs.Registers.{may_be_register, is_addressed, is_register}
-use Rattle.cc_syntax.specs.Sound.{any_names, IsFuncBy, IsSound, IsTypedProgram}
-use Rattle.cc_syntax.specs.Types.{Named}
-use Rattle.cc_syntax.specs.Values.{scalar_value, scalar_shape}
-use Rattle.cc_syntax.proofs.NameRules.{sound-typed}
-use Rattle.cc_words.specs.Names.{is_name, are_distinct}
+use Rattle.cc_states.specs.CcSyntax.Names.{are_names, file_names, local_names}
+use Rattle.cc_states.specs.CcSyntax.Registers.{may_be_register, is_addressed, is_register}
+use Rattle.cc_states.specs.CcSyntax.Sound.{any_names, IsFuncBy, IsSound, IsTypedProgram}
+use Rattle.cc_states.specs.CcSyntax.Types.{Named}
+use Rattle.cc_states.specs.CcSyntax.Values.{scalar_value, scalar_shape}
+use Rattle.cc_states.proofs.CcSyntax.NameRules.{sound-typed}
+use Rattle.cc_program.specs.CcWords.Names.{is_name, are_distinct}
 
 -- ---- locals with names
 

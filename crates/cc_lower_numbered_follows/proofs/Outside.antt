@@ -19,8 +19,8 @@ use Rattle.cc_program.specs.declared.stmt.Stmt.TheOpen as is
 use Rattle.cc_program.proofs.Each.{Each}
 use Rattle.cc_program.proofs.ExprInduction.{Parts, PlaceParts, by_expr}
 use Rattle.cc_program.proofs.StmtInduction.{StmtParts, CaseParts, by_stmts}
-use Rattle.cc_syntax.specs.Registers.{PlaceUse, is_address_taken, place_use, is_taken_in, is_taken_in_optional, is_addressed}
-use Rattle.cc_syntax.specs.Sound.{any_names, IsFuncBy}
+use Rattle.cc_states.specs.CcSyntax.Registers.{PlaceUse, is_address_taken, place_use, is_taken_in, is_taken_in_optional, is_addressed}
+use Rattle.cc_states.specs.CcSyntax.Sound.{any_names, IsFuncBy}
 
 module _ (n r : ℕ) (outside : n ≤ r) where
   -- ---- expressions

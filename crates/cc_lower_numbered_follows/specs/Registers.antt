@@ -3,7 +3,7 @@ use Rattle.std.specs.Prelude.{◌≡◌, ◌<◌, ◌≤◌, ℕ, true, All, len
 use Rattle.cc_lower_numbers.specs.Temporaries.{kept_count}
 use Rattle.cc_program.specs.declared.func.Func.{Func}
 use Rattle.cc_program.specs.declared.program.Program.{Program}
-use Rattle.cc_syntax.specs.Registers.{is_register}
+use Rattle.cc_states.specs.CcSyntax.Registers.{is_register}
 
 abbrev pub HasRegisterTemporaries : Func → Type 0
 HasRegisterTemporaries f = (i : ℕ) → kept_count f ≤ i → i < length f.locals → is_register f i ≡ true

@@ -5,8 +5,8 @@ ghost use Rattle.cc_lower_numbered_follows.specs.Registers.{AreTemporariesRegist
 ghost use Rattle.cc_lower_numbers.specs.Numbered.{numbered};
 ghost use Rattle.cc_lower_statements.specs.Statements.{lower_program};
 ghost use Rattle.cc_program.specs.declared.program.Program.{Program};
-ghost use Rattle.cc_steps.specs.Runs.{Follows, Answers};
-ghost use Rattle.cc_syntax.specs.Sound.{IsSound, IsTypedProgram};
+ghost use Rattle.cc_states.specs.CcSteps.Runs.{Follows, Answers};
+ghost use Rattle.cc_states.specs.CcSyntax.Sound.{IsSound, IsTypedProgram};
 
 /// That a typed program does what it did when its temporaries have names and stand in the order of their first writing, and its
 /// devices stand in the order of the text. The call does nothing.

@@ -12,7 +12,7 @@ ghost use Rattle.cc_lower_numbers.specs.Numbered.{named_from, device_order as de
 ghost use Rattle.cc_lower_numbers.specs.Order.{arranged};
 
 use crate::order::ordered;
-use cc_num::{List, NoMemory, at};
+use cc_program::num::{List, NoMemory, at};
 use cc_program::{Case, Device, Expr, Place, Program, Stmt};
 use std::alloc::Global;
 

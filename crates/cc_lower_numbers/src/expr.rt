@@ -3,7 +3,7 @@
 ghost use Rattle.std.specs.Prelude.{◌≡◌, IfOk, map};
 ghost use Rattle.cc_lower_numbers.specs.Renamed.{number_at as number_at_of, expr_renamed, place_renamed};
 
-use cc_num::{Boxed, List, NoMemory, at};
+use cc_program::num::{Boxed, List, NoMemory, at};
 use cc_program::{Expr, Place};
 use std::alloc::Global;
 

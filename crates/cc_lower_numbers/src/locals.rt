@@ -6,7 +6,7 @@ ghost use Rattle.cc_lower_numbers.specs.Order.{arranged};
 ghost use Rattle.cc_lower_numbers.specs.Temporaries.{temporaries};
 
 use crate::temporaries::kept_count;
-use cc_num::{Name, NoMemory, at};
+use cc_program::num::{Name, NoMemory, at};
 use cc_program::{CType, Func, copy_list};
 use std::alloc::Global;
 

@@ -9,7 +9,7 @@ ghost use Rattle.cc_syntax.specs.Names.{device_names, file_names, intrinsic_name
 
 use crate::temporaries::temporary_count;
 use cc_names::Names;
-use cc_num::{List, Name, NoMemory};
+use cc_program::num::{List, Name, NoMemory};
 use cc_program::{CType, Device, Func, Object, Program, Roles, Structure};
 use std::alloc::Global;
 

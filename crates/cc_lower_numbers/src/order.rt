@@ -4,8 +4,8 @@ ghost use Rattle.std.specs.Prelude.{◌≡◌, ◌<◌, ◌++◌, ℕ, Some, Non
 ghost use Rattle.cc_lower_numbers.specs.Order.{is_within, ordered as ordered_of, place_in, place_or, with_one, AreSeen};
 ghost use Rattle.cc_names.specs.Names.{numbers_from};
 
-use cc_num::{NoMemory, at};
 use cc_order::first_positions;
+use cc_program::num::{NoMemory, at};
 use std::alloc::Global;
 
 /// Puts a number behind an order, where it is within bounds and not seen yet.

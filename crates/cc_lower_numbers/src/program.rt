@@ -12,7 +12,7 @@ use crate::names::temporary_names;
 use crate::order::places;
 use crate::stmt::rename_stmts;
 use crate::temporaries::{kept_count, temporaries};
-use cc_num::{List, Name, NoMemory};
+use cc_program::num::{List, Name, NoMemory};
 use cc_program::{Func, Program};
 use std::alloc::Global;
 

@@ -4,7 +4,7 @@ ghost use Rattle.std.specs.Prelude.{◌≡◌, IfOk, map, option_map};
 ghost use Rattle.cc_lower_numbers.specs.Renamed.{number_at, expr_renamed, stmt_renamed, case_renamed};
 
 use crate::expr::rename_boxed;
-use cc_num::{Boxed, List, NoMemory};
+use cc_program::num::{Boxed, List, NoMemory};
 use cc_program::{Case, Expr, Stmt};
 use std::alloc::Global;
 

@@ -8,7 +8,7 @@ ghost use Rattle.cc_syntax.specs.Forms.{form_of};
 ghost use Rattle.cc_lower_numbers.specs.Temporaries.{has_name as has_name_of, named_count as named_count_of, kept_count as kept_count_of, temporary_count as temporary_count_of, local_in, local_written, written_by, written_in, temporaries as temporaries_of};
 
 use crate::order::ordered;
-use cc_num::{List, Name, NoMemory};
+use cc_program::num::{List, Name, NoMemory};
 use cc_program::{CType, Case, Expr, Func, Place, Stmt};
 use std::alloc::Global;
 

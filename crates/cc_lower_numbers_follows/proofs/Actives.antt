@@ -12,12 +12,12 @@ use Rattle.cc_program.specs.declared.stmt.Stmt.{Stmt, out-Stmt}
 use Rattle.cc_program.specs.declared.stmt.Stmt.TheOpen as is
 use Rattle.cc_program.specs.declared.value.Value.{Value}
 use Rattle.cc_program.specs.declared.value.Value.TheVariants.{Int, Place}
-use Rattle.cc_control.specs.Control.{Level, Control, arm, around_list, behind, close, counted, from_label, is_label, is_default}
-use Rattle.cc_eval.specs.declared.mark.Mark.{Mark}
-use Rattle.cc_eval.specs.Progress.{Progress, Known, Waits, Traps}
-use Rattle.cc_steps.specs.State.{Active}
-use Rattle.cc_steps.specs.Step.{is_known, is_passed, number_in, at_test, moved, with_mark, in_case, switched, looped, next_place, progress_in, progress_at, is_past, passes, begun_at, goes_to, progress_of, settled_in, settled, marked}
-use Rattle.cc_values.specs.Values.{is_true}
+use Rattle.cc_states.specs.CcControl.Control.{Level, Control, arm, around_list, behind, close, counted, from_label, is_label, is_default}
+use Rattle.cc_states.specs.CcEval.declared.mark.Mark.{Mark}
+use Rattle.cc_states.specs.CcEval.Progress.{Progress, Known, Waits, Traps}
+use Rattle.cc_states.specs.CcSteps.State.{Active}
+use Rattle.cc_states.specs.CcSteps.Step.{is_known, is_passed, number_in, at_test, moved, with_mark, in_case, switched, looped, next_place, progress_in, progress_at, is_past, passes, begun_at, goes_to, progress_of, settled_in, settled, marked}
+use Rattle.cc_states.specs.CcValues.Values.{is_true}
 use Rattle.cc_lower_numbers_follows.specs.Renaming.{Renaming, value_renamed, mark_renamed, AreFuncsRenamed, IsRenamed}
 use Rattle.cc_lower_numbers_follows.proofs.Controls.{expr_there, list_there, case_there, layer_there, out_there, level_there, levels_there, control_there, around_same, close_same, behind_level_same, broken_same, continued_same, arm_same, found_there, found_same, passed_there, passed_first_same}
 use Rattle.cc_lower_numbers_follows.proofs.Gets.{marks_renamed, progress_renamed}

@@ -9,11 +9,11 @@ use Rattle.cc_program.specs.declared.stmt.Stmt.{Stmt, out-Stmt, roll-Stmt, map-S
 use Rattle.cc_program.specs.declared.stmt.Stmt.TheOpen as is
 use Rattle.cc_program.proofs.Each.{Each}
 use Rattle.cc_program.proofs.StmtInduction.{StmtParts, by_stmt}
-use Rattle.cc_control.specs.declared.phase.Phase.{Phase}
-use Rattle.cc_control.specs.declared.phase.Phase.TheVariants.{First, Test, Again}
-use Rattle.cc_control.specs.Control.{Level, Control, level, counted, is_loop, is_left_by_break, behind_body, opening, first_phase, begun, behind_first, first_is, coming, around_list, close, behind, broken, continued, arm, bodies, from_label, is_label, is_default}
-use Rattle.cc_control.proofs.Begun.{begun_stands, begun_enters}
-use Rattle.cc_steps.specs.Step.{worked, passed_at, passed, passed_first}
+use Rattle.cc_states.specs.CcControl.declared.phase.Phase.{Phase}
+use Rattle.cc_states.specs.CcControl.declared.phase.Phase.TheVariants.{First, Test, Again}
+use Rattle.cc_states.specs.CcControl.Control.{Level, Control, level, counted, is_loop, is_left_by_break, behind_body, opening, first_phase, begun, behind_first, first_is, coming, around_list, close, behind, broken, continued, arm, bodies, from_label, is_label, is_default}
+use Rattle.cc_states.proofs.CcControl.Begun.{begun_stands, begun_enters}
+use Rattle.cc_states.specs.CcSteps.Step.{worked, passed_at, passed, passed_first}
 use Rattle.cc_lower_numbers.specs.Renamed.{expr_renamed, stmt_with, stmt_step, stmt_renamed, case_renamed}
 
 module _ (local device : ℕ → ℕ) where

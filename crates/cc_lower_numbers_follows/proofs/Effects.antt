@@ -1,6 +1,6 @@
 -- What is known of expressions by other numbers before they run.
 use Rattle.std.proofs.Common.{◌≡◌, ◌∙◌, ◌==◌, ◌||◌, ◌&&◌, ℕ, not, Option, Some, None, option_map, refl, ap}
-use Rattle.cc_syntax.specs.Effects.{Registers, also, Effects, PlaceEffects, only, is_soft, nothing, of_both, impure, assigned_to, plain, within, operands}
+use Rattle.cc_states.specs.CcSyntax.Effects.{Registers, also, Effects, PlaceEffects, only, is_soft, nothing, of_both, impure, assigned_to, plain, within, operands}
 
 module _ (local : ℕ → ℕ) (same_number : (i j : ℕ) → (local i == local j) ≡ (i == j)) where
   -- registers by other numbers

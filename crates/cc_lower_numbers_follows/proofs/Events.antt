@@ -2,15 +2,15 @@
 use Rattle.std.proofs.Common.{◌≡◌, ◌∙◌, ◌∷◌, ◌++◌, ◌&&◌, ◌||◌, ◌⊎◌, inl, inr, ℕ, ℤ, Bool, true, false, not, List, [], map, Option, Some, None, option_map, option_and_then, slice_get, refl, ap, sym, subst, if◌then◌else◌}
 use Rattle.std.specs.Prelude.{pos, nat_lt, is_some}
 use Rattle.std.proofs.lemmas.Option.{same_Some}
-use Rattle.cc_eval.specs.declared.action.Action.TheVariants.{Read, Write, Choose, Call, Flag, Save}
-use Rattle.cc_eval.specs.declared.mark.Mark.{Mark}
-use Rattle.cc_eval.specs.declared.spots.Spot.{Spot}
-use Rattle.cc_eval.specs.declared.spots.Spot.TheVariants as spot
-use Rattle.cc_eval.specs.Context.{Context, has_elements, path_to, named_by, designated, cell_of, reached, element_in, element, member, is_seen}
-use Rattle.cc_eval.specs.Eval.{Meaning, Designation, manner, from_one, both_values, from_two, place_and_value, branch, outcome, arms, choice, as_condition, assigned_by, each, all_good, called_with, called, address_of, fetched, stored, changed_back, changed_with, stepped_back, stepped_with, element_at, expr_meaning, place_meaning, meaning, designation}
-use Rattle.cc_eval.specs.Marks.{UsesFirst}
-use Rattle.cc_eval.specs.Progress.{Progress, Known, Waits, Traps, Get, known, ask, and_then, bind, needs, given, chosen}
-use Rattle.cc_eval.proofs.Uses.{uses_ask, uses_needs, uses_bind}
+use Rattle.cc_states.specs.CcEval.declared.action.Action.TheVariants.{Read, Write, Choose, Call, Flag, Save}
+use Rattle.cc_states.specs.CcEval.declared.mark.Mark.{Mark}
+use Rattle.cc_states.specs.CcEval.declared.spots.Spot.{Spot}
+use Rattle.cc_states.specs.CcEval.declared.spots.Spot.TheVariants as spot
+use Rattle.cc_states.specs.CcEval.Context.{Context, has_elements, path_to, named_by, designated, cell_of, reached, element_in, element, member, is_seen}
+use Rattle.cc_states.specs.CcEval.Eval.{Meaning, Designation, manner, from_one, both_values, from_two, place_and_value, branch, outcome, arms, choice, as_condition, assigned_by, each, all_good, called_with, called, address_of, fetched, stored, changed_back, changed_with, stepped_back, stepped_with, element_at, expr_meaning, place_meaning, meaning, designation}
+use Rattle.cc_states.specs.CcEval.Marks.{UsesFirst}
+use Rattle.cc_states.specs.CcEval.Progress.{Progress, Known, Waits, Traps, Get, known, ask, and_then, bind, needs, given, chosen}
+use Rattle.cc_states.proofs.CcEval.Uses.{uses_ask, uses_needs, uses_bind}
 use Rattle.cc_program.specs.declared.expr.Expr.{Expr, roll-Expr, map-Expr}
 use Rattle.cc_program.specs.declared.expr.Expr.TheOpen as one
 use Rattle.cc_program.specs.declared.expr.Intr.TheVariants as intr
@@ -34,22 +34,22 @@ use Rattle.cc_program.specs.declared.value.Value.TheVariants.{Int, Place}
 use Rattle.cc_program.proofs.Each.{Each}
 use Rattle.cc_program.proofs.ExprInduction.{Parts, PlaceParts, by_expr}
 use Rattle.cc_program.proofs.QualifierLemmas.{parts_volatile, volatile-opens}
-use Rattle.cc_syntax.specs.Effects.{Registers, also}
-use Rattle.cc_syntax.specs.Expressions.{of_one, of_two}
-use Rattle.cc_syntax.specs.Registers.{may_be_register, is_register, is_addressed}
-use Rattle.cc_syntax.specs.Types.{Named}
-use Rattle.cc_syntax.specs.Values.{ValueType, ToObject, ToFunction, PlaceType, DevicePlace, ObjectPlace, FunctionPlace, object_place, scalar_value, scalar_shape, member_of, member_shape}
-use Rattle.cc_values.specs.Values.{integer, address_in, truth, of_truth, element_at as element_at_address}
+use Rattle.cc_states.specs.CcSyntax.Effects.{Registers, also}
+use Rattle.cc_states.specs.CcSyntax.Expressions.{of_one, of_two}
+use Rattle.cc_states.specs.CcSyntax.Registers.{may_be_register, is_register, is_addressed}
+use Rattle.cc_states.specs.CcSyntax.Types.{Named}
+use Rattle.cc_states.specs.CcSyntax.Values.{ValueType, ToObject, ToFunction, PlaceType, DevicePlace, ObjectPlace, FunctionPlace, object_place, scalar_value, scalar_shape, member_of, member_shape}
+use Rattle.cc_states.specs.CcValues.Values.{integer, address_in, truth, of_truth, element_at as element_at_address}
 use Rattle.cc_states.specs.Answers.{IsActivation, AreAnswers, TakesAddressesOf, IsMarkOf}
 use Rattle.cc_states.specs.Typed.{is_register_in, IsInMemory, IsAddress, IsSpot}
 use Rattle.cc_states.proofs.AddressLemmas.{IfTaken, PlaceIfTaken, parts_at, place_parts_at, rolled_takes, rolled_place_takes}
 use Rattle.cc_states.proofs.EvalTypes.{designation_typed}
 use Rattle.cc_states.proofs.Options.{mapped}
-use Rattle.cc_eval.proofs.Works.{left_answers, gives_made}
-use Rattle.cc_eval.proofs.Links.{level, place_level}
-use Rattle.cc_syntax.specs.Initial.{bound_of}
-use Rattle.cc_num.specs.declared.int_type.IntType.{IntType}
-use Rattle.cc_num.specs.declared.op.BinOp.{BinOp}
+use Rattle.cc_states.proofs.CcEval.Works.{left_answers, gives_made}
+use Rattle.cc_states.proofs.CcEval.Links.{level, place_level}
+use Rattle.cc_states.specs.CcSyntax.Initial.{bound_of}
+use Rattle.cc_program.specs.CcNum.declared.int_type.IntType.{IntType}
+use Rattle.cc_program.specs.CcNum.declared.op.BinOp.{BinOp}
 use Rattle.cc_lower_numbers_follows.specs.Shown.{IsCellShown}
 use Rattle.cc_lower_numbers_follows.proofs.Seen.{IsFine, fine_known, fine_trap, fine_ask, fine_from, fine_bind, fine_needs}
 

@@ -1,9 +1,9 @@
 -- What asks for steps by other numbers, mark by mark: it asks for the same steps, by other numbers, and gives the same, by other numbers.
 use Rattle.std.proofs.Common.{◌≡◌, ◌∙◌, ◌∷◌, List, [], map, Option, Some, None, option_map, refl, ap}
-use Rattle.cc_eval.specs.declared.action.Action.{Action}
-use Rattle.cc_eval.specs.declared.mark.Mark.{Mark}
-use Rattle.cc_eval.specs.declared.mark.Mark.TheVariants.{Gave, Did, Chose}
-use Rattle.cc_eval.specs.Progress.{Progress, Known, Waits, Traps, Get, known, trap, ask, and_then, bind, needs, given, chosen}
+use Rattle.cc_states.specs.CcEval.declared.action.Action.{Action}
+use Rattle.cc_states.specs.CcEval.declared.mark.Mark.{Mark}
+use Rattle.cc_states.specs.CcEval.declared.mark.Mark.TheVariants.{Gave, Did, Chose}
+use Rattle.cc_states.specs.CcEval.Progress.{Progress, Known, Waits, Traps, Get, known, trap, ask, and_then, bind, needs, given, chosen}
 use Rattle.cc_lower_numbers_follows.specs.Renaming.{Renaming, action_renamed, mark_renamed}
 use Rattle.cc_lower_numbers_follows.proofs.Values.{may_renamed}
 

@@ -1,9 +1,9 @@
 -- An expression by other numbers asks for the same steps, by other numbers.
 use Rattle.std.proofs.Common.{◌≡◌, ◌∙◌, ◌∷◌, ◌==◌, ℕ, ℤ, Bool, true, false, not, List, [], map, Option, Some, None, option_map, option_and_then, slice_get, refl, ap, sym, subst, if◌then◌else◌}
 use Rattle.std.specs.Prelude.{pos, is_some}
-use Rattle.cc_num.specs.declared.int_type.IntType.{IntType}
-use Rattle.cc_num.specs.declared.op.BinOp.{BinOp}
-use Rattle.cc_num.specs.declared.target.Target.{Target}
+use Rattle.cc_program.specs.CcNum.declared.int_type.IntType.{IntType}
+use Rattle.cc_program.specs.CcNum.declared.op.BinOp.{BinOp}
+use Rattle.cc_program.specs.CcNum.declared.target.Target.{Target}
 use Rattle.cc_program.specs.declared.expr.Expr.{Expr, roll-Expr, map-Expr, fold-roll-Expr}
 use Rattle.cc_program.specs.declared.expr.Expr.TheOpen as one
 use Rattle.cc_program.specs.declared.expr.Intr.{Intr}
@@ -18,21 +18,21 @@ use Rattle.cc_program.specs.declared.value.Value.{Value}
 use Rattle.cc_program.specs.declared.value.Value.TheVariants.{Int, Place}
 use Rattle.cc_program.proofs.Each.{Each}
 use Rattle.cc_program.proofs.ExprInduction.{Parts, PlaceParts, by_expr}
-use Rattle.cc_syntax.specs.Effects.{Registers, no_one, also, Effects, only, of_both, impure, assigned_to, operands}
-use Rattle.cc_syntax.specs.Expressions.{of_one, of_two}
-use Rattle.cc_syntax.specs.Operators.{unary_type, binary_type, conversion_type, moved_type, gap_type, comparison_type, logical_type, choice_type, assignment_type, change_type, after_type, call_type, intrinsic_type, subscript_type, function_type, when}
-use Rattle.cc_syntax.specs.Expressions as typing
-use Rattle.cc_syntax.specs.Registers.{is_register}
-use Rattle.cc_syntax.specs.Values.{ValueType, NoValue, Integer, ToObject, ToFunction, PlaceType, DevicePlace, read_from, written_to, address_of as pointer_to_place, pointed_to, member_of}
-use Rattle.cc_syntax.specs.Views.{of_program}
-use Rattle.cc_eval.specs.declared.action.Action.TheVariants.{Read, Write, Choose, Call, Flag, Save}
-use Rattle.cc_eval.specs.declared.mark.Mark.{Mark}
-use Rattle.cc_eval.specs.declared.spots.Spot.{Spot}
-use Rattle.cc_eval.specs.declared.spots.Spot.TheVariants as spot
-use Rattle.cc_eval.specs.Context.{Context, reached, element, member, is_seen}
-use Rattle.cc_eval.specs.Eval.{Meaning, Designation, manner, from_one, both_values, from_two, place_and_value, branch, outcome, arms, choice, as_condition, both, either, chosen_arm, assigned_by, each, all_good, called_with, called, restored, intrinsic, sequence, is_back, changed, sum_or_difference, one_more_type, address_of, value_type, fetched, stored, changed_with, changed_by, stepped_back, stepped_with, next_step, expr_effects, expr_type, expr_meaning, element_at, leads_to, place_meaning, meaning, designation}
-use Rattle.cc_eval.specs.Progress.{Get, known, ask, bind, given, chosen}
-use Rattle.cc_values.specs.Values.{integer, address_in, unary, binary, conversion, truth, of_truth, movement, gap, comparison}
+use Rattle.cc_states.specs.CcSyntax.Effects.{Registers, no_one, also, Effects, only, of_both, impure, assigned_to, operands}
+use Rattle.cc_states.specs.CcSyntax.Expressions.{of_one, of_two}
+use Rattle.cc_states.specs.CcSyntax.Operators.{unary_type, binary_type, conversion_type, moved_type, gap_type, comparison_type, logical_type, choice_type, assignment_type, change_type, after_type, call_type, intrinsic_type, subscript_type, function_type, when}
+use Rattle.cc_states.specs.CcSyntax.Expressions as typing
+use Rattle.cc_states.specs.CcSyntax.Registers.{is_register}
+use Rattle.cc_states.specs.CcSyntax.Values.{ValueType, NoValue, Integer, ToObject, ToFunction, PlaceType, DevicePlace, read_from, written_to, address_of as pointer_to_place, pointed_to, member_of}
+use Rattle.cc_states.specs.CcSyntax.Views.{of_program}
+use Rattle.cc_states.specs.CcEval.declared.action.Action.TheVariants.{Read, Write, Choose, Call, Flag, Save}
+use Rattle.cc_states.specs.CcEval.declared.mark.Mark.{Mark}
+use Rattle.cc_states.specs.CcEval.declared.spots.Spot.{Spot}
+use Rattle.cc_states.specs.CcEval.declared.spots.Spot.TheVariants as spot
+use Rattle.cc_states.specs.CcEval.Context.{Context, reached, element, member, is_seen}
+use Rattle.cc_states.specs.CcEval.Eval.{Meaning, Designation, manner, from_one, both_values, from_two, place_and_value, branch, outcome, arms, choice, as_condition, both, either, chosen_arm, assigned_by, each, all_good, called_with, called, restored, intrinsic, sequence, is_back, changed, sum_or_difference, one_more_type, address_of, value_type, fetched, stored, changed_with, changed_by, stepped_back, stepped_with, next_step, expr_effects, expr_type, expr_meaning, element_at, leads_to, place_meaning, meaning, designation}
+use Rattle.cc_states.specs.CcEval.Progress.{Get, known, ask, bind, given, chosen}
+use Rattle.cc_states.specs.CcValues.Values.{integer, address_in, unary, binary, conversion, truth, of_truth, movement, gap, comparison}
 use Rattle.cc_lower_numbers.specs.Renamed.{place_with, place_step, expr_renamed, place_renamed}
 use Rattle.cc_lower_numbers_follows.specs.Renaming.{Renaming, address_renamed, value_renamed, cell_renamed, spot_renamed, IsFuncRenamed, IsRenamed}
 use Rattle.cc_lower_numbers_follows.proofs.Effects.{AreSame, also_same, AreEffectsSame, ArePlaceEffectsSame, only_same, soft_same, nothing_same, both_same, impure_same, assigned_same, plain_same, within_same, operands_same}

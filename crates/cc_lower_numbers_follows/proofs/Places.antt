@@ -1,10 +1,10 @@
 -- Where places lead by other numbers.
 use Rattle.std.proofs.Common.{◌≡◌, ◌∙◌, ◌∷◌, ◌++◌, ℕ, ℤ, Bool, true, false, List, [], Option, Some, None, option_map, option_and_then, slice_get, refl, ap, sym, if◌then◌else◌}
 use Rattle.std.specs.Prelude.{nat_lt}
-use Rattle.cc_eval.specs.declared.spots.Spot.{Spot}
-use Rattle.cc_eval.specs.declared.spots.Spot.TheVariants as spot
-use Rattle.cc_eval.specs.Context.{local_type, object_type, are_alike, has_elements, path_to, named_by, designated, cell_of, cell_at, reached, element_in, element, member, address_at}
-use Rattle.cc_eval.specs.Eval.{address_of}
+use Rattle.cc_states.specs.CcEval.declared.spots.Spot.{Spot}
+use Rattle.cc_states.specs.CcEval.declared.spots.Spot.TheVariants as spot
+use Rattle.cc_states.specs.CcEval.Context.{local_type, object_type, are_alike, has_elements, path_to, named_by, designated, cell_of, cell_at, reached, element_in, element, member, address_at}
+use Rattle.cc_states.specs.CcEval.Eval.{address_of}
 use Rattle.cc_program.specs.declared.func.Func.{Func}
 use Rattle.cc_program.specs.declared.object.Device.{Device}
 use Rattle.cc_program.specs.declared.program.Program.{Program}
@@ -15,11 +15,11 @@ use Rattle.cc_program.specs.declared.value.Part.TheVariants as part
 use Rattle.cc_program.specs.declared.value.Root.{Root}
 use Rattle.cc_program.specs.declared.value.Root.TheVariants as root
 use Rattle.cc_program.specs.declared.value.Value.TheVariants as value
-use Rattle.cc_syntax.specs.Expressions.{of_two}
-use Rattle.cc_syntax.specs.Initial.{place_at, bound_of}
-use Rattle.cc_syntax.specs.Types.{Named}
-use Rattle.cc_syntax.specs.Values.{PlaceType, object_place, element_of}
-use Rattle.cc_values.specs.Values.{element_at}
+use Rattle.cc_states.specs.CcSyntax.Expressions.{of_two}
+use Rattle.cc_states.specs.CcSyntax.Initial.{place_at, bound_of}
+use Rattle.cc_states.specs.CcSyntax.Types.{Named}
+use Rattle.cc_states.specs.CcSyntax.Values.{PlaceType, object_place, element_of}
+use Rattle.cc_states.specs.CcValues.Values.{element_at}
 use Rattle.cc_lower_numbers_follows.specs.Renaming.{Renaming, root_renamed, address_renamed, cell_renamed, spot_renamed, IsFuncRenamed, AreFuncsRenamed, with_parts, IsRenamed}
 use Rattle.cc_lower_numbers_follows.proofs.Values.{may_renamed, element_at_kept, value_of_address}
 

@@ -12,8 +12,8 @@ use Rattle.cc_program.specs.declared.types.CType.{CType}
 use Rattle.cc_program.proofs.Each.{Each}
 use Rattle.cc_program.proofs.FoldFusion.{fused}
 use Rattle.cc_program.proofs.StmtInduction.{StmtParts, CaseParts, by_stmt}
-use Rattle.cc_syntax.specs.Registers.{PlaceUse, address_step, use_step, is_address_taken, place_use, is_taken_in_optional, stmt_step, is_taken_in, is_addressed, may_be_register, is_register}
-use Rattle.cc_syntax.specs.Types.{Named}
+use Rattle.cc_states.specs.CcSyntax.Registers.{PlaceUse, address_step, use_step, is_address_taken, place_use, is_taken_in_optional, stmt_step, is_taken_in, is_addressed, may_be_register, is_register}
+use Rattle.cc_states.specs.CcSyntax.Types.{Named}
 use Rattle.cc_lower_numbers.specs.Renamed.{place_with, expr_renamed, place_renamed, place_step as renamed_step, stmt_with, stmt_renamed, case_renamed, stmt_step as renamed_stmt_step}
 
 module _ (local device : ℕ → ℕ) (same_number : (i j : ℕ) → (local i == local j) ≡ (i == j)) (r : ℕ) where

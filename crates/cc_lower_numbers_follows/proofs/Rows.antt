@@ -12,9 +12,9 @@ use Rattle.cc_program.specs.declared.value.Root.{Root}
 use Rattle.cc_program.specs.declared.value.Root.TheVariants as root
 use Rattle.cc_program.specs.declared.value.Value.{Value}
 use Rattle.cc_program.specs.declared.value.Value.TheVariants.{Int, Place}
-use Rattle.cc_steps.specs.declared.event.Event.{Event}
-use Rattle.cc_steps.specs.declared.event.Event.TheVariants as event
-use Rattle.cc_steps.specs.Rows.{Spelled, Auto, ToObject, ToFunction, Reads, Writes, Enters, steps, func_name, local_in, object_spelled, device_spelled, cell_spelled, address_spelled, value_spelled, row_of, rows_of}
+use Rattle.cc_states.specs.CcSteps.declared.event.Event.{Event}
+use Rattle.cc_states.specs.CcSteps.declared.event.Event.TheVariants as event
+use Rattle.cc_states.specs.CcSteps.Rows.{Spelled, Auto, ToObject, ToFunction, Reads, Writes, Enters, steps, func_name, local_in, object_spelled, device_spelled, cell_spelled, address_spelled, value_spelled, row_of, rows_of}
 use Rattle.cc_states.specs.Typed.{is_register_in, IsInMemory}
 use Rattle.cc_lower_numbers_follows.specs.Renaming.{Renaming, root_renamed, address_renamed, value_renamed, cell_renamed, event_renamed, AreFuncsRenamed, IsRenamed}
 use Rattle.cc_lower_numbers_follows.specs.Shown.{IsCellShown, IsAddressShown, IsValueShown, IsShown, AreShown}

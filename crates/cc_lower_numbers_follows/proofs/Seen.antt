@@ -1,15 +1,15 @@
 -- No event of a typed program names a register in its cell: an activation reaches a register by its name alone, and then through no volatile type.
 use Rattle.std.proofs.Common.{◌≡◌, ◌∙◌, ◌∷◌, ℕ, true, List, [], Option, Some, None, refl, ap, subst}
-use Rattle.cc_eval.specs.declared.action.Action.{Action}
-use Rattle.cc_eval.specs.declared.action.Action.TheVariants.{Read, Write, Choose, Call, Flag, Save}
-use Rattle.cc_eval.specs.declared.mark.Mark.{Mark}
-use Rattle.cc_eval.specs.Eval.{manner}
-use Rattle.cc_eval.specs.Marks.{UsesFirst}
-use Rattle.cc_eval.specs.Progress.{Progress, Known, Waits, Traps, Get, known, trap, ask, and_then, bind, needs}
-use Rattle.cc_eval.proofs.Uses.{uses_known, uses_trap, uses_ask, uses_bind}
+use Rattle.cc_states.specs.CcEval.declared.action.Action.{Action}
+use Rattle.cc_states.specs.CcEval.declared.action.Action.TheVariants.{Read, Write, Choose, Call, Flag, Save}
+use Rattle.cc_states.specs.CcEval.declared.mark.Mark.{Mark}
+use Rattle.cc_states.specs.CcEval.Eval.{manner}
+use Rattle.cc_states.specs.CcEval.Marks.{UsesFirst}
+use Rattle.cc_states.specs.CcEval.Progress.{Progress, Known, Waits, Traps, Get, known, trap, ask, and_then, bind, needs}
+use Rattle.cc_states.proofs.CcEval.Uses.{uses_known, uses_trap, uses_ask, uses_bind}
 use Rattle.cc_program.specs.declared.program.Program.{Program}
 use Rattle.cc_states.specs.Answers.{AreAnswers, IsMarkOf}
-use Rattle.cc_eval.proofs.Works.{same_action, left_answers, right_answers}
+use Rattle.cc_states.proofs.CcEval.Works.{same_action, left_answers, right_answers}
 use Rattle.cc_lower_numbers_follows.specs.Shown.{IsCellShown}
 
 module _ (p : Program) (openings : List ℕ) where

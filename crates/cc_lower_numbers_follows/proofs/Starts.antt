@@ -3,7 +3,7 @@ use Rattle.std.proofs.Common.{◌≡◌, ◌∙◌, ◌∷◌, ◌++◌, inl, in
 use Rattle.std.specs.Prelude.{unwrap_or, replicate, fold}
 use Rattle.std.specs.List.{flat_map}
 use Rattle.std.proofs.lemmas.List.{map-append}
-use Rattle.cc_cells.specs.Scalars.{shape_zeros, zeros_over, member_zeros, structure_zeros, zeros}
+use Rattle.cc_states.specs.CcCells.Scalars.{shape_zeros, zeros_over, member_zeros, structure_zeros, zeros}
 use Rattle.cc_program.specs.declared.func.Func.{Func}
 use Rattle.cc_program.specs.declared.object.Device.{Device}
 use Rattle.cc_program.specs.declared.object.Object.{Object}
@@ -21,14 +21,14 @@ use Rattle.cc_program.specs.declared.value.Root.TheVariants as root
 use Rattle.cc_program.specs.declared.value.Value.{Value}
 use Rattle.cc_program.proofs.TypeInduction.{with_shape, TypeParts, by_type}
 use Rattle.cc_states.proofs.ZeroLemmas.{parts_zeros, zeros-shape}
-use Rattle.cc_steps.specs.State.{first_value, values_or, first_values}
-use Rattle.cc_steps.specs.Turn.{first_of_stack, start}
-use Rattle.cc_syntax.specs.Programs.{is_address, AreLeaves, AreElements, AreMembers, IsInitial}
-use Rattle.cc_syntax.specs.Initial.{OfInteger, OfPointer, OfArray, OfStructure, NoElement, Element, NoMember, Member}
-use Rattle.cc_syntax.specs.Sound.{IsTypedProgram}
-use Rattle.cc_syntax.specs.Types.{Named}
-use Rattle.cc_syntax.specs.Values.{ValueType}
-use Rattle.cc_syntax.proofs.Parts.{all_at}
+use Rattle.cc_states.specs.CcSteps.State.{first_value, values_or, first_values}
+use Rattle.cc_states.specs.CcSteps.Turn.{first_of_stack, start}
+use Rattle.cc_states.specs.CcSyntax.Programs.{is_address, AreLeaves, AreElements, AreMembers, IsInitial}
+use Rattle.cc_states.specs.CcSyntax.Initial.{OfInteger, OfPointer, OfArray, OfStructure, NoElement, Element, NoMember, Member}
+use Rattle.cc_states.specs.CcSyntax.Sound.{IsTypedProgram}
+use Rattle.cc_states.specs.CcSyntax.Types.{Named}
+use Rattle.cc_states.specs.CcSyntax.Values.{ValueType}
+use Rattle.cc_states.proofs.CcSyntax.Parts.{all_at}
 use Rattle.cc_lower_numbers_follows.specs.Renaming.{Renaming, value_renamed, address_renamed, AreFuncsRenamed, IsRenamed}
 use Rattle.cc_lower_numbers_follows.proofs.Steps.{Q, AreStacksSame, IsStateSame, activation_same}
 use Rattle.cc_lower_numbers_follows.proofs.Turns.{main_takes}

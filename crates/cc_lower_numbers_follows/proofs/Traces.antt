@@ -1,12 +1,12 @@
 -- No event of a run of a typed program names a register, turn by turn.
 use Rattle.std.proofs.Common.{◌≡◌, ◌∙◌, ◌∷◌, ◌++◌, ◌||◌, ◌==◌, ℕ, ℤ, Bool, true, false, List, [], Option, Some, None, option_map, slice_get, refl, ap, sym, subst, if◌then◌else◌}
 use Rattle.std.proofs.lemmas.Option.{same_Some}
-use Rattle.cc_cells.specs.Cells.{with_scalar}
-use Rattle.cc_eval.specs.declared.action.Action.{Action}
-use Rattle.cc_eval.specs.declared.action.Action.TheVariants.{Read, Write, Choose, Call, Flag, Save}
-use Rattle.cc_eval.specs.declared.action.Manner.{Manner}
-use Rattle.cc_eval.specs.Eval.{next_of}
-use Rattle.cc_eval.specs.Progress.{Progress, Known, Waits, Traps, no_value}
+use Rattle.cc_states.specs.CcCells.Cells.{with_scalar}
+use Rattle.cc_states.specs.CcEval.declared.action.Action.{Action}
+use Rattle.cc_states.specs.CcEval.declared.action.Action.TheVariants.{Read, Write, Choose, Call, Flag, Save}
+use Rattle.cc_states.specs.CcEval.declared.action.Manner.{Manner}
+use Rattle.cc_states.specs.CcEval.Eval.{next_of}
+use Rattle.cc_states.specs.CcEval.Progress.{Progress, Known, Waits, Traps, no_value}
 use Rattle.cc_program.specs.declared.expr.Expr.{Expr}
 use Rattle.cc_program.specs.declared.func.Func.{Func}
 use Rattle.cc_program.specs.declared.object.Device.{Device}
@@ -26,19 +26,19 @@ use Rattle.cc_program.specs.declared.value.Root.{Root}
 use Rattle.cc_program.specs.declared.value.Root.TheVariants as root
 use Rattle.cc_program.specs.declared.value.Value.{Value}
 use Rattle.cc_program.specs.declared.value.Value.TheVariants.{Int, Place}
-use Rattle.cc_steps.specs.declared.content.Content.{Content}
-use Rattle.cc_steps.specs.declared.content.Content.TheVariants.{Gone, Unwritten, Holds}
-use Rattle.cc_steps.specs.declared.event.Event.{Event}
-use Rattle.cc_steps.specs.declared.event.Event.TheVariants as event
-use Rattle.cc_steps.specs.Access.{is_open, with_local}
-use Rattle.cc_steps.specs.Runs.{Arrivals, run}
-use Rattle.cc_steps.specs.State.{Active, State}
-use Rattle.cc_steps.specs.Step.{with_stack, with_statics, with_event, content_at, written, gives_nothing, is_return, worked, progress_in, progress_of, cell_position, has_read, input_read, has_written, opened_if, call, returned, fallen, perform, done, stepped, active_step, proceed}
-use Rattle.cc_steps.specs.Turn.{is_going, start, entering, turn_by, turn}
-use Rattle.cc_syntax.specs.Effects.{no_one}
-use Rattle.cc_syntax.specs.Expressions.{of_one}
-use Rattle.cc_syntax.specs.Sound.{IsTypedProgram}
-use Rattle.cc_syntax.specs.Values.{ValueType, NoValue, Integer, ToObject, ToFunction, PlaceType, DevicePlace, ObjectPlace, FunctionPlace, pointer_shape, scalar_shape, read_from}
+use Rattle.cc_states.specs.CcSteps.declared.content.Content.{Content}
+use Rattle.cc_states.specs.CcSteps.declared.content.Content.TheVariants.{Gone, Unwritten, Holds}
+use Rattle.cc_states.specs.CcSteps.declared.event.Event.{Event}
+use Rattle.cc_states.specs.CcSteps.declared.event.Event.TheVariants as event
+use Rattle.cc_states.specs.CcSteps.Access.{is_open, with_local}
+use Rattle.cc_states.specs.CcSteps.Runs.{Arrivals, run}
+use Rattle.cc_states.specs.CcSteps.State.{Active, State}
+use Rattle.cc_states.specs.CcSteps.Step.{with_stack, with_statics, with_event, content_at, written, gives_nothing, is_return, worked, progress_in, progress_of, cell_position, has_read, input_read, has_written, opened_if, call, returned, fallen, perform, done, stepped, active_step, proceed}
+use Rattle.cc_states.specs.CcSteps.Turn.{is_going, start, entering, turn_by, turn}
+use Rattle.cc_states.specs.CcSyntax.Effects.{no_one}
+use Rattle.cc_states.specs.CcSyntax.Expressions.{of_one}
+use Rattle.cc_states.specs.CcSyntax.Sound.{IsTypedProgram}
+use Rattle.cc_states.specs.CcSyntax.Values.{ValueType, NoValue, Integer, ToObject, ToFunction, PlaceType, DevicePlace, ObjectPlace, FunctionPlace, pointer_shape, scalar_shape, read_from}
 use Rattle.cc_states.specs.Answers.{IsAction, IsMarkOf}
 use Rattle.cc_states.specs.States.{worked_at, expression_of, AreMarks, context_in, IsActive, AreActive, IsState, IsStateOf}
 use Rattle.cc_states.specs.Typed.{HasType, cell_type, IsAddress}
@@ -47,7 +47,7 @@ use Rattle.cc_states.proofs.StartLemmas.{start_state}
 use Rattle.cc_states.proofs.StateLemmas.{asked}
 use Rattle.cc_states.proofs.StepLemmas.{held}
 use Rattle.cc_states.proofs.TurnLemmas.{turn_state}
-use Rattle.cc_eval.proofs.Works.{answers_of}
+use Rattle.cc_states.proofs.CcEval.Works.{answers_of}
 use Rattle.cc_lower_numbers_follows.specs.Shown.{IsAddressShown, IsValueShown, IsShown, AreShown, ShowsNoRegister}
 use Rattle.cc_lower_numbers_follows.proofs.Events.{meaning_fine}
 use Rattle.cc_lower_numbers_follows.proofs.Seen.{IsSeenFit}

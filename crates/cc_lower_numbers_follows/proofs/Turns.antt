@@ -3,8 +3,8 @@ use Rattle.std.proofs.Common.{◌≡◌, ◌∙◌, ◌∷◌, ◌&&◌, ◌||�
 use Rattle.std.specs.Prelude.{max, nat_eq, nat_lt, is_some}
 use Rattle.std.proofs.lemmas.Bool.{eqb-true}
 use Rattle.std.proofs.lemmas.Option.{same_Some}
-use Rattle.cc_eval.specs.declared.action.Action.{Action}
-use Rattle.cc_eval.specs.declared.action.Action.TheVariants.{Read, Write, Choose, Call, Flag, Save}
+use Rattle.cc_states.specs.CcEval.declared.action.Action.{Action}
+use Rattle.cc_states.specs.CcEval.declared.action.Action.TheVariants.{Read, Write, Choose, Call, Flag, Save}
 use Rattle.cc_program.specs.declared.func.Func.{Func}
 use Rattle.cc_program.specs.declared.object.Device.{Device}
 use Rattle.cc_program.specs.declared.program.Program.{Program}
@@ -16,12 +16,12 @@ use Rattle.cc_program.specs.declared.value.Cell.{Cell}
 use Rattle.cc_program.specs.declared.value.Cell.TheVariants as cell
 use Rattle.cc_program.specs.declared.value.Root.TheVariants as root
 use Rattle.cc_program.specs.declared.value.Value.{Value}
-use Rattle.cc_steps.specs.declared.event.Event.TheVariants.{Enter}
-use Rattle.cc_steps.specs.State.{Active, State}
-use Rattle.cc_steps.specs.Step.{with_flag, with_event, worked, progress_of, opened, proceed}
-use Rattle.cc_steps.specs.Turn.{is_going, only_handler, named_level, level_in, level_of, running_level, may_enter, entering, enters, entered, turn_by, turn}
-use Rattle.cc_syntax.specs.Operators.{is_handler}
-use Rattle.cc_syntax.specs.Sound.{any_names, is_main, is_main_there, takes_nothing, is_plain_int, is_plain_void, IsFuncBy, IsTypedProgram}
+use Rattle.cc_states.specs.CcSteps.declared.event.Event.TheVariants.{Enter}
+use Rattle.cc_states.specs.CcSteps.State.{Active, State}
+use Rattle.cc_states.specs.CcSteps.Step.{with_flag, with_event, worked, progress_of, opened, proceed}
+use Rattle.cc_states.specs.CcSteps.Turn.{is_going, only_handler, named_level, level_in, level_of, running_level, may_enter, entering, enters, entered, turn_by, turn}
+use Rattle.cc_states.specs.CcSyntax.Operators.{is_handler}
+use Rattle.cc_states.specs.CcSyntax.Sound.{any_names, is_main, is_main_there, takes_nothing, is_plain_int, is_plain_void, IsFuncBy, IsTypedProgram}
 use Rattle.cc_states.specs.Answers.{IsAction}
 use Rattle.cc_states.specs.States.{worked_at, expression_of, IsActive, AreActive, IsState, IsCalleeThere}
 use Rattle.cc_states.specs.Typed.{IsThere}

@@ -1,23 +1,23 @@
 -- A program by other numbers follows the program and answers it, where no event of its runs names a register.
 use Rattle.std.proofs.Common.{◌≡◌, ◌∙◌, ◌∷◌, ◌++◌, ◌&&◌, ℕ, ℤ, Bool, List, [], Option, refl, ap, sym, subst}
-use Rattle.cc_control.specs.declared.phase.Phase.{Phase}
-use Rattle.cc_control.specs.declared.phase.Phase.TheVariants.{First, Test, Again}
-use Rattle.cc_eval.specs.declared.mark.Mark.{Mark}
+use Rattle.cc_states.specs.CcControl.declared.phase.Phase.{Phase}
+use Rattle.cc_states.specs.CcControl.declared.phase.Phase.TheVariants.{First, Test, Again}
+use Rattle.cc_states.specs.CcEval.declared.mark.Mark.{Mark}
 use Rattle.cc_program.specs.declared.func.Func.{Func}
 use Rattle.cc_program.specs.declared.object.Device.{Device}
 use Rattle.cc_program.specs.declared.program.Program.{Program}
 use Rattle.cc_program.specs.declared.stmt.Case.{Case}
 use Rattle.cc_program.specs.declared.stmt.Stmt.{Stmt, out-Stmt}
 use Rattle.cc_program.specs.declared.stmt.Stmt.TheOpen as is
-use Rattle.cc_steps.proofs.RunLaws.{run-append, Follows-by_simulation, Answers-by_simulation}
-use Rattle.cc_steps.specs.Rows.{rows_of}
-use Rattle.cc_steps.specs.Runs.{Arrivals, run, Same, Follows, Answers, IsBoundary, is_empty, begins_at, begins, running_begins}
-use Rattle.cc_steps.specs.State.{Active, State}
-use Rattle.cc_steps.specs.Turn.{is_going, start, turn, enters}
+use Rattle.cc_states.proofs.CcSteps.RunLaws.{run-append, Follows-by_simulation, Answers-by_simulation}
+use Rattle.cc_states.specs.CcSteps.Rows.{rows_of}
+use Rattle.cc_states.specs.CcSteps.Runs.{Arrivals, run, Same, Follows, Answers, IsBoundary, is_empty, begins_at, begins, running_begins}
+use Rattle.cc_states.specs.CcSteps.State.{Active, State}
+use Rattle.cc_states.specs.CcSteps.Turn.{is_going, start, turn, enters}
 use Rattle.cc_states.specs.States.{IsState}
 use Rattle.cc_states.proofs.StartLemmas.{start_state}
 use Rattle.cc_states.proofs.TurnLemmas.{turn_state}
-use Rattle.cc_syntax.specs.Sound.{IsTypedProgram}
+use Rattle.cc_states.specs.CcSyntax.Sound.{IsTypedProgram}
 use Rattle.cc_lower_numbers_follows.specs.Renaming.{Renaming, IsRenamed}
 use Rattle.cc_lower_numbers_follows.specs.Shown.{AreShown, ShowsNoRegister}
 use Rattle.cc_lower_numbers_follows.proofs.Controls.{list_there, layer_there, out_there}

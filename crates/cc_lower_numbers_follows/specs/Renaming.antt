@@ -1,11 +1,11 @@
 -- Programs whose locals and devices have other numbers, and what they make of values, cells and events.
 use Rattle.std.specs.Prelude.{◌≡◌, ◌<◌, ℕ, false, List, map, Option, Some, None, option_map, slice_get}
-use Rattle.cc_eval.specs.declared.action.Action.{Action}
-use Rattle.cc_eval.specs.declared.action.Action.TheVariants.{Read, Write, Choose, Call, Flag, Save}
-use Rattle.cc_eval.specs.declared.mark.Mark.{Mark}
-use Rattle.cc_eval.specs.declared.mark.Mark.TheVariants.{Gave, Did, Chose}
-use Rattle.cc_eval.specs.declared.spots.Spot.{Spot}
-use Rattle.cc_eval.specs.declared.spots.Spot.TheVariants as spot
+use Rattle.cc_states.specs.CcEval.declared.action.Action.{Action}
+use Rattle.cc_states.specs.CcEval.declared.action.Action.TheVariants.{Read, Write, Choose, Call, Flag, Save}
+use Rattle.cc_states.specs.CcEval.declared.mark.Mark.{Mark}
+use Rattle.cc_states.specs.CcEval.declared.mark.Mark.TheVariants.{Gave, Did, Chose}
+use Rattle.cc_states.specs.CcEval.declared.spots.Spot.{Spot}
+use Rattle.cc_states.specs.CcEval.declared.spots.Spot.TheVariants as spot
 use Rattle.cc_lower_numbers.specs.Renamed.{stmt_renamed}
 use Rattle.cc_program.specs.declared.func.Func.{Func}
 use Rattle.cc_program.specs.declared.object.Device.{Device}
@@ -18,9 +18,9 @@ use Rattle.cc_program.specs.declared.value.Root.{Root}
 use Rattle.cc_program.specs.declared.value.Root.TheVariants as root
 use Rattle.cc_program.specs.declared.value.Value.{Value}
 use Rattle.cc_program.specs.declared.value.Value.TheVariants as value
-use Rattle.cc_steps.specs.declared.event.Event.{Event}
-use Rattle.cc_steps.specs.declared.event.Event.TheVariants as event
-use Rattle.cc_syntax.specs.Registers.{is_register}
+use Rattle.cc_states.specs.CcSteps.declared.event.Event.{Event}
+use Rattle.cc_states.specs.CcSteps.declared.event.Event.TheVariants as event
+use Rattle.cc_states.specs.CcSyntax.Registers.{is_register}
 
 -- the new number of a local of a function, and of a device
 pub record Renaming : Type 0 where

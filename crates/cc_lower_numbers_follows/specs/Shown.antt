@@ -7,10 +7,10 @@ use Rattle.cc_program.specs.declared.value.Cell.{Cell}
 use Rattle.cc_program.specs.declared.value.Cell.TheVariants as cell
 use Rattle.cc_program.specs.declared.value.Value.{Value}
 use Rattle.cc_program.specs.declared.value.Value.TheVariants.{Int, Place}
-use Rattle.cc_steps.specs.declared.event.Event.{Event}
-use Rattle.cc_steps.specs.declared.event.Event.TheVariants as event
-use Rattle.cc_steps.specs.Runs.{Arrivals, run}
-use Rattle.cc_steps.specs.Turn.{start}
+use Rattle.cc_states.specs.CcSteps.declared.event.Event.{Event}
+use Rattle.cc_states.specs.CcSteps.declared.event.Event.TheVariants as event
+use Rattle.cc_states.specs.CcSteps.Runs.{Arrivals, run}
+use Rattle.cc_states.specs.CcSteps.Turn.{start}
 use Rattle.cc_states.specs.Typed.{IsInMemory}
 
 module _ (p : Program) where

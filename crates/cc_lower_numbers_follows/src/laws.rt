@@ -4,8 +4,8 @@ ghost use Rattle.cc_lower_numbers_follows.specs.Shown.{ShowsNoRegister};
 ghost use Rattle.cc_program.specs.declared.func.Func.{Func};
 ghost use Rattle.cc_program.specs.declared.object.Device.{Device};
 ghost use Rattle.cc_program.specs.declared.program.Program.{Program};
-ghost use Rattle.cc_steps.specs.Runs.{Follows, Answers};
-ghost use Rattle.cc_syntax.specs.Sound.{IsTypedProgram};
+ghost use Rattle.cc_states.specs.CcSteps.Runs.{Follows, Answers};
+ghost use Rattle.cc_states.specs.CcSyntax.Sound.{IsTypedProgram};
 
 /// That a program whose locals and devices have other numbers, and whose registers may have other names, does what the program
 /// does, whatever the names of that are. The call does nothing.

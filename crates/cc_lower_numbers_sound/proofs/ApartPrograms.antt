@@ -14,7 +14,7 @@ use Rattle.cc_syntax.specs.Names.{are_names, device_names, intrinsic_names, file
 use Rattle.cc_syntax.specs.Normal.{devices_in_text}
 use Rattle.cc_syntax.specs.Sound.{IsTypedProgram, AreNamesApart}
 use Rattle.cc_syntax.specs.Types.{Named}
-use Rattle.cc_words.specs.Names.{is_name, are_distinct}
+use Rattle.cc_program.specs.CcWords.Names.{is_name, are_distinct}
 use Rattle.cc_lower_numbers.specs.Numbered.{with_name, named_from, device_order, names_of_program, temporary_names, numbered_locals, numbered_func, numbered}
 use Rattle.cc_lower_numbers.specs.Order.{place_in, arranged}
 use Rattle.cc_lower_numbers.specs.Temporaries.{kept_count, temporaries}

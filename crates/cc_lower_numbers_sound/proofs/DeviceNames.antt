@@ -9,7 +9,7 @@ use Rattle.cc_given_names.proofs.Among.{same-text, itself, among-first, first-ap
 use Rattle.cc_names.specs.Names.{is_among}
 use Rattle.cc_program.specs.declared.object.Device.{Device}
 use Rattle.cc_syntax.specs.Names.{with_name, device_names}
-use Rattle.cc_words.specs.Names.{are_distinct}
+use Rattle.cc_program.specs.CcWords.Names.{are_distinct}
 use Rattle.cc_lower_numbers.specs.Order.{arranged}
 use Rattle.cc_lower_numbers_sound.proofs.NameLists.{two-apart}
 use Rattle.cc_lower_numbers_sound.proofs.Orders.{has, once}

@@ -11,7 +11,7 @@ use Rattle.cc_program.specs.declared.types.Sig.{out-Sig}
 use Rattle.cc_syntax.specs.Names.{are_names, device_names, intrinsic_names, file_names, local_names}
 use Rattle.cc_syntax.specs.Sound.{any_names, IsFuncBy, IsTypedProgram, AreNamesApart}
 use Rattle.cc_syntax.specs.Types.{Named}
-use Rattle.cc_words.specs.Names.{is_name, are_distinct}
+use Rattle.cc_program.specs.CcWords.Names.{is_name, are_distinct}
 use Rattle.cc_lower_numbers.specs.Temporaries.{has_name, named_count, kept_count}
 use Rattle.cc_lower_numbers_sound.specs.Names.{AreNamesApartButForTemporaries}
 use Rattle.cc_lower_numbers_sound.proofs.Devices.{none_from}

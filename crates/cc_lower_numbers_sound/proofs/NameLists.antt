@@ -9,7 +9,7 @@ use Rattle.cc_given_names.proofs.Among.{same-text, among-first, among-left, amon
 use Rattle.cc_names.specs.Names.{is_among}
 use Rattle.cc_syntax.specs.Names.{local_names}
 use Rattle.cc_syntax.specs.Types.{Named}
-use Rattle.cc_words.specs.Names.{is_name, are_distinct}
+use Rattle.cc_program.specs.CcWords.Names.{is_name, are_distinct}
 
 abbrev pub Apart : List (List ℕ) → List (List ℕ) → Type 0
 Apart xs ys = (x : List ℕ) → is_among x xs ≡ true → is_among x ys ≡ false

@@ -8,7 +8,7 @@ use Rattle.cc_given_names.specs.Spaces.{AreAmong, HaveNumbers, is_named}
 use Rattle.cc_given_names.proofs.Among.{among-left}
 use Rattle.cc_given_names.proofs.Spaces.{names-apart, names-distinct, names-named}
 use Rattle.cc_names.specs.Names.{Wish, Numbered, is_among, new_name, names_for}
-use Rattle.cc_num.specs.declared.target.Target.{Target}
+use Rattle.cc_program.specs.CcNum.declared.target.Target.{Target}
 use Rattle.cc_program.specs.declared.func.Func.{Func}
 use Rattle.cc_program.specs.declared.object.Device.{Device}
 use Rattle.cc_program.specs.declared.object.Object.{Object}
@@ -17,8 +17,8 @@ use Rattle.cc_program.specs.declared.types.CType.{CType}
 use Rattle.cc_program.specs.declared.types.Structure.{Structure}
 use Rattle.cc_syntax.specs.Names.{with_name, device_names, intrinsic_names, file_names, tags, local_names}
 use Rattle.cc_syntax.specs.Sound.{any_names, IsTypedProgram, have_ids, is_member, is_structure_by, are_structures_by}
-use Rattle.cc_words.specs.Names.{is_name, are_distinct}
-use Rattle.cc_words.specs.Words.{word_of}
+use Rattle.cc_program.specs.CcWords.Names.{is_name, are_distinct}
+use Rattle.cc_program.specs.CcWords.Words.{word_of}
 use Rattle.cc_lower_numbers.specs.Numbered.{names_of_program, most_temporaries, temporary_names}
 use Rattle.cc_lower_numbers.specs.Temporaries.{temporary_count}
 use Rattle.cc_lower_numbers_sound.proofs.NameLists.{Apart}

@@ -1,7 +1,7 @@
 -- Expressions and statements by other numbers of locals and devices have the types that they had.
 use Rattle.std.proofs.Common.{◌≡◌, ◌∙◌, ◌&&◌, ◌∷◌, ℕ, Bool, true, false, List, [], map, Option, Some, None, option_map, is_some, slice_get, refl, ap, sym}
 use Rattle.std.specs.List.{list_all, flat_map}
-use Rattle.cc_num.specs.declared.target.Target.{Target}
+use Rattle.cc_program.specs.CcNum.declared.target.Target.{Target}
 use Rattle.cc_program.specs.declared.expr.Expr.{Expr, roll-Expr, map-Expr, fold-roll-Expr}
 use Rattle.cc_program.specs.declared.expr.Expr.TheOpen as one
 use Rattle.cc_program.specs.declared.expr.Place.{Place, map-Place, fold-roll-Place}

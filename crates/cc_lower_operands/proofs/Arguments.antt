@@ -4,7 +4,7 @@ use Rattle.std.proofs.lemmas.List.{drop_more, drop_all, length-drop, take_all}
 use Rattle.cc_program.specs.declared.expr.Expr.{Expr}
 use Rattle.cc_program.specs.declared.func.Func.{Func}
 use Rattle.cc_program.specs.declared.program.Program.{Program}
-use Rattle.cc_syntax.specs.Effects.{Registers, also, effects_of, all_assigned}
+use Rattle.cc_eval.specs.CcSyntax.Effects.{Registers, also, effects_of, all_assigned}
 use Rattle.cc_lower_expressions.specs.Expressions.{piece}
 use Rattle.cc_lower_accesses.specs.Modes.{operand_of, arguments_of}
 use Rattle.cc_lower_accesses.proofs.AccessRules.{arguments-none, arguments-one}

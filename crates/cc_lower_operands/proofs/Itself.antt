@@ -9,7 +9,7 @@ use Rattle.cc_program.specs.declared.types.CType.{CType}
 use Rattle.cc_program.proofs.Each.{Each}
 use Rattle.cc_program.proofs.ExprInduction.{Parts, PlaceParts, by_expr}
 use Rattle.std.specs.Prelude.{Bool}
-use Rattle.cc_syntax.specs.Values.{ValueType}
+use Rattle.cc_eval.specs.CcSyntax.Values.{ValueType}
 use Rattle.cc_lower_expressions.specs.Expressions.{Lowering, PlaceLowering, lower_step, place_lower_step, lowering, place_lowering}
 
 module _ (p : Program) (f : Func) (declares : Option ValueType → CType) (is_same : Option ValueType → Option ValueType → Bool) where

@@ -1,10 +1,10 @@
 -- What an expression of each kind becomes, as the code makes it: as an operand.
 use Rattle.std.proofs.Common.{◌≡◌, ◌+◌, ℕ, ℤ, Bool, true, false, List, [], ◌∷◌, ◌++◌, map, length, Option, Some, None, refl, ap, sym, ◌∙◌, subst}
 use Rattle.std.specs.Prelude.{pos, if◌then◌else◌}
-use Rattle.cc_num.specs.declared.int_type.IntType.{IntType}
-use Rattle.cc_num.specs.declared.int_type.IntType.TheVariants as int
-use Rattle.cc_num.specs.declared.op.BinOp.{BinOp}
-use Rattle.cc_num.specs.declared.op.UnOp.{UnOp}
+use Rattle.cc_program.specs.CcNum.declared.int_type.IntType.{IntType}
+use Rattle.cc_program.specs.CcNum.declared.int_type.IntType.TheVariants as int
+use Rattle.cc_program.specs.CcNum.declared.op.BinOp.{BinOp}
+use Rattle.cc_program.specs.CcNum.declared.op.UnOp.{UnOp}
 use Rattle.cc_program.specs.declared.expr.Expr.{Expr, Const, Null, FuncAddr, Load, AddrOf, Un, Bin, Conv, Qualify, Move, Gap, Compare, Both, Either, Choose, Assign, Change, After, Call, Intr, Seq, out-Expr}
 use Rattle.cc_program.specs.declared.expr.Expr.TheVariants.{rolls-Const, rolls-Null, rolls-FuncAddr, outs-Const, outs-Null, outs-FuncAddr, outs-Load, outs-AddrOf, outs-Un, outs-Bin, outs-Conv, outs-Qualify, outs-Move, outs-Gap, outs-Compare, outs-Both, outs-Either, outs-Choose, outs-Assign, outs-Change, outs-After, outs-Call, outs-Intr, outs-Seq}
 use Rattle.cc_program.specs.declared.expr.Expr.TheOpen as one
@@ -15,9 +15,9 @@ use Rattle.cc_program.specs.declared.func.Func.{Func}
 use Rattle.cc_program.specs.declared.program.Program.{Program}
 use Rattle.cc_program.specs.declared.stmt.Stmt.{Do, If}
 use Rattle.cc_program.specs.declared.types.CType.{CType}
-use Rattle.cc_syntax.specs.Effects.{Registers, Effects, also, effects_of}
-use Rattle.cc_syntax.specs.Programs.{type_of}
-use Rattle.cc_syntax.specs.Values.{ValueType}
+use Rattle.cc_eval.specs.CcSyntax.Effects.{Registers, Effects, also, effects_of}
+use Rattle.cc_eval.specs.CcSyntax.Programs.{type_of}
+use Rattle.cc_eval.specs.CcSyntax.Values.{ValueType}
 use Rattle.cc_lower_expressions.specs.Expressions.{piece, Make, done, ◌>>=◌, onto, emit, into, set, temp, Lowers, Lowering, PlaceLowering, lowering, place_lowering, place_and, unless_pure, both_value, either_value, choose_value, changed, int_value, arm_as, arm_of, branch, truth_of, read_at, from_one, intr_operand, call, right_value}
 use Rattle.cc_eval.specs.Eval.{sum_or_difference, one_more_type}
 use Rattle.cc_lower_expressions.specs.Temporaries.{declared_type, is_same_type}

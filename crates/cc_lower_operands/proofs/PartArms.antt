@@ -7,10 +7,10 @@ use Rattle.cc_program.specs.declared.expr.Place.{Place}
 use Rattle.cc_program.specs.declared.func.Func.{Func}
 use Rattle.cc_program.specs.declared.program.Program.{Program}
 use Rattle.cc_program.specs.declared.stmt.Stmt.{Stmt, Do, If}
-use Rattle.cc_syntax.specs.Effects.{Registers, Effects, also, effects_of, all_assigned}
-use Rattle.cc_syntax.specs.Programs.{type_of}
-use Rattle.cc_syntax.specs.Types.{Named}
-use Rattle.cc_syntax.specs.Values.{ValueType}
+use Rattle.cc_eval.specs.CcSyntax.Effects.{Registers, Effects, also, effects_of, all_assigned}
+use Rattle.cc_eval.specs.CcSyntax.Programs.{type_of}
+use Rattle.cc_eval.specs.CcSyntax.Types.{Named}
+use Rattle.cc_eval.specs.CcSyntax.Values.{ValueType}
 use Rattle.cc_lower_expressions.specs.Expressions.{Piece, piece, Make, done, ◌>>=◌, fresh, fork, emit, branch, set, temp, mapped, with_both, Lowers, int_value, truth_of, Lowering, lowering, place_lowering, condition_of, value_of}
 use Rattle.cc_lower_expressions.specs.Temporaries.{declared_type, is_same_type}
 use Rattle.cc_lower_accesses.specs.Assigned.{among}

@@ -1,8 +1,8 @@
 -- What an expression of each kind becomes, as the code makes it: as a whole right side, and as an expression statement.
 use Rattle.std.proofs.Common.{◌≡◌, ◌+◌, ℕ, Bool, true, false, List, [], ◌∷◌, ◌++◌, map, length, Option, Some, None, refl, ap, sym, ◌∙◌, subst}
 use Rattle.std.specs.Prelude.{pos, is_some, if◌then◌else◌}
-use Rattle.cc_num.specs.declared.int_type.IntType.{IntType}
-use Rattle.cc_num.specs.declared.op.BinOp.{BinOp}
+use Rattle.cc_program.specs.CcNum.declared.int_type.IntType.{IntType}
+use Rattle.cc_program.specs.CcNum.declared.op.BinOp.{BinOp}
 use Rattle.cc_program.specs.declared.expr.Expr.{Expr, Const, Load, Both, Either, Choose, Assign, Change, After, Call, Intr, Seq, roll-Expr, out-Expr, roll-out-Expr}
 use Rattle.cc_program.specs.declared.expr.Expr.TheVariants.{rolls-Load, rolls-Both, rolls-Either, rolls-Choose, rolls-Assign, rolls-Change, rolls-After, rolls-Call, rolls-Intr, rolls-Seq, outs-Load, outs-Both, outs-Either, outs-Choose, outs-Assign, outs-Change, outs-After, outs-Call, outs-Intr, outs-Seq}
 use Rattle.cc_program.specs.declared.expr.Expr.TheOpen as one
@@ -11,9 +11,9 @@ use Rattle.cc_program.specs.declared.expr.Place.{Place}
 use Rattle.cc_program.specs.declared.func.Func.{Func}
 use Rattle.cc_program.specs.declared.program.Program.{Program}
 use Rattle.cc_program.specs.declared.stmt.Stmt.{Do}
-use Rattle.cc_syntax.specs.Effects.{Registers, Effects, PlaceEffects, also, effects_of, place_effects_of}
-use Rattle.cc_syntax.specs.Programs.{type_of}
-use Rattle.cc_syntax.specs.Values.{ValueType}
+use Rattle.cc_eval.specs.CcSyntax.Effects.{Registers, Effects, PlaceEffects, also, effects_of, place_effects_of}
+use Rattle.cc_eval.specs.CcSyntax.Programs.{type_of}
+use Rattle.cc_eval.specs.CcSyntax.Values.{ValueType}
 use Rattle.cc_lower_expressions.specs.Expressions.{piece, Make, done, ◌>>=◌, onto, emit, into, set, Lowers, Lowering, PlaceLowering, lowering, place_lowering, place_and, choose_void, changed, unused, mapped, number_of, choose_alone, value_of, read_at, from_one, intr_operand, call, whole_by, whole_right, is_void_value, branch_alone, effect_by}
 use Rattle.cc_eval.specs.Eval.{sum_or_difference, one_more_type}
 use Rattle.cc_lower_expressions.specs.Temporaries.{declared_type, is_same_type}

@@ -1,18 +1,18 @@
 -- What each construct gives once its parts are made: as a whole right side, and as an expression statement.
 use Rattle.std.proofs.Common.{◌≡◌, ◌⊎◌, inl, inr, ℕ, Bool, true, false, List, [], ◌∷◌, ◌++◌, length, Option, Some, None, Result, Ok, Err, refl, ap, sym, ◌∙◌}
 use Rattle.std.specs.Prelude.{OnOk}
-use Rattle.cc_num.specs.declared.int_type.IntType.{IntType}
-use Rattle.cc_num.specs.declared.op.BinOp.{BinOp}
+use Rattle.cc_program.specs.CcNum.declared.int_type.IntType.{IntType}
+use Rattle.cc_program.specs.CcNum.declared.op.BinOp.{BinOp}
 use Rattle.cc_program.specs.declared.expr.Expr.{Expr, Load, Both, Either, Choose, Assign, Change, After, Call, Intr, Seq}
 use Rattle.cc_program.specs.declared.expr.Intr.{Intr as Intrinsic}
 use Rattle.cc_program.specs.declared.expr.Place.{Place}
 use Rattle.cc_program.specs.declared.func.Func.{Func}
 use Rattle.cc_program.specs.declared.program.Program.{Program}
 use Rattle.cc_program.specs.declared.stmt.Stmt.{Stmt, Do}
-use Rattle.cc_syntax.specs.Effects.{Registers, also, effects_of, place_effects_of}
-use Rattle.cc_syntax.specs.Programs.{type_of}
-use Rattle.cc_syntax.specs.Types.{Named}
-use Rattle.cc_syntax.specs.Values.{ValueType}
+use Rattle.cc_eval.specs.CcSyntax.Effects.{Registers, also, effects_of, place_effects_of}
+use Rattle.cc_eval.specs.CcSyntax.Programs.{type_of}
+use Rattle.cc_eval.specs.CcSyntax.Types.{Named}
+use Rattle.cc_eval.specs.CcSyntax.Values.{ValueType}
 use Rattle.cc_lower_expressions.specs.Expressions.{piece, ◌>>=◌, fresh, emit, set, unused, is_void_value}
 use Rattle.cc_lower_accesses.specs.Modes.{as_locals, value_type, operand_of, whole_of, effect_of, place_of, placed_of, right_of, whole_read_of, change_of, step_of, calling_of, intrinsic_of, chosen_void_of}
 use Rattle.cc_lower_operands.specs.Branches.{alone_of}

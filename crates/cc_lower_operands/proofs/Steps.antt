@@ -4,8 +4,8 @@ use Rattle.std.specs.Prelude.{OnOk}
 use Rattle.std.proofs.lemmas.List.{append-nil}
 use Rattle.cc_program.specs.declared.expr.Expr.{Expr}
 use Rattle.cc_program.specs.declared.stmt.Stmt.{Stmt, If}
-use Rattle.cc_syntax.specs.Types.{Named}
-use Rattle.cc_syntax.specs.Values.{ValueType}
+use Rattle.cc_eval.specs.CcSyntax.Types.{Named}
+use Rattle.cc_eval.specs.CcSyntax.Values.{ValueType}
 use Rattle.cc_lower_expressions.specs.Expressions.{Temps, Piece, piece, Make, done, ◌>>=◌, fresh, emit, fork, mapped, with_both}
 use Rattle.cc_lower_accesses.specs.Modes.{as_locals}
 use Rattle.cc_lower_accesses.proofs.AccessRules.{locals-none, locals-append, locals-length}

@@ -4,8 +4,8 @@ use Rattle.cc_program.specs.declared.expr.Expr.{Expr}
 use Rattle.cc_program.specs.declared.func.Func.{Func}
 use Rattle.cc_program.specs.declared.program.Program.{Program}
 use Rattle.cc_program.specs.declared.stmt.Stmt.{Stmt}
-use Rattle.cc_syntax.specs.Effects.{also, effects_of}
-use Rattle.cc_syntax.specs.Values.{ValueType}
+use Rattle.cc_eval.specs.CcSyntax.Effects.{also, effects_of}
+use Rattle.cc_eval.specs.CcSyntax.Values.{ValueType}
 use Rattle.cc_lower_expressions.specs.Expressions.{Make, Lowers, piece, done, ◌>>=◌, fresh, int_value, unused}
 use Rattle.cc_lower_accesses.specs.Modes.{operand_of, arm_in}
 

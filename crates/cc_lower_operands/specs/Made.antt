@@ -1,7 +1,7 @@
 -- What is made of an expression or a place, behind what there was: the new temporaries are the next locals.
 use Rattle.std.specs.Prelude.{◌≡◌, List, ◌++◌, length}
 use Rattle.cc_program.specs.declared.stmt.Stmt.{Stmt}
-use Rattle.cc_syntax.specs.Types.{Named}
+use Rattle.cc_eval.specs.CcSyntax.Types.{Named}
 use Rattle.cc_lower_expressions.specs.Expressions.{Make}
 use Rattle.cc_lower_accesses.specs.Modes.{as_locals}
 

@@ -4,11 +4,11 @@ ghost use Rattle.std.specs.Prelude.{◌≡◌, ◌++◌, length, IfOk, OnOk};
 ghost use Rattle.cc_lower_accesses.specs.Assigned.{among};
 ghost use Rattle.cc_registers.specs.Kept.{AreKept};
 ghost use Rattle.cc_lower_accesses.specs.Modes.{as_locals, operand_of, effect_of};
-ghost use Rattle.cc_syntax.specs.Sizes.{AreSized};
+ghost use Rattle.cc_eval.specs.CcSyntax.Sizes.{AreSized};
 
 use crate::operands;
 use cc_lower_accesses::Body;
-use cc_num::{Name, NoMemory};
+use cc_program::num::{Name, NoMemory};
 use cc_program::{CType, Expr, Stmt};
 
 /// What an operand becomes, before operands that assign these registers.

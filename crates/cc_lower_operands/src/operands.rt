@@ -6,18 +6,18 @@ ghost use Rattle.cc_registers.specs.Kept.{AreKept};
 ghost use Rattle.cc_lower_accesses.specs.Modes.{operand_of, whole_of, effect_of, place_of, pair_of, placed_of, arguments_of, calling_of, intrinsic_of, condition_in, chosen_of, chosen_void_of, assigned_of};
 ghost use Rattle.cc_lower_operands.specs.Branches.{decided_of};
 ghost use Rattle.cc_lower_operands.specs.Made.{IsMade};
-ghost use Rattle.cc_syntax.specs.Effects.{also, effects_of};
-ghost use Rattle.cc_syntax.specs.Sizes.{AreSized};
-ghost use Rattle.cc_typed.specs.View.{value_view};
+ghost use Rattle.cc_eval.specs.CcSyntax.Effects.{also, effects_of};
+ghost use Rattle.cc_eval.specs.CcSyntax.Sizes.{AreSized};
+ghost use Rattle.cc_eval.specs.CcTyped.View.{value_view};
 
 use crate::parts::{
     address, both, boxed, boxed_place, branch_alone, called, chosen, either, element, is_void,
     member, pointed_to, put_if, put_right, put_value, settled_by, with_operand,
 };
+use cc_eval::typed::ValueType;
 use cc_lower_accesses::{Body, assign, fresh, into, set};
-use cc_num::{Boxed, IntType, List, Name, NoMemory};
+use cc_program::num::{Boxed, IntType, List, Name, NoMemory};
 use cc_program::{CType, Expr, Intr, Place, Stmt};
-use cc_typed::ValueType;
 
 /// What an operand becomes: a pure expression, behind statements.
 #[cycle(lower)]

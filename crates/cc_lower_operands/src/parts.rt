@@ -6,14 +6,14 @@ ghost use Rattle.cc_lower_accesses.specs.Modes.{as_locals, callee_of};
 ghost use Rattle.cc_lower_expressions.specs.Expressions.{temp, is_void_value, set as set_of, truth_of as truth_of_of};
 ghost use Rattle.cc_lower_expressions.specs.Temporaries.{declared_type, is_same_type};
 ghost use Rattle.cc_lower_operands.specs.Branches.{alone_of};
-ghost use Rattle.cc_syntax.specs.Programs.{type_of as type_of_of};
-ghost use Rattle.cc_syntax.specs.Sizes.{AreSized};
-ghost use Rattle.cc_typed.specs.View.{value_view};
+ghost use Rattle.cc_eval.specs.CcSyntax.Programs.{type_of as type_of_of};
+ghost use Rattle.cc_eval.specs.CcSyntax.Sizes.{AreSized};
+ghost use Rattle.cc_eval.specs.CcTyped.View.{value_view};
 
+use cc_eval::typed::ValueType;
 use cc_lower_accesses::{Body, assign, load, set};
-use cc_num::{Boxed, IntType, List, Name, NoMemory};
+use cc_program::num::{Boxed, IntType, List, Name, NoMemory};
 use cc_program::{CType, Expr, Intr, Place, Stmt};
-use cc_typed::ValueType;
 
 /// Whether a value is none (C99 6.2.5, 19).
 pub(crate) fn is_void(t: Option<ValueType>) -> bool

@@ -1,7 +1,7 @@
 -- What lowering makes takes no address of a local but where its source does.
 use Rattle.std.proofs.Common.{◌≡◌, ℕ, ℤ, Bool, true, false, ◌||◌, nat_eq, List, [], ◌∷◌, map, Option, Some, None, refl, ap, sym, ◌∙◌}
 use Rattle.std.specs.List.{list_any}
-use Rattle.cc_num.specs.declared.int_type.IntType.{IntType}
+use Rattle.cc_program.specs.CcNum.declared.int_type.IntType.{IntType}
 use Rattle.cc_lower_expressions.specs.Expressions.{temp, constant_in, constant_or, binary_type}
 use Rattle.cc_operands.specs.Operands.{null_of}
 use Rattle.cc_operands.specs.Qualified.{type_of_value}
@@ -20,12 +20,12 @@ use Rattle.cc_program.specs.declared.stmt.Stmt.TheOpen as is
 use Rattle.cc_program.specs.declared.types.CType.{CType}
 use Rattle.cc_program.proofs.Each.{Each}
 use Rattle.cc_program.proofs.ExprInduction.{Parts, PlaceParts}
-use Rattle.cc_syntax.specs.Folding.{Constant, NoConstant, Value, Traps, unary_constant, binary_constant, converted_constant}
-use Rattle.cc_syntax.specs.Forms.{form_of}
-use Rattle.cc_syntax.specs.Operators.{unary_result}
-use Rattle.cc_syntax.specs.Registers.{PlaceUse, address_step, use_step, is_address_taken, place_use, stmt_step, is_taken_in}
-use Rattle.cc_syntax.specs.Statements.{is_condition}
-use Rattle.cc_syntax.specs.Values.{ValueType, PlaceType}
+use Rattle.cc_eval.specs.CcSyntax.Folding.{Constant, NoConstant, Value, Traps, unary_constant, binary_constant, converted_constant}
+use Rattle.cc_eval.specs.CcSyntax.Forms.{form_of}
+use Rattle.cc_eval.specs.CcSyntax.Operators.{unary_result}
+use Rattle.cc_eval.specs.CcSyntax.Registers.{PlaceUse, address_step, use_step, is_address_taken, place_use, stmt_step, is_taken_in}
+use Rattle.cc_eval.specs.CcSyntax.Statements.{is_condition}
+use Rattle.cc_eval.specs.CcSyntax.Values.{ValueType, PlaceType}
 use Rattle.cc_lower_sound.proofs.LoweredBodies.{BodyReading, BodyLaws, AreCases}
 use Rattle.cc_lower_sound.proofs.Readings.{Reading, Laws, AllVal, NoneLeft, More, typed, placed, local_of, SameLocal}
 

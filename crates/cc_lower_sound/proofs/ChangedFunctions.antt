@@ -9,11 +9,11 @@ use Rattle.std.specs.Str.{bytes_eq}
 use Rattle.cc_program.specs.declared.func.Func.{Func}
 use Rattle.cc_program.specs.declared.object.Object.{Object}
 use Rattle.cc_program.specs.declared.program.Program.{Program}
-use Rattle.cc_syntax.specs.Initial as values
-use Rattle.cc_syntax.specs.Operators.{function_type}
-use Rattle.cc_syntax.specs.Sound.{any_names, IsTypedProgram, IsFuncBy, is_main_there, main_name, have_ids}
-use Rattle.cc_syntax.specs.Values.{ValueType}
-use Rattle.cc_syntax.specs.Views.{View, of_program}
+use Rattle.cc_eval.specs.CcSyntax.Initial as values
+use Rattle.cc_eval.specs.CcSyntax.Operators.{function_type}
+use Rattle.cc_eval.specs.CcSyntax.Sound.{any_names, IsTypedProgram, IsFuncBy, is_main_there, main_name, have_ids}
+use Rattle.cc_eval.specs.CcSyntax.Values.{ValueType}
+use Rattle.cc_eval.specs.CcSyntax.Views.{View, of_program}
 
 -- with the same name, type and entry
 pub record HasSameHead (f g : Func) : Type 0 where

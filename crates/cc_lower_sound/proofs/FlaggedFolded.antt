@@ -2,8 +2,8 @@
 use Rattle.std.proofs.Common.{◌≡◌, ℕ, Bool, true, false, ◌+◌, ◌&&◌, List, [], ◌∷◌, map, refl, ap, sym, ◌∙◌}
 use Rattle.std.specs.Prelude.{pos}
 use Rattle.std.specs.List.{list_all}
-use Rattle.cc_num.specs.declared.int_type.IntType.TheVariants as int
-use Rattle.cc_num.specs.declared.target.Target.{Target}
+use Rattle.cc_program.specs.CcNum.declared.int_type.IntType.TheVariants as int
+use Rattle.cc_program.specs.CcNum.declared.target.Target.{Target}
 use Rattle.cc_program.specs.declared.expr.Expr.{Expr, roll-Expr}
 use Rattle.cc_program.specs.declared.expr.Place.{roll-Place}
 use Rattle.cc_program.specs.declared.expr.Expr.TheOpen as one
@@ -17,7 +17,7 @@ use Rattle.cc_program.proofs.StmtInduction.{StmtParts, CaseParts, by_stmts}
 use Rattle.cc_lower_continues.specs.Continues.{Flagging, CaseFlagging, all_become, any_continues, assign_flag, case_flagging, case_flagging_in, cases_become, do_flagging, flagged_body, flagged_do, flagged_func, flagged_program, flagging, flags_in, leave_unless, needs_flag, new_body, read_flag, test_but_first}
 use Rattle.cc_lower_continues.proofs.Layers.{flagging_layer, flagging-out, case_flagging-out}
 use Rattle.cc_lower_statements.specs.Statements.{break_statement, constant_one, endless_loop}
-use Rattle.cc_syntax.specs.Folding.{Folding, is_folded, is_folded_place}
+use Rattle.cc_eval.specs.CcSyntax.Folding.{Folding, is_folded, is_folded_place}
 use Rattle.cc_lower_sound.specs.Folded.{is_optional_folded, is_folded_stmt, are_folded, has_folded_expressions}
 use Rattle.cc_lower_sound.proofs.Bools.{two, first_true, second_true}
 use Rattle.cc_lower_sound.proofs.NormalBodies.{folded_case, folded_at, folded-stmt-roll, folded-case-roll}

@@ -2,8 +2,8 @@
 use Rattle.std.proofs.Common.{◌≡◌, Bool, true, false, ◌&&◌, List, [], ◌∷◌, ◌++◌, map, Option, Some, None, refl, ap, sym, ◌∙◌, subst}
 use Rattle.std.specs.Prelude.{pos}
 use Rattle.std.specs.List.{list_all}
-use Rattle.cc_num.specs.declared.int_type.IntType.TheVariants as int
-use Rattle.cc_num.specs.declared.target.Target.{Target}
+use Rattle.cc_program.specs.CcNum.declared.int_type.IntType.TheVariants as int
+use Rattle.cc_program.specs.CcNum.declared.target.Target.{Target}
 use Rattle.cc_program.specs.declared.expr.Expr.{Expr}
 use Rattle.cc_program.specs.declared.expr.Expr.TheOpen as term
 use Rattle.cc_program.specs.declared.func.Func.{Func}
@@ -15,7 +15,7 @@ use Rattle.cc_program.proofs.Each.{Each}
 use Rattle.cc_program.proofs.StmtInduction.{StmtParts, CaseParts, by_stmts}
 use Rattle.cc_lower_statements.specs.Statements.{break_statement, constant_one, is_nonzero_constant, needed_test, needed_test_if, optional_statement, guarded, endless_loop, lower, lower_case, lower_list, lower_cases, lower_func, lower_program}
 use Rattle.cc_lower_statements.proofs.Layers.{lower_layer, lower-out, lower_case-out}
-use Rattle.cc_syntax.specs.Folding.{Folding, is_folded}
+use Rattle.cc_eval.specs.CcSyntax.Folding.{Folding, is_folded}
 use Rattle.cc_lower_sound.specs.Folded.{is_optional_folded, is_folded_stmt, are_folded, has_folded_expressions}
 use Rattle.cc_lower_sound.proofs.Bools.{two, first_true, second_true}
 use Rattle.cc_lower_sound.proofs.NormalBodies.{folded_case, folded_at, folded-stmt-roll, folded-case-roll}

@@ -16,11 +16,11 @@ use Rattle.cc_program.specs.declared.stmt.Stmt.{Stmt}
 use Rattle.cc_program.specs.declared.stmt.Stmt.TheOpen as is
 use Rattle.cc_program.proofs.Each.{Each, Held}
 use Rattle.cc_program.proofs.ExprInduction.{Parts, PlaceParts}
-use Rattle.cc_syntax.specs.Registers.{PlaceUse, is_address_taken, place_use, is_taken_in, is_taken_in_optional, is_addressed, may_be_register, is_register}
-use Rattle.cc_syntax.specs.Sound.{any_names, IsFuncBy, IsTypedProgram}
-use Rattle.cc_syntax.specs.Types.{Named}
-use Rattle.cc_syntax.specs.Values.{ValueType, NoValue, Integer, ToObject, ToFunction, scalar_value, is_scalar}
-use Rattle.cc_syntax.specs.Views.{of_program}
+use Rattle.cc_eval.specs.CcSyntax.Registers.{PlaceUse, is_address_taken, place_use, is_taken_in, is_taken_in_optional, is_addressed, may_be_register, is_register}
+use Rattle.cc_eval.specs.CcSyntax.Sound.{any_names, IsFuncBy, IsTypedProgram}
+use Rattle.cc_eval.specs.CcSyntax.Types.{Named}
+use Rattle.cc_eval.specs.CcSyntax.Values.{ValueType, NoValue, Integer, ToObject, ToFunction, scalar_value, is_scalar}
+use Rattle.cc_eval.specs.CcSyntax.Views.{of_program}
 use Rattle.cc_lower_sound.specs.Statements.{are_plain, has_plain_statements}
 use Rattle.cc_lower_sound.proofs.AddressReading.{first_false, second_false, Untaken, UntakenPlace, UntakenIn, UntakenCase, taken_case, taken_at, use_at, taken-roll, use-roll, stmt_at, stmt-taken-roll, case-taken-roll, none_taken, each_untaken, address_reading, address_body_reading, address_laws, address_body_laws}
 use Rattle.cc_lower_sound.proofs.Bools.{two, first_true, second_true}

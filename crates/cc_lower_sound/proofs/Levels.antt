@@ -1,7 +1,7 @@
 -- Types of expressions and soundness of statements, opened at their tops.
 use Rattle.std.proofs.Common.{◌≡◌, Bool, true, List, Option, map}
 use Rattle.std.specs.List.{list_all}
-use Rattle.cc_num.specs.declared.target.Target.{Target}
+use Rattle.cc_program.specs.CcNum.declared.target.Target.{Target}
 use Rattle.cc_program.specs.declared.expr.Expr.{Expr, roll-Expr, map-Expr, fold-roll-Expr}
 use Rattle.cc_program.specs.declared.expr.Expr.TheOpen as one
 use Rattle.cc_program.specs.declared.expr.Place.{Place, roll-Place, map-Place, fold-roll-Place}
@@ -9,11 +9,11 @@ use Rattle.cc_program.specs.declared.stmt.Case.{Case, roll-Case, fold-Case, fold
 use Rattle.cc_program.specs.declared.stmt.Stmt.{Stmt, roll-Stmt, map-Stmt, fold-roll-Stmt}
 use Rattle.cc_program.specs.declared.stmt.Stmt.TheOpen as is
 use Rattle.cc_program.specs.declared.types.CType.{CType}
-use Rattle.cc_syntax.specs.Expressions.{expr_step, place_step, type_of, place_type}
-use Rattle.cc_syntax.specs.Statements.{SoundWhere, Labelled, sound_case, sound_step, is_sound_stmt}
-use Rattle.cc_syntax.specs.Types.{Named}
-use Rattle.cc_syntax.specs.Values.{ValueType, PlaceType}
-use Rattle.cc_syntax.specs.Views.{View}
+use Rattle.cc_eval.specs.CcSyntax.Expressions.{expr_step, place_step, type_of, place_type}
+use Rattle.cc_eval.specs.CcSyntax.Statements.{SoundWhere, Labelled, sound_case, sound_step, is_sound_stmt}
+use Rattle.cc_eval.specs.CcSyntax.Types.{Named}
+use Rattle.cc_eval.specs.CcSyntax.Values.{ValueType, PlaceType}
+use Rattle.cc_eval.specs.CcSyntax.Views.{View}
 
 module _ (p : View) (locals : List Named) where
   abbrev pub type_at : one.Expr-F Expr Place → Option ValueType

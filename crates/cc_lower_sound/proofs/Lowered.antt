@@ -6,8 +6,8 @@ use Rattle.cc_program.specs.declared.expr.Place.{Place, roll-Place}
 use Rattle.cc_program.specs.declared.func.Func.{Func}
 use Rattle.cc_program.specs.declared.program.Program.{Program}
 use Rattle.cc_program.proofs.ExprInduction.{Parts, PlaceParts, by_expr}
-use Rattle.cc_syntax.specs.Effects.{no_one, Effects}
-use Rattle.cc_syntax.specs.Values.{ValueType, PlaceType}
+use Rattle.cc_eval.specs.CcSyntax.Effects.{no_one, Effects}
+use Rattle.cc_eval.specs.CcSyntax.Values.{ValueType, PlaceType}
 use Rattle.cc_lower_sound.proofs.Levels.{type_at, place_at, type-roll, place-roll}
 use Rattle.cc_lower_sound.proofs.LoweringParts.{low, low-at, place-low-at}
 use Rattle.cc_lower_sound.proofs.Readings.{Reading, Laws, view, typed, placed, IsLowered, IsLoweredPlace}

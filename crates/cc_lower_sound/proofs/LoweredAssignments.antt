@@ -1,12 +1,12 @@
 -- Lowered assignments: `=`, `op=`, `++` and `--`.
 use Rattle.std.proofs.Common.{◌≡◌, ℕ, Bool, true, false, not, ◌&&◌, ◌||◌, List, Option, Some, None, is_some, refl, ap, sym, ◌∙◌, subst}
 use Rattle.std.specs.Prelude.{pos, if◌then◌else◌}
-use Rattle.cc_num.specs.declared.int_type.IntType.{IntType}
-use Rattle.cc_num.specs.declared.int_type.IntType.TheVariants as int
-use Rattle.cc_num.specs.declared.op.BinOp.{BinOp}
-use Rattle.cc_num.specs.declared.target.Target.{Target}
-use Rattle.cc_num.specs.Promotions.{promoted, usual_of}
-use Rattle.cc_num.specs.Results.{is_shift}
+use Rattle.cc_program.specs.CcNum.declared.int_type.IntType.{IntType}
+use Rattle.cc_program.specs.CcNum.declared.int_type.IntType.TheVariants as int
+use Rattle.cc_program.specs.CcNum.declared.op.BinOp.{BinOp}
+use Rattle.cc_program.specs.CcNum.declared.target.Target.{Target}
+use Rattle.cc_program.specs.CcNum.Promotions.{promoted, usual_of}
+use Rattle.cc_program.specs.CcNum.Results.{is_shift}
 use Rattle.cc_eval.specs.Eval.{is_back, sum_or_difference, one_more_type}
 use Rattle.cc_lower_expressions.specs.Expressions.{done, ◌>>=◌, emit, temp, into, fresh, Lowering, PlaceLowering, value_of, number_of, place_and, read_at, assigned_value, assignment, conv_unless, folded_bin, folded_conv, changed, change, changed_value, change_alone, stepped, step_value, step_alone}
 use Rattle.cc_lower_expressions.specs.Temporaries.{declared_type, is_same_type}
@@ -20,13 +20,13 @@ use Rattle.cc_program.specs.declared.func.Func.{Func}
 use Rattle.cc_program.specs.declared.program.Program.{Program}
 use Rattle.cc_program.specs.declared.stmt.Stmt.{Do}
 use Rattle.cc_program.specs.declared.types.Structure.{Structure}
-use Rattle.cc_syntax.specs.Effects.{Registers, also}
-use Rattle.cc_syntax.specs.Expressions.{of_one, of_two}
-use Rattle.cc_syntax.specs.Operators.{binary_type, binary_result, is_comparison, is_additive, is_promoted, is_promoted_value, is_of, is_integer, second_fits, points_to_object, assignment_type, change_type, changes_by, after_type}
-use Rattle.cc_syntax.specs.SameTypes.{same_int}
-use Rattle.cc_syntax.specs.Types.{is_complete}
-use Rattle.cc_syntax.specs.Values.{ValueType, NoValue, Integer, ToObject, ToFunction, PlaceType, DevicePlace, ObjectPlace, FunctionPlace, is_scalar, is_assignable, scalar_value, read_from, written_to}
-use Rattle.cc_syntax.proofs.SameLemmas.{int_same, int_itself}
+use Rattle.cc_eval.specs.CcSyntax.Effects.{Registers, also}
+use Rattle.cc_eval.specs.CcSyntax.Expressions.{of_one, of_two}
+use Rattle.cc_eval.specs.CcSyntax.Operators.{binary_type, binary_result, is_comparison, is_additive, is_promoted, is_promoted_value, is_of, is_integer, second_fits, points_to_object, assignment_type, change_type, changes_by, after_type}
+use Rattle.cc_eval.specs.CcSyntax.SameTypes.{same_int}
+use Rattle.cc_eval.specs.CcSyntax.Types.{is_complete}
+use Rattle.cc_eval.specs.CcSyntax.Values.{ValueType, NoValue, Integer, ToObject, ToFunction, PlaceType, DevicePlace, ObjectPlace, FunctionPlace, is_scalar, is_assignable, scalar_value, read_from, written_to}
+use Rattle.cc_eval.proofs.CcSyntax.SameLemmas.{int_same, int_itself}
 use Rattle.cc_lower_sound.proofs.Bools.{two, first_true, second_true}
 use Rattle.cc_lower_sound.proofs.LoweringParts.{low, place_low}
 use Rattle.cc_lower_sound.proofs.Pieces.{Any, gives_done, gives_bind, gives_under, gives_emit, gives_fresh, gives_into, gives_if, gives_both}

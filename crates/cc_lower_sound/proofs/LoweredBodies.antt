@@ -1,8 +1,8 @@
 -- All that lowering makes of statements is as it should be, where the loops of their source are all `while (1)`.
 use Rattle.std.proofs.Common.{◌≡◌, ℕ, ℤ, Bool, true, false, ◌&&◌, List, [], ◌∷◌, ◌++◌, map, Option, Some, None, is_some, refl, ap, sym, ◌∙◌, subst}
 use Rattle.std.specs.List.{list_all, flat_map}
-use Rattle.cc_num.specs.declared.int_type.IntType.{IntType}
-use Rattle.cc_num.specs.declared.int_type.IntType.TheVariants as int
+use Rattle.cc_program.specs.CcNum.declared.int_type.IntType.{IntType}
+use Rattle.cc_program.specs.CcNum.declared.int_type.IntType.TheVariants as int
 use Rattle.cc_lower_expressions.specs.Expressions.{Piece, Make, done, ◌>>=◌, emit, fork}
 use Rattle.cc_lower_expressions.specs.Statements.{in_turn, all_made, if_operand, Condition, guard_by, condition_step, place_itself, condition, choice, returned, lower_in, lower_case_in, lower, lower_case, lower_list}
 use Rattle.cc_operand_types.proofs.Changes.{GoodLevel}
@@ -20,13 +20,13 @@ use Rattle.cc_program.proofs.Each.{Each, Held}
 use Rattle.cc_program.proofs.ExprInduction.{Parts, by_expr}
 use Rattle.cc_program.proofs.FoldFusion.{fused}
 use Rattle.cc_program.proofs.StmtInduction.{StmtParts, CaseParts, by_stmts}
-use Rattle.cc_syntax.specs.Effects.{no_one, Registers, also}
-use Rattle.cc_syntax.specs.Expressions.{of_two}
-use Rattle.cc_syntax.specs.Forms.{form_of}
-use Rattle.cc_syntax.specs.Normal.{is_one}
-use Rattle.cc_syntax.specs.Operators.{when, logical_type}
-use Rattle.cc_syntax.specs.Statements.{SoundWhere, Labelled, is_condition, labels_fit, are_apart, has_label, returns}
-use Rattle.cc_syntax.specs.Values.{ValueType, NoValue, Integer, ToObject, ToFunction, is_scalar, is_void, is_assignable_some, scalar_value}
+use Rattle.cc_eval.specs.CcSyntax.Effects.{no_one, Registers, also}
+use Rattle.cc_eval.specs.CcSyntax.Expressions.{of_two}
+use Rattle.cc_eval.specs.CcSyntax.Forms.{form_of}
+use Rattle.cc_eval.specs.CcSyntax.Normal.{is_one}
+use Rattle.cc_eval.specs.CcSyntax.Operators.{when, logical_type}
+use Rattle.cc_eval.specs.CcSyntax.Statements.{SoundWhere, Labelled, is_condition, labels_fit, are_apart, has_label, returns}
+use Rattle.cc_eval.specs.CcSyntax.Values.{ValueType, NoValue, Integer, ToObject, ToFunction, is_scalar, is_void, is_assignable_some, scalar_value}
 use Rattle.cc_lower_sound.specs.Statements.{is_plain, are_plain}
 use Rattle.cc_lower_sound.proofs.Bools.{first_true, second_true}
 use Rattle.cc_lower_sound.proofs.Levels.{type_at, type-roll, sound, case_of, sound_at, sound-roll, case-roll}

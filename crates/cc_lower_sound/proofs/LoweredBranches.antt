@@ -2,12 +2,12 @@
 use Rattle.std.proofs.Common.{◌≡◌, ℕ, Bool, true, false, not, ◌&&◌, ◌||◌, Option, Some, refl, ap, sym, ◌∙◌, subst}
 use Rattle.std.proofs.lemmas.Option.{same_Some}
 use Rattle.std.specs.Prelude.{pos, if◌then◌else◌}
-use Rattle.cc_num.specs.declared.int_type.IntType.{IntType}
-use Rattle.cc_num.specs.declared.int_type.IntType.TheVariants as int
-use Rattle.cc_num.specs.declared.op.BinOp.TheVariants as op
-use Rattle.cc_num.specs.declared.target.Target.{Target}
-use Rattle.cc_num.specs.Promotions.{promoted}
-use Rattle.cc_num.specs.Integers.{is_value_of}
+use Rattle.cc_program.specs.CcNum.declared.int_type.IntType.{IntType}
+use Rattle.cc_program.specs.CcNum.declared.int_type.IntType.TheVariants as int
+use Rattle.cc_program.specs.CcNum.declared.op.BinOp.TheVariants as op
+use Rattle.cc_program.specs.CcNum.declared.target.Target.{Target}
+use Rattle.cc_program.specs.CcNum.Promotions.{promoted}
+use Rattle.cc_program.specs.CcNum.Integers.{is_value_of}
 use Rattle.cc_lower_expressions.specs.Expressions.{Make, done, ◌>>=◌, emit, fork, temp, set, fresh, Lowers, branch, int_value, arm_as, arm_of, both_value, either_value, condition_of, choose_void, choose_value, unless_pure, branch_alone, is_void_value, whole_by, effect_by, truth_of, conv_unless}
 use Rattle.cc_lower_expressions.specs.Temporaries.{declared_type, is_same_type}
 use Rattle.cc_operand_types.proofs.Constants.{truth_fits}
@@ -18,13 +18,13 @@ use Rattle.cc_program.specs.declared.expr.Expr.{Expr, Const}
 use Rattle.cc_program.specs.declared.expr.Expr.TheOpen as one
 use Rattle.cc_program.specs.declared.func.Func.{Func}
 use Rattle.cc_program.specs.declared.program.Program.{Program}
-use Rattle.cc_syntax.specs.Effects.{Registers, also, effects_of}
-use Rattle.cc_syntax.specs.Expressions.{of_one, of_two}
-use Rattle.cc_syntax.specs.Operators.{logical_type, choice_type, common_type, is_promoted}
-use Rattle.cc_syntax.specs.SameTypes.{same_int, same_sig, alike}
-use Rattle.cc_syntax.specs.Values.{ValueType, NoValue, Integer, ToObject, ToFunction, is_scalar, is_void, is_assignable, implies}
-use Rattle.cc_syntax.proofs.AlikeLemmas.{alike_itself, assignable_object, function_itself}
-use Rattle.cc_syntax.proofs.SameLemmas.{int_itself}
+use Rattle.cc_eval.specs.CcSyntax.Effects.{Registers, also, effects_of}
+use Rattle.cc_eval.specs.CcSyntax.Expressions.{of_one, of_two}
+use Rattle.cc_eval.specs.CcSyntax.Operators.{logical_type, choice_type, common_type, is_promoted}
+use Rattle.cc_eval.specs.CcSyntax.SameTypes.{same_int, same_sig, alike}
+use Rattle.cc_eval.specs.CcSyntax.Values.{ValueType, NoValue, Integer, ToObject, ToFunction, is_scalar, is_void, is_assignable, implies}
+use Rattle.cc_eval.proofs.CcSyntax.AlikeLemmas.{alike_itself, assignable_object, function_itself}
+use Rattle.cc_eval.proofs.CcSyntax.SameLemmas.{int_itself}
 use Rattle.cc_lower_sound.proofs.Bools.{first_true, second_true}
 use Rattle.cc_lower_sound.proofs.LoweringParts.{low}
 use Rattle.cc_lower_sound.proofs.Pieces.{Any, gives_done, gives_bind, gives_under, gives_emit, gives_fresh, gives_if, gives_fork}

@@ -1,7 +1,7 @@
 -- Lowered calls and intrinsics.
 use Rattle.std.proofs.Common.{◌≡◌, ℕ, Bool, true, false, ◌+◌, List, [], ◌∷◌, length, map, Option, Some, None, refl}
 use Rattle.std.specs.Prelude.{if◌then◌else◌}
-use Rattle.cc_num.specs.declared.int_type.IntType.TheVariants as int
+use Rattle.cc_program.specs.CcNum.declared.int_type.IntType.TheVariants as int
 use Rattle.cc_lower_expressions.specs.Expressions.{Piece, emit, set, into, mapped, Lowers, from_one, from_two, all_args, arguments, call_of, by_temp, call, right_value, right_alone, whole_right, is_callee, intr_operand}
 use Rattle.cc_lower_expressions.specs.Temporaries.{declared_type, is_same_type}
 use Rattle.cc_program.specs.declared.expr.Expr.{Expr, Intr}
@@ -14,11 +14,11 @@ use Rattle.cc_program.specs.declared.stmt.Stmt.{Do}
 use Rattle.cc_program.specs.declared.types.CType.{CType}
 use Rattle.cc_program.specs.declared.types.Sig.{Sig, out-Sig}
 use Rattle.cc_program.proofs.Each.{Each}
-use Rattle.cc_syntax.specs.Effects.{Registers, also, effects_of}
-use Rattle.cc_syntax.specs.Expressions.{of_one}
-use Rattle.cc_syntax.specs.Forms.{form_of}
-use Rattle.cc_syntax.specs.Operators.{call_type, intrinsic_type, is_of}
-use Rattle.cc_syntax.specs.Values.{ValueType, NoValue, Integer, ToObject, ToFunction, is_scalar, is_assignable_some, are_assignable, scalar_value, result_value}
+use Rattle.cc_eval.specs.CcSyntax.Effects.{Registers, also, effects_of}
+use Rattle.cc_eval.specs.CcSyntax.Expressions.{of_one}
+use Rattle.cc_eval.specs.CcSyntax.Forms.{form_of}
+use Rattle.cc_eval.specs.CcSyntax.Operators.{call_type, intrinsic_type, is_of}
+use Rattle.cc_eval.specs.CcSyntax.Values.{ValueType, NoValue, Integer, ToObject, ToFunction, is_scalar, is_assignable_some, are_assignable, scalar_value, result_value}
 use Rattle.cc_lower_sound.proofs.Bools.{first_true, second_true}
 use Rattle.cc_lower_sound.proofs.LoweringParts.{low}
 use Rattle.cc_lower_sound.proofs.Pieces.{Any, IsGood, AreGood, Declared, each_append, declared_apart, gives_done, gives_bind, gives_emit, gives_into, gives_mapped, gives_both}

@@ -1,10 +1,10 @@
 -- Operators over lowered operands, and what is made of an operand that is used as a whole right side, or not at all.
 use Rattle.std.proofs.Common.{◌≡◌, ℕ, Bool, true, false, ◌&&◌, Option, Some, None, refl, ap, sym, ◌∙◌}
 use Rattle.std.proofs.lemmas.Option.{same_Some}
-use Rattle.cc_num.specs.declared.int_type.IntType.{IntType}
-use Rattle.cc_num.specs.declared.int_type.IntType.TheVariants as int
-use Rattle.cc_num.specs.declared.op.BinOp.{BinOp}
-use Rattle.cc_num.specs.declared.op.UnOp.{UnOp}
+use Rattle.cc_program.specs.CcNum.declared.int_type.IntType.{IntType}
+use Rattle.cc_program.specs.CcNum.declared.int_type.IntType.TheVariants as int
+use Rattle.cc_program.specs.CcNum.declared.op.BinOp.{BinOp}
+use Rattle.cc_program.specs.CcNum.declared.op.UnOp.{UnOp}
 use Rattle.cc_lower_expressions.specs.Expressions.{done, ◌>>=◌, emit, set, into, Lowers, Lowering, from_one, from_two, is_idle, whole_by, unused, effect_by, folded_un, folded_bin, folded_conv}
 use Rattle.cc_lower_expressions.specs.Temporaries.{declared_type, is_same_type}
 use Rattle.cc_program.specs.declared.expr.Expr.{Expr, AddrOf, Qualify, Move, Gap, Compare, roll-Expr, out-Expr, out-roll-Expr, map-Expr, fold-roll-Expr}
@@ -13,11 +13,11 @@ use Rattle.cc_program.specs.declared.expr.Place.{Place, out-Place}
 use Rattle.cc_program.specs.declared.func.Func.{Func}
 use Rattle.cc_program.specs.declared.program.Program.{Program}
 use Rattle.cc_program.specs.declared.types.CType.{CType}
-use Rattle.cc_syntax.specs.Effects.{Registers, no_one, also, Effects, PlaceEffects, effects_of, place_effects_of, effect_step, place_effect_step}
-use Rattle.cc_syntax.specs.Expressions.{of_one, of_two, qualified_type, pointer_type}
-use Rattle.cc_syntax.specs.Operators.{unary_type, unary_result, binary_type, binary_result, conversion_type, when_assignable, moved_type, gap_type, difference_type, comparison_type, is_promoted, is_of, second_fits, is_integer, points_to_object, has_difference, is_comparison}
-use Rattle.cc_syntax.specs.Values.{ValueType, Integer, ToObject, ToFunction, PlaceType, DevicePlace, ObjectPlace, FunctionPlace, is_scalar, is_assignable, point_alike, address_of}
-use Rattle.cc_syntax.specs.Views.{of_program}
+use Rattle.cc_eval.specs.CcSyntax.Effects.{Registers, no_one, also, Effects, PlaceEffects, effects_of, place_effects_of, effect_step, place_effect_step}
+use Rattle.cc_eval.specs.CcSyntax.Expressions.{of_one, of_two, qualified_type, pointer_type}
+use Rattle.cc_eval.specs.CcSyntax.Operators.{unary_type, unary_result, binary_type, binary_result, conversion_type, when_assignable, moved_type, gap_type, difference_type, comparison_type, is_promoted, is_of, second_fits, is_integer, points_to_object, has_difference, is_comparison}
+use Rattle.cc_eval.specs.CcSyntax.Values.{ValueType, Integer, ToObject, ToFunction, PlaceType, DevicePlace, ObjectPlace, FunctionPlace, is_scalar, is_assignable, point_alike, address_of}
+use Rattle.cc_eval.specs.CcSyntax.Views.{of_program}
 use Rattle.cc_lower_sound.proofs.Bools.{first_true, second_true}
 use Rattle.cc_lower_sound.proofs.LoweringParts.{low, place_low, place_itself, lowered_as, lowered_parts}
 use Rattle.cc_lower_sound.proofs.Pieces.{Any, gives_done, gives_bind, gives_known, gives_under, gives_emit, gives_into, gives_if, gives_mapped, gives_both}

@@ -10,11 +10,11 @@ use Rattle.cc_program.specs.declared.expr.Place.{Place, Local, Element, Member, 
 use Rattle.cc_program.specs.declared.expr.Place.TheVariants.{rolls-Local, outs-Element, outs-Member, outs-Deref}
 use Rattle.cc_program.specs.declared.func.Func.{Func}
 use Rattle.cc_program.specs.declared.program.Program.{Program}
-use Rattle.cc_syntax.specs.Effects.{Registers, no_one, also, is_soft, Effects, PlaceEffects, effects_of, place_effects_of, effect_step, place_effect_step}
-use Rattle.cc_syntax.specs.Expressions.{of_one, of_two}
-use Rattle.cc_syntax.specs.Operators.{is_integer, subscript_type}
-use Rattle.cc_syntax.specs.Registers.{is_register}
-use Rattle.cc_syntax.specs.Values.{ValueType, PlaceType, is_scalar, read_from, pointed_to, member_of, element_of}
+use Rattle.cc_eval.specs.CcSyntax.Effects.{Registers, no_one, also, is_soft, Effects, PlaceEffects, effects_of, place_effects_of, effect_step, place_effect_step}
+use Rattle.cc_eval.specs.CcSyntax.Expressions.{of_one, of_two}
+use Rattle.cc_eval.specs.CcSyntax.Operators.{is_integer, subscript_type}
+use Rattle.cc_eval.specs.CcSyntax.Registers.{is_register}
+use Rattle.cc_eval.specs.CcSyntax.Values.{ValueType, PlaceType, is_scalar, read_from, pointed_to, member_of, element_of}
 use Rattle.cc_lower_sound.proofs.LoweringParts.{low, place_low, place_lowered_as, lowered_place_parts}
 use Rattle.cc_lower_sound.proofs.Pieces.{Any, Declared, gives_done, gives_bind, gives_under, gives_emit, gives_fresh, gives_into, gives_if, gives_mapped, gives_both}
 use Rattle.cc_lower_sound.proofs.Readings.{Reading, Laws, typed, placed, Makes, IsLoweredPlace, takes_own, local_of}

@@ -4,10 +4,10 @@ use Rattle.cc_lower_statements.specs.Statements.{lower_body, lower_func, lower_p
 use Rattle.cc_program.specs.declared.func.Func.{Func}
 use Rattle.cc_program.specs.declared.program.Program.{Program}
 use Rattle.cc_program.specs.declared.types.Sig.{out-Sig}
-use Rattle.cc_syntax.specs.Expressions.{type_of}
-use Rattle.cc_syntax.specs.Sound.{any_names, IsFuncBy, IsTypedProgram}
-use Rattle.cc_syntax.specs.Statements.{is_sound_body}
-use Rattle.cc_syntax.specs.Views.{View, of_program}
+use Rattle.cc_eval.specs.CcSyntax.Expressions.{type_of}
+use Rattle.cc_eval.specs.CcSyntax.Sound.{any_names, IsFuncBy, IsTypedProgram}
+use Rattle.cc_eval.specs.CcSyntax.Statements.{is_sound_body}
+use Rattle.cc_eval.specs.CcSyntax.Views.{View, of_program}
 use Rattle.cc_lower_sound.proofs.ChangedFunctions.{HasSameHead, changed_typed, view_same}
 use Rattle.cc_lower_sound.proofs.LoweredStatements.{sound_lowered}
 

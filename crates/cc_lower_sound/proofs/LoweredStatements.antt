@@ -2,10 +2,10 @@
 use Rattle.std.proofs.Common.{◌≡◌, ◌⊎◌, inl, inr, ◌*◌, ℕ, ℤ, Bool, true, false, ◌&&◌, List, [], ◌∷◌, ◌++◌, map, Option, Some, None, refl, ap, sym, ◌∙◌, subst}
 use Rattle.std.specs.Prelude.{pos, int_le}
 use Rattle.std.specs.List.{list_all, flat_map}
-use Rattle.cc_num.specs.declared.int_type.IntType.TheVariants as int
-use Rattle.cc_num.specs.declared.target.Target.{Target}
-use Rattle.cc_num.specs.Integers.{least_of_bits, most_of_bits}
-use Rattle.cc_num.proofs.Conversions.{int_bytes_is}
+use Rattle.cc_program.specs.CcNum.declared.int_type.IntType.TheVariants as int
+use Rattle.cc_program.specs.CcNum.declared.target.Target.{Target}
+use Rattle.cc_program.specs.CcNum.Integers.{least_of_bits, most_of_bits}
+use Rattle.cc_program.proofs.CcNum.Conversions.{int_bytes_is}
 use Rattle.cc_program.specs.declared.expr.Expr.{Expr}
 use Rattle.cc_program.specs.declared.expr.Expr.TheOpen as term
 use Rattle.cc_program.specs.declared.stmt.Case.{Case, roll-Case, out-roll-Case}
@@ -16,12 +16,12 @@ use Rattle.cc_program.proofs.Each.{Each}
 use Rattle.cc_program.proofs.StmtInduction.{StmtParts, CaseParts, by_stmts}
 use Rattle.cc_lower_statements.specs.Statements.{break_statement, constant_one, is_nonzero_constant, needed_test, needed_test_if, optional_statement, guarded, endless_loop, lower, lower_case, lower_list, lower_cases}
 use Rattle.cc_lower_statements.proofs.Layers.{lower_layer, lower-out, lower_case-out}
-use Rattle.cc_syntax.specs.Expressions.{type_of}
-use Rattle.cc_syntax.specs.Operators.{when}
-use Rattle.cc_syntax.specs.Statements.{SoundWhere, Labelled, is_condition, sound_case, labels_fit, are_apart, has_label, is_typed, is_optional_condition}
-use Rattle.cc_syntax.specs.Types.{Named}
-use Rattle.cc_syntax.specs.Values.{ValueType, Integer}
-use Rattle.cc_syntax.specs.Views.{View}
+use Rattle.cc_eval.specs.CcSyntax.Expressions.{type_of}
+use Rattle.cc_eval.specs.CcSyntax.Operators.{when}
+use Rattle.cc_eval.specs.CcSyntax.Statements.{SoundWhere, Labelled, is_condition, sound_case, labels_fit, are_apart, has_label, is_typed, is_optional_condition}
+use Rattle.cc_eval.specs.CcSyntax.Types.{Named}
+use Rattle.cc_eval.specs.CcSyntax.Values.{ValueType, Integer}
+use Rattle.cc_eval.specs.CcSyntax.Views.{View}
 use Rattle.cc_lower_sound.proofs.Bools.{two, first_true, second_true}
 use Rattle.cc_lower_sound.proofs.Levels.{type-roll, sound, case_of, sound_at, sound-roll, case-roll, AreSound}
 

@@ -10,11 +10,11 @@ use Rattle.cc_program.specs.declared.program.Program.{Program}
 use Rattle.cc_program.proofs.Each.{Each}
 use Rattle.cc_program.proofs.ExprInduction.{Parts, PlaceParts, by_expr, by_place}
 use Rattle.cc_program.proofs.FoldFusion.{fused, place_fused}
-use Rattle.cc_syntax.specs.Effects.{Effects, PlaceEffects, effect_step, place_effect_step, effects_of, place_effects_of}
-use Rattle.cc_syntax.specs.Expressions as typing
-use Rattle.cc_syntax.specs.Expressions.{type_of, place_type}
-use Rattle.cc_syntax.specs.Values.{ValueType, PlaceType}
-use Rattle.cc_syntax.specs.Views.{of_program}
+use Rattle.cc_eval.specs.CcSyntax.Effects.{Effects, PlaceEffects, effect_step, place_effect_step, effects_of, place_effects_of}
+use Rattle.cc_eval.specs.CcSyntax.Expressions as typing
+use Rattle.cc_eval.specs.CcSyntax.Expressions.{type_of, place_type}
+use Rattle.cc_eval.specs.CcSyntax.Values.{ValueType, PlaceType}
+use Rattle.cc_eval.specs.CcSyntax.Views.{of_program}
 
 module _ (p : Program) (f : Func) where
   abbrev pub low : Expr → Lowering

@@ -1,7 +1,7 @@
 -- Statements that lowering makes are normal.
 use Rattle.std.proofs.Common.{◌≡◌, ℕ, ℤ, Bool, true, ◌&&◌, List, [], ◌∷◌, map, Option, Some, None, refl, ap, sym, ◌∙◌}
 use Rattle.std.specs.List.{list_all}
-use Rattle.cc_num.specs.declared.target.Target.{Target}
+use Rattle.cc_program.specs.CcNum.declared.target.Target.{Target}
 use Rattle.cc_operand_types.proofs.Changes.{GoodLevel}
 use Rattle.cc_program.specs.declared.expr.Expr.{Expr}
 use Rattle.cc_program.specs.declared.func.Func.{Func}
@@ -11,10 +11,10 @@ use Rattle.cc_program.specs.declared.stmt.Stmt.{Stmt, If, While, Switch, Break, 
 use Rattle.cc_program.specs.declared.stmt.Stmt.TheVariants.{rolls-If, rolls-While, rolls-Switch, rolls-Break, rolls-Continue, rolls-Return}
 use Rattle.cc_program.specs.declared.stmt.Stmt.TheOpen as is
 use Rattle.cc_program.proofs.Each.{Each, Held}
-use Rattle.cc_syntax.specs.Folding.{is_folded}
-use Rattle.cc_syntax.specs.Forms.{form_of}
-use Rattle.cc_syntax.specs.Normal.{is_one, is_operand, normal_step, is_normal_stmt}
-use Rattle.cc_syntax.specs.Registers.{is_register}
+use Rattle.cc_eval.specs.CcSyntax.Folding.{is_folded}
+use Rattle.cc_eval.specs.CcSyntax.Forms.{form_of}
+use Rattle.cc_eval.specs.CcSyntax.Normal.{is_one, is_operand, normal_step, is_normal_stmt}
+use Rattle.cc_eval.specs.CcSyntax.Registers.{is_register}
 use Rattle.cc_lower_sound.specs.Folded.{is_optional_folded, folded_step, is_folded_stmt, are_folded}
 use Rattle.cc_lower_sound.proofs.Bools.{two, first_true, second_true}
 use Rattle.cc_lower_sound.proofs.LoweredBodies.{BodyReading, BodyLaws, AreCases}

@@ -5,9 +5,9 @@ use Rattle.cc_lower_continues.specs.Continues.{HasFewLocals}
 use Rattle.cc_lower_expressions.specs.Programs.{lowered_body, lower_func, lower_expressions_program}
 use Rattle.cc_program.specs.declared.func.Func.{Func}
 use Rattle.cc_program.specs.declared.program.Program.{Program}
-use Rattle.cc_syntax.specs.Normal.{is_normal_body}
-use Rattle.cc_syntax.specs.Registers.{is_register}
-use Rattle.cc_syntax.specs.Sound.{any_names, IsFuncBy, IsTypedProgram}
+use Rattle.cc_eval.specs.CcSyntax.Normal.{is_normal_body}
+use Rattle.cc_eval.specs.CcSyntax.Registers.{is_register}
+use Rattle.cc_eval.specs.CcSyntax.Sound.{any_names, IsFuncBy, IsTypedProgram}
 use Rattle.cc_lower_sound.specs.Folded.{are_folded, has_folded_expressions}
 use Rattle.cc_lower_sound.specs.Normal.{IsNormalButForNames}
 use Rattle.cc_lower_sound.specs.Statements.{are_plain, has_plain_statements}

@@ -1,10 +1,10 @@
 -- What lowering makes is in normal form, where the source is folded: operands are pure and folded, and each statement is normal.
 use Rattle.std.proofs.Common.{◌≡◌, ◌⊎◌, inl, inr, ℕ, ℤ, Bool, true, false, not, ◌&&◌, ◌||◌, List, [], ◌∷◌, map, Option, Some, None, is_some, refl, ap, sym, ◌∙◌, subst, if◌then◌else◌}
 use Rattle.std.specs.List.{list_all}
-use Rattle.cc_num.specs.declared.int_type.IntType.{IntType}
-use Rattle.cc_num.specs.declared.op.BinOp.{BinOp}
-use Rattle.cc_num.specs.declared.op.UnOp.{UnOp}
-use Rattle.cc_num.specs.declared.target.Target.{Target}
+use Rattle.cc_program.specs.CcNum.declared.int_type.IntType.{IntType}
+use Rattle.cc_program.specs.CcNum.declared.op.BinOp.{BinOp}
+use Rattle.cc_program.specs.CcNum.declared.op.UnOp.{UnOp}
+use Rattle.cc_program.specs.CcNum.declared.target.Target.{Target}
 use Rattle.cc_lower_expressions.specs.Expressions.{temp, set, constant_in, constant_or, binary_type, is_callee as is_lowered_callee}
 use Rattle.cc_operands.specs.Operands.{null_of}
 use Rattle.cc_operands.specs.Qualified.{type_of_value}
@@ -22,12 +22,12 @@ use Rattle.cc_program.specs.declared.stmt.Stmt.TheOpen as is
 use Rattle.cc_program.specs.declared.types.CType.{CType}
 use Rattle.cc_program.proofs.Each.{Each}
 use Rattle.cc_program.proofs.ExprInduction.{Parts, PlaceParts, by_expr, by_place}
-use Rattle.cc_syntax.specs.Effects.{Registers, no_one, is_soft, Effects, PlaceEffects, effects_of, place_effects_of, effect_step, place_effect_step}
-use Rattle.cc_syntax.specs.Folding.{Constant, NoConstant, Value, Traps, Folding, has_value, unary_constant, binary_constant, converted_constant, folding_step, place_folding_step, folding_of, is_folded, is_folded_place, constant_of}
-use Rattle.cc_syntax.specs.Forms.{Form, ConstantForm, FunctionForm, LoadForm, AssignForm, CallForm, IntrinsicForm, OtherForm, form_at, form_of}
-use Rattle.cc_syntax.specs.Normal.{is_operand, is_register_place, is_other_place, is_callee, is_call, is_place_read, is_assignment, is_expression_statement, normal_step, is_normal_stmt}
-use Rattle.cc_syntax.specs.Operators.{unary_result}
-use Rattle.cc_syntax.specs.Registers.{is_register}
+use Rattle.cc_eval.specs.CcSyntax.Effects.{Registers, no_one, is_soft, Effects, PlaceEffects, effects_of, place_effects_of, effect_step, place_effect_step}
+use Rattle.cc_eval.specs.CcSyntax.Folding.{Constant, NoConstant, Value, Traps, Folding, has_value, unary_constant, binary_constant, converted_constant, folding_step, place_folding_step, folding_of, is_folded, is_folded_place, constant_of}
+use Rattle.cc_eval.specs.CcSyntax.Forms.{Form, ConstantForm, FunctionForm, LoadForm, AssignForm, CallForm, IntrinsicForm, OtherForm, form_at, form_of}
+use Rattle.cc_eval.specs.CcSyntax.Normal.{is_operand, is_register_place, is_other_place, is_callee, is_call, is_place_read, is_assignment, is_expression_statement, normal_step, is_normal_stmt}
+use Rattle.cc_eval.specs.CcSyntax.Operators.{unary_result}
+use Rattle.cc_eval.specs.CcSyntax.Registers.{is_register}
 use Rattle.cc_lower_sound.proofs.Bools.{two, first_true, second_true}
 use Rattle.cc_lower_sound.proofs.LoweredOperands.{effects-roll}
 use Rattle.cc_lower_sound.proofs.LoweredPlaces.{place-effects-roll}

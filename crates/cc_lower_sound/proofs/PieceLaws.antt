@@ -7,14 +7,14 @@ use Rattle.cc_program.specs.declared.func.Func.{Func}
 use Rattle.cc_program.specs.declared.program.Program.{Program}
 use Rattle.cc_program.specs.declared.types.CType.{CType}
 use Rattle.cc_program.proofs.Each.{Each}
-use Rattle.cc_syntax.specs.Effects.{Registers}
-use Rattle.cc_syntax.specs.Expressions.{type_of}
-use Rattle.cc_syntax.specs.Folding.{is_folded}
-use Rattle.cc_syntax.specs.Registers.{is_register}
-use Rattle.cc_syntax.specs.Sound.{any_names, IsFuncBy, IsTypedProgram}
-use Rattle.cc_syntax.specs.Types.{Named}
-use Rattle.cc_syntax.specs.Values.{ValueType, is_scalar}
-use Rattle.cc_syntax.specs.Views.{of_program}
+use Rattle.cc_eval.specs.CcSyntax.Effects.{Registers}
+use Rattle.cc_eval.specs.CcSyntax.Expressions.{type_of}
+use Rattle.cc_eval.specs.CcSyntax.Folding.{is_folded}
+use Rattle.cc_eval.specs.CcSyntax.Registers.{is_register}
+use Rattle.cc_eval.specs.CcSyntax.Sound.{any_names, IsFuncBy, IsTypedProgram}
+use Rattle.cc_eval.specs.CcSyntax.Types.{Named}
+use Rattle.cc_eval.specs.CcSyntax.Values.{ValueType, is_scalar}
+use Rattle.cc_eval.specs.CcSyntax.Views.{of_program}
 use Rattle.cc_lower_sound.specs.Pieces.{Extends, AreDeclared, IsSoundAnywhere, IsTypedOperand, TakesValues, AreRegisters, AreNormal, IsNormalOperand}
 use Rattle.cc_lower_sound.proofs.Lowered.{lowered}
 use Rattle.cc_lower_sound.proofs.LoweringParts.{low}

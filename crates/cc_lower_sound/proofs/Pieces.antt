@@ -4,7 +4,7 @@ use Rattle.std.proofs.Common.{◌≡◌, ℕ, suc, Bool, true, false, ◌+◌, L
 use Rattle.cc_program.specs.declared.expr.Expr.{Expr}
 use Rattle.cc_program.specs.declared.stmt.Stmt.{Stmt, If}
 use Rattle.cc_program.proofs.Each.{Each}
-use Rattle.cc_syntax.specs.Values.{ValueType, is_scalar}
+use Rattle.cc_eval.specs.CcSyntax.Values.{ValueType, is_scalar}
 use Rattle.cc_lower_expressions.specs.Expressions.{Temps, Make, done, ◌>>=◌, fresh, emit, fork, temp, set, into, mapped, with_both}
 
 pub each_append : {A : Type 0} (P : A → Type 0) (xs ys : List A) → Each P xs → Each P ys → Each P (xs ++ ys)

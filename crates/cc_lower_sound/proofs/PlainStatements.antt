@@ -3,7 +3,7 @@ use Rattle.std.proofs.Common.{◌≡◌, Bool, true, false, List, [], ◌∷◌,
 use Rattle.std.specs.Prelude.{pos}
 use Rattle.std.specs.Ordering.{int_eq}
 use Rattle.std.specs.List.{list_all}
-use Rattle.cc_num.specs.declared.int_type.IntType.TheVariants as int
+use Rattle.cc_program.specs.CcNum.declared.int_type.IntType.TheVariants as int
 use Rattle.cc_program.specs.declared.expr.Expr.{Expr, out-roll-Expr}
 use Rattle.cc_program.specs.declared.expr.Expr.TheOpen as term
 use Rattle.cc_program.specs.declared.expr.Place.{Place}
@@ -16,10 +16,10 @@ use Rattle.cc_program.proofs.Each.{Each}
 use Rattle.cc_program.proofs.StmtInduction.{StmtParts, CaseParts, by_stmts}
 use Rattle.cc_lower_statements.specs.Statements.{break_statement, constant_one, is_nonzero_constant, needed_test, needed_test_if, optional_statement, guarded, endless_loop, lower, lower_case, lower_list, lower_cases, lower_func, lower_program}
 use Rattle.cc_lower_statements.proofs.Layers.{lower_layer, lower-out, lower_case-out}
-use Rattle.cc_syntax.specs.Forms.{form_at, form_of}
-use Rattle.cc_syntax.specs.Normal.{is_one}
-use Rattle.cc_syntax.specs.SameTypes.{same_int}
-use Rattle.cc_syntax.proofs.SameLemmas.{int_itself}
+use Rattle.cc_eval.specs.CcSyntax.Forms.{form_at, form_of}
+use Rattle.cc_eval.specs.CcSyntax.Normal.{is_one}
+use Rattle.cc_eval.specs.CcSyntax.SameTypes.{same_int}
+use Rattle.cc_eval.proofs.CcSyntax.SameLemmas.{int_itself}
 use Rattle.cc_lower_sound.specs.Statements.{plain_step, is_plain, are_plain, has_plain_statements}
 use Rattle.cc_lower_sound.proofs.Bools.{two, first_true, second_true}
 

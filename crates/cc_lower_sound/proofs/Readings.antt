@@ -1,10 +1,10 @@
 -- What is asked of the parts that lowering makes, so that all that it makes is as it should be: of operands and places by the types of
 -- their sources, of right sides, calls and statements.
 use Rattle.std.proofs.Common.{◌≡◌, ℕ, ℤ, Bool, true, List, [], ◌∷◌, Option, Some, None}
-use Rattle.cc_num.specs.declared.int_type.IntType.{IntType}
-use Rattle.cc_num.specs.declared.op.BinOp.{BinOp}
-use Rattle.cc_num.specs.declared.op.UnOp.{UnOp}
-use Rattle.cc_num.specs.Integers.{is_value_of}
+use Rattle.cc_program.specs.CcNum.declared.int_type.IntType.{IntType}
+use Rattle.cc_program.specs.CcNum.declared.op.BinOp.{BinOp}
+use Rattle.cc_program.specs.CcNum.declared.op.UnOp.{UnOp}
+use Rattle.cc_program.specs.CcNum.Integers.{is_value_of}
 use Rattle.cc_lower_expressions.specs.Expressions.{Piece, piece, Lowering, PlaceLowering, temp, set, is_callee, folded_un, folded_bin, folded_conv}
 use Rattle.cc_lower_expressions.specs.Temporaries.{declared_type, is_same_type}
 use Rattle.cc_operands.specs.Operands.{is_pointer, null_of}
@@ -19,15 +19,15 @@ use Rattle.cc_program.specs.declared.types.CType.{CType}
 use Rattle.cc_program.specs.declared.types.Sig.{Sig, out-Sig}
 use Rattle.cc_program.proofs.Each.{Each}
 use Rattle.cc_program.proofs.ExprInduction.{Parts, PlaceParts}
-use Rattle.cc_syntax.specs.Effects.{Registers, effects_of, place_effects_of}
-use Rattle.cc_syntax.specs.Expressions.{type_of, place_type, qualified_type}
-use Rattle.cc_syntax.specs.Forms.{form_of}
-use Rattle.cc_syntax.specs.Operators.{unary_type, binary_type, conversion_type, moved_type, gap_type, comparison_type, intrinsic_type, subscript_type}
-use Rattle.cc_syntax.specs.Registers.{is_register}
-use Rattle.cc_syntax.specs.Values.{ValueType, NoValue, Integer, ToObject, ToFunction, PlaceType, result_value, is_scalar, is_assignable, is_assignable_some, scalar_value, read_from, written_to, address_of, pointed_to, member_of}
-use Rattle.cc_syntax.specs.Views.{View, of_program}
-use Rattle.cc_syntax.proofs.AlikeLemmas.{alike_itself, implies_itself, assignable_object, function_itself}
-use Rattle.cc_syntax.proofs.SameLemmas.{int_itself}
+use Rattle.cc_eval.specs.CcSyntax.Effects.{Registers, effects_of, place_effects_of}
+use Rattle.cc_eval.specs.CcSyntax.Expressions.{type_of, place_type, qualified_type}
+use Rattle.cc_eval.specs.CcSyntax.Forms.{form_of}
+use Rattle.cc_eval.specs.CcSyntax.Operators.{unary_type, binary_type, conversion_type, moved_type, gap_type, comparison_type, intrinsic_type, subscript_type}
+use Rattle.cc_eval.specs.CcSyntax.Registers.{is_register}
+use Rattle.cc_eval.specs.CcSyntax.Values.{ValueType, NoValue, Integer, ToObject, ToFunction, PlaceType, result_value, is_scalar, is_assignable, is_assignable_some, scalar_value, read_from, written_to, address_of, pointed_to, member_of}
+use Rattle.cc_eval.specs.CcSyntax.Views.{View, of_program}
+use Rattle.cc_eval.proofs.CcSyntax.AlikeLemmas.{alike_itself, implies_itself, assignable_object, function_itself}
+use Rattle.cc_eval.proofs.CcSyntax.SameLemmas.{int_itself}
 use Rattle.cc_lower_sound.proofs.Pieces.{Any, Gives}
 
 -- a pointer to a function of such parameters, which gives a value of the last type

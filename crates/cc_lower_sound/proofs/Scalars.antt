@@ -2,11 +2,11 @@
 use Rattle.std.proofs.Common.{◌≡◌, ℕ, ℤ, Bool, true, false, not, ◌&&◌, List, Option, Some, None, slice_get, refl, ap, sym, ◌∙◌}
 use Rattle.std.proofs.lemmas.Option.{same_Some}
 use Rattle.std.specs.Prelude.{if◌then◌else◌}
-use Rattle.cc_num.specs.declared.int_type.IntType.{IntType}
-use Rattle.cc_num.specs.declared.op.BinOp.{BinOp}
-use Rattle.cc_num.specs.declared.target.Target.{Target}
-use Rattle.cc_num.specs.Integers.{is_value_of}
-use Rattle.cc_num.specs.Results.{is_shift}
+use Rattle.cc_program.specs.CcNum.declared.int_type.IntType.{IntType}
+use Rattle.cc_program.specs.CcNum.declared.op.BinOp.{BinOp}
+use Rattle.cc_program.specs.CcNum.declared.target.Target.{Target}
+use Rattle.cc_program.specs.CcNum.Integers.{is_value_of}
+use Rattle.cc_program.specs.CcNum.Results.{is_shift}
 use Rattle.cc_operands.specs.Operands.{is_pointer}
 use Rattle.cc_program.specs.declared.func.Func.{Func}
 use Rattle.cc_program.specs.declared.program.Program.{Program}
@@ -15,11 +15,11 @@ use Rattle.cc_program.specs.declared.types.Shape.{Shape, out-Shape}
 use Rattle.cc_program.specs.declared.types.Shape.TheOpen as shape
 use Rattle.cc_program.specs.declared.types.Sig.{Sig}
 use Rattle.cc_program.specs.declared.types.Structure.{Structure}
-use Rattle.cc_syntax.specs.Expressions.{of_one, of_two, null_type, pointer_type}
-use Rattle.cc_syntax.specs.Kinds.{is_plain_scalar}
-use Rattle.cc_syntax.specs.Operators.{when, constant_type, pointer_in, void_pointer_in, first_of, is_unqualified, is_handler, function_type, is_of, is_promoted_value, is_integer, second_fits, points_to_object}
-use Rattle.cc_syntax.specs.Values.{ValueType, NoValue, Integer, ToObject, ToFunction, PlaceType, DevicePlace, ObjectPlace, FunctionPlace, is_scalar, is_void, point_alike, is_assignable, pointed_to, pointer_shape, pointer_to, scalar_shape, scalar_value, read_from}
-use Rattle.cc_syntax.specs.Views.{View, of_program, kind_in}
+use Rattle.cc_eval.specs.CcSyntax.Expressions.{of_one, of_two, null_type, pointer_type}
+use Rattle.cc_eval.specs.CcSyntax.Kinds.{is_plain_scalar}
+use Rattle.cc_eval.specs.CcSyntax.Operators.{when, constant_type, pointer_in, void_pointer_in, first_of, is_unqualified, is_handler, function_type, is_of, is_promoted_value, is_integer, second_fits, points_to_object}
+use Rattle.cc_eval.specs.CcSyntax.Values.{ValueType, NoValue, Integer, ToObject, ToFunction, PlaceType, DevicePlace, ObjectPlace, FunctionPlace, is_scalar, is_void, point_alike, is_assignable, pointed_to, pointer_shape, pointer_to, scalar_shape, scalar_value, read_from}
+use Rattle.cc_eval.specs.CcSyntax.Views.{View, of_program, kind_in}
 
 pub record HasOne {A B : Type 0} (a : Option A) (f : A → Option B) (r : B) : Type 0 where
   pub first : A

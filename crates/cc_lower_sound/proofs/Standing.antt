@@ -2,9 +2,9 @@
 use Rattle.std.proofs.Common.{◌≡◌, ℕ, Bool, true, false, not, ◌&&◌, ◌||◌, List, map, Option, Some, None, slice_get, option_map, refl, ap, sym, ◌∙◌, subst}
 use Rattle.std.proofs.lemmas.Option.{same_Some}
 use Rattle.std.specs.Prelude.{if◌then◌else◌}
-use Rattle.cc_num.specs.declared.int_type.IntType.{IntType}
-use Rattle.cc_num.specs.declared.int_type.IntType.TheVariants as int
-use Rattle.cc_num.specs.Integers.{is_value_of}
+use Rattle.cc_program.specs.CcNum.declared.int_type.IntType.{IntType}
+use Rattle.cc_program.specs.CcNum.declared.int_type.IntType.TheVariants as int
+use Rattle.cc_program.specs.CcNum.Integers.{is_value_of}
 use Rattle.cc_operand_types.specs.Typed.{stands, place_stands, is_pointed_kind, MembersStand}
 use Rattle.cc_operand_types.proofs.Requalified.{kind_at, any_pointed, not_void}
 use Rattle.cc_operand_types.proofs.Standing.{pointer_stands, scalar_stands, plain_pointed, pointed_stands, elements_stand, members_stand, sig-opens}
@@ -22,14 +22,14 @@ use Rattle.cc_program.specs.declared.types.Sig.{Sig, out-Sig}
 use Rattle.cc_program.specs.declared.types.Structure.{Structure}
 use Rattle.cc_program.proofs.Each.{each_of, held_of}
 use Rattle.cc_program.proofs.ExprInduction.{Parts, PlaceParts, by_expr, by_place}
-use Rattle.cc_syntax.specs.Expressions.{of_one, of_two, type_of, place_type, null_type, pointer_type, qualified_type}
-use Rattle.cc_syntax.specs.Kinds.{Kind, IsVoid, IsScalar, IsStructure, IsArray, IsIncomplete, IsFunction, is_result, is_plain_scalar, shape_kind, qualified_kind, is_sig}
-use Rattle.cc_syntax.specs.Operators.{pointer_in, void_pointer_in, first_of, is_unqualified, unary_type, unary_result, binary_type, binary_result, conversion_type, when_assignable, moved_type, gap_type, difference_type, comparison_type, logical_type, choice_type, common_type, assignment_type, change_type, after_type, call_type, intrinsic_type, subscript_type, is_promoted, is_of, second_fits, is_integer, points_to_object, has_difference, is_comparison}
-use Rattle.cc_syntax.specs.SameTypes.{is_void_shape, same_int, same_sig, alike}
-use Rattle.cc_syntax.specs.Types.{Named, is_complete, complete_shape}
-use Rattle.cc_syntax.specs.Values.{ValueType, NoValue, Integer, ToObject, ToFunction, PlaceType, DevicePlace, ObjectPlace, FunctionPlace, pointer_shape, pointer_to, scalar_shape, scalar_value, is_scalar, is_void, is_assignable, point_alike, read_from, written_to, address_of, pointed_to, member_of, element_of, object_place}
-use Rattle.cc_syntax.specs.Views.{View, kind_in}
-use Rattle.cc_syntax.proofs.TypeLayouts.{parts_complete, complete-opens}
+use Rattle.cc_eval.specs.CcSyntax.Expressions.{of_one, of_two, type_of, place_type, null_type, pointer_type, qualified_type}
+use Rattle.cc_eval.specs.CcSyntax.Kinds.{Kind, IsVoid, IsScalar, IsStructure, IsArray, IsIncomplete, IsFunction, is_result, is_plain_scalar, shape_kind, qualified_kind, is_sig}
+use Rattle.cc_eval.specs.CcSyntax.Operators.{pointer_in, void_pointer_in, first_of, is_unqualified, unary_type, unary_result, binary_type, binary_result, conversion_type, when_assignable, moved_type, gap_type, difference_type, comparison_type, logical_type, choice_type, common_type, assignment_type, change_type, after_type, call_type, intrinsic_type, subscript_type, is_promoted, is_of, second_fits, is_integer, points_to_object, has_difference, is_comparison}
+use Rattle.cc_eval.specs.CcSyntax.SameTypes.{is_void_shape, same_int, same_sig, alike}
+use Rattle.cc_eval.specs.CcSyntax.Types.{Named, is_complete, complete_shape}
+use Rattle.cc_eval.specs.CcSyntax.Values.{ValueType, NoValue, Integer, ToObject, ToFunction, PlaceType, DevicePlace, ObjectPlace, FunctionPlace, pointer_shape, pointer_to, scalar_shape, scalar_value, is_scalar, is_void, is_assignable, point_alike, read_from, written_to, address_of, pointed_to, member_of, element_of, object_place}
+use Rattle.cc_eval.specs.CcSyntax.Views.{View, kind_in}
+use Rattle.cc_eval.proofs.CcSyntax.TypeLayouts.{parts_complete, complete-opens}
 use Rattle.cc_lower_sound.proofs.Bools.{first_true, second_true}
 use Rattle.cc_lower_sound.proofs.Levels.{type_at, place_at, type-roll, place-roll}
 use Rattle.cc_lower_sound.proofs.Lowered.{is_declared}

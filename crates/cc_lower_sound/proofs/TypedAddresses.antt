@@ -10,10 +10,10 @@ use Rattle.cc_program.specs.declared.program.Program.{Program}
 use Rattle.cc_program.specs.declared.types.CType.{CType}
 use Rattle.cc_program.proofs.Each.{Each}
 use Rattle.cc_program.proofs.ExprInduction.{Parts, PlaceParts, by_expr, by_place}
-use Rattle.cc_syntax.specs.Expressions.{of_one, of_two}
-use Rattle.cc_syntax.specs.Registers.{PlaceUse, is_address_taken, place_use}
-use Rattle.cc_syntax.specs.Types.{Named}
-use Rattle.cc_syntax.specs.Values.{ValueType, PlaceType, is_assignable_some, are_assignable, scalar_value, written_to, object_place}
+use Rattle.cc_eval.specs.CcSyntax.Expressions.{of_one, of_two}
+use Rattle.cc_eval.specs.CcSyntax.Registers.{PlaceUse, is_address_taken, place_use}
+use Rattle.cc_eval.specs.CcSyntax.Types.{Named}
+use Rattle.cc_eval.specs.CcSyntax.Values.{ValueType, PlaceType, is_assignable_some, are_assignable, scalar_value, written_to, object_place}
 use Rattle.cc_lower_sound.proofs.AddressReading.{neither, Untaken, taken_at, use_at, taken-roll, use-roll}
 use Rattle.cc_lower_sound.proofs.Bools.{first_true, second_true}
 use Rattle.cc_lower_sound.proofs.Levels.{type_at, place_at, type-roll, place-roll}

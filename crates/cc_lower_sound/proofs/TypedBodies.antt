@@ -1,7 +1,7 @@
 -- Statements that lowering makes are sound.
 use Rattle.std.proofs.Common.{◌≡◌, ℕ, ℤ, Bool, true, ◌&&◌, List, [], ◌∷◌, ◌++◌, map, Option, Some, None, slice_get, refl, ap, sym, ◌∙◌}
 use Rattle.std.specs.List.{list_all, flat_map}
-use Rattle.cc_num.specs.declared.int_type.IntType.{IntType}
+use Rattle.cc_program.specs.CcNum.declared.int_type.IntType.{IntType}
 use Rattle.cc_operand_types.specs.Reduced.{Reduced, Unused, Integers, Pointers, Functions}
 use Rattle.cc_operand_types.proofs.Changes.{GoodLevel}
 use Rattle.cc_operand_types.proofs.Typed.{reduced_typed}
@@ -14,10 +14,10 @@ use Rattle.cc_program.specs.declared.stmt.Stmt.{Stmt, If, While, Switch, Break, 
 use Rattle.cc_program.specs.declared.stmt.Stmt.TheVariants.{rolls-If, rolls-While, rolls-Switch, rolls-Break, rolls-Continue, rolls-Return}
 use Rattle.cc_program.specs.declared.stmt.Stmt.TheOpen as is
 use Rattle.cc_program.proofs.Each.{Each, Held}
-use Rattle.cc_syntax.specs.Statements.{SoundWhere, Labelled, is_condition, labels_fit, are_apart, has_label}
-use Rattle.cc_syntax.specs.Types.{Named}
-use Rattle.cc_syntax.specs.Values.{ValueType, Integer, is_scalar, is_assignable_some, scalar_value}
-use Rattle.cc_syntax.specs.Views.{of_program}
+use Rattle.cc_eval.specs.CcSyntax.Statements.{SoundWhere, Labelled, is_condition, labels_fit, are_apart, has_label}
+use Rattle.cc_eval.specs.CcSyntax.Types.{Named}
+use Rattle.cc_eval.specs.CcSyntax.Values.{ValueType, Integer, is_scalar, is_assignable_some, scalar_value}
+use Rattle.cc_eval.specs.CcSyntax.Views.{of_program}
 use Rattle.cc_lower_sound.proofs.Bools.{two}
 use Rattle.cc_lower_sound.proofs.Levels.{sound, case_of, sound_at, sound-roll, case-roll}
 use Rattle.cc_lower_sound.proofs.LoweredBodies.{BodyReading, BodyLaws, IsCase, AreCases, joined, result}

@@ -5,9 +5,9 @@ use Rattle.std.proofs.lemmas.List.{length-map, get_or-map}
 use Rattle.std.proofs.lemmas.Option.{same_Some}
 use Rattle.std.specs.List.{list_all}
 use Rattle.std.specs.Prelude.{nat_le, ◌^◌}
-use Rattle.cc_num.specs.declared.target.Target.{Target}
-use Rattle.cc_num.specs.Integers.{bytes_of}
-use Rattle.cc_num.proofs.Conversions.{few_bytes}
+use Rattle.cc_program.specs.CcNum.declared.target.Target.{Target}
+use Rattle.cc_program.specs.CcNum.Integers.{bytes_of}
+use Rattle.cc_program.proofs.CcNum.Conversions.{few_bytes}
 use Rattle.cc_lower_continues.specs.Continues.{HasFewLocals}
 use Rattle.cc_lower_expressions.specs.Expressions.{Temps}
 use Rattle.cc_lower_expressions.specs.Programs.{made_of, temporaries, lowered_body, lower_func, lower_expressions_program}
@@ -29,15 +29,15 @@ use Rattle.cc_program.specs.declared.types.Shape.{Int, Pointer, Func as FuncShap
 use Rattle.cc_program.specs.declared.types.Shape.TheOpen as shape
 use Rattle.cc_program.specs.declared.types.Shape.TheVariants.{outs-Int, outs-Pointer, outs-Func}
 use Rattle.cc_program.specs.declared.types.Sig.{Sig, out-Sig}
-use Rattle.cc_syntax.specs.Expressions.{type_of}
-use Rattle.cc_syntax.specs.Kinds.{Kind, IsVoid, IsScalar, IsStructure, IsArray, IsIncomplete, IsFunction, kind_of, is_sig, is_small, is_result, is_plain_scalar, is_object_type, shape_kind, qualified_kind}
-use Rattle.cc_syntax.specs.Operators.{function_type, is_handler}
-use Rattle.cc_syntax.specs.SameTypes.{same_shape}
-use Rattle.cc_syntax.specs.Sound.{any_names, IsFuncBy, IsTypedProgram, is_local, is_object, is_automatic, are_parameters}
-use Rattle.cc_syntax.specs.Statements.{is_sound_body}
-use Rattle.cc_syntax.specs.Types.{Named}
-use Rattle.cc_syntax.specs.Values.{ValueType, NoValue, Integer, ToObject, ToFunction, PlaceType, DevicePlace, object_place, is_scalar}
-use Rattle.cc_syntax.specs.Views.{View, of_program, kind_in}
+use Rattle.cc_eval.specs.CcSyntax.Expressions.{type_of}
+use Rattle.cc_eval.specs.CcSyntax.Kinds.{Kind, IsVoid, IsScalar, IsStructure, IsArray, IsIncomplete, IsFunction, kind_of, is_sig, is_small, is_result, is_plain_scalar, is_object_type, shape_kind, qualified_kind}
+use Rattle.cc_eval.specs.CcSyntax.Operators.{function_type, is_handler}
+use Rattle.cc_eval.specs.CcSyntax.SameTypes.{same_shape}
+use Rattle.cc_eval.specs.CcSyntax.Sound.{any_names, IsFuncBy, IsTypedProgram, is_local, is_object, is_automatic, are_parameters}
+use Rattle.cc_eval.specs.CcSyntax.Statements.{is_sound_body}
+use Rattle.cc_eval.specs.CcSyntax.Types.{Named}
+use Rattle.cc_eval.specs.CcSyntax.Values.{ValueType, NoValue, Integer, ToObject, ToFunction, PlaceType, DevicePlace, object_place, is_scalar}
+use Rattle.cc_eval.specs.CcSyntax.Views.{View, of_program, kind_in}
 use Rattle.cc_lower_sound.specs.Statements.{are_plain, has_plain_statements}
 use Rattle.cc_lower_sound.proofs.Bools.{two, first_true, second_true, all-append}
 use Rattle.cc_lower_sound.proofs.ChangedFunctions.{HasSameHead, view_same, changed_typed}

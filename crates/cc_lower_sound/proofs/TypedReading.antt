@@ -4,10 +4,10 @@ use Rattle.std.proofs.Common.{◌≡◌, ℕ, ℤ, Bool, true, false, ◌&&◌, 
 use Rattle.std.proofs.lemmas.Option.{same_Some}
 use Rattle.std.specs.List.{list_all}
 use Rattle.std.specs.Prelude.{if◌then◌else◌}
-use Rattle.cc_num.specs.declared.int_type.IntType.{IntType}
-use Rattle.cc_num.specs.declared.op.BinOp.{BinOp}
-use Rattle.cc_num.specs.declared.op.UnOp.{UnOp}
-use Rattle.cc_num.specs.Integers.{is_value_of}
+use Rattle.cc_program.specs.CcNum.declared.int_type.IntType.{IntType}
+use Rattle.cc_program.specs.CcNum.declared.op.BinOp.{BinOp}
+use Rattle.cc_program.specs.CcNum.declared.op.UnOp.{UnOp}
+use Rattle.cc_program.specs.CcNum.Integers.{is_value_of}
 use Rattle.cc_lower_expressions.specs.Expressions.{temp, constant_in, constant_or, folded_un, folded_bin, folded_conv}
 use Rattle.cc_lower_expressions.specs.Temporaries.{declared_type, is_same_type}
 use Rattle.cc_operands.specs.Operands.{is_pointer}
@@ -43,16 +43,16 @@ use Rattle.cc_program.specs.declared.types.Shape.TheVariants.{outs-Int, outs-Poi
 use Rattle.cc_program.specs.declared.types.Sig.{Sig, out-Sig}
 use Rattle.cc_program.proofs.Each.{Each}
 use Rattle.cc_program.proofs.ExprInduction.{Parts, PlaceParts}
-use Rattle.cc_syntax.specs.Expressions.{type_of, place_type, null_type, pointer_type}
-use Rattle.cc_syntax.specs.Folding.{Constant, NoConstant, Value, Traps, unary_constant, binary_constant, converted_constant}
-use Rattle.cc_syntax.specs.Forms.{form_of}
-use Rattle.cc_syntax.specs.Kinds.{is_plain_scalar}
-use Rattle.cc_syntax.specs.Operators.{pointer_in, void_pointer_in, first_of, is_unqualified, unary_type, unary_result, binary_type, binary_result, conversion_type, intrinsic_type, is_of, is_promoted, second_fits, is_integer}
-use Rattle.cc_syntax.specs.Statements.{SoundWhere, is_condition}
-use Rattle.cc_syntax.specs.Types.{Named}
-use Rattle.cc_syntax.specs.Values.{ValueType, NoValue, Integer, ToObject, ToFunction, PlaceType, object_place, pointer_to, scalar_shape, scalar_value, result_value, is_scalar, is_void, is_assignable, is_assignable_some, are_assignable, read_from, written_to}
-use Rattle.cc_syntax.specs.Views.{View, of_program, kind_in}
-use Rattle.cc_syntax.proofs.AlikeLemmas.{alike_itself, implies_itself, assigned_on, assignable_object}
+use Rattle.cc_eval.specs.CcSyntax.Expressions.{type_of, place_type, null_type, pointer_type}
+use Rattle.cc_eval.specs.CcSyntax.Folding.{Constant, NoConstant, Value, Traps, unary_constant, binary_constant, converted_constant}
+use Rattle.cc_eval.specs.CcSyntax.Forms.{form_of}
+use Rattle.cc_eval.specs.CcSyntax.Kinds.{is_plain_scalar}
+use Rattle.cc_eval.specs.CcSyntax.Operators.{pointer_in, void_pointer_in, first_of, is_unqualified, unary_type, unary_result, binary_type, binary_result, conversion_type, intrinsic_type, is_of, is_promoted, second_fits, is_integer}
+use Rattle.cc_eval.specs.CcSyntax.Statements.{SoundWhere, is_condition}
+use Rattle.cc_eval.specs.CcSyntax.Types.{Named}
+use Rattle.cc_eval.specs.CcSyntax.Values.{ValueType, NoValue, Integer, ToObject, ToFunction, PlaceType, object_place, pointer_to, scalar_shape, scalar_value, result_value, is_scalar, is_void, is_assignable, is_assignable_some, are_assignable, read_from, written_to}
+use Rattle.cc_eval.specs.CcSyntax.Views.{View, of_program, kind_in}
+use Rattle.cc_eval.proofs.CcSyntax.AlikeLemmas.{alike_itself, implies_itself, assigned_on, assignable_object}
 use Rattle.cc_lower_sound.proofs.Bools.{two}
 use Rattle.cc_lower_sound.proofs.Levels.{type-roll, place-roll, sound, sound-roll}
 use Rattle.cc_lower_sound.proofs.Readings.{Reading, Laws, CallOf, OfSig, AllVal, NoneLeft, More}

@@ -1,9 +1,9 @@
 -- Normal form is what is asked but for names and numbers, and these.
 use Rattle.std.proofs.Common.{◌≡◌, true}
 use Rattle.cc_program.specs.declared.program.Program.{Program}
-use Rattle.cc_syntax.specs.Normal.{IsNormal, devices_in_order}
-use Rattle.cc_syntax.specs.Sound.{AreNamesApart}
-use Rattle.cc_syntax.proofs.NameRules.{sound-typed, sound-named, typed-sound}
+use Rattle.cc_eval.specs.CcSyntax.Normal.{IsNormal, devices_in_order}
+use Rattle.cc_eval.specs.CcSyntax.Sound.{AreNamesApart}
+use Rattle.cc_eval.proofs.CcSyntax.NameRules.{sound-typed, sound-named, typed-sound}
 use Rattle.cc_lower_sound.specs.Normal.{IsNormalButForNames}
 
 pub without_names : (p : Program) → IsNormal p → IsNormalButForNames p × AreNamesApart p × (devices_in_order p ≡ true)

@@ -4,7 +4,7 @@ use Rattle.cc_lower_continues.specs.Continues.{HasFewLocals, flagged_program}
 use Rattle.cc_lower_expressions.specs.Programs.{lower_expressions_program}
 use Rattle.cc_lower_statements.specs.Statements.{lower_program}
 use Rattle.cc_program.specs.declared.program.Program.{Program}
-use Rattle.cc_syntax.specs.Sound.{IsTypedProgram}
+use Rattle.cc_eval.specs.CcSyntax.Sound.{IsTypedProgram}
 use Rattle.cc_lower_sound.specs.Folded.{has_folded_expressions}
 use Rattle.cc_lower_sound.specs.Normal.{IsNormalButForNames}
 use Rattle.cc_lower_sound.proofs.FlaggedFolded.{flagged_folded}

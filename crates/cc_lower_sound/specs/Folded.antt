@@ -1,12 +1,12 @@
 -- Statements whose expressions are folded, as reading a program leaves them.
 use Rattle.std.specs.Prelude.{Bool, true, ◌&&◌, List, map, Option, Some, None}
 use Rattle.std.specs.List.{list_all}
-use Rattle.cc_num.specs.declared.target.Target.{Target}
+use Rattle.cc_program.specs.CcNum.declared.target.Target.{Target}
 use Rattle.cc_program.specs.declared.expr.Expr.{Expr}
 use Rattle.cc_program.specs.declared.program.Program.{Program}
 use Rattle.cc_program.specs.declared.stmt.Stmt.{Stmt, fold-Stmt}
 use Rattle.cc_program.specs.declared.stmt.Stmt.TheOpen as is
-use Rattle.cc_syntax.specs.Folding.{is_folded}
+use Rattle.cc_eval.specs.CcSyntax.Folding.{is_folded}
 
 module _ (target : Target) where
   abbrev pub is_optional_folded : Option Expr → Bool

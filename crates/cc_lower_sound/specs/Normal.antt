@@ -2,8 +2,8 @@
 use Rattle.std.specs.Prelude.{◌≡◌, true}
 use Rattle.std.specs.List.{list_all}
 use Rattle.cc_program.specs.declared.program.Program.{Program}
-use Rattle.cc_syntax.specs.Normal.{is_normal_body}
-use Rattle.cc_syntax.specs.Sound.{IsTypedProgram}
+use Rattle.cc_eval.specs.CcSyntax.Normal.{is_normal_body}
+use Rattle.cc_eval.specs.CcSyntax.Sound.{IsTypedProgram}
 
 pub record IsNormalButForNames (p : Program) : Type 0 where
   pub typed : IsTypedProgram p

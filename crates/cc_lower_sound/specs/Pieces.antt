@@ -10,13 +10,13 @@ use Rattle.cc_program.specs.declared.program.Program.{Program}
 use Rattle.cc_program.specs.declared.stmt.Stmt.{Stmt}
 use Rattle.cc_program.specs.declared.types.CType.{CType}
 use Rattle.cc_program.proofs.Each.{Each}
-use Rattle.cc_syntax.specs.Expressions.{type_of, place_type}
-use Rattle.cc_syntax.specs.Normal.{is_operand, is_normal_stmt}
-use Rattle.cc_syntax.specs.Registers.{is_register}
-use Rattle.cc_syntax.specs.Statements.{is_sound_stmt}
-use Rattle.cc_syntax.specs.Types.{Named}
-use Rattle.cc_syntax.specs.Values.{ValueType, PlaceType, written_to, is_assignable}
-use Rattle.cc_syntax.specs.Views.{of_program}
+use Rattle.cc_eval.specs.CcSyntax.Expressions.{type_of, place_type}
+use Rattle.cc_eval.specs.CcSyntax.Normal.{is_operand, is_normal_stmt}
+use Rattle.cc_eval.specs.CcSyntax.Registers.{is_register}
+use Rattle.cc_eval.specs.CcSyntax.Statements.{is_sound_stmt}
+use Rattle.cc_eval.specs.CcSyntax.Types.{Named}
+use Rattle.cc_eval.specs.CcSyntax.Values.{ValueType, PlaceType, written_to, is_assignable}
+use Rattle.cc_eval.specs.CcSyntax.Views.{of_program}
 
 -- locals to which others are added
 abbrev pub Extends : List Named → List Named → Type 0

@@ -4,8 +4,8 @@ use Rattle.std.specs.List.{list_all}
 use Rattle.cc_program.specs.declared.program.Program.{Program}
 use Rattle.cc_program.specs.declared.stmt.Stmt.{Stmt, fold-Stmt}
 use Rattle.cc_program.specs.declared.stmt.Stmt.TheOpen as is
-use Rattle.cc_syntax.specs.Forms.{form_of}
-use Rattle.cc_syntax.specs.Normal.{is_one}
+use Rattle.cc_eval.specs.CcSyntax.Forms.{form_of}
+use Rattle.cc_eval.specs.CcSyntax.Normal.{is_one}
 
 abbrev pub plain_step : is.Stmt-F Bool Bool → Bool
 plain_step (is.Do e) = true

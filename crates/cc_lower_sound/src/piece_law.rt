@@ -7,14 +7,14 @@ ghost use Rattle.cc_program.specs.declared.expr.Expr.{Expr};
 ghost use Rattle.cc_program.specs.declared.func.Func.{Func};
 ghost use Rattle.cc_program.specs.declared.program.Program.{Program};
 ghost use Rattle.cc_program.specs.declared.types.CType.{CType};
-ghost use Rattle.cc_syntax.specs.Effects.{Registers};
-ghost use Rattle.cc_syntax.specs.Expressions.{type_of};
-ghost use Rattle.cc_syntax.specs.Folding.{is_folded};
-ghost use Rattle.cc_syntax.specs.Registers.{is_register};
-ghost use Rattle.cc_syntax.specs.Sound.{IsTypedProgram};
-ghost use Rattle.cc_syntax.specs.Types.{Named};
-ghost use Rattle.cc_syntax.specs.Values.{ValueType, is_scalar};
-ghost use Rattle.cc_syntax.specs.Views.{of_program};
+ghost use Rattle.cc_eval.specs.CcSyntax.Effects.{Registers};
+ghost use Rattle.cc_eval.specs.CcSyntax.Expressions.{type_of};
+ghost use Rattle.cc_eval.specs.CcSyntax.Folding.{is_folded};
+ghost use Rattle.cc_eval.specs.CcSyntax.Registers.{is_register};
+ghost use Rattle.cc_eval.specs.CcSyntax.Sound.{IsTypedProgram};
+ghost use Rattle.cc_eval.specs.CcSyntax.Types.{Named};
+ghost use Rattle.cc_eval.specs.CcSyntax.Values.{ValueType, is_scalar};
+ghost use Rattle.cc_eval.specs.CcSyntax.Views.{of_program};
 
 /// What is made of an expression that has a type in a function of a typed program, over more locals, of which the temporaries are
 /// some: its statements are sound, and where it is an operand, its value has the type. The call does nothing.

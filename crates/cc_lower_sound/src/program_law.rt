@@ -7,9 +7,9 @@ ghost use Rattle.cc_lower_sound.specs.Statements.{has_plain_statements};
 ghost use Rattle.cc_lower_statements.specs.Statements.{lower_program};
 ghost use Rattle.cc_program.specs.declared.func.Func.{Func};
 ghost use Rattle.cc_program.specs.declared.program.Program.{Program};
-ghost use Rattle.cc_syntax.specs.Normal.{IsNormal, devices_in_order};
-ghost use Rattle.cc_syntax.specs.Registers.{is_register};
-ghost use Rattle.cc_syntax.specs.Sound.{AreNamesApart, IsTypedProgram};
+ghost use Rattle.cc_eval.specs.CcSyntax.Normal.{IsNormal, devices_in_order};
+ghost use Rattle.cc_eval.specs.CcSyntax.Registers.{is_register};
+ghost use Rattle.cc_eval.specs.CcSyntax.Sound.{AreNamesApart, IsTypedProgram};
 
 /// What lowering the statements of a program leaves: it is typed where its source is, and each loop is `while (1)`, without blocks
 /// and without empty statements (C99 6.8). The call does nothing.

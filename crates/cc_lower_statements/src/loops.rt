@@ -3,7 +3,7 @@
 ghost use Rattle.std.specs.Prelude.{◌≡◌, ◌++◌, ◌∷◌, [], Some, IfOk};
 ghost use Rattle.cc_lower_statements.specs.Statements.{is_nonzero_constant as is_nonzero_constant_of, needed_test, guarded as guarded_of, endless_loop, optional_statement};
 
-use cc_num::{Boxed, IntType, List, NoMemory};
+use cc_program::num::{Boxed, IntType, List, NoMemory};
 use cc_program::{Expr, Stmt};
 use std::alloc::Global;
 

@@ -4,7 +4,7 @@ ghost use Rattle.std.specs.Prelude.{◌≡◌, map, IfOk};
 ghost use Rattle.cc_lower_statements.specs.Statements.{lower_func as lower_func_of, lower_program};
 
 use crate::statements::lower_list;
-use cc_num::{List, NoMemory};
+use cc_program::num::{List, NoMemory};
 use cc_program::{Func, Program, copy_list, copy_named};
 use std::alloc::Global;
 

@@ -4,7 +4,7 @@ ghost use Rattle.std.specs.Prelude.{◌≡◌, ◌++◌, ◌∷◌, [], IfOk};
 ghost use Rattle.cc_lower_statements.specs.Statements.{optional_statement, lower as lower_of, lower_case as lower_case_of, lower_list as lower_list_of, lower_cases as lower_cases_of};
 
 use crate::loops::{push_continue, push_do, push_expression, push_for, push_while};
-use cc_num::{Boxed, List, NoMemory};
+use cc_program::num::{Boxed, List, NoMemory};
 use cc_program::{Case, Expr, Stmt, copy_list};
 use std::alloc::Global;
 

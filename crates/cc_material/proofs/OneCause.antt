@@ -18,7 +18,7 @@ use Rattle.cc_files.specs.Unread.{IsUnread, AFault, NotThere, Long, AreWithin, I
 use Rattle.cc_files.specs.declared.unread.Unread.{Unread}
 use Rattle.cc_material.specs.Material.{IsProfile, ByDefault, ByFile, IsWrongRow, ProfileEnds, ProfileUnread, ProfileWrong}
 use Rattle.cc_material.specs.Programs.{IsProgram, TellsRefusal, IsWithin, IsAbove, ManyFunctions, MuchRam}
-use Rattle.cc_num.specs.declared.target.Target.{Target}
+use Rattle.cc_program.specs.CcNum.declared.target.Target.{Target}
 use Rattle.cc_program.specs.declared.program.Program.{Program}
 use Rattle.cc_program.specs.declared.program.Roles.{Roles}
 use Rattle.cc_read.proofs.Refused.{not_refused, one_cause, one_program}
@@ -30,7 +30,7 @@ use Rattle.cc_status.specs.Statuses.{for_unread}
 use Rattle.cc_status.specs.declared.status.Status.{Status}
 use Rattle.cc_status.specs.declared.status.Status.TheVariants as status
 use Rattle.cc_status.specs.declared.status.What.{What}
-use Rattle.cc_words.specs.Names.{is_name, are_distinct}
+use Rattle.cc_program.specs.CcWords.Names.{is_name, are_distinct}
 
 bytes_behind : (t : List ℕ) (ts : List (List ℕ)) → sum (map length (t ∷ ts)) ≡ length t + sum (map length ts)
 bytes_behind t ts = sum_by-cons (λ (n : ℕ). n) (length t) (map (length {A = ℕ}) ts)

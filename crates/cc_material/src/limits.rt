@@ -2,7 +2,7 @@
 
 ghost use Rattle.std.specs.Prelude.{◌≡◌, None, IfSome};
 ghost use Rattle.cc_material.specs.Programs.{IsAbove, IsWithin};
-ghost use Rattle.cc_syntax.specs.Layout.{HasSizes};
+ghost use Rattle.cc_type.specs.CcSyntax.Layout.{HasSizes};
 
 use cc_layout::ram;
 use cc_program::Program;

@@ -6,7 +6,7 @@ ghost use Rattle.cc_material.specs.Material.{TellsFile, is_refusal};
 ghost use Rattle.cc_read.specs.declared.refusal.ReadRefusal.TheVariants.{NoMemory as NoRoom};
 ghost use Rattle.cc_status.specs.declared.status.Status.TheVariants as status;
 
-use cc_num::NoMemory;
+use cc_program::num::NoMemory;
 use cc_read::Refusal;
 use cc_status::{Status, for_refusal, name_at};
 use std::alloc::Global;

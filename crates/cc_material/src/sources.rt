@@ -5,7 +5,7 @@ ghost use Rattle.cc_files.specs.Unread.{names_of, texts_of};
 ghost use Rattle.cc_material.specs.Material.{TellsFile, is_refusal};
 ghost use Rattle.cc_material.specs.Programs.{IsProgram, TellsRefusal};
 ghost use Rattle.cc_status.specs.declared.status.Status.TheVariants as status;
-ghost use Rattle.cc_syntax.specs.Sound.{IsSound};
+ghost use Rattle.cc_type.specs.CcSyntax.Sound.{IsSound};
 
 use crate::refusal::refused;
 use cc_cost::Profile;

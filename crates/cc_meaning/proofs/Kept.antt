@@ -2,13 +2,13 @@
 use Rattle.std.proofs.Common.{◌≡◌, ◌∙◌, ℕ, ℤ, List, Option, Result, Ok, Err, OnOk, OnErr, ap, sym, subst}
 use Rattle.std.proofs.Math.Logic.{∥∥₁_map}
 use Rattle.cc_program.specs.declared.program.Program.{Program}
-use Rattle.cc_syntax.specs.Sound.{IsSound}
-use Rattle.cc_syntax.proofs.NameRules.{sound-typed}
+use Rattle.cc_states.specs.CcSyntax.Sound.{IsSound}
+use Rattle.cc_states.proofs.CcSyntax.NameRules.{sound-typed}
 use Rattle.cc_states.proofs.StartLemmas.{start_state}
 use Rattle.cc_states.proofs.TurnLemmas.{turn_state}
 use Rattle.cc_states.specs.States.{IsState}
-use Rattle.cc_steps.specs.State.{State}
-use Rattle.cc_steps.specs.Turn.{start, turn}
+use Rattle.cc_states.specs.CcSteps.State.{State}
+use Rattle.cc_states.specs.CcSteps.Turn.{start, turn}
 
 -- before the first turn
 pub is_first : (p q : Program) (s : State) (inputs : List ℤ) → IsSound p → q ≡ p → s ≡ start p inputs → ∥ IsState q s ∥₁

@@ -5,7 +5,7 @@
 mod machine;
 mod turns;
 
-pub use cc_steps::{
+pub use cc_states::steps::{
     Activation, End, Event, Simulation, SimulationBack, Took, answers_by, follows_by, orders,
 };
 pub use machine::Machine;

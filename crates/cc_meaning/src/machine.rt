@@ -2,10 +2,10 @@
 
 ghost use Rattle.std.specs.Prelude.{◌≡◌};
 ghost use Rattle.cc_states.specs.States.{IsState};
-ghost use Rattle.cc_steps.specs.View.{state_of as state_of_run};
+ghost use Rattle.cc_states.specs.CcSteps.View.{state_of as state_of_run};
 
 use cc_program::{Program, Value};
-use cc_steps::{Activation, End, Event};
+use cc_states::steps::{Activation, End, Event};
 
 /// A run of a program, in a state of the program.
 #[derive(Drop)]

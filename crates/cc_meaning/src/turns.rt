@@ -1,16 +1,16 @@
 //! The turns of a machine, and what can be seen of it.
 
 ghost use Rattle.std.specs.Prelude.{◌≡◌, ◌↔◌, ◌<◌, ◌≤◌, ◌+◌, ◌-◌, ◌^◌, IfOk, OnOk, OnErr, IsTrue};
-ghost use Rattle.cc_syntax.specs.Sound.{IsSound};
-ghost use Rattle.cc_steps.specs.Runs.{IsBoundary};
-ghost use Rattle.cc_steps.specs.Turn.{start as start_of, turn as turn_of, took as took_of};
-ghost use Rattle.cc_steps.specs.declared.event.Took.TheVariants.{Ended};
+ghost use Rattle.cc_states.specs.CcSyntax.Sound.{IsSound};
+ghost use Rattle.cc_states.specs.CcSteps.Runs.{IsBoundary};
+ghost use Rattle.cc_states.specs.CcSteps.Turn.{start as start_of, turn as turn_of, took as took_of};
+ghost use Rattle.cc_states.specs.CcSteps.declared.event.Took.TheVariants.{Ended};
 ghost use Rattle.cc_meaning.specs.View.{state_of};
 
 use crate::machine::Machine;
-use cc_num::NoMemory;
 use cc_program::Program;
-use cc_steps::{End, Event, Run, Took};
+use cc_program::num::NoMemory;
+use cc_states::steps::{End, Event, Run, Took};
 use std::alloc::Global;
 use std::mem;
 
@@ -30,7 +30,7 @@ pub fn start<'p>(alloc: Global, p: &'p Program, inputs: Vec<i128>) -> Result<Mac
         trace,
         opened,
         end,
-    } = cc_steps::start(alloc, p, inputs)?;
+    } = cc_states::steps::start(alloc, p, inputs)?;
     Ok(Machine {
         program,
         flag,
@@ -70,7 +70,7 @@ impl<'p> Machine<'p> {
     pub fn at_boundary(&self) -> bool
         ensures { IsTrue result ↔ IsBoundary (state_of self.now) }
     {
-        cc_steps::at_boundary(&self.stack, self.end)
+        cc_states::steps::at_boundary(&self.stack, self.end)
     }
 
     /// One turn: the handler that the arrival names enters if it may; else the arrival is ignored, and the program makes a

@@ -2,10 +2,10 @@
 use Rattle.std.proofs.lemmas.List.{map-append}
 use Rattle.std.specs.Prelude.{nat_lt}
 use Rattle.std.proofs.Common.{◌≡◌, ◌∙◌, ◌∷◌, ◌++◌, ◌||◌, ◌⊎◌, ℕ, ℤ, Bool, true, false, List, [], length, Option, Some, None, option_map, slice_get, refl, ap, sym, subst}
-use Rattle.cc_eval.specs.declared.action.Action.{Action}
-use Rattle.cc_eval.specs.declared.mark.Mark.{Mark}
+use Rattle.cc_steps.specs.CcEval.declared.action.Action.{Action}
+use Rattle.cc_steps.specs.CcEval.declared.mark.Mark.{Mark}
 use Rattle.cc_program.specs.declared.func.Func.{Func}
-use Rattle.cc_syntax.specs.Types.{Named}
+use Rattle.cc_steps.specs.CcSyntax.Types.{Named}
 use Rattle.cc_program.specs.declared.program.Program.{Program}
 use Rattle.cc_program.specs.declared.stmt.Stmt.{Stmt}
 use Rattle.cc_program.specs.declared.value.Value.{Value}

@@ -6,11 +6,11 @@ use Rattle.cc_program.specs.declared.stmt.Stmt.TheOpen as is
 use Rattle.cc_program.specs.declared.value.Value.{Value}
 use Rattle.cc_program.proofs.Each.{Each}
 use Rattle.cc_program.proofs.StmtInduction.{StmtParts, by_stmt}
-use Rattle.cc_control.specs.Control.{Level, Control, level, counted, is_loop, is_left_by_break, behind_body, opening, first_phase, begun, behind_first, first_is, around_list, close, behind, broken, continued, arm}
-use Rattle.cc_control.proofs.Begun.{begun_stands, begun_enters}
+use Rattle.cc_steps.specs.CcControl.Control.{Level, Control, level, counted, is_loop, is_left_by_break, behind_body, opening, first_phase, begun, behind_first, first_is, around_list, close, behind, broken, continued, arm}
+use Rattle.cc_steps.proofs.CcControl.Begun.{begun_stands, begun_enters}
 use Rattle.cc_steps.specs.State.{Active}
 use Rattle.cc_steps.specs.Step.{in_case, looped, is_passed, next_place, number_in}
-use Rattle.cc_values.specs.Values.{is_true}
+use Rattle.cc_steps.specs.CcValues.Values.{is_true}
 use Rattle.cc_meaning_simulations.specs.Continuations.{Continuation, Remainder, at_zero, begin_with, break_out, continuation_of, continue_on, found_case, in_arm, in_cases, in_loop, next_continuation, past, remainder, remainder_of, remainders, resume}
 
 remainders-at_zero : (around : List Remainder) → remainders (map at_zero around) ≡ around

@@ -1,9 +1,9 @@
 -- Programs whose functions have other bodies, and more locals besides: local states that converge, where neither traps and marks are any.
 use Rattle.std.specs.Prelude.{nat_lt}
 use Rattle.std.proofs.Common.{◌≡◌, ◌∷◌, ◌⊎◌, ℕ, ℤ, Bool, true, false, List, [], length, Option, Some, slice_get}
-use Rattle.cc_eval.specs.declared.action.Action.{Action}
+use Rattle.cc_steps.specs.CcEval.declared.action.Action.{Action}
 use Rattle.cc_program.specs.declared.func.Func.{Func}
-use Rattle.cc_syntax.specs.Types.{Named}
+use Rattle.cc_steps.specs.CcSyntax.Types.{Named}
 use Rattle.cc_program.specs.declared.program.Program.{Program}
 use Rattle.cc_program.specs.declared.stmt.Stmt.{Stmt}
 use Rattle.cc_program.specs.declared.value.Value.{Value}

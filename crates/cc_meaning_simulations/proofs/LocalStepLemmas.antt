@@ -1,12 +1,12 @@
 -- Steps that nothing else can see are silent steps of the program, and go by writes of other locals.
 use Rattle.std.proofs.lemmas.Bool.{eq-eqb}
 use Rattle.std.proofs.Common.{◌≡◌, ◌∙◌, ◌∷◌, ◌==◌, if◌then◌else◌, ℕ, Bool, true, false, List, Option, Some, None, option_and_then, slice_get, refl, ap, sym, subst}
-use Rattle.cc_cells.specs.Cells.{scalar_in, with_scalar}
-use Rattle.cc_eval.specs.declared.action.Action.{Action}
-use Rattle.cc_eval.specs.declared.action.Action.TheVariants.{Read, Write, Choose}
-use Rattle.cc_eval.specs.declared.action.Manner.{Manner}
-use Rattle.cc_eval.specs.declared.mark.Mark.{Mark}
-use Rattle.cc_eval.specs.declared.mark.Mark.TheVariants.{Gave, Did, Chose}
+use Rattle.cc_steps.specs.CcCells.Cells.{scalar_in, with_scalar}
+use Rattle.cc_steps.specs.CcEval.declared.action.Action.{Action}
+use Rattle.cc_steps.specs.CcEval.declared.action.Action.TheVariants.{Read, Write, Choose}
+use Rattle.cc_steps.specs.CcEval.declared.action.Manner.{Manner}
+use Rattle.cc_steps.specs.CcEval.declared.mark.Mark.{Mark}
+use Rattle.cc_steps.specs.CcEval.declared.mark.Mark.TheVariants.{Gave, Did, Chose}
 use Rattle.cc_program.specs.declared.func.Func.{Func}
 use Rattle.cc_program.specs.declared.program.Program.{Program}
 use Rattle.cc_program.specs.declared.value.Value.{Value}

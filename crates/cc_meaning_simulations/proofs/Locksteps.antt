@@ -2,9 +2,9 @@
 -- no local is hidden and none is added.
 use Rattle.std.proofs.Common.{◌≡◌, ◌∙◌, ◌∷◌, ℕ, Bool, true, false, List, [], map, Some, slice_get, ◌==◌, if◌then◌else◌, inr, refl, ap, sym, subst}
 use Rattle.std.proofs.lemmas.List.{append-nil}
-use Rattle.cc_cells.specs.Cells.{with_scalar}
-use Rattle.cc_eval.specs.declared.action.Action.{Action}
-use Rattle.cc_eval.specs.declared.action.Action.TheVariants.{Read, Write, Choose, Call, Flag, Save}
+use Rattle.cc_steps.specs.CcCells.Cells.{with_scalar}
+use Rattle.cc_steps.specs.CcEval.declared.action.Action.{Action}
+use Rattle.cc_steps.specs.CcEval.declared.action.Action.TheVariants.{Read, Write, Choose, Call, Flag, Save}
 use Rattle.cc_program.specs.declared.func.Func.{Func}
 use Rattle.cc_program.specs.declared.program.Program.{Program}
 use Rattle.cc_program.specs.declared.stmt.Stmt.{Stmt}
@@ -15,7 +15,7 @@ use Rattle.cc_program.specs.declared.value.Value.{Value}
 use Rattle.cc_steps.specs.Rows.{rows_of}
 use Rattle.cc_steps.specs.Runs.{Follows, Answers}
 use Rattle.cc_steps.specs.State.{Active, Memory, State, locals_with}
-use Rattle.cc_syntax.specs.Types.{Named}
+use Rattle.cc_steps.specs.CcSyntax.Types.{Named}
 use Rattle.cc_meaning_simulations.specs.Bodies.{AddsScalars, with_funcs, with_body, with_bodies, extended, all_extended}
 use Rattle.cc_meaning_simulations.specs.Continuations.{resume}
 use Rattle.cc_meaning_simulations.specs.LocalSimulations.{is_visible, is_cell_visible, is_action_visible, Converges, Matched, QSteps, PSteps, Awaits, AreAlike}

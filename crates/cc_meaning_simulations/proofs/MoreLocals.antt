@@ -21,30 +21,30 @@ use Rattle.cc_program.specs.declared.value.Value.{Value}
 use Rattle.cc_program.specs.declared.value.Value.TheVariants as value
 use Rattle.cc_program.proofs.Each.{Each}
 use Rattle.cc_program.proofs.ExprInduction.{Parts, PlaceParts, by_expr}
-use Rattle.cc_eval.proofs.Links.{level, place_level}
-use Rattle.cc_eval.specs.declared.action.Action.TheVariants.{Read, Write}
-use Rattle.cc_eval.specs.declared.spots.Spot.{Spot}
-use Rattle.cc_eval.specs.declared.spots.Spot.TheVariants as spot
-use Rattle.cc_eval.specs.Context.{Context, local_type, object_type, are_alike, has_elements, path_to, named_by, designated, cell_of, cell_at, reached, element_in, element, member, is_seen}
-use Rattle.cc_eval.specs.Eval.{Meaning, Designation, manner, place_and_value, changed, sum_or_difference, one_more_type, value_type, fetched, stored, next_step, expr_effects, expr_meaning, leads_to, place_meaning, meaning, designation}
-use Rattle.cc_eval.specs.Progress.{known, ask, bind, needs, given}
-use Rattle.cc_cells.specs.Scalars.{before, position}
+use Rattle.cc_steps.proofs.CcEval.Links.{level, place_level}
+use Rattle.cc_steps.specs.CcEval.declared.action.Action.TheVariants.{Read, Write}
+use Rattle.cc_steps.specs.CcEval.declared.spots.Spot.{Spot}
+use Rattle.cc_steps.specs.CcEval.declared.spots.Spot.TheVariants as spot
+use Rattle.cc_steps.specs.CcEval.Context.{Context, local_type, object_type, are_alike, has_elements, path_to, named_by, designated, cell_of, cell_at, reached, element_in, element, member, is_seen}
+use Rattle.cc_steps.specs.CcEval.Eval.{Meaning, Designation, manner, place_and_value, changed, sum_or_difference, one_more_type, value_type, fetched, stored, next_step, expr_effects, expr_meaning, leads_to, place_meaning, meaning, designation}
+use Rattle.cc_steps.specs.CcEval.Progress.{known, ask, bind, needs, given}
+use Rattle.cc_steps.specs.CcCells.Scalars.{before, position}
 use Rattle.cc_steps.specs.declared.event.Event.TheVariants as event
 use Rattle.cc_steps.specs.Rows.{Enters, row_of}
 use Rattle.cc_steps.specs.State.{local_with, locals_with}
 use Rattle.cc_steps.specs.Step.{gives_nothing, cell_position}
 use Rattle.cc_steps.specs.Turn.{level_in, level_of}
 use Rattle.cc_program.specs.declared.types.Structure.{Structure}
-use Rattle.cc_syntax.specs.Effects.{Registers, Effects, plain}
-use Rattle.cc_syntax.specs.Expressions as typing
-use Rattle.cc_syntax.specs.Expressions.{of_one, of_two}
-use Rattle.cc_syntax.specs.Initial.{place_at, bound_of}
-use Rattle.cc_syntax.specs.Operators.{function_type}
-use Rattle.cc_syntax.specs.Types.{Named}
-use Rattle.cc_syntax.specs.Registers.{may_be_register, is_register, is_addressed}
-use Rattle.cc_syntax.specs.Values.{ValueType, PlaceType, object_place, element_of}
-use Rattle.cc_syntax.specs.Views.{of_program}
-use Rattle.cc_values.specs.Values.{integer}
+use Rattle.cc_steps.specs.CcSyntax.Effects.{Registers, Effects, plain}
+use Rattle.cc_steps.specs.CcSyntax.Expressions as typing
+use Rattle.cc_steps.specs.CcSyntax.Expressions.{of_one, of_two}
+use Rattle.cc_steps.specs.CcSyntax.Initial.{place_at, bound_of}
+use Rattle.cc_steps.specs.CcSyntax.Operators.{function_type}
+use Rattle.cc_steps.specs.CcSyntax.Types.{Named}
+use Rattle.cc_steps.specs.CcSyntax.Registers.{may_be_register, is_register, is_addressed}
+use Rattle.cc_steps.specs.CcSyntax.Values.{ValueType, PlaceType, object_place, element_of}
+use Rattle.cc_steps.specs.CcSyntax.Views.{of_program}
+use Rattle.cc_steps.specs.CcValues.Values.{integer}
 use Rattle.cc_meaning_simulations.specs.Bodies.{AddsScalars, all_extended, extended}
 use Rattle.cc_meaning_simulations.specs.NamedLocals.{all_in, names_below, names_step, place_names_below, place_names_step}
 use Rattle.cc_steps.proofs.ScalarPlaces.{IsFlat, scalar_flat}

@@ -17,24 +17,24 @@ use Rattle.cc_program.specs.declared.value.Root.{Root}
 use Rattle.cc_program.specs.declared.value.Root.TheVariants as root
 use Rattle.cc_program.specs.declared.value.Value.{Value}
 use Rattle.cc_program.specs.declared.value.Value.TheVariants as value
-use Rattle.cc_eval.specs.declared.action.Action.TheVariants.{Read, Write}
-use Rattle.cc_eval.specs.declared.mark.Mark.{Mark}
-use Rattle.cc_eval.specs.declared.spots.Spot.{Spot}
-use Rattle.cc_eval.specs.declared.spots.Spot.TheVariants as spot
-use Rattle.cc_eval.specs.Context.{Context, local_type, object_type, are_alike, has_elements, path_to, named_by, designated, cell_of, cell_at, reached, element_in, element, member, is_seen}
-use Rattle.cc_eval.specs.Eval.{Meaning, Designation, manner, place_and_value, changed, sum_or_difference, one_more_type, value_type, fetched, stored, next_step, expr_effects, expr_meaning, leads_to, place_meaning, meaning}
-use Rattle.cc_eval.specs.Progress.{known, ask, bind, needs, given}
+use Rattle.cc_steps.specs.CcEval.declared.action.Action.TheVariants.{Read, Write}
+use Rattle.cc_steps.specs.CcEval.declared.mark.Mark.{Mark}
+use Rattle.cc_steps.specs.CcEval.declared.spots.Spot.{Spot}
+use Rattle.cc_steps.specs.CcEval.declared.spots.Spot.TheVariants as spot
+use Rattle.cc_steps.specs.CcEval.Context.{Context, local_type, object_type, are_alike, has_elements, path_to, named_by, designated, cell_of, cell_at, reached, element_in, element, member, is_seen}
+use Rattle.cc_steps.specs.CcEval.Eval.{Meaning, Designation, manner, place_and_value, changed, sum_or_difference, one_more_type, value_type, fetched, stored, next_step, expr_effects, expr_meaning, leads_to, place_meaning, meaning}
+use Rattle.cc_steps.specs.CcEval.Progress.{known, ask, bind, needs, given}
 use Rattle.cc_steps.specs.Step.{gives_nothing, progress_in, progress_at}
 use Rattle.cc_steps.specs.Turn.{level_in, level_of}
-use Rattle.cc_syntax.specs.Effects.{Registers, Effects, PlaceEffects, no_one, place_effect_step, plain}
-use Rattle.cc_syntax.specs.Expressions as typing
-use Rattle.cc_syntax.specs.Expressions.{of_two}
-use Rattle.cc_syntax.specs.Initial.{place_at, bound_of}
-use Rattle.cc_syntax.specs.Operators.{function_type}
-use Rattle.cc_syntax.specs.Registers.{may_be_register, is_register, is_addressed}
-use Rattle.cc_syntax.specs.Values.{ValueType, PlaceType, element_of}
-use Rattle.cc_syntax.specs.Views.{of_program}
-use Rattle.cc_values.specs.Values.{integer}
+use Rattle.cc_steps.specs.CcSyntax.Effects.{Registers, Effects, PlaceEffects, no_one, place_effect_step, plain}
+use Rattle.cc_steps.specs.CcSyntax.Expressions as typing
+use Rattle.cc_steps.specs.CcSyntax.Expressions.{of_two}
+use Rattle.cc_steps.specs.CcSyntax.Initial.{place_at, bound_of}
+use Rattle.cc_steps.specs.CcSyntax.Operators.{function_type}
+use Rattle.cc_steps.specs.CcSyntax.Registers.{may_be_register, is_register, is_addressed}
+use Rattle.cc_steps.specs.CcSyntax.Values.{ValueType, PlaceType, element_of}
+use Rattle.cc_steps.specs.CcSyntax.Views.{of_program}
+use Rattle.cc_steps.specs.CcValues.Values.{integer}
 use Rattle.cc_meaning_simulations.specs.Bodies.{with_bodies, with_body}
 
 module _ (new : Func → List Stmt) (P : Program) where

@@ -1,7 +1,7 @@
 -- Positions play no part in turns, entries and boundaries: a program makes the same steps as itself from states that are equal but for them.
 use Rattle.std.proofs.Common.{◌≡◌, ◌∙◌, ◌∷◌, ◌&&◌, ◌||◌, ℕ, Bool, true, false, not, List, [], map, Option, Some, None, option_map, slice_get, inr, refl, ap, sym, subst, if◌then◌else◌}
 use Rattle.std.specs.Prelude.{max, is_some, nat_eq, nat_lt}
-use Rattle.cc_eval.specs.declared.mark.Mark.{Mark}
+use Rattle.cc_steps.specs.CcEval.declared.mark.Mark.{Mark}
 use Rattle.cc_program.specs.declared.func.Func.{Func}
 use Rattle.cc_program.specs.declared.program.Program.{Program}
 use Rattle.cc_program.specs.declared.stmt.Stmt.{Stmt}

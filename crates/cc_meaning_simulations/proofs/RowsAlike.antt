@@ -13,12 +13,12 @@ use Rattle.cc_program.specs.declared.value.Root.{Root}
 use Rattle.cc_program.specs.declared.value.Root.TheVariants as root
 use Rattle.cc_program.specs.declared.value.Value.{Value}
 use Rattle.cc_program.specs.declared.value.Value.TheVariants as value
-use Rattle.cc_eval.specs.Context.{object_type}
+use Rattle.cc_steps.specs.CcEval.Context.{object_type}
 use Rattle.cc_steps.specs.declared.event.Event.{Event}
 use Rattle.cc_steps.specs.declared.event.Event.TheVariants as event
 use Rattle.cc_steps.specs.Rows.{Name, Into, Spelled, Static, Auto, ToFunction, ToObject, Row, Reads, Writes, Enters, step_in, steps, func_name, local_in, object_spelled, cell_spelled, address_spelled, value_spelled, row_of, rows_of}
-use Rattle.cc_syntax.specs.Initial.{step_into}
-use Rattle.cc_syntax.specs.Values.{PlaceType, DevicePlace, ObjectPlace, FunctionPlace}
+use Rattle.cc_steps.specs.CcSyntax.Initial.{step_into}
+use Rattle.cc_steps.specs.CcSyntax.Values.{PlaceType, DevicePlace, ObjectPlace, FunctionPlace}
 use Rattle.cc_meaning_simulations.specs.Bodies.{with_bodies}
 use Rattle.cc_meaning_simulations.proofs.OtherBodies.{func_same, object_same}
 

@@ -1,9 +1,9 @@
 -- Passes that keep a statement go on alike behind it: where each way of going on converges, so does each kind of statement.
 use Rattle.std.proofs.Common.{◌≡◌, ◌∙◌, ◌∷◌, ℕ, Bool, true, false, List, [], Option, Some, None, slice_get, refl, ap, sym, subst, if◌then◌else◌}
-use Rattle.cc_control.specs.declared.phase.Phase.TheVariants.{First, Test}
-use Rattle.cc_control.specs.Control.{opening, first_phase}
-use Rattle.cc_eval.specs.declared.mark.Mark.{Mark}
-use Rattle.cc_eval.specs.Progress.{Progress, Known, Waits, Traps}
+use Rattle.cc_steps.specs.CcControl.declared.phase.Phase.TheVariants.{First, Test}
+use Rattle.cc_steps.specs.CcControl.Control.{opening, first_phase}
+use Rattle.cc_steps.specs.CcEval.declared.mark.Mark.{Mark}
+use Rattle.cc_steps.specs.CcEval.Progress.{Progress, Known, Waits, Traps}
 use Rattle.cc_program.specs.declared.expr.Expr.{Expr}
 use Rattle.cc_program.specs.declared.func.Func.{Func}
 use Rattle.cc_program.specs.declared.program.Program.{Program}
@@ -12,7 +12,7 @@ use Rattle.cc_program.specs.declared.stmt.Stmt.{Stmt, roll-Stmt, out-roll-Stmt}
 use Rattle.cc_program.specs.declared.stmt.Stmt.TheOpen as is
 use Rattle.cc_program.specs.declared.value.Value.{Value}
 use Rattle.cc_steps.specs.Step.{worked, passed, is_known, is_past, is_passed, is_return, number_in, progress_in}
-use Rattle.cc_values.specs.Values.{is_true}
+use Rattle.cc_steps.specs.CcValues.Values.{is_true}
 use Rattle.cc_meaning_simulations.specs.Continuations.{Remainder, remainder, Continuation, resume, past, break_out, continue_on, enclosing, in_arm, in_loop, in_cases, found_case, next_continuation}
 use Rattle.cc_meaning_simulations.specs.Locksteps.{ControlConverges, AreControlsAlike}
 use Rattle.cc_meaning_simulations.specs.Transitions.{ControlState, at_continuation, test_remainder, Jumps, Returns, passes_at, jump_to, progress_there, settled_control_in, marked_control, transition_in, transition}

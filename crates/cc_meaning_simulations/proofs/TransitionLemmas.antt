@@ -1,16 +1,16 @@
 -- A step of a program makes the transition of its running activation.
 use Rattle.std.proofs.Common.{◌≡◌, ◌∙◌, ◌∷◌, if◌then◌else◌, ℕ, Bool, true, false, List, [], Option, Some, None, refl, ap, subst}
-use Rattle.cc_control.specs.declared.phase.Phase.TheVariants.{First}
+use Rattle.cc_steps.specs.CcControl.declared.phase.Phase.TheVariants.{First}
 use Rattle.cc_program.specs.declared.func.Func.{Func}
 use Rattle.cc_program.specs.declared.program.Program.{Program}
 use Rattle.cc_program.specs.declared.stmt.Case.{Case}
 use Rattle.cc_program.specs.declared.stmt.Stmt.{Stmt, out-Stmt}
 use Rattle.cc_program.specs.declared.stmt.Stmt.TheOpen as is
 use Rattle.cc_program.specs.declared.value.Value.{Value}
-use Rattle.cc_control.specs.Control.{Control, behind, level, close}
-use Rattle.cc_eval.specs.declared.action.Action.{Action}
-use Rattle.cc_eval.specs.declared.mark.Mark.{Mark}
-use Rattle.cc_eval.specs.Progress.{Progress, Known, Waits, Traps}
+use Rattle.cc_steps.specs.CcControl.Control.{Control, behind, level, close}
+use Rattle.cc_steps.specs.CcEval.declared.action.Action.{Action}
+use Rattle.cc_steps.specs.CcEval.declared.mark.Mark.{Mark}
+use Rattle.cc_steps.specs.CcEval.Progress.{Progress, Known, Waits, Traps}
 use Rattle.cc_steps.specs.declared.event.End.TheVariants.{Trap}
 use Rattle.cc_steps.specs.State.{Active, IsSameCall, Memory, State, locals_with}
 use Rattle.cc_steps.specs.Step.{activation, stopped, with_stack, worked, is_known, at_test, moved, with_mark, next_place, is_return, passes, begun_at, goes_to, progress_of, settled_in, settled, marked, returned, fallen, perform, stepped, active_step, proceed}

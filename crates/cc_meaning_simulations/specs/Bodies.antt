@@ -3,8 +3,8 @@ use Rattle.std.specs.Prelude.{◌≡◌, ℕ, true, List, ◌++◌, map, Some, i
 use Rattle.cc_program.specs.declared.func.Func.{Func}
 use Rattle.cc_program.specs.declared.program.Program.{Program}
 use Rattle.cc_program.specs.declared.stmt.Stmt.{Stmt}
-use Rattle.cc_syntax.specs.Types.{Named}
-use Rattle.cc_syntax.specs.Values.{scalar_value}
+use Rattle.cc_steps.specs.CcSyntax.Types.{Named}
+use Rattle.cc_steps.specs.CcSyntax.Values.{scalar_value}
 
 abbrev pub with_funcs : Program → List Func → Program
 with_funcs p funcs =

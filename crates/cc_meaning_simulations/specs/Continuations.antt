@@ -7,11 +7,11 @@ use Rattle.cc_program.specs.declared.stmt.Case.{Case}
 use Rattle.cc_program.specs.declared.stmt.Stmt.{Stmt}
 use Rattle.cc_program.specs.declared.stmt.Stmt.TheOpen as is
 use Rattle.cc_program.specs.declared.value.Value.{Value}
-use Rattle.cc_control.specs.declared.phase.Phase.{Phase}
-use Rattle.cc_control.specs.declared.phase.Phase.TheVariants.{First}
-use Rattle.cc_control.specs.Control.{Level, Control, level, is_loop, is_left_by_break, begun, behind_first, first_is, coming, from_label, is_label, is_default}
+use Rattle.cc_steps.specs.CcControl.declared.phase.Phase.{Phase}
+use Rattle.cc_steps.specs.CcControl.declared.phase.Phase.TheVariants.{First}
+use Rattle.cc_steps.specs.CcControl.Control.{Level, Control, level, is_loop, is_left_by_break, begun, behind_first, first_is, coming, from_label, is_label, is_default}
 use Rattle.cc_steps.specs.Step.{is_passed, number_in}
-use Rattle.cc_values.specs.Values.{is_true}
+use Rattle.cc_steps.specs.CcValues.Values.{is_true}
 
 -- what is left of a list of statements, and which full expression of its first statement is worked or comes
 pub record Remainder : Type 0 where

@@ -1,9 +1,9 @@
 -- Steps of an activation that nothing else can see: it jumps, branches, or reads or writes a hidden local of its own; and where it traps.
 use Rattle.std.specs.Prelude.{◌≡◌, ℕ, Bool, true, false, List, [], Option, Some, None}
-use Rattle.cc_cells.specs.Cells.{scalar_in, with_scalar}
-use Rattle.cc_eval.specs.declared.action.Action.TheVariants.{Read, Write, Choose}
-use Rattle.cc_eval.specs.declared.action.Manner.{Manner}
-use Rattle.cc_eval.specs.declared.mark.Mark.TheVariants.{Gave, Did, Chose}
+use Rattle.cc_steps.specs.CcCells.Cells.{scalar_in, with_scalar}
+use Rattle.cc_steps.specs.CcEval.declared.action.Action.TheVariants.{Read, Write, Choose}
+use Rattle.cc_steps.specs.CcEval.declared.action.Manner.{Manner}
+use Rattle.cc_steps.specs.CcEval.declared.mark.Mark.TheVariants.{Gave, Did, Chose}
 use Rattle.cc_program.specs.declared.func.Func.{Func}
 use Rattle.cc_program.specs.declared.program.Program.{Program}
 use Rattle.cc_program.specs.declared.value.Cell.{Cell}

@@ -2,7 +2,7 @@
 -- transition, and converge again. Memory and locals are the same.
 use Rattle.std.specs.Prelude.{◌≡◌, true}
 use Rattle.cc_program.specs.declared.program.Program.{Program}
-use Rattle.cc_eval.specs.declared.mark.Mark.{Mark}
+use Rattle.cc_steps.specs.CcEval.declared.mark.Mark.{Mark}
 use Rattle.cc_meaning_simulations.specs.Transitions.{ControlState, is_at_boundary, Transition, FallsOff, Performs, Aborts, Jumps, Returns, transition, marked_control}
 
 module _ (Q P : Program) (Match : ControlState → ControlState → Type 0) where

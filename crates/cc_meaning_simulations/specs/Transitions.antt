@@ -6,10 +6,10 @@ use Rattle.cc_program.specs.declared.stmt.Case.{Case}
 use Rattle.cc_program.specs.declared.stmt.Stmt.{Stmt, out-Stmt}
 use Rattle.cc_program.specs.declared.stmt.Stmt.TheOpen as is
 use Rattle.cc_program.specs.declared.value.Value.{Value}
-use Rattle.cc_control.specs.declared.phase.Phase.TheVariants.{First, Test}
-use Rattle.cc_eval.specs.declared.action.Action.{Action}
-use Rattle.cc_eval.specs.declared.mark.Mark.{Mark}
-use Rattle.cc_eval.specs.Progress.{Progress, Known, Waits, Traps}
+use Rattle.cc_steps.specs.CcControl.declared.phase.Phase.TheVariants.{First, Test}
+use Rattle.cc_steps.specs.CcEval.declared.action.Action.{Action}
+use Rattle.cc_steps.specs.CcEval.declared.mark.Mark.{Mark}
+use Rattle.cc_steps.specs.CcEval.Progress.{Progress, Known, Waits, Traps}
 use Rattle.cc_steps.specs.Runs.{is_empty, begins}
 use Rattle.cc_steps.specs.State.{Active}
 use Rattle.cc_steps.specs.Step.{worked, passed_first, is_known, is_return, progress_at, is_past}

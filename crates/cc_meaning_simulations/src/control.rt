@@ -1,8 +1,8 @@
 //! What an activation does next, by its control.
 
 ghost use Rattle.std.specs.Prelude.{ℕ, Bool, List, [], ◌∷◌, Option, ◌≡◌};
-ghost use Rattle.cc_eval.specs.declared.action.Action.{Action};
-ghost use Rattle.cc_eval.specs.declared.mark.Mark.{Mark};
+ghost use Rattle.cc_steps.specs.CcEval.declared.action.Action.{Action};
+ghost use Rattle.cc_steps.specs.CcEval.declared.mark.Mark.{Mark};
 ghost use Rattle.cc_program.specs.declared.func.Func.{Func};
 ghost use Rattle.cc_program.specs.declared.program.Program.{Program};
 ghost use Rattle.cc_program.specs.declared.value.Value.{Value};

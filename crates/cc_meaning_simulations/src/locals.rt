@@ -1,8 +1,8 @@
 //! Simulations by the control and the locals of activations.
 
 ghost use Rattle.std.specs.Prelude.{ℕ, ℤ, Bool, true, false, List, [], ◌∷◌, length, nat_lt, Option, Some, slice_get, ◌≡◌, ◌⊎◌};
-ghost use Rattle.cc_eval.specs.declared.action.Action.{Action};
-ghost use Rattle.cc_eval.specs.declared.mark.Mark.{Mark};
+ghost use Rattle.cc_steps.specs.CcEval.declared.action.Action.{Action};
+ghost use Rattle.cc_steps.specs.CcEval.declared.mark.Mark.{Mark};
 ghost use Rattle.cc_program.specs.declared.func.Func.{Func};
 ghost use Rattle.cc_program.specs.declared.program.Program.{Program};
 ghost use Rattle.cc_program.specs.declared.stmt.Stmt.{Stmt};
@@ -11,7 +11,7 @@ ghost use Rattle.cc_steps.specs.Rows.{rows_of};
 ghost use Rattle.cc_steps.specs.Runs.{Follows, Answers};
 ghost use Rattle.cc_steps.specs.State.{Active, Memory, State};
 ghost use Rattle.cc_steps.specs.Turn.{start, turn};
-ghost use Rattle.cc_syntax.specs.Types.{Named};
+ghost use Rattle.cc_steps.specs.CcSyntax.Types.{Named};
 ghost use Rattle.cc_meaning_simulations.specs.Bodies.{extended, all_extended, AddsScalars};
 ghost use Rattle.cc_meaning_simulations.specs.LocalSimulations.{is_action_visible, Approaches, Expects, AreAlike, AreFitting};
 ghost use Rattle.cc_meaning_simulations.specs.LocalSteps.{LocalState, local_state_of, begun_state, after_write};

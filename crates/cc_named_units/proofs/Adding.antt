@@ -1,26 +1,26 @@
 -- What is added, one construct behind another; and what single changes of a state add.
 use Rattle.std.proofs.Common.{◌≡◌, ◌≤◌, ◌+◌, ℕ, zero, suc, true, List, [], ◌∷◌, ◌++◌, length, Option, Ok, refl, ap, sym, subst, length-append, arith}
 use Rattle.std.specs.Prelude.{take}
-use Rattle.cc_typed_terms.specs.Located.{located}
+use Rattle.cc_type.specs.CcTypedTerms.Located.{located}
 use Rattle.cc_named_units.specs.Names.{tag_named}
-use Rattle.cc_num.specs.declared.target.Target.{Target}
-use Rattle.cc_operands.specs.Verdicts.{Judged}
-use Rattle.cc_typed_terms.specs.Devices.{declared_device}
-use Rattle.cc_typed_terms.specs.Primary.{string_object}
+use Rattle.cc_program.specs.CcNum.declared.target.Target.{Target}
+use Rattle.cc_type.specs.CcOperands.Verdicts.{Judged}
+use Rattle.cc_type.specs.CcTypedTerms.Devices.{declared_device}
+use Rattle.cc_type.specs.CcTypedTerms.Primary.{string_object}
 use Rattle.cc_program.proofs.Each.{Each}
 use Rattle.cc_program.specs.declared.expr.Place.{Place}
 use Rattle.cc_program.specs.declared.object.Device.{Device}
-use Rattle.cc_scopes.specs.State.{State, Name, Scope, KnownStructure, only_named, with_name, in_innermost, with_scopes, with_structures, with_names, with_unfinished, with_declared, change_at, change_name, bind, bind_tag, entered, outer_scopes, left}
-use Rattle.cc_scopes.specs.Structures.{with_members, completed}
-use Rattle.cc_scopes.specs.Verdicts.{Found, whole, and_then}
-use Rattle.cc_scopes.specs.declared.designated.Designated.{Designated}
-use Rattle.cc_scopes.specs.declared.designated.Tagged.{Tagged}
-use Rattle.cc_scopes.specs.declared.unit.Declared.{Declared}
+use Rattle.cc_type.specs.CcScopes.State.{State, Name, Scope, KnownStructure, only_named, with_name, in_innermost, with_scopes, with_structures, with_names, with_unfinished, with_declared, change_at, change_name, bind, bind_tag, entered, outer_scopes, left}
+use Rattle.cc_type.specs.CcScopes.Structures.{with_members, completed}
+use Rattle.cc_type.specs.CcScopes.Verdicts.{Found, whole, and_then}
+use Rattle.cc_type.specs.CcScopes.declared.designated.Designated.{Designated}
+use Rattle.cc_type.specs.CcScopes.declared.designated.Tagged.{Tagged}
+use Rattle.cc_type.specs.CcScopes.declared.unit.Declared.{Declared}
 use Rattle.cc_sound_terms.proofs.Founds.{answer, answer_is, then_found, whole_found, located_found}
 use Rattle.cc_sound_terms.proofs.Outcomes.{each_append}
-use Rattle.cc_specifiers.specs.Places.{JudgedAt}
-use Rattle.cc_syntax.specs.Types.{Named}
-use Rattle.cc_terms.specs.InTurn.{in_turn}
+use Rattle.cc_type.specs.CcSpecifiers.Places.{JudgedAt}
+use Rattle.cc_type.specs.CcSyntax.Types.{Named}
+use Rattle.cc_type.specs.CcTerms.InTurn.{in_turn}
 use Rattle.cc_tree.specs.declared.at.At.{At}
 use Rattle.cc_named_units.specs.Named.{Limits, AreFewMembers, IsNamedStructure, IsNamedEntry, Adds}
 

@@ -6,19 +6,19 @@ use Rattle.cc_named_units.proofs.Adding.{AreCounted, adds_through, chained, befo
 use Rattle.cc_named_units.proofs.Cycle.{front_few, rest_few}
 use Rattle.cc_named_units.specs.Named.{Limits, Adds}
 use Rattle.cc_named_units.specs.Names.{all_named, each_named, maybe_named, tree_named, decl_named, first_named, line_names, line_named}
-use Rattle.cc_num.specs.declared.int_type.IntType.{IntType}
-use Rattle.cc_num.specs.declared.target.Target.{Target}
-use Rattle.cc_operands.specs.Operands.{Operand}
-use Rattle.cc_operands.specs.Verdicts.{Judged}
-use Rattle.cc_operands.specs.declared.rule.Rule.TheVariants as rule
+use Rattle.cc_program.specs.CcNum.declared.int_type.IntType.{IntType}
+use Rattle.cc_program.specs.CcNum.declared.target.Target.{Target}
+use Rattle.cc_type.specs.CcOperands.Operands.{Operand}
+use Rattle.cc_type.specs.CcOperands.Verdicts.{Judged}
+use Rattle.cc_type.specs.CcOperands.declared.rule.Rule.TheVariants as rule
 use Rattle.cc_program.specs.declared.expr.Expr.{Expr}
 use Rattle.cc_program.specs.declared.stmt.Stmt.{Stmt, Do, Empty, Block}
 use Rattle.cc_program.specs.declared.types.CType.{CType}
-use Rattle.cc_scopes.specs.State.{State, Name, empty, entered, left}
-use Rattle.cc_scopes.specs.Verdicts.{Found, whole, and_then, maybe_found}
+use Rattle.cc_type.specs.CcScopes.State.{State, Name, empty, entered, left}
+use Rattle.cc_type.specs.CcScopes.Verdicts.{Found, whole, and_then, maybe_found}
 use Rattle.cc_sound_terms.proofs.Founds.{answer, then_found}
-use Rattle.cc_specifiers.specs.declared.storage.Where.TheVariants as stands
-use Rattle.cc_syntax.proofs.Prefixes.{both_true}
+use Rattle.cc_type.specs.CcSpecifiers.declared.storage.Where.TheVariants as stands
+use Rattle.cc_type.proofs.CcSyntax.Prefixes.{both_true}
 use Rattle.cc_tree.specs.declared.at.At.{At}
 use Rattle.cc_tree.specs.declared.tree.Tree.{Tree}
 use Rattle.cc_tree.specs.declared.unit.Decl.{Decl}
@@ -26,18 +26,18 @@ use Rattle.cc_tree.specs.declared.unit.First.{First}
 use Rattle.cc_tree.specs.declared.unit.First.TheVariants as first
 use Rattle.cc_tree.specs.declared.unit.Line.{Line, roll-Line, map-Line, ind-Line, fold-roll-Line}
 use Rattle.cc_tree.specs.declared.unit.Line.TheOpen as one_line
-use Rattle.cc_typed_bodies.specs.Lines.{misplaced, label_found, misplaced_case, case_found, if_found, while_found, do_found, switch_found, for_found, inside, line_by, switched_by, item_by, line_step, line_of, line_here}
-use Rattle.cc_typed_bodies.specs.Meanings.{LineMeaning, scoped, opens_scope, line_found, lines_found, block_found, body_inside, body_found, maybe_body, item_found, items_found, cases_inside, not_switched, switch_body, is_empty, counts, empty_item, unlabelled}
-use Rattle.cc_typed_bodies.specs.Parts.{value_here, effect_found, expression_found, return_found, declared_found, first_found}
-use Rattle.cc_typed_bodies.specs.Declarations.{declaration}
-use Rattle.cc_typed_statements.specs.Conditions.{body_of, effect, joined}
-use Rattle.cc_typed_statements.specs.Jumps.{in_loop, in_switch, break_of, continue_of, returned}
-use Rattle.cc_typed_statements.specs.Labels.{no_case, behind_empty, case_label, default_label, cases_behind, label_done}
-use Rattle.cc_typed_statements.specs.Labels.{behind as cases_with}
-use Rattle.cc_typed_statements.specs.Statements.{if_of, while_of, do_of, for_of}
-use Rattle.cc_typed_statements.specs.Switch.{switch_type, switch_of}
-use Rattle.cc_typed_statements.specs.declared.cases.Cases.{Cases}
-use Rattle.cc_typed_statements.specs.declared.jumps.Jumps.{Jumps}
+use Rattle.cc_type.specs.CcTypedBodies.Lines.{misplaced, label_found, misplaced_case, case_found, if_found, while_found, do_found, switch_found, for_found, inside, line_by, switched_by, item_by, line_step, line_of, line_here}
+use Rattle.cc_type.specs.CcTypedBodies.Meanings.{LineMeaning, scoped, opens_scope, line_found, lines_found, block_found, body_inside, body_found, maybe_body, item_found, items_found, cases_inside, not_switched, switch_body, is_empty, counts, empty_item, unlabelled}
+use Rattle.cc_type.specs.CcTypedBodies.Parts.{value_here, effect_found, expression_found, return_found, declared_found, first_found}
+use Rattle.cc_type.specs.CcTypedBodies.Declarations.{declaration}
+use Rattle.cc_type.specs.CcTypedStatements.Conditions.{body_of, effect, joined}
+use Rattle.cc_type.specs.CcTypedStatements.Jumps.{in_loop, in_switch, break_of, continue_of, returned}
+use Rattle.cc_type.specs.CcTypedStatements.Labels.{no_case, behind_empty, case_label, default_label, cases_behind, label_done}
+use Rattle.cc_type.specs.CcTypedStatements.Labels.{behind as cases_with}
+use Rattle.cc_type.specs.CcTypedStatements.Statements.{if_of, while_of, do_of, for_of}
+use Rattle.cc_type.specs.CcTypedStatements.Switch.{switch_type, switch_of}
+use Rattle.cc_type.specs.CcTypedStatements.declared.cases.Cases.{Cases}
+use Rattle.cc_type.specs.CcTypedStatements.declared.jumps.Jumps.{Jumps}
 use Rattle.cc_named_units.proofs.Declarations.{declaration_adds}
 use Rattle.cc_named_units.proofs.InitialiserTerms.{value_added}
 

@@ -1,13 +1,13 @@
 -- Each token of a text is spelled by a byte at least.
 use Rattle.std.proofs.Common.{◌≤◌, ℕ, suc, Bool, List, [], ◌∷◌, length, length-append, arith}
-use Rattle.cc_lex.specs.Identifiers.{IsIdentifier}
-use Rattle.cc_lex.specs.Marks.{spelling_of}
-use Rattle.cc_lex.specs.Numbers.{IsPreprocessingNumber, ADigit, APointAndDigit, AndDigit, AndLetter, AndSmallE, AndCapitalE, AndSmallP, AndCapitalP, AndPoint}
-use Rattle.cc_lex.specs.Tokens.{Spells, AName, ANumber, ACharacter, AText, AMark, TokensFrom, NoToken, Separated, Spelled, Tokens}
-use Rattle.cc_lex.specs.declared.token.Kind.{Kind}
-use Rattle.cc_lex.specs.declared.token.Mark.{Mark}
-use Rattle.cc_lex.specs.declared.token.Mark.TheVariants as mark
-use Rattle.cc_lex.specs.declared.token.Token.{Token}
+use Rattle.cc_type.specs.CcLex.Identifiers.{IsIdentifier}
+use Rattle.cc_type.specs.CcLex.Marks.{spelling_of}
+use Rattle.cc_type.specs.CcLex.Numbers.{IsPreprocessingNumber, ADigit, APointAndDigit, AndDigit, AndLetter, AndSmallE, AndCapitalE, AndSmallP, AndCapitalP, AndPoint}
+use Rattle.cc_type.specs.CcLex.Tokens.{Spells, AName, ANumber, ACharacter, AText, AMark, TokensFrom, NoToken, Separated, Spelled, Tokens}
+use Rattle.cc_type.specs.CcLex.declared.token.Kind.{Kind}
+use Rattle.cc_type.specs.CcLex.declared.token.Mark.{Mark}
+use Rattle.cc_type.specs.CcLex.declared.token.Mark.TheVariants as mark
+use Rattle.cc_type.specs.CcLex.declared.token.Token.{Token}
 
 name_spelled : (w : List ℕ) → IsIdentifier w → suc 0 ≤ length w
 name_spelled [] h = absurd (cc)

@@ -2,18 +2,18 @@
 use Rattle.std.proofs.Common.{◌≡◌, ◌≤◌, ◌+◌, ℕ, suc, Bool, true, ◌&&◌, List, [], ◌∷◌, map, Option, Some, None, refl, ap, sym, ◌∙◌, subst, arith}
 use Rattle.std.specs.List.{list_all}
 use Rattle.cc_named_units.specs.Counts.{total, declr_counts, params_counts, spec_counts, tree_counts, enumr_counts, members_counts, param_counts, type_name_counts, declr_count, params_count, spec_count, tree_count, enumr_count, members_count, param_count, type_name_count}
-use Rattle.cc_designators.specs.Assignments.{assign_of, stepped_after}
-use Rattle.cc_designators.specs.Casts.{cast_of}
-use Rattle.cc_designators.specs.Postfix.{dot, arrow}
+use Rattle.cc_type.specs.CcDesignators.Assignments.{assign_of, stepped_after}
+use Rattle.cc_type.specs.CcDesignators.Casts.{cast_of}
+use Rattle.cc_type.specs.CcDesignators.Postfix.{dot, arrow}
 use Rattle.cc_named_units.specs.Names.{HasNames, all_named, one_or_more, is_member_named, declr_names, params_names, spec_names, tree_names, enumr_names, members_names, param_names, type_name_names, declr_named, params_named, spec_named, tree_named, enumr_named, members_named, param_named, type_name_named, tag_named}
-use Rattle.cc_num.specs.declared.target.Target.{Target}
-use Rattle.cc_operands.specs.Choices.{choose_of, comma_of}
-use Rattle.cc_operands.specs.Operators.{operator_of}
-use Rattle.cc_typed_terms.specs.Operators.{binary_by, is_minus}
-use Rattle.cc_typed_terms.specs.Primary.{named, number, character}
+use Rattle.cc_program.specs.CcNum.declared.target.Target.{Target}
+use Rattle.cc_type.specs.CcOperands.Choices.{choose_of, comma_of}
+use Rattle.cc_type.specs.CcOperands.Operators.{operator_of}
+use Rattle.cc_type.specs.CcTypedTerms.Operators.{binary_by, is_minus}
+use Rattle.cc_type.specs.CcTypedTerms.Primary.{named, number, character}
 use Rattle.cc_program.specs.declared.program.Roles.{Roles}
-use Rattle.cc_scopes.specs.State.{structures_of}
-use Rattle.cc_syntax.proofs.Prefixes.{both_true}
+use Rattle.cc_type.specs.CcScopes.State.{structures_of}
+use Rattle.cc_type.proofs.CcSyntax.Prefixes.{both_true}
 use Rattle.cc_tree.specs.declared.at.At.{At}
 use Rattle.cc_tree.specs.declared.tree.Declr.TheOpen as one
 use Rattle.cc_tree.specs.declared.tree.Declr.{Declr, roll-Declr, map-Declr, fold-roll-Declr}
@@ -24,8 +24,8 @@ use Rattle.cc_tree.specs.declared.tree.Enumr.{Enumr, roll-Enumr, map-Enumr, fold
 use Rattle.cc_tree.specs.declared.tree.MemberDecl.{MemberDecl, roll-MemberDecl, map-MemberDecl, fold-roll-MemberDecl}
 use Rattle.cc_tree.specs.declared.tree.Param.{Param, roll-Param, map-Param, fold-roll-Param}
 use Rattle.cc_tree.specs.declared.tree.TypeName.{TypeName, roll-TypeName, map-TypeName, fold-roll-TypeName}
-use Rattle.cc_terms.specs.Meanings.{TreeMeaning, DeclrMeaning, ParamsMeaning, ParamMeaning, SpecMeaning, MembersMeaning, EnumrMeaning, TypeNameMeaning}
-use Rattle.cc_terms.specs.Terms.{tree_of, declr_of, params_of, param_of, spec_of, members_of, enumr_of, type_name_of}
+use Rattle.cc_type.specs.CcTerms.Meanings.{TreeMeaning, DeclrMeaning, ParamsMeaning, ParamMeaning, SpecMeaning, MembersMeaning, EnumrMeaning, TypeNameMeaning}
+use Rattle.cc_type.specs.CcTerms.Terms.{tree_of, declr_of, params_of, param_of, spec_of, members_of, enumr_of, type_name_of}
 use Rattle.cc_named_units.specs.Named.{Limits}
 use Rattle.cc_named_units.proofs.Adding.{AreCounted, done, judged}
 use Rattle.cc_named_units.proofs.Declarators.{DeclrAdds, NamedDeclrAdds, ParamsAdd, ParamAdds, nothing_adds, name_adds, pointer_adds, open_array_adds, array_adds, function_adds, type_name_adds, member_list_adds, empty_adds, many_add, param_adds}

@@ -2,14 +2,14 @@
 use Rattle.std.proofs.Common.{◌≡◌, ◌≤◌, ◌+◌, ℕ, zero, suc, Bool, true, false, List, [], ◌∷◌, ◌++◌, map, Option, Some, None, refl, sym, ◌∙◌, subst, arith}
 use Rattle.std.specs.Prelude.{flat_map, length, is_some, nat_le, if◌then◌else◌}
 use Rattle.cc_named_units.specs.Counts.{total, tree_count, given_counts, given_count}
-use Rattle.cc_initialisers.specs.Contents.{Contents, Scalar, Elements, NoMember, Members}
-use Rattle.cc_initialisers.specs.Initialisers.{Step, Give, Character, Zero, Visit, Break, Initialiser, Init, Filled, Filling, breaks, refused_by, is_scalar_object, char_or_zero, chars_given, text_by, text_given, both_filled, scalar_given, scalar_filled, string_for, started_by, started, repeated, elided, nothing_left, all_taken, sole_by, sole, list_braced, given_step, initialiser_of, here, list_initialised, aggregate_initialised, initialised}
+use Rattle.cc_type.specs.CcInitialisers.Contents.{Contents, Scalar, Elements, NoMember, Members}
+use Rattle.cc_type.specs.CcInitialisers.Initialisers.{Step, Give, Character, Zero, Visit, Break, Initialiser, Init, Filled, Filling, breaks, refused_by, is_scalar_object, char_or_zero, chars_given, text_by, text_given, both_filled, scalar_given, scalar_filled, string_for, started_by, started, repeated, elided, nothing_left, all_taken, sole_by, sole, list_braced, given_step, initialiser_of, here, list_initialised, aggregate_initialised, initialised}
 use Rattle.cc_named_units.proofs.Cycle.{front_few, rest_few}
 use Rattle.cc_named_units.specs.Names.{all_named, tree_named, given_names, given_named}
-use Rattle.cc_operands.specs.declared.rule.Rule.{Rule}
-use Rattle.cc_operands.specs.declared.rule.Rule.TheVariants as rule
-use Rattle.cc_syntax.specs.Values.{ValueType}
-use Rattle.cc_syntax.proofs.Prefixes.{both_true}
+use Rattle.cc_type.specs.CcOperands.declared.rule.Rule.{Rule}
+use Rattle.cc_type.specs.CcOperands.declared.rule.Rule.TheVariants as rule
+use Rattle.cc_type.specs.CcSyntax.Values.{ValueType}
+use Rattle.cc_type.proofs.CcSyntax.Prefixes.{both_true}
 use Rattle.cc_tree.specs.declared.at.At.{At}
 use Rattle.cc_tree.specs.declared.tree.Tree.{Tree}
 use Rattle.cc_tree.specs.declared.unit.Given.{Given, roll-Given, map-Given, fold-roll-Given, ind-Given}

@@ -1,40 +1,40 @@
 -- What a declaration adds: no more locals than it declares names.
 use Rattle.std.proofs.Common.{◌≡◌, ◌≤◌, ◌+◌, ℕ, suc, true, List, [], ◌∷◌, ◌++◌, map, Option, Some, None, Ok, refl, arith}
 use Rattle.cc_named_units.specs.Counts.{each_count, maybe_count, declr_count, spec_count, given_count, init_count, decl_count}
-use Rattle.cc_typed_terms.specs.Declarators.{derived_type}
-use Rattle.cc_typed_terms.specs.Located.{located}
+use Rattle.cc_type.specs.CcTypedTerms.Declarators.{derived_type}
+use Rattle.cc_type.specs.CcTypedTerms.Located.{located}
 use Rattle.cc_named_units.proofs.Adding.{unmoved, adds_through, adds_same, chained, behind, before, done, placed}
 use Rattle.cc_named_units.proofs.Cycle.{declr_adds, front_few, rest_few, few_but_one}
 use Rattle.cc_named_units.proofs.Laws.{specifiers_add}
 use Rattle.cc_named_units.specs.Named.{Limits, Adds}
 use Rattle.cc_named_units.specs.Names.{each_named, maybe_named, declr_named, spec_named, member_named, given_named, init_named, decl_named}
-use Rattle.cc_num.specs.declared.target.Target.{Target}
-use Rattle.cc_objects.specs.Categories.{category_of, entity_of, setting_of}
-use Rattle.cc_objects.specs.Names.{name_judged}
-use Rattle.cc_objects.specs.Tags.{in_front, aliased}
-use Rattle.cc_objects.specs.declared.category.Category.{Category}
-use Rattle.cc_operands.specs.Qualified.{is_function_type}
+use Rattle.cc_program.specs.CcNum.declared.target.Target.{Target}
+use Rattle.cc_type.specs.CcObjects.Categories.{category_of, entity_of, setting_of}
+use Rattle.cc_type.specs.CcObjects.Names.{name_judged}
+use Rattle.cc_type.specs.CcObjects.Tags.{in_front, aliased}
+use Rattle.cc_type.specs.CcObjects.declared.category.Category.{Category}
+use Rattle.cc_type.specs.CcOperands.Qualified.{is_function_type}
 use Rattle.cc_program.specs.declared.expr.Expr.{Expr}
 use Rattle.cc_program.specs.declared.types.CType.{CType}
-use Rattle.cc_scopes.specs.State.{State, Name, structures_of, layouts_of}
-use Rattle.cc_scopes.specs.Verdicts.{whole, and_then}
+use Rattle.cc_type.specs.CcScopes.State.{State, Name, structures_of, layouts_of}
+use Rattle.cc_type.specs.CcScopes.Verdicts.{whole, and_then}
 use Rattle.cc_sound_terms.proofs.Founds.{answer, then_found, located_found, whole_found}
-use Rattle.cc_specifiers.specs.Attributes.{attributes, entry_by}
-use Rattle.cc_specifiers.specs.Declarators.{type_found}
-use Rattle.cc_specifiers.specs.declared.attribute.Attribute.{Attribute}
-use Rattle.cc_specifiers.specs.declared.attribute.Entity.{Entity}
-use Rattle.cc_specifiers.specs.declared.specifier.Specified.{Specified}
-use Rattle.cc_specifiers.specs.declared.storage.Where.{Where}
-use Rattle.cc_syntax.proofs.Prefixes.{both_true}
-use Rattle.cc_terms.specs.InTurn.{in_turn}
-use Rattle.cc_terms.specs.Specifiers.{specified_found}
-use Rattle.cc_terms.specs.Terms.{declr_of, spec_here}
+use Rattle.cc_type.specs.CcSpecifiers.Attributes.{attributes, entry_by}
+use Rattle.cc_type.specs.CcSpecifiers.Declarators.{type_found}
+use Rattle.cc_type.specs.CcSpecifiers.declared.attribute.Attribute.{Attribute}
+use Rattle.cc_type.specs.CcSpecifiers.declared.attribute.Entity.{Entity}
+use Rattle.cc_type.specs.CcSpecifiers.declared.specifier.Specified.{Specified}
+use Rattle.cc_type.specs.CcSpecifiers.declared.storage.Where.{Where}
+use Rattle.cc_type.proofs.CcSyntax.Prefixes.{both_true}
+use Rattle.cc_type.specs.CcTerms.InTurn.{in_turn}
+use Rattle.cc_type.specs.CcTerms.Specifiers.{specified_found}
+use Rattle.cc_type.specs.CcTerms.Terms.{declr_of, spec_here}
 use Rattle.cc_tree.specs.declared.at.At.{At}
 use Rattle.cc_tree.specs.declared.unit.Decl.{Decl}
 use Rattle.cc_tree.specs.declared.unit.Given.{Given}
 use Rattle.cc_tree.specs.declared.unit.Init.{Init}
-use Rattle.cc_typed_bodies.specs.Declarations.{marked, init_allowed, declared_left, declared_with, named_found, init_found, init_next, inits_found, declaration}
-use Rattle.cc_words.specs.Names.{is_name}
+use Rattle.cc_type.specs.CcTypedBodies.Declarations.{marked, init_allowed, declared_left, declared_with, named_found, init_found, init_next, inits_found, declaration}
+use Rattle.cc_program.specs.CcWords.Names.{is_name}
 use Rattle.cc_named_units.proofs.Left.{IsGivenValue, count_of, left_adds}
 use Rattle.cc_named_units.proofs.Names.{front_adds, alias_adds}
 

@@ -5,51 +5,51 @@ use Rattle.std.specs.List.{list_all, list_any}
 use Rattle.std.specs.Str.{bytes_eq}
 use Rattle.std.proofs.lemmas.Bool.{or_parts, not-true, false_from_ne_true}
 use Rattle.std.proofs.lemmas.Slice.Eq.{bytes_eq-Decides}
-use Rattle.cc_typed_terms.specs.Declarators.{derived_type}
-use Rattle.cc_typed_terms.specs.Located.{located}
-use Rattle.cc_typed_terms.specs.Members.{member_judged}
-use Rattle.cc_typed_terms.specs.Names.{new_name}
-use Rattle.cc_typed_terms.specs.Parameters.{parameter, parameter_bound}
-use Rattle.cc_num.specs.declared.target.Target.{Target}
+use Rattle.cc_type.specs.CcTypedTerms.Declarators.{derived_type}
+use Rattle.cc_type.specs.CcTypedTerms.Located.{located}
+use Rattle.cc_type.specs.CcTypedTerms.Members.{member_judged}
+use Rattle.cc_type.specs.CcTypedTerms.Names.{new_name}
+use Rattle.cc_type.specs.CcTypedTerms.Parameters.{parameter, parameter_bound}
+use Rattle.cc_program.specs.CcNum.declared.target.Target.{Target}
 use Rattle.cc_operand_types.proofs.Operands.{must_ok, ok_is}
-use Rattle.cc_operands.specs.Verdicts.{must}
-use Rattle.cc_operands.specs.declared.rule.Rule.TheVariants as rule
-use Rattle.cc_typed_terms.specs.Values.{value_found}
+use Rattle.cc_type.specs.CcOperands.Verdicts.{must}
+use Rattle.cc_type.specs.CcOperands.declared.rule.Rule.TheVariants as rule
+use Rattle.cc_type.specs.CcTypedTerms.Values.{value_found}
 use Rattle.cc_program.proofs.Each.{Each}
 use Rattle.cc_program.specs.declared.program.Roles.{Roles}
 use Rattle.cc_program.specs.declared.types.CType.{CType}
-use Rattle.cc_scopes.specs.State.{State, Name, Scope, empty, innermost, entered, left, outer_scopes, bind, structures_of, layouts_of}
-use Rattle.cc_scopes.specs.Structures.{is_member_name}
-use Rattle.cc_scopes.specs.Verdicts.{whole, and_then}
-use Rattle.cc_scopes.specs.declared.designated.Designated.TheVariants as means
+use Rattle.cc_type.specs.CcScopes.State.{State, Name, Scope, empty, innermost, entered, left, outer_scopes, bind, structures_of, layouts_of}
+use Rattle.cc_type.specs.CcScopes.Structures.{is_member_name}
+use Rattle.cc_type.specs.CcScopes.Verdicts.{whole, and_then}
+use Rattle.cc_type.specs.CcScopes.declared.designated.Designated.TheVariants as means
 use Rattle.cc_sound_terms.proofs.Founds.{answer, answer_is, then_found, whole_found, located_found, then_judged}
 use Rattle.cc_sound_terms.proofs.Outcomes.{each_append}
-use Rattle.cc_specifiers.specs.Bounds.{bound_judged}
-use Rattle.cc_specifiers.specs.Declarators.{type_found}
-use Rattle.cc_specifiers.specs.Derivations.{nothing_more, in_parameter, in_type_name, with_derivation, is_next_to_name, suffix_found, pointer_derivation}
-use Rattle.cc_specifiers.specs.Objects.{is_object}
-use Rattle.cc_specifiers.specs.Parameters.{parameter_type}
-use Rattle.cc_specifiers.specs.Storage.{setting}
-use Rattle.cc_specifiers.specs.declared.attribute.Entity.TheVariants as entity
-use Rattle.cc_specifiers.specs.declared.derivation.Allowed.{Allowed}
-use Rattle.cc_specifiers.specs.declared.derivation.Declarator.{Declarator}
-use Rattle.cc_specifiers.specs.declared.derivation.Derivation.{Derivation}
-use Rattle.cc_specifiers.specs.declared.derivation.Derivation.TheVariants as to
-use Rattle.cc_specifiers.specs.declared.derivation.Parameter.{Parameter}
-use Rattle.cc_specifiers.specs.declared.storage.Where.TheVariants as stands
-use Rattle.cc_syntax.proofs.Prefixes.{both_true}
-use Rattle.cc_syntax.proofs.SameLemmas.{and_true}
-use Rattle.cc_syntax.specs.Names.{local_names}
-use Rattle.cc_syntax.specs.Types.{Named}
-use Rattle.cc_terms.specs.Declarators.{declarator, without_bound, with_bound, bounded, parameters_found, with_scope, parameter_declared}
-use Rattle.cc_terms.specs.InTurn.{in_turn, one_more}
-use Rattle.cc_terms.specs.Meanings.{TreeMeaning, DeclrMeaning, ParamsMeaning, ParamMeaning, SpecMeaning}
-use Rattle.cc_terms.specs.Members.{member_found, declared_members}
-use Rattle.cc_terms.specs.Specifiers.{specified_found}
-use Rattle.cc_terms.specs.Structures.{member_behind}
+use Rattle.cc_type.specs.CcSpecifiers.Bounds.{bound_judged}
+use Rattle.cc_type.specs.CcSpecifiers.Declarators.{type_found}
+use Rattle.cc_type.specs.CcSpecifiers.Derivations.{nothing_more, in_parameter, in_type_name, with_derivation, is_next_to_name, suffix_found, pointer_derivation}
+use Rattle.cc_type.specs.CcSpecifiers.Objects.{is_object}
+use Rattle.cc_type.specs.CcSpecifiers.Parameters.{parameter_type}
+use Rattle.cc_type.specs.CcSpecifiers.Storage.{setting}
+use Rattle.cc_type.specs.CcSpecifiers.declared.attribute.Entity.TheVariants as entity
+use Rattle.cc_type.specs.CcSpecifiers.declared.derivation.Allowed.{Allowed}
+use Rattle.cc_type.specs.CcSpecifiers.declared.derivation.Declarator.{Declarator}
+use Rattle.cc_type.specs.CcSpecifiers.declared.derivation.Derivation.{Derivation}
+use Rattle.cc_type.specs.CcSpecifiers.declared.derivation.Derivation.TheVariants as to
+use Rattle.cc_type.specs.CcSpecifiers.declared.derivation.Parameter.{Parameter}
+use Rattle.cc_type.specs.CcSpecifiers.declared.storage.Where.TheVariants as stands
+use Rattle.cc_type.proofs.CcSyntax.Prefixes.{both_true}
+use Rattle.cc_type.proofs.CcSyntax.SameLemmas.{and_true}
+use Rattle.cc_type.specs.CcSyntax.Names.{local_names}
+use Rattle.cc_type.specs.CcSyntax.Types.{Named}
+use Rattle.cc_type.specs.CcTerms.Declarators.{declarator, without_bound, with_bound, bounded, parameters_found, with_scope, parameter_declared}
+use Rattle.cc_type.specs.CcTerms.InTurn.{in_turn, one_more}
+use Rattle.cc_type.specs.CcTerms.Meanings.{TreeMeaning, DeclrMeaning, ParamsMeaning, ParamMeaning, SpecMeaning}
+use Rattle.cc_type.specs.CcTerms.Members.{member_found, declared_members}
+use Rattle.cc_type.specs.CcTerms.Specifiers.{specified_found}
+use Rattle.cc_type.specs.CcTerms.Structures.{member_behind}
 use Rattle.cc_tree.specs.declared.at.At.{At}
-use Rattle.cc_words.specs.Names.{are_distinct, is_name}
-use Rattle.cc_words.specs.declared.word.Word.{Word}
+use Rattle.cc_program.specs.CcWords.Names.{are_distinct, is_name}
+use Rattle.cc_program.specs.CcWords.declared.word.Word.{Word}
 use Rattle.cc_named_units.specs.Names.{one_or_more}
 use Rattle.cc_named_units.specs.Named.{Limits, IsNamedParameter, AreNamedParameters, IsNamedDerivation, IsNamedNext, Adds, AddsDeclarator}
 use Rattle.cc_named_units.proofs.Adding.{AreCounted, unmoved, adds_through, adds_more, adds_same, chained, before, judged, placed, bound, scopes_changed}

@@ -1,6 +1,6 @@
 -- Induction over what expressions, declarators, specifiers and what stands in them mean: a claim of each construct and its meaning holds of all where it holds of each one whose parts it holds of.
 use Rattle.std.proofs.Common.{◌≡◌, sym, subst}
-use Rattle.cc_num.specs.declared.target.Target.{Target}
+use Rattle.cc_program.specs.CcNum.declared.target.Target.{Target}
 use Rattle.cc_program.specs.declared.program.Roles.{Roles}
 use Rattle.cc_tree.specs.declared.tree.Declr.TheOpen as one
 use Rattle.cc_tree.specs.declared.tree.Declr.{Declr, roll-Declr, map-Declr, fold-roll-Declr}
@@ -11,13 +11,13 @@ use Rattle.cc_tree.specs.declared.tree.Enumr.{Enumr, roll-Enumr, map-Enumr, fold
 use Rattle.cc_tree.specs.declared.tree.MemberDecl.{MemberDecl, roll-MemberDecl, map-MemberDecl, fold-roll-MemberDecl}
 use Rattle.cc_tree.specs.declared.tree.Param.{Param, roll-Param, map-Param, fold-roll-Param}
 use Rattle.cc_tree.specs.declared.tree.TypeName.{TypeName, roll-TypeName, map-TypeName, fold-roll-TypeName}
-use Rattle.cc_terms.specs.Constants.{enumr_step}
-use Rattle.cc_terms.specs.Declarators.{declr_step, params_step, param_step, type_name_step}
-use Rattle.cc_terms.specs.Expressions.{tree_step}
-use Rattle.cc_terms.specs.Meanings.{TreeMeaning, DeclrMeaning, ParamsMeaning, ParamMeaning, SpecMeaning, MembersMeaning, EnumrMeaning, TypeNameMeaning}
-use Rattle.cc_terms.specs.Members.{members_step}
-use Rattle.cc_terms.specs.Specifiers.{spec_step}
-use Rattle.cc_terms.specs.Terms.{tree_of, declr_of, params_of, param_of, spec_of, members_of, enumr_of, type_name_of}
+use Rattle.cc_type.specs.CcTerms.Constants.{enumr_step}
+use Rattle.cc_type.specs.CcTerms.Declarators.{declr_step, params_step, param_step, type_name_step}
+use Rattle.cc_type.specs.CcTerms.Expressions.{tree_step}
+use Rattle.cc_type.specs.CcTerms.Meanings.{TreeMeaning, DeclrMeaning, ParamsMeaning, ParamMeaning, SpecMeaning, MembersMeaning, EnumrMeaning, TypeNameMeaning}
+use Rattle.cc_type.specs.CcTerms.Members.{members_step}
+use Rattle.cc_type.specs.CcTerms.Specifiers.{spec_step}
+use Rattle.cc_type.specs.CcTerms.Terms.{tree_of, declr_of, params_of, param_of, spec_of, members_of, enumr_of, type_name_of}
 use Rattle.cc_sound_terms.proofs.TreeInduction.{by_declr, by_params, by_spec, by_tree, by_enumr, by_members, by_param, by_type_name}
 
 module _ (target : Target) (roles : Roles) (CD : Declr → DeclrMeaning → Type 0) (CP : Params → ParamsMeaning → Type 0) (CS : Spec → SpecMeaning → Type 0) (CT : Tree → TreeMeaning → Type 0) (CE : Enumr → EnumrMeaning → Type 0) (CM : MemberDecl → MembersMeaning → Type 0) (CA : Param → ParamMeaning → Type 0) (CN : TypeName → TypeNameMeaning → Type 0) where

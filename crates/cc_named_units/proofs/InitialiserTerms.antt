@@ -2,27 +2,27 @@
 use Rattle.std.proofs.Common.{◌≡◌, ◌≤◌, ℕ, Bool, true, List, [], ◌∷◌, ◌++◌, Option, Some, None, Ok}
 use Rattle.std.specs.Prelude.{option_to_list}
 use Rattle.cc_named_units.specs.Counts.{tree_count}
-use Rattle.cc_initialisers.specs.Initialisers.{Step, Give, Character, Zero, Visit, Break}
+use Rattle.cc_type.specs.CcInitialisers.Initialisers.{Step, Give, Character, Zero, Visit, Break}
 use Rattle.cc_named_units.proofs.Adding.{adds_more, adds_through, behind, before, done, judged}
 use Rattle.cc_named_units.proofs.Cycle.{tree_adds}
 use Rattle.cc_named_units.proofs.TermSteps.{value_adds}
 use Rattle.cc_named_units.specs.Named.{Limits, Adds}
 use Rattle.cc_named_units.specs.Names.{tree_named}
-use Rattle.cc_num.specs.declared.int_type.IntType.TheVariants as int
-use Rattle.cc_num.specs.declared.target.Target.{Target}
-use Rattle.cc_operands.specs.Operands.{Operand, integer, character_value}
-use Rattle.cc_operands.specs.Verdicts.{Judged}
-use Rattle.cc_typed_terms.specs.Values.{value_found}
+use Rattle.cc_program.specs.CcNum.declared.int_type.IntType.TheVariants as int
+use Rattle.cc_program.specs.CcNum.declared.target.Target.{Target}
+use Rattle.cc_type.specs.CcOperands.Operands.{Operand, integer, character_value}
+use Rattle.cc_type.specs.CcOperands.Verdicts.{Judged}
+use Rattle.cc_type.specs.CcTypedTerms.Values.{value_found}
 use Rattle.cc_program.specs.declared.program.Roles.{Roles}
-use Rattle.cc_scopes.specs.State.{State}
-use Rattle.cc_scopes.specs.Verdicts.{whole}
+use Rattle.cc_type.specs.CcScopes.State.{State}
+use Rattle.cc_type.specs.CcScopes.Verdicts.{whole}
 use Rattle.cc_sound_terms.proofs.Founds.{answer, then_found}
-use Rattle.cc_syntax.specs.Values.{ValueType}
-use Rattle.cc_terms.specs.InTurn.{in_turn}
-use Rattle.cc_terms.specs.Terms.{here}
+use Rattle.cc_type.specs.CcSyntax.Values.{ValueType}
+use Rattle.cc_type.specs.CcTerms.InTurn.{in_turn}
+use Rattle.cc_type.specs.CcTerms.Terms.{here}
 use Rattle.cc_tree.specs.declared.at.At.{At}
 use Rattle.cc_tree.specs.declared.tree.Tree.{Tree}
-use Rattle.cc_typed_bodies.specs.Plans.{as_given, step_found, step_done, steps_done}
+use Rattle.cc_type.specs.CcTypedBodies.Plans.{as_given, step_found, step_done, steps_done}
 use Rattle.cc_named_units.proofs.DeclarationSteps.{IsNamedTree, IsNamedStep, AreNamedSteps}
 
 module _ (target : Target) (roles : Roles) (most : Limits) where

@@ -4,27 +4,27 @@ use Rattle.std.specs.Prelude.{not, slice_get, if◌then◌else◌}
 use Rattle.std.specs.List.{list_any}
 use Rattle.std.specs.Str.{bytes_eq}
 use Rattle.cc_named_units.specs.Counts.{maybe_count, given_count}
-use Rattle.cc_initialisers.specs.Initialisers.{here as given_here, initialised, refused_by}
-use Rattle.cc_initialisers.specs.Scalars.{scalars_from}
-use Rattle.cc_linkage.specs.Linkage.{new_declared, declared_by, declared, may_be_main, may_be_declared}
-use Rattle.cc_linkage.specs.declared.linkage.DeclaredAs.{DeclaredAs}
-use Rattle.cc_linkage.specs.declared.linkage.DeclaredAs.TheVariants.{AsStatic, AsObject, AsExtern}
+use Rattle.cc_type.specs.CcInitialisers.Initialisers.{here as given_here, initialised, refused_by}
+use Rattle.cc_type.specs.CcInitialisers.Scalars.{scalars_from}
+use Rattle.cc_type.specs.CcLinkage.Linkage.{new_declared, declared_by, declared, may_be_main, may_be_declared}
+use Rattle.cc_type.specs.CcLinkage.declared.linkage.DeclaredAs.{DeclaredAs}
+use Rattle.cc_type.specs.CcLinkage.declared.linkage.DeclaredAs.TheVariants.{AsStatic, AsObject, AsExtern}
 use Rattle.cc_named_units.proofs.Declarators.{named_more}
 use Rattle.cc_named_units.proofs.Adding.{adds_itself, adds_through, adds_more, behind, before, answered, done, judged, bound, unfinished, declared_more, changed}
 use Rattle.cc_named_units.specs.Named.{Limits, is_own, HasFewLocals, IsNamedEntry, Adds}
 use Rattle.cc_named_units.specs.Names.{maybe_named, given_named}
-use Rattle.cc_num.specs.declared.target.Target.{Target}
-use Rattle.cc_objects.specs.Linked.{device_by, is_extern, object_kind, object_declared, static_object, with_static, with_automatic}
-use Rattle.cc_objects.specs.Names.{typedef_judged, object_judged, name_judged}
-use Rattle.cc_objects.specs.Types.{is_complete_or_unbounded, contents_in, type_given, given_incomplete, completed_type, type_agrees, composite}
-use Rattle.cc_objects.specs.Values.{leaf_given, expr_given, no_leaf, no_expr, assignments}
-use Rattle.cc_objects.specs.declared.category.Category.{Category}
-use Rattle.cc_objects.specs.declared.category.Category.TheVariants as declares
-use Rattle.cc_operands.specs.Operands.{Operand}
-use Rattle.cc_operands.specs.Qualified.{without_const}
-use Rattle.cc_operands.specs.Verdicts.{Judged, must, judge_then}
-use Rattle.cc_operands.specs.declared.rule.Rule.TheVariants as rule
-use Rattle.cc_typed_terms.specs.Primary.{is_intrinsic, leaves_or_none}
+use Rattle.cc_program.specs.CcNum.declared.target.Target.{Target}
+use Rattle.cc_type.specs.CcObjects.Linked.{device_by, is_extern, object_kind, object_declared, static_object, with_static, with_automatic}
+use Rattle.cc_type.specs.CcObjects.Names.{typedef_judged, object_judged, name_judged}
+use Rattle.cc_type.specs.CcObjects.Types.{is_complete_or_unbounded, contents_in, type_given, given_incomplete, completed_type, type_agrees, composite}
+use Rattle.cc_type.specs.CcObjects.Values.{leaf_given, expr_given, no_leaf, no_expr, assignments}
+use Rattle.cc_type.specs.CcObjects.declared.category.Category.{Category}
+use Rattle.cc_type.specs.CcObjects.declared.category.Category.TheVariants as declares
+use Rattle.cc_type.specs.CcOperands.Operands.{Operand}
+use Rattle.cc_type.specs.CcOperands.Qualified.{without_const}
+use Rattle.cc_type.specs.CcOperands.Verdicts.{Judged, must, judge_then}
+use Rattle.cc_type.specs.CcOperands.declared.rule.Rule.TheVariants as rule
+use Rattle.cc_type.specs.CcTypedTerms.Primary.{is_intrinsic, leaves_or_none}
 use Rattle.cc_program.specs.declared.expr.Expr.{Expr}
 use Rattle.cc_program.specs.declared.expr.Place.{Place, Local, Static}
 use Rattle.cc_program.specs.declared.func.Entry.{Entry}
@@ -33,27 +33,27 @@ use Rattle.cc_program.specs.declared.types.Shape.{Shape, out-Shape}
 use Rattle.cc_program.specs.declared.types.Shape.TheOpen as shape
 use Rattle.cc_program.specs.declared.types.Sig.{Sig}
 use Rattle.cc_program.specs.declared.value.Leaf.{Leaf}
-use Rattle.cc_scopes.specs.Definitions.{tentative_at, defined_at, entry_added, with_entry, with_values}
-use Rattle.cc_scopes.specs.Linked.{linked_name}
-use Rattle.cc_scopes.specs.State.{State, Name, bind, with_declared, with_unfinished, change_name}
-use Rattle.cc_scopes.specs.Verdicts.{whole, and_then}
-use Rattle.cc_scopes.specs.declared.designated.Designated.TheVariants as means
-use Rattle.cc_scopes.specs.declared.unit.Declared.{Declared}
+use Rattle.cc_type.specs.CcScopes.Definitions.{tentative_at, defined_at, entry_added, with_entry, with_values}
+use Rattle.cc_type.specs.CcScopes.Linked.{linked_name}
+use Rattle.cc_type.specs.CcScopes.State.{State, Name, bind, with_declared, with_unfinished, change_name}
+use Rattle.cc_type.specs.CcScopes.Verdicts.{whole, and_then}
+use Rattle.cc_type.specs.CcScopes.declared.designated.Designated.TheVariants as means
+use Rattle.cc_type.specs.CcScopes.declared.unit.Declared.{Declared}
 use Rattle.cc_sound_terms.proofs.Founds.{answer, then_judged}
-use Rattle.cc_specifiers.specs.Attributes.{entry_by}
-use Rattle.cc_specifiers.specs.Declarators.{is_unbounded}
-use Rattle.cc_specifiers.specs.Modes.{modes_judged}
-use Rattle.cc_specifiers.specs.declared.attribute.Attribute.{Attribute}
-use Rattle.cc_syntax.specs.Values.{ValueType}
+use Rattle.cc_type.specs.CcSpecifiers.Attributes.{entry_by}
+use Rattle.cc_type.specs.CcSpecifiers.Declarators.{is_unbounded}
+use Rattle.cc_type.specs.CcSpecifiers.Modes.{modes_judged}
+use Rattle.cc_type.specs.CcSpecifiers.declared.attribute.Attribute.{Attribute}
+use Rattle.cc_type.specs.CcSyntax.Values.{ValueType}
 use Rattle.cc_tree.specs.declared.at.At.{At}
 use Rattle.cc_tree.specs.declared.unit.Given.{Given}
-use Rattle.cc_typed_bodies.specs.Declarations.{declared_left}
-use Rattle.cc_typed_bodies.specs.Functions.{typedef_left, with_function, function_refused, function_left}
-use Rattle.cc_typed_bodies.specs.Objects.{initial_values, leaves_found, exprs_found, linked_defined, linked_given, linked_left, static_given, static_left, automatic_given, automatic_left}
-use Rattle.cc_typed_bodies.specs.Plans.{steps_done}
-use Rattle.cc_unit.specs.declared.unit.UnitKind.{UnitKind}
-use Rattle.cc_unit.specs.declared.unit.UnitKind.TheVariants as kind
-use Rattle.cc_words.specs.Names.{is_name}
+use Rattle.cc_type.specs.CcTypedBodies.Declarations.{declared_left}
+use Rattle.cc_type.specs.CcTypedBodies.Functions.{typedef_left, with_function, function_refused, function_left}
+use Rattle.cc_type.specs.CcTypedBodies.Objects.{initial_values, leaves_found, exprs_found, linked_defined, linked_given, linked_left, static_given, static_left, automatic_given, automatic_left}
+use Rattle.cc_type.specs.CcTypedBodies.Plans.{steps_done}
+use Rattle.cc_type.specs.CcUnit.declared.unit.UnitKind.{UnitKind}
+use Rattle.cc_type.specs.CcUnit.declared.unit.UnitKind.TheVariants as kind
+use Rattle.cc_program.specs.CcWords.Names.{is_name}
 use Rattle.cc_named_units.proofs.DeclarationSteps.{initialiser_named, initialised_named, refused_named}
 use Rattle.cc_named_units.proofs.InitialiserTerms.{steps_add}
 

@@ -2,11 +2,11 @@
 use Rattle.std.proofs.Common.{◌≡◌, ℕ, Bool, true, false, ◌&&◌, List, [], ◌∷◌, ◌++◌, map, Option, Some, None, refl, ap, sym, ◌∙◌}
 use Rattle.std.specs.List.{list_all}
 use Rattle.std.proofs.lemmas.List.Folds.{list_all-append}
-use Rattle.cc_lex.specs.declared.token.Mark.{Mark}
-use Rattle.cc_lex.specs.declared.token.Suffix.{Suffix}
-use Rattle.cc_syntax.proofs.SameLemmas.{and_true}
-use Rattle.cc_words.specs.Names.{is_name}
-use Rattle.cc_words.specs.declared.word.Word.{Word}
+use Rattle.cc_type.specs.CcLex.declared.token.Mark.{Mark}
+use Rattle.cc_type.specs.CcLex.declared.token.Suffix.{Suffix}
+use Rattle.cc_type.proofs.CcSyntax.SameLemmas.{and_true}
+use Rattle.cc_program.specs.CcWords.Names.{is_name}
+use Rattle.cc_program.specs.CcWords.declared.word.Word.{Word}
 use Rattle.cc_tree.specs.Tokens.{Name}
 use Rattle.cc_tree.specs.declared.at.At.{At}
 use Rattle.cc_tree.specs.declared.tree.Attr.{Attr}

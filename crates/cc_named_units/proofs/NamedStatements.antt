@@ -1,7 +1,7 @@
 -- Declarations, statements and units that are spelled by tokens of which the names may name something: so may theirs.
 use Rattle.std.proofs.Common.{◌≡◌, Bool, true, ◌&&◌, List, [], Option, refl, ap, ◌∙◌}
 use Rattle.std.specs.Prelude.{is_some}
-use Rattle.cc_syntax.proofs.SameLemmas.{and_true}
+use Rattle.cc_type.proofs.CcSyntax.SameLemmas.{and_true}
 use Rattle.cc_tree.specs.Scopes.{Scope}
 use Rattle.cc_tree.specs.Sentences.{IsItem, ADeclItem, AFunc, IsItems, NoItem, MoreItems, IsSentence}
 use Rattle.cc_tree.specs.Statements.{IsGiven, OneValue, ManyValues, IsGivens, FirstValue, MoreValues, IsValue, NoValue, AValue, IsInit, AnInit, IsInits, FirstInit, MoreInits, IsDecl, DeclaresNothing, Declares, IsMaybe, NoExpr, AnExpr, IsFirst, FirstDecl, FirstExpr}

@@ -1,10 +1,10 @@
 -- Expressions, types and declarators that are spelled by tokens of which the names may name something: so may theirs. By induction over how they are spelled.
 use Rattle.std.proofs.Common.{◌≡◌, ℕ, Bool, true, ◌&&◌, List, [], Option, Some, None, refl, ap, sym, ◌∙◌}
 use Rattle.std.specs.Prelude.{is_some}
-use Rattle.cc_syntax.proofs.Prefixes.{both_true}
-use Rattle.cc_syntax.proofs.SameLemmas.{and_true}
-use Rattle.cc_words.specs.Names.{is_name}
-use Rattle.cc_words.specs.declared.word.Word.{Word}
+use Rattle.cc_type.proofs.CcSyntax.Prefixes.{both_true}
+use Rattle.cc_type.proofs.CcSyntax.SameLemmas.{and_true}
+use Rattle.cc_program.specs.CcWords.Names.{is_name}
+use Rattle.cc_program.specs.CcWords.declared.word.Word.{Word}
 use Rattle.cc_tree.proofs.NewNames.{name_of-Nothing, name_of-Named, name_of-Paren, name_of-Pointer, name_of-Array, name_of-Func}
 use Rattle.cc_tree.specs.Scopes.{Scope, name_of}
 use Rattle.cc_tree.specs.Terms.{IsTexts, LastText, MoreText, IsQualifiers, NoQualifier, MoreQualifiers, IsAttrWord, AttrName, AttrCall, IsAttrWords, LastAttrWord, MoreAttrWords, IsAttr, AttrOfNone, AttrOf, IsAttrs, NoAttr, MoreAttrs, IsTag, NoTag, ATag, IsLastComma, NoComma, AComma}

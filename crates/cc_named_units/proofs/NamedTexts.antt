@@ -1,18 +1,18 @@
 -- In a text without a word that is outside the subset, identifiers may name something.
 use Rattle.std.proofs.Common.{◌≡◌, ℕ, Bool, true, false, ◌&&◌, ◌||◌, List, Option, Some, None, refl}
 use Rattle.std.specs.Prelude.{codes}
-use Rattle.cc_lex.specs.Identifiers.{named}
-use Rattle.cc_lex.specs.Tokens.{Spells, AName, ANumber, ACharacter, AText, AMark, TokensFrom, NoToken, Separated, Spelled, Tokens}
-use Rattle.cc_lex.specs.declared.token.Kind.{Kind}
-use Rattle.cc_lex.specs.declared.token.Token.{Token}
-use Rattle.cc_syntax.proofs.SameLemmas.{and_true}
+use Rattle.cc_type.specs.CcLex.Identifiers.{named}
+use Rattle.cc_type.specs.CcLex.Tokens.{Spells, AName, ANumber, ACharacter, AText, AMark, TokensFrom, NoToken, Separated, Spelled, Tokens}
+use Rattle.cc_type.specs.CcLex.declared.token.Kind.{Kind}
+use Rattle.cc_type.specs.CcLex.declared.token.Token.{Token}
+use Rattle.cc_type.proofs.CcSyntax.SameLemmas.{and_true}
 use Rattle.cc_tree.specs.Outside.{begins_literal, first_at, first_outside, outside_word}
 use Rattle.cc_tree.specs.Outside.{named as outside}
 use Rattle.cc_tree.specs.Scopes.{same_name}
 use Rattle.cc_tree.specs.Tokens.{Name}
-use Rattle.cc_words.specs.Names.{is_identifier, is_name}
-use Rattle.cc_words.specs.Words.{word_of, is_outside}
-use Rattle.cc_words.specs.declared.word.Word.{Word}
+use Rattle.cc_program.specs.CcWords.Names.{is_identifier, is_name}
+use Rattle.cc_program.specs.CcWords.Words.{word_of, is_outside}
+use Rattle.cc_program.specs.CcWords.declared.word.Word.{Word}
 use Rattle.cc_named_units.specs.Names.{kind_named, tokens_named}
 
 none_first : (o : Option Name) (n : ℕ) (other : Option (Name × ℕ)) → first_at o n other ≡ None → (o ≡ None) × (other ≡ None)

@@ -8,19 +8,19 @@ use Rattle.cc_named_units.proofs.Specifiers.{new_structure_adds}
 use Rattle.cc_named_units.specs.Named.{Limits, IsNamedStructure, Adds}
 use Rattle.cc_named_units.proofs.NamedRolled as rolled
 use Rattle.cc_named_units.specs.Names.{HasNames, tag_named, tree_named, declr_named, params_named, spec_named, each_named, init_named, maybe_named, member_named, given_named}
-use Rattle.cc_num.specs.declared.target.Target.{Target}
-use Rattle.cc_objects.specs.Tags.{defines_untagged, aliased_at, first_name, is_typedef_word, aliased, sole_tag, tag_declared, is_extension_at, sole_spec, sole_declared, in_front}
+use Rattle.cc_program.specs.CcNum.declared.target.Target.{Target}
+use Rattle.cc_type.specs.CcObjects.Tags.{defines_untagged, aliased_at, first_name, is_typedef_word, aliased, sole_tag, tag_declared, is_extension_at, sole_spec, sole_declared, in_front}
 use Rattle.cc_program.specs.declared.types.CType.{CType}
 use Rattle.cc_program.specs.declared.types.Shape.{Shape, out-Shape}
 use Rattle.cc_program.specs.declared.types.Shape.TheOpen as shape
 use Rattle.cc_program.specs.declared.types.Sig.{Sig}
-use Rattle.cc_scopes.specs.Standings.{with_alias, is_none}
-use Rattle.cc_scopes.specs.State.{State, Name, KnownStructure, tagged_here}
-use Rattle.cc_scopes.specs.Structures.{tag_by}
-use Rattle.cc_scopes.specs.declared.designated.Tagged.{Tagged}
+use Rattle.cc_type.specs.CcScopes.Standings.{with_alias, is_none}
+use Rattle.cc_type.specs.CcScopes.State.{State, Name, KnownStructure, tagged_here}
+use Rattle.cc_type.specs.CcScopes.Structures.{tag_by}
+use Rattle.cc_type.specs.CcScopes.declared.designated.Tagged.{Tagged}
 use Rattle.cc_sound_terms.proofs.TreeInduction.{bare_declr, by_declr}
-use Rattle.cc_specifiers.specs.declared.specifier.Specified.{Specified}
-use Rattle.cc_syntax.proofs.Prefixes.{both_true}
+use Rattle.cc_type.specs.CcSpecifiers.declared.specifier.Specified.{Specified}
+use Rattle.cc_type.proofs.CcSyntax.Prefixes.{both_true}
 use Rattle.cc_tree.proofs.NewNames.{name_of-Nothing, name_of-Named, name_of-Paren, name_of-Pointer, name_of-Array, name_of-Func}
 use Rattle.cc_tree.specs.Scopes.{name_of}
 use Rattle.cc_tree.specs.declared.at.At.{At}
@@ -36,7 +36,7 @@ use Rattle.cc_tree.specs.declared.tree.Tree.{Tree}
 use Rattle.cc_tree.specs.declared.tree.TypeName.{TypeName}
 use Rattle.cc_tree.specs.declared.unit.Decl.{Decl}
 use Rattle.cc_tree.specs.declared.unit.Init.{Init}
-use Rattle.cc_words.specs.Names.{is_name}
+use Rattle.cc_program.specs.CcWords.Names.{is_name}
 
 -- ---- the name of a declarator
 

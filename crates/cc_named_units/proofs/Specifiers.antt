@@ -3,42 +3,42 @@ use Rattle.std.proofs.Common.{◌≡◌, ◌≤◌, ◌+◌, ℕ, suc, ℤ, pos,
 use Rattle.std.specs.Prelude.{◌+ℤ◌, if◌then◌else◌, is_some, slice_get}
 use Rattle.std.specs.List.{list_all}
 use Rattle.std.proofs.lemmas.Bool.{lt-ltb}
-use Rattle.cc_typed_terms.specs.Located.{located}
-use Rattle.cc_typed_terms.specs.Names.{new_name}
-use Rattle.cc_typed_terms.specs.Specifiers.{begin, type_named, marked, as_type, structure_tag, enumeration_tag}
+use Rattle.cc_type.specs.CcTypedTerms.Located.{located}
+use Rattle.cc_type.specs.CcTypedTerms.Names.{new_name}
+use Rattle.cc_type.specs.CcTypedTerms.Specifiers.{begin, type_named, marked, as_type, structure_tag, enumeration_tag}
 use Rattle.cc_named_units.specs.Names.{one_or_more, tag_named}
-use Rattle.cc_num.specs.declared.target.Target.{Target}
-use Rattle.cc_operands.specs.Operands.{constancy}
-use Rattle.cc_operands.specs.declared.rule.Rule.TheVariants as rule
+use Rattle.cc_program.specs.CcNum.declared.target.Target.{Target}
+use Rattle.cc_type.specs.CcOperands.Operands.{constancy}
+use Rattle.cc_type.specs.CcOperands.declared.rule.Rule.TheVariants as rule
 use Rattle.cc_program.specs.declared.program.Roles.{Roles}
 use Rattle.cc_program.specs.declared.types.CType.{CType}
-use Rattle.cc_scopes.specs.State.{State, Name, tagged, designated, bind, bind_tag}
-use Rattle.cc_scopes.specs.Structures.{structure_type, with_structure, new_structure, structure_named, opened_by, tagged_option, opened, is_enumeration, has_content, completed, closed, enumeration_type, enumeration_constant, enumeration_tagged, enumeration_closed, in_list, enumeration_named}
-use Rattle.cc_scopes.specs.Verdicts.{Found, whole, and_then}
-use Rattle.cc_scopes.specs.declared.designated.Designated.TheVariants as means
-use Rattle.cc_scopes.specs.declared.designated.Tagged.{Tagged}
-use Rattle.cc_scopes.specs.declared.designated.Tagged.TheVariants as tag
+use Rattle.cc_type.specs.CcScopes.State.{State, Name, tagged, designated, bind, bind_tag}
+use Rattle.cc_type.specs.CcScopes.Structures.{structure_type, with_structure, new_structure, structure_named, opened_by, tagged_option, opened, is_enumeration, has_content, completed, closed, enumeration_type, enumeration_constant, enumeration_tagged, enumeration_closed, in_list, enumeration_named}
+use Rattle.cc_type.specs.CcScopes.Verdicts.{Found, whole, and_then}
+use Rattle.cc_type.specs.CcScopes.declared.designated.Designated.TheVariants as means
+use Rattle.cc_type.specs.CcScopes.declared.designated.Tagged.{Tagged}
+use Rattle.cc_type.specs.CcScopes.declared.designated.Tagged.TheVariants as tag
 use Rattle.cc_sound_terms.proofs.Founds.{answer, answer_is, then_found}
-use Rattle.cc_specifiers.specs.Attributes.{attributes}
-use Rattle.cc_specifiers.specs.Specifiers.{no_specifier, with_specifier, specified}
-use Rattle.cc_specifiers.specs.declared.attribute.Entity.TheVariants as entity
-use Rattle.cc_specifiers.specs.declared.specifier.Specified.{Specified}
-use Rattle.cc_specifiers.specs.declared.specifier.Specifier.{Specifier}
-use Rattle.cc_specifiers.specs.declared.specifier.Specifier.TheVariants as specifier
-use Rattle.cc_specifiers.specs.declared.specifier.Specs.{Specs}
-use Rattle.cc_specifiers.specs.declared.storage.Setting.{Setting}
-use Rattle.cc_syntax.specs.Folding.{Constant, Value}
-use Rattle.cc_syntax.specs.Names.{local_names}
-use Rattle.cc_syntax.specs.Types.{Named}
-use Rattle.cc_terms.specs.Constants.{constants_found, enumeration_found, constant_declared, constant_by}
-use Rattle.cc_terms.specs.InTurn.{in_turn}
-use Rattle.cc_terms.specs.Meanings.{TreeMeaning, SpecMeaning, MembersMeaning, EnumrMeaning}
-use Rattle.cc_terms.specs.Specifiers.{specifier_found, specifiers_found, specified_found}
-use Rattle.cc_terms.specs.Structures.{structure_opened, members_found, structure_closed, structure_found}
+use Rattle.cc_type.specs.CcSpecifiers.Attributes.{attributes}
+use Rattle.cc_type.specs.CcSpecifiers.Specifiers.{no_specifier, with_specifier, specified}
+use Rattle.cc_type.specs.CcSpecifiers.declared.attribute.Entity.TheVariants as entity
+use Rattle.cc_type.specs.CcSpecifiers.declared.specifier.Specified.{Specified}
+use Rattle.cc_type.specs.CcSpecifiers.declared.specifier.Specifier.{Specifier}
+use Rattle.cc_type.specs.CcSpecifiers.declared.specifier.Specifier.TheVariants as specifier
+use Rattle.cc_type.specs.CcSpecifiers.declared.specifier.Specs.{Specs}
+use Rattle.cc_type.specs.CcSpecifiers.declared.storage.Setting.{Setting}
+use Rattle.cc_type.specs.CcSyntax.Folding.{Constant, Value}
+use Rattle.cc_type.specs.CcSyntax.Names.{local_names}
+use Rattle.cc_type.specs.CcSyntax.Types.{Named}
+use Rattle.cc_type.specs.CcTerms.Constants.{constants_found, enumeration_found, constant_declared, constant_by}
+use Rattle.cc_type.specs.CcTerms.InTurn.{in_turn}
+use Rattle.cc_type.specs.CcTerms.Meanings.{TreeMeaning, SpecMeaning, MembersMeaning, EnumrMeaning}
+use Rattle.cc_type.specs.CcTerms.Specifiers.{specifier_found, specifiers_found, specified_found}
+use Rattle.cc_type.specs.CcTerms.Structures.{structure_opened, members_found, structure_closed, structure_found}
 use Rattle.cc_tree.specs.declared.at.At.{At}
 use Rattle.cc_tree.specs.declared.tree.Attr.{Attr}
-use Rattle.cc_words.specs.Names.{are_distinct, is_name}
-use Rattle.cc_words.specs.declared.word.Word.{Word}
+use Rattle.cc_program.specs.CcWords.Names.{are_distinct, is_name}
+use Rattle.cc_program.specs.CcWords.declared.word.Word.{Word}
 use Rattle.cc_named_units.specs.Named.{Limits, AreFewMembers, Adds}
 use Rattle.cc_named_units.proofs.Adding.{AreCounted, unmoved, adds_itself, adds_through, chained, behind, before, answered, done, judged, placed, in_turn_adds, bound, tag_bound, structure_more, structure_completed}
 use Rattle.cc_named_units.proofs.TermSteps.{TreeAdds, sole_value}

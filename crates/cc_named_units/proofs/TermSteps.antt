@@ -1,14 +1,14 @@
 -- What values and designators add.
 use Rattle.std.proofs.Common.{◌≡◌, ◌+◌, ℕ, Ok, arith}
-use Rattle.cc_designators.specs.Designators.{TypedExpr, IsPlace, IsValue, IsFunction, IsIntrinsic, IsAddress}
-use Rattle.cc_operands.specs.Operands.{Operand}
-use Rattle.cc_operands.specs.Verdicts.{Judged}
-use Rattle.cc_typed_terms.specs.Values.{null_judged, found_value, gives, valued, value_found, value, designating, designated_found, designator}
-use Rattle.cc_scopes.specs.State.{State}
-use Rattle.cc_scopes.specs.Verdicts.{Found, and_then}
+use Rattle.cc_type.specs.CcDesignators.Designators.{TypedExpr, IsPlace, IsValue, IsFunction, IsIntrinsic, IsAddress}
+use Rattle.cc_type.specs.CcOperands.Operands.{Operand}
+use Rattle.cc_type.specs.CcOperands.Verdicts.{Judged}
+use Rattle.cc_type.specs.CcTypedTerms.Values.{null_judged, found_value, gives, valued, value_found, value, designating, designated_found, designator}
+use Rattle.cc_type.specs.CcScopes.State.{State}
+use Rattle.cc_type.specs.CcScopes.Verdicts.{Found, and_then}
 use Rattle.cc_sound_terms.proofs.Founds.{answer_is, whole_found}
 use Rattle.cc_sound_terms.proofs.Meant.{valued_stays}
-use Rattle.cc_terms.specs.Meanings.{TreeMeaning}
+use Rattle.cc_type.specs.CcTerms.Meanings.{TreeMeaning}
 use Rattle.cc_tree.specs.declared.at.At.{At}
 use Rattle.cc_named_units.specs.Named.{Limits, Adds}
 use Rattle.cc_named_units.proofs.Adding.{unmoved, chained, before, judged}

@@ -6,33 +6,33 @@ use Rattle.std.specs.Prelude.{not, ◌||◌, is_some, nat_lt, slice_index_or, if
 use Rattle.std.specs.List.{All, list_all, list_any}
 use Rattle.std.specs.Str.{bytes_eq}
 use Rattle.std.proofs.lemmas.Slice.Eq.{bytes_eq-Decides}
-use Rattle.cc_lex.specs.Tokens.{Tokens}
-use Rattle.cc_lex.specs.declared.token.Token.{Token}
+use Rattle.cc_type.specs.CcLex.Tokens.{Tokens}
+use Rattle.cc_type.specs.CcLex.declared.token.Token.{Token}
 use Rattle.cc_named_units.specs.Named.{AreFewMembers, HasFewMembers, IsNamedState, IsNamedStructure, Limits, is_own}
 use Rattle.cc_named_units.proofs.NamedStatements.{sentence_named}
 use Rattle.cc_named_units.proofs.NamedTexts.{text_named}
 use Rattle.cc_named_units.specs.Names.{unit_named}
-use Rattle.cc_num.specs.declared.target.Target.{Target}
-use Rattle.cc_numbering.specs.Units.{ids_of}
+use Rattle.cc_program.specs.CcNum.declared.target.Target.{Target}
+use Rattle.cc_type.specs.CcNumbering.Units.{ids_of}
 use Rattle.cc_program.specs.declared.expr.Intr.TheVariants as intr
 use Rattle.cc_program.specs.declared.program.Roles.{Roles}
 use Rattle.cc_program.proofs.Each.{Each}
-use Rattle.cc_scopes.specs.State.{KnownStructure, Name, State, at_first}
-use Rattle.cc_scopes.specs.Verdicts.{Checked, checked}
+use Rattle.cc_type.specs.CcScopes.State.{KnownStructure, Name, State, at_first}
+use Rattle.cc_type.specs.CcScopes.Verdicts.{Checked, checked}
 use Rattle.cc_relocated_units.specs.Units.{IsOfText, is_main_name}
 use Rattle.cc_sound_terms.specs.Ordered.{HasMembers}
-use Rattle.cc_syntax.proofs.Prefixes.{both_true}
-use Rattle.cc_syntax.specs.Names.{intrinsic_names, local_names}
-use Rattle.cc_syntax.specs.Sound.{main_name}
-use Rattle.cc_syntax.specs.Types.{Named}
+use Rattle.cc_type.proofs.CcSyntax.Prefixes.{both_true}
+use Rattle.cc_type.specs.CcSyntax.Names.{intrinsic_names, local_names}
+use Rattle.cc_type.specs.CcSyntax.Sound.{main_name}
+use Rattle.cc_type.specs.CcSyntax.Types.{Named}
 use Rattle.cc_tree.specs.Sentences.{IsSentence}
 use Rattle.cc_tree.specs.declared.unit.Unit.{Unit as UnitTree}
 use Rattle.cc_type.specs.Defined.{defined_names}
 use Rattle.cc_type.specs.Typed.{IsTyped}
 use Rattle.cc_type.specs.Units.{items_found}
-use Rattle.cc_unit.specs.declared.unit.TypedUnit.{TypedUnit}
-use Rattle.cc_unit.specs.declared.unit.UnitName.{UnitName}
-use Rattle.cc_words.specs.Names.{are_distinct}
+use Rattle.cc_type.specs.CcUnit.declared.unit.TypedUnit.{TypedUnit}
+use Rattle.cc_type.specs.CcUnit.declared.unit.UnitName.{UnitName}
+use Rattle.cc_program.specs.CcWords.Names.{are_distinct}
 use Rattle.cc_named_units.proofs.Units.{items_add, unit_adds, left_of_text, names_own, left_few}
 
 named : (text : List ℕ) (ts : List Token) (u : UnitTree) → Tokens text ts → IsSentence ts u → unit_named u ≡ true

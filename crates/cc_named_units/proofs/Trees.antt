@@ -1,37 +1,37 @@
 -- What expressions add, where their parts add so much (C99 6.5): construct by construct, over the meanings of the parts.
 use Rattle.std.proofs.Common.{◌≡◌, ◌+◌, ℕ, suc, ℤ, Bool, true, false, List, [], ◌∷◌, ◌++◌, length, Option, Some, None, Ok, Err, arith}
 use Rattle.std.specs.Prelude.{take, if◌then◌else◌}
-use Rattle.cc_designators.specs.Assignments.{stepped_before}
-use Rattle.cc_designators.specs.Casts.{fits_pointer, no_device}
-use Rattle.cc_designators.specs.Designators.{TypedExpr, IsValue}
-use Rattle.cc_designators.specs.Postfix.{is_array_place, address, indirection}
-use Rattle.cc_lex.specs.declared.token.Mark.{Mark}
-use Rattle.cc_num.specs.declared.target.Target.{Target}
-use Rattle.cc_operands.specs.Operands.{Operand}
-use Rattle.cc_operands.specs.Operators.{unary_operator_of}
-use Rattle.cc_operands.specs.Verdicts.{Judged}
-use Rattle.cc_operands.specs.declared.rule.Rule.TheVariants as rule
-use Rattle.cc_typed_terms.specs.Devices.{device_of, declared_device, number_of, device_place, with_device, device_found, register_found, address_found, cast_constant, starred_by}
-use Rattle.cc_typed_terms.specs.Operators.{prefix_of, intrinsic_in, unary_by}
-use Rattle.cc_typed_terms.specs.Primary.{string_object, string_place, string_found}
-use Rattle.cc_typed_terms.specs.Sizes.{sizeof_judged, size_of_type}
-use Rattle.cc_typed_terms.specs.Values.{gives, valued, value_found, value, designating, designator}
-use Rattle.cc_typed_terms.specs.declared.prefix.Prefix.{Prefix}
-use Rattle.cc_typed_terms.specs.declared.prefix.Prefix.TheVariants as prefix
+use Rattle.cc_type.specs.CcDesignators.Assignments.{stepped_before}
+use Rattle.cc_type.specs.CcDesignators.Casts.{fits_pointer, no_device}
+use Rattle.cc_type.specs.CcDesignators.Designators.{TypedExpr, IsValue}
+use Rattle.cc_type.specs.CcDesignators.Postfix.{is_array_place, address, indirection}
+use Rattle.cc_type.specs.CcLex.declared.token.Mark.{Mark}
+use Rattle.cc_program.specs.CcNum.declared.target.Target.{Target}
+use Rattle.cc_type.specs.CcOperands.Operands.{Operand}
+use Rattle.cc_type.specs.CcOperands.Operators.{unary_operator_of}
+use Rattle.cc_type.specs.CcOperands.Verdicts.{Judged}
+use Rattle.cc_type.specs.CcOperands.declared.rule.Rule.TheVariants as rule
+use Rattle.cc_type.specs.CcTypedTerms.Devices.{device_of, declared_device, number_of, device_place, with_device, device_found, register_found, address_found, cast_constant, starred_by}
+use Rattle.cc_type.specs.CcTypedTerms.Operators.{prefix_of, intrinsic_in, unary_by}
+use Rattle.cc_type.specs.CcTypedTerms.Primary.{string_object, string_place, string_found}
+use Rattle.cc_type.specs.CcTypedTerms.Sizes.{sizeof_judged, size_of_type}
+use Rattle.cc_type.specs.CcTypedTerms.Values.{gives, valued, value_found, value, designating, designator}
+use Rattle.cc_type.specs.CcTypedTerms.declared.prefix.Prefix.{Prefix}
+use Rattle.cc_type.specs.CcTypedTerms.declared.prefix.Prefix.TheVariants as prefix
 use Rattle.cc_program.specs.declared.expr.Intr.{Intr}
 use Rattle.cc_program.specs.declared.object.Device.{Device}
 use Rattle.cc_program.specs.declared.types.CType.{CType}
 use Rattle.cc_program.specs.declared.types.Shape.{Shape, out-Shape}
 use Rattle.cc_program.specs.declared.types.Shape.TheOpen as shape
 use Rattle.cc_program.specs.declared.types.Sig.{Sig}
-use Rattle.cc_scopes.specs.State.{State, structures_of, with_names, with_declared}
-use Rattle.cc_scopes.specs.Verdicts.{whole, and_then, part}
+use Rattle.cc_type.specs.CcScopes.State.{State, structures_of, with_names, with_declared}
+use Rattle.cc_type.specs.CcScopes.Verdicts.{whole, and_then, part}
 use Rattle.cc_sound_terms.proofs.Founds.{answer}
 use Rattle.cc_sound_terms.proofs.Meant.{valued_stays}
-use Rattle.cc_specifiers.specs.Bounds.{is_bound}
-use Rattle.cc_terms.specs.Expressions.{argument_found, arguments_found}
-use Rattle.cc_terms.specs.Meanings.{TreeMeaning, TypeNameMeaning}
-use Rattle.cc_terms.specs.Operations.{as_value, subscript_base, subscript_judged, callee_by, callee, call_judged, prefixed_by, prefixed, forgotten, sizeof_found, sizeof_type_found}
+use Rattle.cc_type.specs.CcSpecifiers.Bounds.{is_bound}
+use Rattle.cc_type.specs.CcTerms.Expressions.{argument_found, arguments_found}
+use Rattle.cc_type.specs.CcTerms.Meanings.{TreeMeaning, TypeNameMeaning}
+use Rattle.cc_type.specs.CcTerms.Operations.{as_value, subscript_base, subscript_judged, callee_by, callee, call_judged, prefixed_by, prefixed, forgotten, sizeof_found, sizeof_type_found}
 use Rattle.cc_tree.specs.declared.at.At.{At}
 use Rattle.cc_named_units.specs.Named.{Limits, Adds}
 use Rattle.cc_named_units.proofs.Adding.{AreCounted, unmoved, chained, behind, before, answered, done, judged, in_turn_adds, string_more, device_more, names_forgotten}

@@ -11,25 +11,25 @@ use Rattle.cc_named_units.proofs.Adding.{adds_through, before, done}
 use Rattle.cc_named_units.proofs.Cycle.{front_few, rest_few}
 use Rattle.cc_named_units.specs.Named.{Limits, is_own, AreFewNames, HasFewMembers, IsNamedStructure, HasFewLocals, IsNamedEntry, IsNamedState, Adds}
 use Rattle.cc_named_units.specs.Names.{each_named, tag_named, item_named, unit_named}
-use Rattle.cc_num.specs.declared.target.Target.{Target}
-use Rattle.cc_numbering.specs.Names.{kind_in, name_in}
-use Rattle.cc_numbering.specs.Numbers.{unless, only_named, order_of, numbers_of}
-use Rattle.cc_numbering.specs.Structures.{named_in, all_named_in, structure_in, structure_at, structures_in}
-use Rattle.cc_numbering.specs.Units.{ids_of, unit_left}
+use Rattle.cc_program.specs.CcNum.declared.target.Target.{Target}
+use Rattle.cc_type.specs.CcNumbering.Names.{kind_in, name_in}
+use Rattle.cc_type.specs.CcNumbering.Numbers.{unless, only_named, order_of, numbers_of}
+use Rattle.cc_type.specs.CcNumbering.Structures.{named_in, all_named_in, structure_in, structure_at, structures_in}
+use Rattle.cc_type.specs.CcNumbering.Units.{ids_of, unit_left}
 use Rattle.cc_program.proofs.Each.{Each}
 use Rattle.cc_program.specs.declared.program.Roles.{Roles}
-use Rattle.cc_scopes.specs.State.{State, Name, KnownStructure, at_first}
-use Rattle.cc_scopes.specs.Verdicts.{Found, Checked, checked}
-use Rattle.cc_scopes.specs.declared.unit.Declared.{Declared}
+use Rattle.cc_type.specs.CcScopes.State.{State, Name, KnownStructure, at_first}
+use Rattle.cc_type.specs.CcScopes.Verdicts.{Found, Checked, checked}
+use Rattle.cc_type.specs.CcScopes.declared.unit.Declared.{Declared}
 use Rattle.cc_relocated_units.specs.Units.{may_name, are_few_names, has_few_locals, IsOfText}
 use Rattle.cc_sound_terms.proofs.Founds.{answer, then_found}
-use Rattle.cc_specifiers.specs.declared.storage.Where.TheVariants as stands
-use Rattle.cc_syntax.proofs.Prefixes.{both_true}
-use Rattle.cc_syntax.proofs.SameLemmas.{and_true}
-use Rattle.cc_syntax.specs.Names.{local_names}
-use Rattle.cc_syntax.specs.Sound.{have_ids}
-use Rattle.cc_syntax.specs.Types.{Named}
-use Rattle.cc_terms.specs.InTurn.{in_turn}
+use Rattle.cc_type.specs.CcSpecifiers.declared.storage.Where.TheVariants as stands
+use Rattle.cc_type.proofs.CcSyntax.Prefixes.{both_true}
+use Rattle.cc_type.proofs.CcSyntax.SameLemmas.{and_true}
+use Rattle.cc_type.specs.CcSyntax.Names.{local_names}
+use Rattle.cc_type.specs.CcSyntax.Sound.{have_ids}
+use Rattle.cc_type.specs.CcSyntax.Types.{Named}
+use Rattle.cc_type.specs.CcTerms.InTurn.{in_turn}
 use Rattle.cc_tree.specs.declared.at.At.{At}
 use Rattle.cc_tree.specs.declared.unit.Item.{Item}
 use Rattle.cc_tree.specs.declared.unit.Item.TheVariants as item
@@ -37,14 +37,14 @@ use Rattle.cc_tree.specs.declared.unit.Unit.{Unit as UnitTree}
 use Rattle.cc_type.specs.Defined.{defined_names}
 use Rattle.cc_type.specs.Typed.{IsTyped}
 use Rattle.cc_type.specs.Units.{item_found, item_next, items_found, unit_found, unit_of}
-use Rattle.cc_typed_bodies.specs.Declarations.{declaration}
-use Rattle.cc_unit.specs.declared.ids.Ids.{Ids}
-use Rattle.cc_unit.specs.declared.unit.TypedUnit.{TypedUnit}
-use Rattle.cc_unit.specs.declared.unit.UnitKind.{UnitKind}
-use Rattle.cc_unit.specs.declared.unit.UnitKind.TheVariants as kind
-use Rattle.cc_unit.specs.declared.unit.UnitName.{UnitName}
-use Rattle.cc_unit.specs.declared.unit.UnitStructure.{UnitStructure}
-use Rattle.cc_words.specs.Names.{is_name}
+use Rattle.cc_type.specs.CcTypedBodies.Declarations.{declaration}
+use Rattle.cc_type.specs.CcUnit.declared.ids.Ids.{Ids}
+use Rattle.cc_type.specs.CcUnit.declared.unit.TypedUnit.{TypedUnit}
+use Rattle.cc_type.specs.CcUnit.declared.unit.UnitKind.{UnitKind}
+use Rattle.cc_type.specs.CcUnit.declared.unit.UnitKind.TheVariants as kind
+use Rattle.cc_type.specs.CcUnit.declared.unit.UnitName.{UnitName}
+use Rattle.cc_type.specs.CcUnit.declared.unit.UnitStructure.{UnitStructure}
+use Rattle.cc_program.specs.CcWords.Names.{is_name}
 use Rattle.cc_named_units.proofs.Functions.{function_found_adds}
 
 -- ---- items

@@ -2,21 +2,21 @@
 use Rattle.std.specs.Prelude.{◌≡◌, ◌≤◌, ◌+◌, ℕ, Bool, true, false, not, is_some, nat_lt, List, [], ◌∷◌, length, Option, Some, None}
 use Rattle.std.specs.List.{list_all}
 use Rattle.cc_named_units.specs.Names.{tag_named}
-use Rattle.cc_typed_terms.specs.Primary.{is_intrinsic}
+use Rattle.cc_type.specs.CcTypedTerms.Primary.{is_intrinsic}
 use Rattle.cc_program.proofs.Each.{Each}
 use Rattle.cc_program.specs.declared.program.Roles.{Roles}
-use Rattle.cc_scopes.specs.State.{State, Name, Scope, KnownStructure}
-use Rattle.cc_scopes.specs.declared.unit.Declared.{Declared}
-use Rattle.cc_specifiers.specs.declared.derivation.Declarator.{Declarator}
-use Rattle.cc_specifiers.specs.declared.derivation.Derivation.{Derivation}
-use Rattle.cc_specifiers.specs.declared.derivation.Derivation.TheVariants as to
-use Rattle.cc_specifiers.specs.declared.derivation.Parameter.{Parameter}
-use Rattle.cc_syntax.specs.Names.{local_names}
-use Rattle.cc_syntax.specs.Types.{Named}
+use Rattle.cc_type.specs.CcScopes.State.{State, Name, Scope, KnownStructure}
+use Rattle.cc_type.specs.CcScopes.declared.unit.Declared.{Declared}
+use Rattle.cc_type.specs.CcSpecifiers.declared.derivation.Declarator.{Declarator}
+use Rattle.cc_type.specs.CcSpecifiers.declared.derivation.Derivation.{Derivation}
+use Rattle.cc_type.specs.CcSpecifiers.declared.derivation.Derivation.TheVariants as to
+use Rattle.cc_type.specs.CcSpecifiers.declared.derivation.Parameter.{Parameter}
+use Rattle.cc_type.specs.CcSyntax.Names.{local_names}
+use Rattle.cc_type.specs.CcSyntax.Types.{Named}
 use Rattle.cc_tree.specs.declared.at.At.{At}
-use Rattle.cc_unit.specs.declared.unit.UnitKind.{UnitKind}
-use Rattle.cc_unit.specs.declared.unit.UnitKind.TheVariants as kind
-use Rattle.cc_words.specs.Names.{are_distinct, is_name}
+use Rattle.cc_type.specs.CcUnit.declared.unit.UnitKind.{UnitKind}
+use Rattle.cc_type.specs.CcUnit.declared.unit.UnitKind.TheVariants as kind
+use Rattle.cc_program.specs.CcWords.Names.{are_distinct, is_name}
 
 -- so many members and locals at most; and the roles, which say what the intrinsics are named
 pub record Limits : Type 0 where

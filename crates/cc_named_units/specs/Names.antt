@@ -1,9 +1,9 @@
 -- Trees whose declared names and tags may name something, and of whose structures each has members, with names; and tokens (C99 6.4.2.1, 6.7.2.1, 6.7.5).
 use Rattle.std.specs.Prelude.{Bool, true, false, ◌&&◌, List, [], ◌∷◌, Option, Some, None}
 use Rattle.std.specs.List.{list_all}
-use Rattle.cc_lex.specs.declared.token.Kind.{Kind}
-use Rattle.cc_lex.specs.declared.token.Kind.TheVariants as kind
-use Rattle.cc_lex.specs.declared.token.Token.{Token}
+use Rattle.cc_type.specs.CcLex.declared.token.Kind.{Kind}
+use Rattle.cc_type.specs.CcLex.declared.token.Kind.TheVariants as kind
+use Rattle.cc_type.specs.CcLex.declared.token.Token.{Token}
 use Rattle.cc_tree.specs.Tokens.{Name}
 use Rattle.cc_tree.specs.declared.at.At.{At}
 use Rattle.cc_tree.specs.declared.tree.Declr.{Declr, fold-Declr}
@@ -26,7 +26,7 @@ use Rattle.cc_tree.specs.declared.unit.Item.TheVariants as item
 use Rattle.cc_tree.specs.declared.unit.Line.{Line, fold-Line}
 use Rattle.cc_tree.specs.declared.unit.Line.TheOpen as one_line
 use Rattle.cc_tree.specs.declared.unit.Unit.{Unit as UnitTree}
-use Rattle.cc_words.specs.Names.{is_name}
+use Rattle.cc_program.specs.CcWords.Names.{is_name}
 
 -- ---- tokens
 

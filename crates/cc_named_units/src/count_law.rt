@@ -1,7 +1,7 @@
 ghost use Rattle.std.specs.Prelude.{◌≤◌, ℕ, List, length};
 ghost use Rattle.cc_named_units.specs.Counts.{unit_count};
-ghost use Rattle.cc_lex.specs.Tokens.{Tokens};
-ghost use Rattle.cc_lex.specs.declared.token.Token.{Token};
+ghost use Rattle.cc_type.specs.CcLex.Tokens.{Tokens};
+ghost use Rattle.cc_type.specs.CcLex.declared.token.Token.{Token};
 ghost use Rattle.cc_tree.specs.Sentences.{IsSentence};
 ghost use Rattle.cc_tree.specs.declared.unit.Unit.{Unit as UnitTree};
 

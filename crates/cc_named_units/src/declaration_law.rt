@@ -2,19 +2,19 @@ ghost use Rattle.std.specs.Prelude.{◌≡◌, ◌≤◌, ℕ, true, List, map, 
 ghost use Rattle.cc_named_units.specs.Counts.{decl_count, each_count, line_count};
 ghost use Rattle.cc_named_units.specs.Named.{Adds, Limits};
 ghost use Rattle.cc_named_units.specs.Names.{decl_named, each_named, line_named};
-ghost use Rattle.cc_num.specs.declared.target.Target.{Target};
+ghost use Rattle.cc_program.specs.CcNum.declared.target.Target.{Target};
 ghost use Rattle.cc_program.specs.declared.expr.Expr.{Expr};
 ghost use Rattle.cc_program.specs.declared.stmt.Stmt.{Stmt};
 ghost use Rattle.cc_program.specs.declared.types.CType.{CType};
-ghost use Rattle.cc_scopes.specs.State.{State, Name};
-ghost use Rattle.cc_specifiers.specs.declared.storage.Where.{Where};
+ghost use Rattle.cc_type.specs.CcScopes.State.{State, Name};
+ghost use Rattle.cc_type.specs.CcSpecifiers.declared.storage.Where.{Where};
 ghost use Rattle.cc_tree.specs.declared.at.At.{At};
 ghost use Rattle.cc_tree.specs.declared.unit.Decl.{Decl};
 ghost use Rattle.cc_tree.specs.declared.unit.Line.{Line};
-ghost use Rattle.cc_typed_bodies.specs.Lines.{line_here};
-ghost use Rattle.cc_typed_bodies.specs.Meanings.{lines_found};
-ghost use Rattle.cc_typed_bodies.specs.Declarations.{declaration};
-ghost use Rattle.cc_typed_statements.specs.declared.jumps.Jumps.{Jumps};
+ghost use Rattle.cc_type.specs.CcTypedBodies.Lines.{line_here};
+ghost use Rattle.cc_type.specs.CcTypedBodies.Meanings.{lines_found};
+ghost use Rattle.cc_type.specs.CcTypedBodies.Declarations.{declaration};
+ghost use Rattle.cc_type.specs.CcTypedStatements.declared.jumps.Jumps.{Jumps};
 
 /// What holds of a declaration that is found, whose names may name something, wherever it stands (C99 6.7): it adds such names alone, none of them an intrinsic's, and no more locals than it declares names. The call does nothing.
 pub fn declaration_laws()

@@ -1,19 +1,19 @@
 ghost use Rattle.std.specs.Prelude.{◌≡◌, ◌<◌, ◌≤◌, ◌^◌, ℕ, true, false, nat_lt, List, length};
 ghost use Rattle.std.specs.List.{All, list_all, list_any};
 ghost use Rattle.std.specs.Str.{bytes_eq};
-ghost use Rattle.cc_lex.specs.Tokens.{Tokens};
-ghost use Rattle.cc_lex.specs.declared.token.Token.{Token};
+ghost use Rattle.cc_type.specs.CcLex.Tokens.{Tokens};
+ghost use Rattle.cc_type.specs.CcLex.declared.token.Token.{Token};
 ghost use Rattle.cc_named_units.specs.Named.{is_own};
-ghost use Rattle.cc_num.specs.declared.target.Target.{Target};
+ghost use Rattle.cc_program.specs.CcNum.declared.target.Target.{Target};
 ghost use Rattle.cc_program.specs.declared.program.Roles.{Roles};
 ghost use Rattle.cc_relocated_units.specs.Units.{IsOfText, is_main_name};
-ghost use Rattle.cc_syntax.specs.Names.{intrinsic_names};
-ghost use Rattle.cc_syntax.specs.Sound.{main_name};
+ghost use Rattle.cc_type.specs.CcSyntax.Names.{intrinsic_names};
+ghost use Rattle.cc_type.specs.CcSyntax.Sound.{main_name};
 ghost use Rattle.cc_tree.specs.Sentences.{IsSentence};
 ghost use Rattle.cc_tree.specs.declared.unit.Unit.{Unit as UnitTree};
 ghost use Rattle.cc_type.specs.Typed.{IsTyped};
-ghost use Rattle.cc_unit.specs.declared.unit.TypedUnit.{TypedUnit};
-ghost use Rattle.cc_unit.specs.declared.unit.UnitName.{UnitName};
+ghost use Rattle.cc_type.specs.CcUnit.declared.unit.TypedUnit.{TypedUnit};
+ghost use Rattle.cc_type.specs.CcUnit.declared.unit.UnitName.{UnitName};
 
 /// What the typed unit of a text has: of a text with fewer than 2 ^ 32 bytes, tags, members, names and locals may name something, and a structure has fewer than 2 ^ 32 members and a function fewer locals; and there are
 /// no more names and no more structures than tokens (C99 6.4.2.1, 6.7, 6.9). The call does nothing.

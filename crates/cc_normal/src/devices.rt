@@ -8,7 +8,7 @@ ghost use Rattle.cc_syntax.specs.Forms.{form_of};
 ghost use Rattle.cc_syntax.specs.Lists.{come_first};
 ghost use Rattle.cc_syntax.specs.Normal.{has_name as has_name_of, count_named as count_named_of, device_in as device_in_of, device_read as device_read_of, devices_accessed as devices_accessed_of, devices_of, devices_in, devices_in_text, next_of, devices_in_order as devices_in_order_of};
 
-use cc_num::List;
+use cc_program::num::List;
 use cc_sound::is_numbered;
 use cc_syntax::{Case, Device, Expr, Place, Program, Stmt};
 

@@ -5,8 +5,8 @@ ghost use Rattle.std.specs.List.{list_all};
 ghost use Rattle.cc_syntax.specs.Folding.{has_value as has_value_of, operation as operation_of, variable as variable_of, folding_of as folding_of_of, constant_of, is_folded, is_folded_place as is_folded_place_of};
 ghost use Rattle.cc_operands.specs.View.{constant_view};
 
-use cc_num::{List, Target};
 use cc_operands::Constant;
+use cc_program::num::{List, Target};
 use cc_syntax::{Expr, Place};
 
 fn has_value(constant: Constant) -> bool

@@ -7,7 +7,7 @@ ghost use Rattle.cc_syntax.specs.Normal.{is_operand as is_operand_of, is_optiona
 
 use crate::folding::{folding_of, is_folded_place};
 use crate::registers::is_kept_register;
-use cc_num::{Boxed, Target};
+use cc_program::num::{Boxed, Target};
 use cc_syntax::{Expr, Func, Place};
 
 /// Where an expression stands: the target, and the function.

@@ -4,7 +4,7 @@ ghost use Rattle.std.specs.Prelude.{◌≡◌};
 ghost use Rattle.cc_normal.specs.Kept.{AreKept};
 ghost use Rattle.cc_syntax.specs.Registers.{is_register as is_register_of};
 
-use cc_num::at;
+use cc_program::num::at;
 use cc_syntax::Func;
 use cc_typed::is_register;
 

@@ -8,7 +8,7 @@ ghost use Rattle.cc_syntax.specs.Forms.{form_of};
 ghost use Rattle.cc_syntax.specs.Normal.{is_operand as is_operand_of, is_callee as is_callee_of, is_call as is_call_of, is_place_read as is_place_read_of, is_assignment as is_assignment_of, is_expression_statement as is_expression_statement_of, is_one as is_one_of, is_normal_stmt as is_normal_stmt_of};
 
 use crate::pure::Body;
-use cc_num::{IntType, List};
+use cc_program::num::{IntType, List};
 use cc_syntax::{Case, Expr, Place, Stmt};
 use cc_typed::same_int;
 

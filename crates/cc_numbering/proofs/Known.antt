@@ -3,12 +3,12 @@ use Rattle.std.proofs.Common.{arith, ◌≡◌, ◌∙◌, ℕ, zero, suc, IsTru
 use Rattle.std.specs.Prelude.{option_map}
 use Rattle.std.proofs.lemmas.List.{length-map, append-nil}
 use Rattle.cc_program.specs.declared.types.Structure.{Structure}
-use Rattle.cc_syntax.specs.declared.sizes.Layout.{Layout}
+use Rattle.cc_scopes.specs.CcSyntax.declared.sizes.Layout.{Layout}
 use Rattle.cc_scopes.proofs.KnownLemmas.{AreKept, are_kept-says}
 use Rattle.cc_scopes.specs.Standings.{entries_of, are_kept, some_if, known_structures}
 use Rattle.cc_scopes.specs.State.{State, structures_of, as_structure}
 use Rattle.cc_scopes.specs.declared.standing.Standing.{Standing}
-use Rattle.cc_unit.specs.declared.unit.UnitStructure.{UnitStructure}
+use Rattle.cc_scopes.specs.CcUnit.declared.unit.UnitStructure.{UnitStructure}
 use Rattle.cc_numbering.specs.Numbers.{order_of, places_from, numbers_of}
 use Rattle.cc_numbering.specs.Structures.{all_named_in, structure_at}
 

@@ -3,7 +3,7 @@ use Rattle.std.proofs.Common.{arith, ◌≡◌, ◌∙◌, ◌+◌, ◌<◌, ◌
 use Rattle.std.specs.Prelude.{is_some}
 use Rattle.std.proofs.lemmas.List.{append-nil, drop_more, drop_all}
 use Rattle.cc_program.specs.declared.types.Structure.{Structure}
-use Rattle.cc_syntax.specs.declared.sizes.Layout.{Layout}
+use Rattle.cc_scopes.specs.CcSyntax.declared.sizes.Layout.{Layout}
 use Rattle.cc_scopes.proofs.KnownLemmas.{AreKept, are_kept-says}
 use Rattle.cc_scopes.specs.Standings.{entries_of, are_kept, some_if, known_structures}
 use Rattle.cc_scopes.specs.declared.standing.Standing.{Standing}

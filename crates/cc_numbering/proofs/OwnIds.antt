@@ -2,7 +2,7 @@
 use Rattle.std.proofs.Common.{arith, ◌≡◌, ◌∙◌, ◌+◌, ◌<◌, ◌≤◌, ℕ, suc, List, [], ◌∷◌, ◌++◌, ap, sym, length, drop, get_or, append_assoc}
 use Rattle.std.proofs.lemmas.List.{append-nil, drop_more, drop_all}
 use Rattle.cc_scopes.specs.declared.unit.Declared.{Declared}
-use Rattle.cc_unit.specs.declared.ids.Id.{Id}
+use Rattle.cc_scopes.specs.CcUnit.declared.ids.Id.{Id}
 use Rattle.cc_numbering.specs.Names.{own_id, own_ids}
 
 pub ids-more : (ids next : List Id) (ds : List Declared) (i : ℕ) (d : Declared) (whole : List Id) → i < length ds → d ≡ get_or ds i d → next ≡ ids ++ own_id i d.kind ∷ []

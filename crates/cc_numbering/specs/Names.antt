@@ -3,13 +3,13 @@ use Rattle.std.specs.Prelude.{ℕ, zero, suc, Bool, List, [], ◌∷◌, map, Op
 use Rattle.cc_program.specs.declared.func.Entry.{Entry}
 use Rattle.cc_program.specs.declared.func.Func.{Func}
 use Rattle.cc_scopes.specs.declared.unit.Declared.{Declared}
-use Rattle.cc_unit.specs.Renumbered.{type_renumbered, sig_renumbered, stmt_renumbered}
-use Rattle.cc_unit.specs.declared.ids.Id.{Id}
-use Rattle.cc_unit.specs.declared.ids.Id.TheVariants as id
-use Rattle.cc_unit.specs.declared.ids.Ids.{Ids}
-use Rattle.cc_unit.specs.declared.unit.UnitKind.{UnitKind}
-use Rattle.cc_unit.specs.declared.unit.UnitKind.TheVariants as kind
-use Rattle.cc_unit.specs.declared.unit.UnitName.{UnitName}
+use Rattle.cc_scopes.specs.CcUnit.Renumbered.{type_renumbered, sig_renumbered, stmt_renumbered}
+use Rattle.cc_scopes.specs.CcUnit.declared.ids.Id.{Id}
+use Rattle.cc_scopes.specs.CcUnit.declared.ids.Id.TheVariants as id
+use Rattle.cc_scopes.specs.CcUnit.declared.ids.Ids.{Ids}
+use Rattle.cc_scopes.specs.CcUnit.declared.unit.UnitKind.{UnitKind}
+use Rattle.cc_scopes.specs.CcUnit.declared.unit.UnitKind.TheVariants as kind
+use Rattle.cc_scopes.specs.CcUnit.declared.unit.UnitName.{UnitName}
 use Rattle.cc_numbering.specs.Structures.{all_named_in}
 
 -- what a name is, by its position

@@ -1,10 +1,10 @@
 -- Structures as the unit has them.
 use Rattle.std.specs.Prelude.{ℕ, List, map, option_map, option_to_list, slice_get}
 use Rattle.std.specs.List.{flat_map}
-use Rattle.cc_syntax.specs.Types.{Named}
+use Rattle.cc_scopes.specs.CcSyntax.Types.{Named}
 use Rattle.cc_scopes.specs.State.{KnownStructure}
-use Rattle.cc_unit.specs.Renumbered.{type_renumbered}
-use Rattle.cc_unit.specs.declared.unit.UnitStructure.{UnitStructure}
+use Rattle.cc_scopes.specs.CcUnit.Renumbered.{type_renumbered}
+use Rattle.cc_scopes.specs.CcUnit.declared.unit.UnitStructure.{UnitStructure}
 
 module _ (numbers : List ℕ) where
   abbrev pub named_in : Named → Named

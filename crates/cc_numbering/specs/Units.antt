@@ -1,8 +1,8 @@
 -- The unit that is left behind its last item.
 use Rattle.std.specs.Prelude.{map}
 use Rattle.cc_scopes.specs.State.{State}
-use Rattle.cc_unit.specs.declared.ids.Ids.{Ids}
-use Rattle.cc_unit.specs.declared.unit.TypedUnit.{TypedUnit}
+use Rattle.cc_scopes.specs.CcUnit.declared.ids.Ids.{Ids}
+use Rattle.cc_scopes.specs.CcUnit.declared.unit.TypedUnit.{TypedUnit}
 use Rattle.cc_numbering.specs.Names.{own_ids, name_in}
 use Rattle.cc_numbering.specs.Numbers.{order_of, numbers_of}
 use Rattle.cc_numbering.specs.Structures.{structures_in}

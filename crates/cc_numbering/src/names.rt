@@ -4,11 +4,13 @@ ghost use Rattle.std.specs.Prelude.{◌≡◌, IfOk, map, option_map};
 ghost use Rattle.cc_numbering.specs.Names.{own_id as own_id_of, own_ids as own_ids_of, count_of as count_of_definitions, function_in as function_in_of, kind_in as kind_in_of, name_in as name_in_of};
 
 use crate::structures::{copy_name, renumber_named};
-use cc_num::{Boxed, List, NoMemory};
 use cc_program::copy_list;
+use cc_program::num::{Boxed, List, NoMemory};
 use cc_scopes::Declared;
-use cc_syntax::{Entry, Func, Leaf};
-use cc_unit::{Id, Ids, UnitKind, UnitName, renumber_sig, renumber_stmts, renumber_type};
+use cc_scopes::syntax::{Entry, Func, Leaf};
+use cc_scopes::unit_crate::{
+    Id, Ids, UnitKind, UnitName, renumber_sig, renumber_stmts, renumber_type,
+};
 use std::alloc::Global;
 
 fn own_id(i: u32, kind: &UnitKind) -> Id

@@ -5,7 +5,7 @@ ghost use Rattle.std.specs.Prelude.{◌≡◌, ◌++◌, ℕ, IfOk, OnOk, length
 ghost use Rattle.cc_numbering.specs.Numbers.{unless, order_of, places_from};
 ghost use Rattle.cc_scopes.specs.View.{state_of};
 
-use cc_num::NoMemory;
+use cc_program::num::NoMemory;
 use cc_scopes::State;
 use std::alloc::Global;
 

@@ -5,11 +5,11 @@ ghost use Rattle.cc_numbering.specs.Structures.{named_in, all_named_in, structur
 ghost use Rattle.cc_scopes.specs.Standings.{some_if};
 ghost use Rattle.cc_scopes.specs.View.{state_of};
 
-use cc_num::{List, Name, NoMemory, at};
 use cc_program::copy_list;
+use cc_program::num::{List, Name, NoMemory, at};
 use cc_scopes::State;
-use cc_syntax::{CType, Structure};
-use cc_unit::{UnitStructure, renumber_type};
+use cc_scopes::syntax::{CType, Structure};
+use cc_scopes::unit_crate::{UnitStructure, renumber_type};
 use std::alloc::Global;
 
 /// A copy of a name, where there is one.

@@ -7,9 +7,9 @@ ghost use Rattle.cc_scopes.specs.View.{state_of};
 use crate::names::{names_in, own_ids};
 use crate::numbers::{order, places};
 use crate::structures::structures_in;
-use cc_num::{List, NoMemory};
+use cc_program::num::{List, NoMemory};
 use cc_scopes::State;
-use cc_unit::{Ids, TypedUnit};
+use cc_scopes::unit_crate::{Ids, TypedUnit};
 use std::alloc::Global;
 
 /// The unit that is left behind the items of a source.

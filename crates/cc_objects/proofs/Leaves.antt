@@ -1,15 +1,15 @@
 -- The first value of a scalar that is given an operand, once that is assigned.
 use Rattle.std.proofs.Common.{◌≡◌, ◌∙◌, Bool, List, Result, Ok, ap, sym, subst}
 use Rattle.cc_initial.specs.Addresses.{leaf_of}
-use Rattle.cc_num.specs.declared.target.Target.{Target}
+use Rattle.cc_program.specs.CcNum.declared.target.Target.{Target}
 use Rattle.cc_objects.specs.Values.{leaf_given, objects_in}
-use Rattle.cc_operands.specs.Assignments.{assigned}
-use Rattle.cc_operands.specs.Operands.{Operand}
-use Rattle.cc_operands.specs.Verdicts.{Judged, Judges, judge_then}
-use Rattle.cc_operands.specs.declared.verdict.Breach.{Breach}
+use Rattle.cc_typed_terms.specs.CcOperands.Assignments.{assigned}
+use Rattle.cc_typed_terms.specs.CcOperands.Operands.{Operand}
+use Rattle.cc_typed_terms.specs.CcOperands.Verdicts.{Judged, Judges, judge_then}
+use Rattle.cc_typed_terms.specs.CcOperands.declared.verdict.Breach.{Breach}
 use Rattle.cc_program.specs.declared.types.Structure.{Structure}
 use Rattle.cc_program.specs.declared.value.Leaf.{Leaf}
-use Rattle.cc_scopes.specs.State.{State, structures_of}
+use Rattle.cc_typed_terms.specs.CcScopes.State.{State, structures_of}
 use Rattle.cc_syntax.specs.Values.{ValueType}
 
 pub leaf-given : (target : Target) (constant : Bool) (t : ValueType) (x y : Operand) (s : State) (structures : List Structure) (r : Result Leaf Breach) →

@@ -2,16 +2,16 @@
 use Rattle.std.specs.Prelude.{Bool, false, is_some, List, [], ◌∷◌, map, Option, Some, None, if◌then◌else◌}
 use Rattle.std.specs.List.{list_any}
 use Rattle.cc_linkage.specs.declared.linkage.DeclaredAs.TheVariants.{AsStatic, AsObject, AsExtern}
-use Rattle.cc_operands.specs.Qualified.{is_function_type}
-use Rattle.cc_scopes.specs.State.{State, designated, or_else}
-use Rattle.cc_scopes.specs.declared.designated.Designated.{Designated}
-use Rattle.cc_scopes.specs.declared.designated.Designated.TheVariants as means
-use Rattle.cc_specifiers.specs.Declarators.{declares_function}
-use Rattle.cc_specifiers.specs.declared.attribute.Entity.{Entity}
-use Rattle.cc_specifiers.specs.declared.attribute.Entity.TheVariants as entity
-use Rattle.cc_specifiers.specs.declared.storage.Setting.{Setting}
-use Rattle.cc_specifiers.specs.declared.storage.Where.{Where}
-use Rattle.cc_specifiers.specs.declared.storage.Where.TheVariants as stands
+use Rattle.cc_typed_terms.specs.CcOperands.Qualified.{is_function_type}
+use Rattle.cc_typed_terms.specs.CcScopes.State.{State, designated, or_else}
+use Rattle.cc_typed_terms.specs.CcScopes.declared.designated.Designated.{Designated}
+use Rattle.cc_typed_terms.specs.CcScopes.declared.designated.Designated.TheVariants as means
+use Rattle.cc_typed_terms.specs.CcSpecifiers.Declarators.{declares_function}
+use Rattle.cc_typed_terms.specs.CcSpecifiers.declared.attribute.Entity.{Entity}
+use Rattle.cc_typed_terms.specs.CcSpecifiers.declared.attribute.Entity.TheVariants as entity
+use Rattle.cc_typed_terms.specs.CcSpecifiers.declared.storage.Setting.{Setting}
+use Rattle.cc_typed_terms.specs.CcSpecifiers.declared.storage.Where.{Where}
+use Rattle.cc_typed_terms.specs.CcSpecifiers.declared.storage.Where.TheVariants as stands
 use Rattle.cc_tree.specs.declared.at.At.{At}
 use Rattle.cc_tree.specs.declared.tree.Declr.{Declr}
 use Rattle.cc_tree.specs.declared.tree.Declr.TheOpen as one
@@ -26,8 +26,8 @@ use Rattle.cc_tree.specs.declared.unit.Decl.{Decl}
 use Rattle.cc_tree.specs.declared.unit.Init.{Init}
 use Rattle.cc_objects.specs.declared.category.Category.{Category}
 use Rattle.cc_objects.specs.declared.category.Category.TheVariants as declares
-use Rattle.cc_words.specs.declared.word.Word.{Word}
-use Rattle.cc_words.specs.declared.word.Word.TheVariants as w
+use Rattle.cc_program.specs.CcWords.declared.word.Word.{Word}
+use Rattle.cc_program.specs.CcWords.declared.word.Word.TheVariants as w
 
 abbrev pub function_category : Option Word → Category
 function_category (Some w.Typedef) = declares.Typedef

@@ -4,3 +4,4 @@ pub mod Names
 pub mod Tags
 pub mod Types
 pub mod Values
+pub mod CcInitial

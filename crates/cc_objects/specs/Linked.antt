@@ -5,17 +5,17 @@ use Rattle.std.specs.Str.{bytes_eq}
 use Rattle.cc_linkage.specs.Linkage.{declared}
 use Rattle.cc_linkage.specs.declared.linkage.DeclaredAs.{DeclaredAs}
 use Rattle.cc_linkage.specs.declared.linkage.DeclaredAs.TheVariants.{AsStatic, AsObject, AsExtern}
-use Rattle.cc_operands.specs.Qualified.{without_const}
+use Rattle.cc_typed_terms.specs.CcOperands.Qualified.{without_const}
 use Rattle.cc_program.specs.declared.types.CType.{CType}
 use Rattle.cc_program.specs.declared.types.Shape.{Shape, out-Shape}
 use Rattle.cc_program.specs.declared.types.Shape.TheOpen as shape
 use Rattle.cc_program.specs.declared.types.Sig.{Sig}
-use Rattle.cc_scopes.specs.State.{State, Name, bind, with_declared, with_locals}
-use Rattle.cc_scopes.specs.declared.designated.Designated.TheVariants as means
-use Rattle.cc_scopes.specs.declared.unit.Declared.{Declared}
-use Rattle.cc_unit.specs.declared.unit.Linkage.TheVariants as linkage
-use Rattle.cc_unit.specs.declared.unit.UnitKind.{UnitKind}
-use Rattle.cc_unit.specs.declared.unit.UnitKind.TheVariants as kind
+use Rattle.cc_typed_terms.specs.CcScopes.State.{State, Name, bind, with_declared, with_locals}
+use Rattle.cc_typed_terms.specs.CcScopes.declared.designated.Designated.TheVariants as means
+use Rattle.cc_typed_terms.specs.CcScopes.declared.unit.Declared.{Declared}
+use Rattle.cc_typed_terms.specs.CcUnit.declared.unit.Linkage.TheVariants as linkage
+use Rattle.cc_typed_terms.specs.CcUnit.declared.unit.UnitKind.{UnitKind}
+use Rattle.cc_typed_terms.specs.CcUnit.declared.unit.UnitKind.TheVariants as kind
 
 -- ---- objects with linkage; the names are those of the objects that the unit defines
 

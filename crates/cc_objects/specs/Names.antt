@@ -1,20 +1,20 @@
 -- Which name may be declared so (C99 6.7, 3; 6.9).
 use Rattle.std.specs.Prelude.{Bool, false, not, ◌&&◌, is_some, Option, Some, None, Ok, Err, if◌then◌else◌}
 use Rattle.cc_typed_terms.specs.Names.{new_name}
-use Rattle.cc_designators.specs.Calls.{intrinsic_signature}
+use Rattle.cc_typed_terms.specs.CcDesignators.Calls.{intrinsic_signature}
 use Rattle.cc_linkage.specs.Linkage.{may_be_declared, may_be_main}
 use Rattle.cc_linkage.specs.declared.linkage.DeclaredAs.{DeclaredAs}
-use Rattle.cc_num.specs.declared.target.Target.{Target}
-use Rattle.cc_operands.specs.Qualified.{plain}
-use Rattle.cc_operands.specs.Verdicts.{Judged, must, judge_then}
-use Rattle.cc_operands.specs.declared.rule.Rule.TheVariants as rule
+use Rattle.cc_program.specs.CcNum.declared.target.Target.{Target}
+use Rattle.cc_typed_terms.specs.CcOperands.Qualified.{plain}
+use Rattle.cc_typed_terms.specs.CcOperands.Verdicts.{Judged, must, judge_then}
+use Rattle.cc_typed_terms.specs.CcOperands.declared.rule.Rule.TheVariants as rule
 use Rattle.cc_typed_terms.specs.Primary.{intrinsic_named, is_intrinsic}
 use Rattle.cc_program.specs.declared.expr.Intr.{Intr}
 use Rattle.cc_program.specs.declared.func.Entry.{Entry}
 use Rattle.cc_program.specs.declared.program.Roles.{Roles}
 use Rattle.cc_program.specs.declared.types.CType.{CType}
 use Rattle.cc_program.specs.declared.types.Shape.{Func}
-use Rattle.cc_scopes.specs.State.{State, Name}
+use Rattle.cc_typed_terms.specs.CcScopes.State.{State, Name}
 use Rattle.cc_syntax.specs.SameTypes.{same_type}
 use Rattle.cc_objects.specs.Types.{is_complete_or_unbounded}
 use Rattle.cc_objects.specs.declared.category.Category.{Category}

@@ -5,10 +5,10 @@ use Rattle.cc_program.specs.declared.types.Shape.{Shape, out-Shape}
 use Rattle.cc_program.specs.declared.types.Shape.TheOpen as shape
 use Rattle.cc_program.specs.declared.types.CType.{CType}
 use Rattle.cc_program.specs.declared.types.Sig.{Sig}
-use Rattle.cc_scopes.specs.Standings.{with_alias, is_none}
-use Rattle.cc_scopes.specs.State.{State, Name, change_at, with_structures}
-use Rattle.cc_scopes.specs.Structures.{declared_tag}
-use Rattle.cc_specifiers.specs.declared.specifier.Specified.{Specified}
+use Rattle.cc_typed_terms.specs.CcScopes.Standings.{with_alias, is_none}
+use Rattle.cc_typed_terms.specs.CcScopes.State.{State, Name, change_at, with_structures}
+use Rattle.cc_typed_terms.specs.CcScopes.Structures.{declared_tag}
+use Rattle.cc_typed_terms.specs.CcSpecifiers.declared.specifier.Specified.{Specified}
 use Rattle.cc_tree.specs.Scopes.{name_of}
 use Rattle.cc_tree.specs.declared.at.At.{At}
 use Rattle.cc_tree.specs.declared.tree.Declr.{Declr}
@@ -22,8 +22,8 @@ use Rattle.cc_tree.specs.declared.tree.Tree.{Tree}
 use Rattle.cc_tree.specs.declared.tree.TypeName.{TypeName}
 use Rattle.cc_tree.specs.declared.unit.Decl.{Decl}
 use Rattle.cc_tree.specs.declared.unit.Init.{Init}
-use Rattle.cc_words.specs.declared.word.Word.{Word}
-use Rattle.cc_words.specs.declared.word.Word.TheVariants as w
+use Rattle.cc_program.specs.CcWords.declared.word.Word.{Word}
+use Rattle.cc_program.specs.CcWords.declared.word.Word.TheVariants as w
 
 -- ---- a structure without a tag takes a name from the typedef that defines it
 

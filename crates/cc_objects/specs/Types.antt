@@ -3,21 +3,21 @@ use Rattle.std.specs.Prelude.{ℕ, Bool, false, not, ◌&&◌, ◌||◌, Option,
 use Rattle.cc_initialisers.specs.Contents.{Contents, contents}
 use Rattle.cc_initialisers.specs.Initialisers.{bound_given}
 use Rattle.cc_linkage.specs.Linkage.{is_visible}
-use Rattle.cc_num.specs.declared.target.Target.{Target}
-use Rattle.cc_operands.specs.Qualified.{plain}
-use Rattle.cc_operands.specs.Verdicts.{Judged, must, judge_then}
-use Rattle.cc_operands.specs.declared.rule.Rule.TheVariants as rule
+use Rattle.cc_program.specs.CcNum.declared.target.Target.{Target}
+use Rattle.cc_typed_terms.specs.CcOperands.Qualified.{plain}
+use Rattle.cc_typed_terms.specs.CcOperands.Verdicts.{Judged, must, judge_then}
+use Rattle.cc_typed_terms.specs.CcOperands.declared.rule.Rule.TheVariants as rule
 use Rattle.cc_program.specs.declared.expr.Place.{Place}
 use Rattle.cc_program.specs.declared.types.CType.{CType}
 use Rattle.cc_program.specs.declared.types.Shape.{Shape, Array, out-Shape}
 use Rattle.cc_program.specs.declared.types.Shape.TheOpen as shape
 use Rattle.cc_program.specs.declared.types.Sig.{Sig}
-use Rattle.cc_scopes.specs.Linked.{linked_name}
-use Rattle.cc_scopes.specs.State.{State, Name, structures_of, layouts_of, with_unfinished}
-use Rattle.cc_scopes.specs.declared.unit.Declared.{Declared}
-use Rattle.cc_specifiers.specs.Bounds.{is_bound}
-use Rattle.cc_specifiers.specs.Declarators.{is_unbounded, bound_or_none}
-use Rattle.cc_specifiers.specs.Objects.{is_object}
+use Rattle.cc_typed_terms.specs.CcScopes.Linked.{linked_name}
+use Rattle.cc_typed_terms.specs.CcScopes.State.{State, Name, structures_of, layouts_of, with_unfinished}
+use Rattle.cc_typed_terms.specs.CcScopes.declared.unit.Declared.{Declared}
+use Rattle.cc_typed_terms.specs.CcSpecifiers.Bounds.{is_bound}
+use Rattle.cc_typed_terms.specs.CcSpecifiers.Declarators.{is_unbounded, bound_or_none}
+use Rattle.cc_typed_terms.specs.CcSpecifiers.Objects.{is_object}
 use Rattle.cc_syntax.specs.Initial.{bound_shape}
 use Rattle.cc_syntax.specs.SameTypes.{same_type}
 use Rattle.cc_tree.specs.declared.at.At.{At}

@@ -1,21 +1,21 @@
 -- What a scalar of an object is given at first (C99 6.7.8).
 use Rattle.std.specs.Prelude.{ℕ, pos, Bool, not, List, [], ◌∷◌, Option, Some, None, slice_get, Ok}
 use Rattle.cc_initial.specs.Addresses.{leaf_of}
-use Rattle.cc_num.specs.declared.target.Target.{Target}
-use Rattle.cc_operands.specs.Assignments.{assigned}
-use Rattle.cc_operands.specs.Operands.{Operand, null_of}
-use Rattle.cc_operands.specs.Verdicts.{Judged, must, judge_then}
-use Rattle.cc_operands.specs.declared.rule.Rule.TheVariants as rule
+use Rattle.cc_program.specs.CcNum.declared.target.Target.{Target}
+use Rattle.cc_typed_terms.specs.CcOperands.Assignments.{assigned}
+use Rattle.cc_typed_terms.specs.CcOperands.Operands.{Operand, null_of}
+use Rattle.cc_typed_terms.specs.CcOperands.Verdicts.{Judged, must, judge_then}
+use Rattle.cc_typed_terms.specs.CcOperands.declared.rule.Rule.TheVariants as rule
 use Rattle.cc_program.specs.declared.expr.Expr.{Expr, Const, Assign}
 use Rattle.cc_program.specs.declared.expr.Place.{Place}
 use Rattle.cc_program.specs.declared.types.CType.{CType}
 use Rattle.cc_program.specs.declared.value.Address.TheVariants as address
 use Rattle.cc_program.specs.declared.value.Leaf.{Leaf}
 use Rattle.cc_program.specs.declared.value.Leaf.TheVariants as leaf
-use Rattle.cc_scopes.specs.State.{State, structures_of}
-use Rattle.cc_scopes.specs.declared.unit.Declared.{Declared}
-use Rattle.cc_unit.specs.declared.unit.UnitKind.{UnitKind}
-use Rattle.cc_unit.specs.declared.unit.UnitKind.TheVariants as kind
+use Rattle.cc_typed_terms.specs.CcScopes.State.{State, structures_of}
+use Rattle.cc_typed_terms.specs.CcScopes.declared.unit.Declared.{Declared}
+use Rattle.cc_typed_terms.specs.CcUnit.declared.unit.UnitKind.{UnitKind}
+use Rattle.cc_typed_terms.specs.CcUnit.declared.unit.UnitKind.TheVariants as kind
 use Rattle.cc_syntax.specs.Values.{ValueType, NoValue, Integer, ToObject, ToFunction}
 
 -- ---- a scalar for which there is no expression

@@ -3,10 +3,10 @@
 ghost use Rattle.std.specs.Prelude.{◌≡◌};
 ghost use Rattle.cc_objects.specs.Categories.{function_category as function_category_of, file_category as file_category_of, block_category as block_category_of, object_category as object_category_of, category_by as category_by_of, category_of as category_of_declr, entity_of};
 
-use cc_lex::Word;
 use cc_linkage::DeclaredAs;
-use cc_specifiers::{Entity, Where, declares_function};
 use cc_tree::Declr;
+use cc_typed_terms::lex::Word;
+use cc_typed_terms::specifiers_crate::{Entity, Where, declares_function};
 
 /// What a declarator declares.
 #[derive(Clone, Copy)]

@@ -5,14 +5,14 @@ ghost use Rattle.std.specs.List.{list_any};
 ghost use Rattle.std.specs.Str.{bytes_eq};
 ghost use Rattle.cc_objects.specs.Linked.{device_by, is_extern as is_extern_of, object_kind as object_kind_of, object_declared, static_object as static_object_of, with_static, with_automatic};
 ghost use Rattle.cc_program.specs.declared.types.Shape.{out-Shape};
-ghost use Rattle.cc_scopes.specs.View.{state_of};
+ghost use Rattle.cc_typed_terms.specs.CcScopes.View.{state_of};
 
 use cc_linkage::{DeclaredAs, declare_linked};
-use cc_num::{IntType, List, Name, NoMemory};
-use cc_operands::without_const;
 use cc_program::copy_list;
-use cc_scopes::{Declared, Designated, Linkage, State, UnitKind};
+use cc_program::num::{IntType, List, Name, NoMemory};
 use cc_syntax::{CType, Device, Shape};
+use cc_typed_terms::operands::without_const;
+use cc_typed_terms::scopes::{Declared, Designated, Linkage, State, UnitKind};
 use std::alloc::Global;
 
 fn no_values(alloc: Global) -> UnitKind

@@ -2,19 +2,19 @@
 
 ghost use Rattle.std.specs.Prelude.{◌≡◌, IfOk};
 ghost use Rattle.cc_typed_terms.specs.Names.{new_name as new_name_of};
-ghost use Rattle.cc_designators.specs.Calls.{byte_type as byte_type_of, intrinsic_signature as intrinsic_signature_of};
+ghost use Rattle.cc_typed_terms.specs.CcDesignators.Calls.{byte_type as byte_type_of, intrinsic_signature as intrinsic_signature_of};
 ghost use Rattle.cc_objects.specs.Names.{function_judged as function_judged_of, is_prototype as is_prototype_of, prototype_judged as prototype_judged_of, object_judged as object_judged_of, linked_judged as linked_judged_of, typedef_judged as typedef_judged_of, local_judged as local_judged_of, name_judged as name_judged_of};
-ghost use Rattle.cc_operands.specs.Qualified.{plain as plain_of};
-ghost use Rattle.cc_operands.specs.Verdicts.{Judges};
-ghost use Rattle.cc_scopes.specs.View.{state_of};
+ghost use Rattle.cc_typed_terms.specs.CcOperands.Qualified.{plain as plain_of};
+ghost use Rattle.cc_typed_terms.specs.CcOperands.Verdicts.{Judges};
+ghost use Rattle.cc_typed_terms.specs.CcScopes.View.{state_of};
 
 use crate::category::Category;
 use crate::types::{is_complete_or_unbounded, same_type};
 use cc_linkage::{DeclaredAs, may_be_declared, may_be_main};
-use cc_num::{Boxed, IntType, List, NoMemory, Target};
-use cc_operands::{Breach, Rule};
-use cc_scopes::State;
+use cc_program::num::{Boxed, IntType, List, NoMemory, Target};
 use cc_syntax::{CType, Entry, Intr, Roles, Shape, Sig};
+use cc_typed_terms::operands::{Breach, Rule};
+use cc_typed_terms::scopes::State;
 use cc_typed_terms::{intrinsic_named, is_intrinsic, new_name};
 use std::alloc::Global;
 

@@ -4,17 +4,17 @@ ghost use Rattle.std.specs.Prelude.{◌≡◌, IfOk, map};
 ghost use Rattle.std.specs.List.{list_any};
 ghost use Rattle.std.specs.Option.{option_copied};
 ghost use Rattle.cc_objects.specs.Categories.{category_of as category_of_declr, entity_of, entities_of, storage_class as storage_class_of, storage_at as storage_at_of, storage_in as storage_in_of, is_function_name as is_function_name_of, names_function as names_function_of, name_function as name_function_of, is_given as is_given_of, setting_of as setting_of_decl};
-ghost use Rattle.cc_operands.specs.Qualified.{is_function_type as is_function_type_of};
-ghost use Rattle.cc_scopes.specs.View.{state_of};
+ghost use Rattle.cc_typed_terms.specs.CcOperands.Qualified.{is_function_type as is_function_type_of};
+ghost use Rattle.cc_typed_terms.specs.CcScopes.View.{state_of};
 ghost use Rattle.cc_tree.specs.declared.tree.Spec.{out-Spec};
 
 use crate::category::category_of;
-use cc_lex::Word;
-use cc_num::{List, NoMemory};
-use cc_scopes::{Designated, State};
-use cc_specifiers::{Entity, Setting, Where};
+use cc_program::num::{List, NoMemory};
 use cc_syntax::{CType, Shape};
 use cc_tree::{At, Decl, Init, Spec};
+use cc_typed_terms::lex::Word;
+use cc_typed_terms::scopes::{Designated, State};
+use cc_typed_terms::specifiers_crate::{Entity, Setting, Where};
 use std::alloc::Global;
 
 fn storage_class(word: Word) -> Option<Word>

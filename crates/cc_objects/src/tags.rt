@@ -5,17 +5,17 @@ ghost use Rattle.std.specs.List.{list_all};
 ghost use Rattle.std.specs.Option.{option_copied};
 ghost use Rattle.cc_objects.specs.Tags.{is_untagged_at as is_untagged_at_of, defines_untagged as defines_untagged_of, aliased_at as aliased_at_of, first_name as first_name_of, is_typedef_word as is_typedef_word_of, aliased, sole_tag as sole_tag_of, is_extension_at as is_extension_at_of, sole_spec, sole_declared, in_front};
 ghost use Rattle.cc_program.specs.declared.types.Shape.{out-Shape};
-ghost use Rattle.cc_scopes.specs.View.{state_of};
+ghost use Rattle.cc_typed_terms.specs.CcScopes.View.{state_of};
 ghost use Rattle.cc_tree.specs.Scopes.{name_of};
 ghost use Rattle.cc_tree.specs.declared.tree.Spec.{out-Spec};
 
-use cc_lex::Word;
-use cc_num::{Name, NoMemory};
 use cc_program::copy_list;
-use cc_scopes::{State, declare_tag};
-use cc_specifiers::Specified;
+use cc_program::num::{Name, NoMemory};
 use cc_syntax::{CType, Shape};
 use cc_tree::{At, Decl, Declr, Init, Spec};
+use cc_typed_terms::lex::Word;
+use cc_typed_terms::scopes::{State, declare_tag};
+use cc_typed_terms::specifiers_crate::Specified;
 use std::alloc::Global;
 
 /// The name that a declarator declares.

@@ -4,23 +4,23 @@ ghost use Rattle.std.specs.Prelude.{◌≡◌, IfOk};
 ghost use Rattle.std.specs.Option.{option_copied};
 ghost use Rattle.cc_initialisers.specs.Initialisers.{bound_given as bound_given_of};
 ghost use Rattle.cc_objects.specs.Types.{element_type as element_type_of, with_bound as with_bound_of, contents_in, type_given as type_given_of, given_incomplete, bound_fits as bound_fits_of, is_complete_or_unbounded as is_complete_or_unbounded_of, is_object_in as is_object_in_of, completed_type, type_agrees as type_agrees_of, composite_of as composite_of_declared, composite_by as composite_by_number, composite as composite_of_name};
-ghost use Rattle.cc_operands.specs.Verdicts.{Judges};
+ghost use Rattle.cc_typed_terms.specs.CcOperands.Verdicts.{Judges};
 ghost use Rattle.cc_program.specs.declared.types.Shape.{out-Shape};
-ghost use Rattle.cc_scopes.specs.View.{state_of};
-ghost use Rattle.cc_specifiers.specs.Declarators.{is_unbounded as is_unbounded_of, bound_or_none};
-ghost use Rattle.cc_specifiers.specs.Bounds.{is_bound as is_bound_of};
+ghost use Rattle.cc_typed_terms.specs.CcScopes.View.{state_of};
+ghost use Rattle.cc_typed_terms.specs.CcSpecifiers.Declarators.{is_unbounded as is_unbounded_of, bound_or_none};
+ghost use Rattle.cc_typed_terms.specs.CcSpecifiers.Bounds.{is_bound as is_bound_of};
 ghost use Rattle.cc_syntax.specs.Initial.{bound_shape};
 ghost use Rattle.cc_syntax.specs.SameTypes.{same_type as same_type_of};
 
 use cc_initialisers::bound_given;
 use cc_linkage::is_visible;
-use cc_num::{Boxed, NoMemory, Target, at};
-use cc_operands::{Breach, Rule};
-use cc_scopes::{Declared, State};
-use cc_specifiers::is_object;
+use cc_program::num::{Boxed, NoMemory, Target, at};
 use cc_syntax::{CType, Place, Shape};
 use cc_tree::{At, Given};
-use cc_typed::{same_flag, same_shape};
+use cc_typed_terms::operands::{Breach, Rule};
+use cc_typed_terms::scopes::{Declared, State};
+use cc_typed_terms::specifiers_crate::is_object;
+use cc_typed_terms::typed::{same_flag, same_shape};
 use std::alloc::Global;
 
 /// Whether it is an array without a bound.

@@ -3,15 +3,15 @@
 ghost use Rattle.std.specs.Prelude.{◌≡◌, IfOk, slice_get};
 ghost use Rattle.std.specs.Option.{option_copied};
 ghost use Rattle.cc_objects.specs.Values.{zero_leaf as zero_leaf_of, zero_expr as zero_expr_of, no_leaf as no_leaf_of, no_expr as no_expr_of, object_of as object_of_declared, objects_in, leaf_given as leaf_given_of, expr_given as expr_given_of, assignments as assignments_of};
-ghost use Rattle.cc_operands.specs.Verdicts.{Judges};
-ghost use Rattle.cc_operands.specs.View.{operand_view, type_view};
-ghost use Rattle.cc_scopes.specs.View.{state_of};
+ghost use Rattle.cc_typed_terms.specs.CcOperands.Verdicts.{Judges};
+ghost use Rattle.cc_typed_terms.specs.CcOperands.View.{operand_view, type_view};
+ghost use Rattle.cc_typed_terms.specs.CcScopes.View.{state_of};
 
 use cc_initial::{Statics, leaf_of};
-use cc_num::{Boxed, List, NoMemory, Target, at};
-use cc_operands::{Breach, Operand, OperandType, Rule, assigned, null_of};
-use cc_scopes::{Declared, State, UnitKind};
+use cc_program::num::{Boxed, List, NoMemory, Target, at};
 use cc_syntax::{Address, CType, Expr, Leaf, Place};
+use cc_typed_terms::operands::{Breach, Operand, OperandType, Rule, assigned, null_of};
+use cc_typed_terms::scopes::{Declared, State, UnitKind};
 use std::alloc::Global;
 
 fn zero_leaf(t: &OperandType) -> Leaf
@@ -69,7 +69,7 @@ struct Objects<'s>(&'s State);
 
 impl<'s> Statics for Objects<'s> {
     ghost use Rattle.cc_objects.specs.Values.{objects_in};
-    ghost use Rattle.cc_scopes.specs.View.{state_of};
+    ghost use Rattle.cc_typed_terms.specs.CcScopes.View.{state_of};
 
     ghost types = { λ o i. objects_in (state_of o.0.now) i };
 

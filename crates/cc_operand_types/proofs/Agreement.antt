@@ -1,21 +1,21 @@
 -- Types that agree: what the rules say of them is the same.
 use Rattle.std.proofs.Common.{◌≡◌, ℕ, Bool, true, false, ◌&&◌, List, Option, Some, None, refl, ap, sym, ◌∙◌, subst}
 use Rattle.std.specs.Prelude.{nat_lt, if◌then◌else◌}
-use Rattle.cc_num.specs.declared.int_type.IntType.{IntType}
+use Rattle.cc_program.specs.CcNum.declared.int_type.IntType.{IntType}
 use Rattle.cc_program.specs.declared.types.CType.{CType, fold_out-CType}
 use Rattle.cc_program.specs.declared.types.Shape.{Shape, fold-Shape, fold_out-Shape, map-Shape, out-Shape}
 use Rattle.cc_program.specs.declared.types.Shape.TheOpen as shape
 use Rattle.cc_program.specs.declared.types.Sig.{Sig, fold-Sig}
 use Rattle.cc_program.specs.declared.types.Structure.{Structure}
-use Rattle.cc_syntax.specs.SameTypes.{alike, is_void_shape}
-use Rattle.cc_syntax.specs.Types.{complete_shape, is_complete}
-use Rattle.cc_syntax.specs.Operators.{is_integer, points_to_object, has_difference}
-use Rattle.cc_syntax.specs.Values.{ValueType, NoValue, Integer, ToObject, ToFunction, PlaceType, ObjectPlace, is_scalar, is_void, point_alike, is_assignable, implies, pointed_to, element_of, element_shape, member_of, member_shape, address_of, read_from, written_to, scalar_value}
+use Rattle.cc_operands.specs.CcSyntax.SameTypes.{alike, is_void_shape}
+use Rattle.cc_operands.specs.CcSyntax.Types.{complete_shape, is_complete}
+use Rattle.cc_operands.specs.CcSyntax.Operators.{is_integer, points_to_object, has_difference}
+use Rattle.cc_operands.specs.CcSyntax.Values.{ValueType, NoValue, Integer, ToObject, ToFunction, PlaceType, ObjectPlace, is_scalar, is_void, point_alike, is_assignable, implies, pointed_to, element_of, element_shape, member_of, member_shape, address_of, read_from, written_to, scalar_value}
 use Rattle.cc_operand_types.specs.Typed.{Agree, Same, Pointers, PlacesAgree, SamePlace, Objects}
-use Rattle.cc_syntax.proofs.Prefixes.{both_true as both}
+use Rattle.cc_operands.proofs.CcSyntax.Prefixes.{both_true as both}
 use Rattle.std.proofs.lemmas.Option.{same_Some as some_is}
-use Rattle.cc_syntax.proofs.SameLemmas.{Alike, SameShape, Arrays, and_true}
-use Rattle.cc_syntax.proofs.AlikeLemmas.{shares, tested, alike_mirrored, alike_joined, alike-scalar}
+use Rattle.cc_operands.proofs.CcSyntax.SameLemmas.{Alike, SameShape, Arrays, and_true}
+use Rattle.cc_operands.proofs.CcSyntax.AlikeLemmas.{shares, tested, alike_mirrored, alike_joined, alike-scalar}
 
 -- ---- which types agree with one of a form
 

@@ -1,17 +1,17 @@
 -- Statements that are sound over locals as they are declared are so over those of the function.
 use Rattle.std.proofs.Common.{◌≡◌, ℤ, Bool, true, List, [], ◌∷◌, map, Option, Some, None, option_map, is_some, refl, ap, sym, ◌∙◌, subst}
-use Rattle.cc_num.specs.declared.target.Target.{Target}
-use Rattle.cc_syntax.specs.Views.{View}
-use Rattle.cc_syntax.specs.Expressions.{type_of}
+use Rattle.cc_program.specs.CcNum.declared.target.Target.{Target}
+use Rattle.cc_operands.specs.CcSyntax.Views.{View}
+use Rattle.cc_operands.specs.CcSyntax.Expressions.{type_of}
 use Rattle.cc_program.specs.declared.expr.Expr.{Expr}
 use Rattle.cc_program.specs.declared.stmt.Case.{Case, roll-Case}
 use Rattle.cc_program.specs.declared.stmt.Stmt.{Stmt, roll-Stmt}
 use Rattle.cc_program.specs.declared.stmt.Stmt.TheOpen as is
 use Rattle.cc_program.specs.declared.types.CType.{CType}
 use Rattle.cc_program.proofs.Each.{Each, Held}
-use Rattle.cc_syntax.specs.Statements.{labels_fit, is_condition, is_sound_stmt, is_sound_body}
-use Rattle.cc_syntax.specs.Types.{Named}
-use Rattle.cc_syntax.specs.Values.{ValueType, scalar_value}
+use Rattle.cc_operands.specs.CcSyntax.Statements.{labels_fit, is_condition, is_sound_stmt, is_sound_body}
+use Rattle.cc_operands.specs.CcSyntax.Types.{Named}
+use Rattle.cc_operands.specs.CcSyntax.Values.{ValueType, scalar_value}
 use Rattle.cc_operand_types.specs.Reduced.{Reduced, Unused, Integers, Pointers, Functions, ReducedLocals}
 use Rattle.cc_operand_types.specs.Kept.{Keeps}
 use Rattle.cc_operand_types.proofs.Changes.{changed, GoodLevel, IsChange, stmt_stays, body_stays}

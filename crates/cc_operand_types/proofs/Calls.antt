@@ -9,19 +9,19 @@ use Rattle.cc_program.proofs.Each.{Each}
 use Rattle.cc_operands.specs.Operands.{Operand, operand}
 use Rattle.cc_operands.specs.Verdicts.{judge_then}
 use Rattle.cc_designators.specs.Calls.{result_of, passed_to, passed, called_with, called_by, called}
-use Rattle.cc_syntax.specs.Kinds.{is_plain_scalar, kind_of, is_sig}
-use Rattle.cc_syntax.specs.Types.{Named}
-use Rattle.cc_syntax.specs.Values.{ValueType, NoValue, Integer, ToObject, ToFunction, scalar_value, result_value, is_assignable_some, are_assignable}
-use Rattle.cc_syntax.proofs.Prefixes.{both_true}
+use Rattle.cc_operands.specs.CcSyntax.Kinds.{is_plain_scalar, kind_of, is_sig}
+use Rattle.cc_operands.specs.CcSyntax.Types.{Named}
+use Rattle.cc_operands.specs.CcSyntax.Values.{ValueType, NoValue, Integer, ToObject, ToFunction, scalar_value, result_value, is_assignable_some, are_assignable}
+use Rattle.cc_operands.proofs.CcSyntax.Prefixes.{both_true}
 use Rattle.cc_operand_types.specs.Typed.{stands, IsTypedOperand, Void}
 use Rattle.cc_operand_types.proofs.Agreement.{function_agrees}
 use Rattle.cc_operand_types.proofs.Operands.{ok_is, value_ok, value_as, exact, as_operand}
 use Rattle.cc_operand_types.proofs.Rolls.{type-Call}
-use Rattle.cc_syntax.proofs.SameLemmas.{and_true}
+use Rattle.cc_operands.proofs.CcSyntax.SameLemmas.{and_true}
 use Rattle.cc_operand_types.proofs.Standing.{scalar_stands, result_stands, params_stand, plain_pointed}
 use Rattle.cc_operand_types.proofs.Stores.{then_ok, assigned_typed}
-use Rattle.cc_syntax.specs.Views.{View, kind_in}
-use Rattle.cc_syntax.specs.Expressions.{type_of}
+use Rattle.cc_operands.specs.CcSyntax.Views.{View, kind_in}
+use Rattle.cc_operands.specs.CcSyntax.Expressions.{type_of}
 
 module _ (p : View) (locals : List Named) where
   abbrev Typed : Operand → Type 0

@@ -1,8 +1,8 @@
 -- Casts and sizes are typed.
 use Rattle.std.proofs.Common.{◌≡◌, ℕ, Bool, true, false, ◌&&◌, List, Option, Some, Ok, refl, ap, sym, ◌∙◌, subst}
 use Rattle.std.specs.Prelude.{pos, if◌then◌else◌}
-use Rattle.cc_num.specs.declared.int_type.IntType.{IntType}
-use Rattle.cc_num.specs.Integers.{is_value_of}
+use Rattle.cc_program.specs.CcNum.declared.int_type.IntType.{IntType}
+use Rattle.cc_program.specs.CcNum.Integers.{is_value_of}
 use Rattle.cc_program.specs.declared.expr.Expr.{Qualify}
 use Rattle.cc_program.specs.declared.types.CType.{CType}
 use Rattle.cc_program.specs.declared.types.Shape.{Shape, out-Shape}
@@ -14,18 +14,18 @@ use Rattle.cc_operands.specs.Verdicts.{must}
 use Rattle.cc_operands.specs.declared.rule.Rule.TheVariants as rule
 use Rattle.cc_designators.specs.Casts.{void_pointer_cast, constant_cast, pointer_cast, integer_cast, cast_by, cast_of, size_value}
 use Rattle.cc_designators.specs.Designators.{TypedExpr, IsValue, null}
-use Rattle.cc_syntax.specs.Folding.{Constant, NoConstant, Value, Traps}
-use Rattle.cc_syntax.specs.Operators.{when, is_unqualified, void_pointer_in, first_of, when_assignable}
-use Rattle.cc_syntax.specs.Types.{Named}
-use Rattle.cc_syntax.specs.Values.{ValueType, NoValue, Integer, ToObject, ToFunction, pointer_to, is_void, is_assignable}
+use Rattle.cc_operands.specs.CcSyntax.Folding.{Constant, NoConstant, Value, Traps}
+use Rattle.cc_operands.specs.CcSyntax.Operators.{when, is_unqualified, void_pointer_in, first_of, when_assignable}
+use Rattle.cc_operands.specs.CcSyntax.Types.{Named}
+use Rattle.cc_operands.specs.CcSyntax.Values.{ValueType, NoValue, Integer, ToObject, ToFunction, pointer_to, is_void, is_assignable}
 use Rattle.cc_operand_types.specs.Typed.{stands, IsNullType, IsTypedOperand, Void, IsTypedExpr}
 use Rattle.cc_operand_types.proofs.Agreement.{assigned_from}
 use Rattle.cc_operand_types.proofs.Nulls.{points_something, null_operand}
 use Rattle.cc_operand_types.proofs.Operands.{ok_is, must_ok, value_ok, structure_ok, value_of, any_type, integer_as, exact, as_operand, as_constant, cast_typed}
 use Rattle.cc_operand_types.proofs.Rolls.{type-Qualify}
 use Rattle.cc_operand_types.proofs.Stores.{assignable_there}
-use Rattle.cc_syntax.specs.Views.{View}
-use Rattle.cc_syntax.specs.Expressions.{pointer_type, null_type}
+use Rattle.cc_operands.specs.CcSyntax.Views.{View}
+use Rattle.cc_operands.specs.CcSyntax.Expressions.{pointer_type, null_type}
 
 first_pointer : (q w u : Bool) (t : ValueType) (rest : Option ValueType) (r : ValueType) → w ≡ false → first_of (when (q && (w && u)) t) rest ≡ Some r → rest ≡ Some r
 first_pointer true true u t rest r e h = absurd (cc)

@@ -1,7 +1,7 @@
 -- Statements stay sound where their expressions are changed so that their types keep what statements ask of them.
 use Rattle.std.proofs.Common.{◌≡◌, ℤ, Bool, true, false, ◌&&◌, List, [], ◌∷◌, map, Option, Some, None, option_map, refl, ap, sym, ◌∙◌}
 use Rattle.std.specs.List.{list_all, flat_map}
-use Rattle.cc_num.specs.declared.target.Target.{Target}
+use Rattle.cc_program.specs.CcNum.declared.target.Target.{Target}
 use Rattle.cc_program.specs.declared.expr.Expr.{Expr}
 use Rattle.cc_program.specs.declared.stmt.Case.{Case, roll-Case, fold-Case, fold-roll-Case}
 use Rattle.cc_program.specs.declared.stmt.Stmt.{Stmt, roll-Stmt, map-Stmt, fold-roll-Stmt}
@@ -9,9 +9,9 @@ use Rattle.cc_program.specs.declared.stmt.Stmt.TheOpen as is
 use Rattle.cc_program.specs.declared.types.CType.{CType}
 use Rattle.cc_program.proofs.Each.{Each, Held}
 use Rattle.cc_program.proofs.StmtInduction.{StmtParts, CaseParts, by_stmt}
-use Rattle.cc_syntax.specs.Statements.{SoundWhere, Labelled, sound_case, labels_fit, are_apart, has_label, is_condition, is_sound_stmt, is_sound_body, sound_step, is_typed, is_optional_condition, returns}
-use Rattle.cc_syntax.specs.Values.{ValueType, is_void}
-use Rattle.cc_syntax.proofs.Prefixes.{both_true}
+use Rattle.cc_operands.specs.CcSyntax.Statements.{SoundWhere, Labelled, sound_case, labels_fit, are_apart, has_label, is_condition, is_sound_stmt, is_sound_body, sound_step, is_typed, is_optional_condition, returns}
+use Rattle.cc_operands.specs.CcSyntax.Values.{ValueType, is_void}
+use Rattle.cc_operands.proofs.CcSyntax.Prefixes.{both_true}
 use Rattle.cc_operand_types.specs.Kept.{Keeps}
 use Rattle.cc_operand_types.proofs.Rules.{both}
 

@@ -1,23 +1,23 @@
 -- `c ? a : b` and `a, b` are typed.
 use Rattle.std.proofs.Common.{◌≡◌, Bool, true, false, not, ◌&&◌, ◌||◌, List, Some, Ok, Err, refl, ap, sym, ◌∙◌, subst}
 use Rattle.std.specs.Prelude.{if◌then◌else◌}
-use Rattle.cc_num.specs.declared.int_type.IntType.{IntType}
-use Rattle.cc_num.specs.declared.target.Target.{Target}
-use Rattle.cc_num.specs.Promotions.{usual_of}
+use Rattle.cc_program.specs.CcNum.declared.int_type.IntType.{IntType}
+use Rattle.cc_program.specs.CcNum.declared.target.Target.{Target}
+use Rattle.cc_program.specs.CcNum.Promotions.{usual_of}
 use Rattle.cc_program.specs.declared.expr.Expr.{Expr, Choose, Seq}
 use Rattle.cc_program.specs.declared.types.CType.{CType}
 use Rattle.cc_program.specs.declared.types.Sig.{Sig}
 use Rattle.cc_operands.specs.Choices.{chosen_integer, chosen_pointer, arm_chosen, nothing_by, nothing_chosen, pointers_chosen, chosen_by, arms_chosen, choose_of, comma_of}
 use Rattle.cc_operands.specs.Operands.{Operand, operand, as_nothing, constancy, converted_to, is_pointer, is_nothing, is_to_void, is_null_constant, null_of, no_structure}
 use Rattle.cc_operands.specs.declared.rule.Rule.TheVariants as rule
-use Rattle.cc_syntax.specs.Folding.{Constant, NoConstant, Value, Traps, is_true, chosen_constant}
-use Rattle.cc_syntax.specs.Operators.{is_promoted, common_type}
-use Rattle.cc_syntax.specs.SameTypes.{alike, same_sig, same_int}
-use Rattle.cc_syntax.specs.Types.{Named}
-use Rattle.cc_syntax.specs.Values.{ValueType, NoValue, Integer, ToObject, ToFunction, is_scalar, is_void, point_alike}
-use Rattle.cc_syntax.proofs.Prefixes.{both_true}
+use Rattle.cc_operands.specs.CcSyntax.Folding.{Constant, NoConstant, Value, Traps, is_true, chosen_constant}
+use Rattle.cc_operands.specs.CcSyntax.Operators.{is_promoted, common_type}
+use Rattle.cc_operands.specs.CcSyntax.SameTypes.{alike, same_sig, same_int}
+use Rattle.cc_operands.specs.CcSyntax.Types.{Named}
+use Rattle.cc_operands.specs.CcSyntax.Values.{ValueType, NoValue, Integer, ToObject, ToFunction, is_scalar, is_void, point_alike}
+use Rattle.cc_operands.proofs.CcSyntax.Prefixes.{both_true}
 use Rattle.cc_operand_types.specs.Typed.{Agree, Same, Pointers, is_pointed_kind, stands, HasType, IsTypedOperand, Valued, Void, Structure}
-use Rattle.cc_syntax.proofs.AlikeLemmas.{alike_itself, alike_mirrored, alike_joined}
+use Rattle.cc_operands.proofs.CcSyntax.AlikeLemmas.{alike_itself, alike_mirrored, alike_joined}
 use Rattle.cc_operand_types.proofs.Agreement.{scalar_agrees, void_alike}
 use Rattle.cc_operand_types.proofs.Constants.{chosen_fits}
 use Rattle.cc_operand_types.proofs.Integers.{when_one, usual_is}
@@ -26,9 +26,9 @@ use Rattle.cc_operand_types.proofs.Operands.{ok_is, must_ok, value_ok, structure
 use Rattle.cc_operand_types.proofs.Pointers.{scalar_there, pointer_there, alike_there}
 use Rattle.cc_operand_types.proofs.Requalified.{not_void, any_pointed}
 use Rattle.cc_operand_types.proofs.Rolls.{type-Choose, type-Seq}
-use Rattle.cc_syntax.proofs.SameLemmas.{int_itself, sig_compared}
-use Rattle.cc_syntax.specs.Views.{View, kind_in}
-use Rattle.cc_syntax.specs.Expressions.{type_of}
+use Rattle.cc_operands.proofs.CcSyntax.SameLemmas.{int_itself, sig_compared}
+use Rattle.cc_operands.specs.CcSyntax.Views.{View, kind_in}
+use Rattle.cc_operands.specs.CcSyntax.Expressions.{type_of}
 
 -- ---- the common type of types that agree
 

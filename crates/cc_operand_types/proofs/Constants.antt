@@ -3,20 +3,20 @@ use Rattle.std.proofs.Common.{◌≡◌, ℤ, pos, Bool, true, false, not, ◌&&
 use Rattle.std.proofs.lemmas.Option.{same_Some}
 use Rattle.std.specs.Prelude.{IfSome, int_lt, int_le, if◌then◌else◌}
 use Rattle.std.specs.Ordering.{int_eq}
-use Rattle.cc_num.specs.declared.int_type.IntType.{IntType}
-use Rattle.cc_num.specs.declared.int_type.IntType.TheVariants as int
-use Rattle.cc_num.specs.declared.op.BinOp.{BinOp}
-use Rattle.cc_num.specs.declared.op.BinOp.TheVariants as op
-use Rattle.cc_num.specs.declared.op.UnOp.{UnOp}
-use Rattle.cc_num.specs.declared.op.UnOp.TheVariants as one_op
-use Rattle.cc_num.specs.declared.target.Target.{Target}
-use Rattle.cc_num.specs.Integers.{IsValueOf, is_value_of, converted}
-use Rattle.cc_num.specs.Results.{result_of, unary_result_of, is_shift, one_if}
-use Rattle.cc_num.proofs.Conversions.{converted-IsValueOf}
-use Rattle.cc_num.proofs.ResultLaws.{is_value_from, value_from_test, truth_value, result_lands, unary_result_lands}
-use Rattle.cc_syntax.specs.Folding.{Constant, NoConstant, Value, Traps, result_constant, unary_constant, binary_constant, converted_constant, is_true, truth_constant, settled, both_constant, either_constant, chosen_constant}
-use Rattle.cc_syntax.specs.Operators.{is_promoted, is_comparison, binary_result, unary_result}
-use Rattle.cc_syntax.proofs.Prefixes.{both_true}
+use Rattle.cc_program.specs.CcNum.declared.int_type.IntType.{IntType}
+use Rattle.cc_program.specs.CcNum.declared.int_type.IntType.TheVariants as int
+use Rattle.cc_program.specs.CcNum.declared.op.BinOp.{BinOp}
+use Rattle.cc_program.specs.CcNum.declared.op.BinOp.TheVariants as op
+use Rattle.cc_program.specs.CcNum.declared.op.UnOp.{UnOp}
+use Rattle.cc_program.specs.CcNum.declared.op.UnOp.TheVariants as one_op
+use Rattle.cc_program.specs.CcNum.declared.target.Target.{Target}
+use Rattle.cc_program.specs.CcNum.Integers.{IsValueOf, is_value_of, converted}
+use Rattle.cc_program.specs.CcNum.Results.{result_of, unary_result_of, is_shift, one_if}
+use Rattle.cc_program.proofs.CcNum.Conversions.{converted-IsValueOf}
+use Rattle.cc_program.proofs.CcNum.ResultLaws.{is_value_from, value_from_test, truth_value, result_lands, unary_result_lands}
+use Rattle.cc_operands.specs.CcSyntax.Folding.{Constant, NoConstant, Value, Traps, result_constant, unary_constant, binary_constant, converted_constant, is_true, truth_constant, settled, both_constant, either_constant, chosen_constant}
+use Rattle.cc_operands.specs.CcSyntax.Operators.{is_promoted, is_comparison, binary_result, unary_result}
+use Rattle.cc_operands.proofs.CcSyntax.Prefixes.{both_true}
 
 -- a constant, where it has a value, has one of the type
 abbrev pub Fits : IntType → Target → Constant → Type 0

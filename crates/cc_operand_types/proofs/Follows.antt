@@ -1,8 +1,8 @@
 -- What follows from what is there: for each value of an option a value of another, and the two are related.
 use Rattle.std.proofs.Common.{◌≡◌, Bool, true, false, Option, Some, None, refl, ap, sym, ◌∙◌, subst}
 use Rattle.std.proofs.lemmas.Option.{same_Some}
-use Rattle.cc_syntax.specs.Expressions.{of_one, of_two}
-use Rattle.cc_syntax.specs.Operators.{when}
+use Rattle.cc_operands.specs.CcSyntax.Expressions.{of_one, of_two}
+use Rattle.cc_operands.specs.CcSyntax.Operators.{when}
 
 -- a value that is there, and is related to this one
 abbrev pub Gives : {A : Type 0} → (A → A → Type 0) → Option A → A → Type 0

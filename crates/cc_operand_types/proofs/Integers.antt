@@ -1,29 +1,29 @@
 -- Operators on integers are typed.
 use Rattle.std.proofs.Common.{◌≡◌, Bool, true, false, ◌&&◌, List, Some, Ok, refl, ap, ◌∙◌, subst}
 use Rattle.std.specs.Prelude.{if◌then◌else◌}
-use Rattle.cc_num.specs.declared.int_type.IntType.{IntType}
-use Rattle.cc_num.specs.declared.op.BinOp.{BinOp}
-use Rattle.cc_num.specs.declared.op.UnOp.{UnOp}
-use Rattle.cc_num.specs.declared.target.Target.{Target}
-use Rattle.cc_num.specs.Promotions.{promoted, usual_of}
-use Rattle.cc_num.specs.Results.{is_shift}
-use Rattle.cc_num.proofs.PromotionLaws.{promoted-promoted, promoted-usual_of}
+use Rattle.cc_program.specs.CcNum.declared.int_type.IntType.{IntType}
+use Rattle.cc_program.specs.CcNum.declared.op.BinOp.{BinOp}
+use Rattle.cc_program.specs.CcNum.declared.op.UnOp.{UnOp}
+use Rattle.cc_program.specs.CcNum.declared.target.Target.{Target}
+use Rattle.cc_program.specs.CcNum.Promotions.{promoted, usual_of}
+use Rattle.cc_program.specs.CcNum.Results.{is_shift}
+use Rattle.cc_program.proofs.CcNum.PromotionLaws.{promoted-promoted, promoted-usual_of}
 use Rattle.cc_program.specs.declared.expr.Expr.{Un, Bin}
 use Rattle.cc_operands.specs.Arithmetic.{working_type, second_type, worked, arithmetic, integers_by}
 use Rattle.cc_operands.specs.Operands.{Operand, constancy, converted_to}
 use Rattle.cc_operands.specs.Unary.{negated, integer_by, plus_by}
 use Rattle.cc_operands.specs.declared.rule.Rule.{Rule}
-use Rattle.cc_syntax.specs.Folding.{binary_constant, unary_constant}
-use Rattle.cc_syntax.specs.Operators.{when, is_promoted, second_fits, binary_result, unary_result}
-use Rattle.cc_syntax.specs.SameTypes.{same_int}
-use Rattle.cc_syntax.specs.Types.{Named}
-use Rattle.cc_syntax.specs.Values.{ValueType, NoValue, Integer, ToObject, ToFunction}
+use Rattle.cc_operands.specs.CcSyntax.Folding.{binary_constant, unary_constant}
+use Rattle.cc_operands.specs.CcSyntax.Operators.{when, is_promoted, second_fits, binary_result, unary_result}
+use Rattle.cc_operands.specs.CcSyntax.SameTypes.{same_int}
+use Rattle.cc_operands.specs.CcSyntax.Types.{Named}
+use Rattle.cc_operands.specs.CcSyntax.Values.{ValueType, NoValue, Integer, ToObject, ToFunction}
 use Rattle.cc_operand_types.specs.Typed.{IsTypedOperand}
 use Rattle.cc_operand_types.proofs.Constants.{binary_fits, unary_fits}
 use Rattle.cc_operand_types.proofs.Operands.{ok_is, IsInteger, as_folded, converted_typed, value_integer}
 use Rattle.cc_operand_types.proofs.Rolls.{type-Un, type-Bin}
-use Rattle.cc_syntax.proofs.SameLemmas.{int_itself}
-use Rattle.cc_syntax.specs.Views.{View}
+use Rattle.cc_operands.proofs.CcSyntax.SameLemmas.{int_itself}
+use Rattle.cc_operands.specs.CcSyntax.Views.{View}
 
 pub when_one : {A : Type 0} (a : Bool) (x : A) → a ≡ true → when a x ≡ Some x
 when_one a x h = rw h refl

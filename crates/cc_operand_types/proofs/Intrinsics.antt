@@ -2,7 +2,7 @@
 use Rattle.std.proofs.Common.{◌≡◌, Bool, true, false, ◌&&◌, List, [], ◌∷◌, map, Option, Some, None, Ok, refl, ap, sym, ◌∙◌}
 use Rattle.std.specs.Prelude.{length, if◌then◌else◌}
 use Rattle.std.specs.List.{list_all}
-use Rattle.cc_num.specs.declared.int_type.IntType.TheVariants as int
+use Rattle.cc_program.specs.CcNum.declared.int_type.IntType.TheVariants as int
 use Rattle.cc_program.specs.declared.expr.Expr.{Expr, Intr}
 use Rattle.cc_program.specs.declared.expr.Expr.TheOpen as one
 use Rattle.cc_program.specs.declared.expr.Expr.TheVariants.{rolls-Intr}
@@ -16,22 +16,22 @@ use Rattle.cc_program.specs.declared.types.Sig.{Sig, out-Sig, out-roll-Sig}
 use Rattle.cc_operands.specs.Operands.{Operand}
 use Rattle.cc_operands.specs.Qualified.{plain}
 use Rattle.cc_designators.specs.Calls.{signature, byte_type, first_or_none, called_with, intrinsic}
-use Rattle.cc_syntax.specs.Kinds.{is_result, is_plain_scalar, kind_of, is_sig}
-use Rattle.cc_syntax.specs.Operators.{when, is_of, intrinsic_type}
-use Rattle.cc_syntax.specs.SameTypes.{is_void_shape}
-use Rattle.cc_syntax.specs.Types.{Named}
-use Rattle.cc_syntax.specs.Values.{ValueType, NoValue, Integer, scalar_shape, scalar_value, result_value, is_assignable_some, are_assignable}
-use Rattle.cc_syntax.proofs.Prefixes.{both_true}
+use Rattle.cc_operands.specs.CcSyntax.Kinds.{is_result, is_plain_scalar, kind_of, is_sig}
+use Rattle.cc_operands.specs.CcSyntax.Operators.{when, is_of, intrinsic_type}
+use Rattle.cc_operands.specs.CcSyntax.SameTypes.{is_void_shape}
+use Rattle.cc_operands.specs.CcSyntax.Types.{Named}
+use Rattle.cc_operands.specs.CcSyntax.Values.{ValueType, NoValue, Integer, scalar_shape, scalar_value, result_value, is_assignable_some, are_assignable}
+use Rattle.cc_operands.proofs.CcSyntax.Prefixes.{both_true}
 use Rattle.cc_program.proofs.Each.{Each}
 use Rattle.cc_operand_types.specs.Typed.{IsTypedOperand}
-use Rattle.cc_syntax.proofs.AlikeLemmas.{integer_as}
+use Rattle.cc_operands.proofs.CcSyntax.AlikeLemmas.{integer_as}
 use Rattle.cc_operand_types.proofs.Calls.{with_typed}
 use Rattle.cc_operand_types.proofs.Requalified.{kind_at}
 use Rattle.cc_operand_types.proofs.Rolls.{expr-roll}
-use Rattle.cc_syntax.proofs.SameLemmas.{int_itself, and_true}
+use Rattle.cc_operands.proofs.CcSyntax.SameLemmas.{int_itself, and_true}
 use Rattle.cc_operand_types.proofs.Standing.{sig-opens}
-use Rattle.cc_syntax.specs.Views.{View, kind_in}
-use Rattle.cc_syntax.specs.Expressions.{type_of}
+use Rattle.cc_operands.specs.CcSyntax.Views.{View, kind_in}
+use Rattle.cc_operands.specs.CcSyntax.Expressions.{type_of}
 
 void_result : result_value (plain Void) ≡ Some NoValue
 void_result = ap (λ (x : shape.Shape-F Shape CType Sig). if is_void_shape x then Some NoValue else scalar_shape x) outs-Void

@@ -2,16 +2,16 @@
 use Rattle.std.proofs.Common.{◌≡◌, ℕ, Bool, true, false, ◌&&◌, ◌||◌, List, [], ◌∷◌, map, Option, Some, None, refl, ap, sym, ◌∙◌, subst}
 use Rattle.std.specs.List.{list_all}
 use Rattle.std.proofs.lemmas.Option.{same_Some}
-use Rattle.cc_num.specs.declared.target.Target.{Target}
+use Rattle.cc_program.specs.CcNum.declared.target.Target.{Target}
 use Rattle.cc_program.proofs.Each.{Each}
 use Rattle.cc_program.proofs.TypeInduction.{with_shape, TypeParts, SigParts, by_type}
 use Rattle.cc_program.specs.declared.types.CType.{CType}
 use Rattle.cc_program.specs.declared.types.Shape.{Shape, roll-Shape, out-roll-Shape}
 use Rattle.cc_program.specs.declared.types.Shape.TheOpen as shape
 use Rattle.cc_program.specs.declared.types.Sig.{Sig, roll-Sig, fold-roll-Sig}
-use Rattle.cc_syntax.specs.Kinds.{Kind, IsStructure, IsIncomplete, IsFunction, bytes_in, array_kind, pointer_kind, is_result, is_plain_scalar, extent_kind, qualified_kind, type_kind, is_signature, shape_kind, kind_of, is_sig}
-use Rattle.cc_syntax.proofs.Prefixes.{both_true}
-use Rattle.cc_syntax.proofs.KindRolls.{parts_kind, kind-opens}
+use Rattle.cc_operands.specs.CcSyntax.Kinds.{Kind, IsStructure, IsIncomplete, IsFunction, bytes_in, array_kind, pointer_kind, is_result, is_plain_scalar, extent_kind, qualified_kind, type_kind, is_signature, shape_kind, kind_of, is_sig}
+use Rattle.cc_operands.proofs.CcSyntax.Prefixes.{both_true}
+use Rattle.cc_operands.proofs.CcSyntax.KindRolls.{parts_kind, kind-opens}
 use Rattle.cc_operand_types.specs.Later.{Grow, Later, Same, Completed}
 
 module _ (target : Target) (before after : ℕ → Option (Option ℕ)) (grow : Grow before after) where

@@ -6,12 +6,12 @@ use Rattle.cc_program.specs.declared.expr.Expr.TheOpen as one
 use Rattle.cc_program.specs.declared.expr.Expr.TheVariants.{rolls-FuncAddr}
 use Rattle.cc_program.specs.declared.expr.Place.{Local, Static, Device as DeviceAt}
 use Rattle.cc_program.specs.declared.expr.Place.TheVariants.{rolls-Local, rolls-Static, rolls-Device}
-use Rattle.cc_syntax.specs.Types.{Named}
-use Rattle.cc_syntax.specs.Values.{ValueType, PlaceType, object_place}
+use Rattle.cc_operands.specs.CcSyntax.Types.{Named}
+use Rattle.cc_operands.specs.CcSyntax.Values.{ValueType, PlaceType, object_place}
 use Rattle.cc_operand_types.specs.Typed.{SamePlace, is_pointed_kind, stands, place_stands, HasType, IsTypedPlace}
 use Rattle.cc_operand_types.proofs.Operands.{exact}
 use Rattle.cc_operand_types.proofs.Rolls.{expr-roll, place-roll}
-use Rattle.cc_syntax.specs.Views.{View, kind_in}
+use Rattle.cc_operands.specs.CcSyntax.Views.{View, kind_in}
 
 module _ (p : View) (locals : List Named) where
   pub local_typed : (r : ℕ) (l : Named) → slice_get locals r ≡ Some l → is_pointed_kind false (kind_in p l.1) ≡ true → IsTypedPlace p locals (Local r) (object_place l.1)

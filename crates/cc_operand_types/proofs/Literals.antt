@@ -2,13 +2,13 @@
 use Rattle.std.proofs.Common.{arith, ◌≡◌, ℕ, ◌*◌, ◌<◌, ◌^◌, ◌⊎◌, inl, inr, Bool, true, false, List, [], ◌∷◌, refl}
 use Rattle.std.specs.Prelude.{pos, ◌≤ℤ◌, ℤ, if◌then◌else◌}
 use Rattle.std.proofs.lemmas.Int.{ints}
-use Rattle.cc_lex.specs.declared.token.Suffix.{Suffix}
-use Rattle.cc_num.specs.declared.int_type.IntType.{IntType}
-use Rattle.cc_num.specs.declared.int_type.IntType.TheVariants as int
-use Rattle.cc_num.specs.declared.target.Target.{Target}
-use Rattle.cc_num.specs.Integers.{is_value_of, least_of_bits, most_of_bits}
-use Rattle.cc_num.proofs.Conversions.{converted-IsValueOf, int_bytes_is}
-use Rattle.cc_num.proofs.ResultLaws.{is_value_from}
+use Rattle.cc_operands.specs.CcLex.declared.token.Suffix.{Suffix}
+use Rattle.cc_program.specs.CcNum.declared.int_type.IntType.{IntType}
+use Rattle.cc_program.specs.CcNum.declared.int_type.IntType.TheVariants as int
+use Rattle.cc_program.specs.CcNum.declared.target.Target.{Target}
+use Rattle.cc_program.specs.CcNum.Integers.{is_value_of, least_of_bits, most_of_bits}
+use Rattle.cc_program.proofs.CcNum.Conversions.{converted-IsValueOf, int_bytes_is}
+use Rattle.cc_program.proofs.CcNum.ResultLaws.{is_value_from}
 use Rattle.cc_operands.specs.Operands.{first_with, types_by, number_type, character_value}
 
 module _ (target : Target) (n : ℕ) where

@@ -2,23 +2,23 @@
 use Rattle.std.proofs.Common.{◌≡◌, ℕ, zero, suc, Bool, true, false, ◌&&◌, nat_lt, List, [], ◌∷◌, ◌++◌, length, take, Option, Some, None, unwrap_or, slice_get, refl, ap, sym, ◌∙◌, subst, append_assoc, append-nil}
 use Rattle.std.specs.Prelude.{if◌then◌else◌}
 use Rattle.std.specs.List.{list_all}
-use Rattle.cc_num.specs.declared.target.Target.{Target}
+use Rattle.cc_program.specs.CcNum.declared.target.Target.{Target}
 use Rattle.cc_operands.specs.Qualified.{plain}
 use Rattle.cc_operand_types.specs.Typed.{is_pointed_kind, MembersStand}
-use Rattle.cc_syntax.specs.Views.{of_program}
+use Rattle.cc_operands.specs.CcSyntax.Views.{of_program}
 use Rattle.cc_program.specs.declared.program.Program.{Program}
 use Rattle.cc_program.specs.declared.types.CType.{CType}
 use Rattle.cc_program.specs.declared.types.Shape.{Struct}
 use Rattle.cc_program.specs.declared.types.Shape.TheVariants.{outs-Struct}
 use Rattle.cc_program.specs.declared.types.Structure.{Structure}
-use Rattle.cc_syntax.specs.Kinds.{Kind, IsVoid, IsScalar, IsStructure, IsArray, IsIncomplete, IsFunction, is_object_type, kind_of, extent_with, extent_in}
-use Rattle.cc_syntax.specs.Layout.{nothing, shape_layout, layouts, layout_of}
-use Rattle.cc_syntax.specs.Names.{are_names, local_names}
-use Rattle.cc_syntax.specs.Sound.{is_member, is_structure, have_ids, are_structures}
-use Rattle.cc_syntax.specs.Types.{has_members, complete_shape}
-use Rattle.cc_syntax.specs.declared.sizes.Layout.{Layout}
-use Rattle.cc_syntax.proofs.Prefixes.{both_true, get_taken, layout-taken}
-use Rattle.cc_syntax.proofs.TypeLayouts.{parts_layout, layout-opens, parts_complete, complete-opens}
+use Rattle.cc_operands.specs.CcSyntax.Kinds.{Kind, IsVoid, IsScalar, IsStructure, IsArray, IsIncomplete, IsFunction, is_object_type, kind_of, extent_with, extent_in}
+use Rattle.cc_operands.specs.CcSyntax.Layout.{nothing, shape_layout, layouts, layout_of}
+use Rattle.cc_operands.specs.CcSyntax.Names.{are_names, local_names}
+use Rattle.cc_operands.specs.CcSyntax.Sound.{is_member, is_structure, have_ids, are_structures}
+use Rattle.cc_operands.specs.CcSyntax.Types.{has_members, complete_shape}
+use Rattle.cc_operands.specs.CcSyntax.declared.sizes.Layout.{Layout}
+use Rattle.cc_operands.proofs.CcSyntax.Prefixes.{both_true, get_taken, layout-taken}
+use Rattle.cc_operands.proofs.CcSyntax.TypeLayouts.{parts_layout, layout-opens, parts_complete, complete-opens}
 use Rattle.cc_operand_types.specs.Later.{Grow, Later, Same, Completed}
 use Rattle.cc_operand_types.proofs.LaterKinds.{kind_stays}
 

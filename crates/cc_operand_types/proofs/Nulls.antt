@@ -11,18 +11,18 @@ use Rattle.cc_program.proofs.QualifierLemmas.{const-opens, volatile-opens, parts
 use Rattle.cc_operands.specs.Operands.{is_pointer, is_nothing, null_of}
 use Rattle.cc_operands.specs.Qualified.{plain, qualified_as}
 use Rattle.cc_designators.specs.Designators.{pointed_in, null}
-use Rattle.cc_syntax.specs.Kinds.{Kind, is_plain_scalar, shape_kind, qualified_kind, is_sig}
-use Rattle.cc_syntax.specs.Operators.{when, is_unqualified, pointer_in, void_pointer_in, first_of}
-use Rattle.cc_syntax.specs.SameTypes.{is_void_shape}
-use Rattle.cc_syntax.specs.Types.{Named}
-use Rattle.cc_syntax.specs.Values.{ValueType, NoValue, Integer, ToObject, ToFunction, pointer_shape, pointer_to, is_void}
+use Rattle.cc_operands.specs.CcSyntax.Kinds.{Kind, is_plain_scalar, shape_kind, qualified_kind, is_sig}
+use Rattle.cc_operands.specs.CcSyntax.Operators.{when, is_unqualified, pointer_in, void_pointer_in, first_of}
+use Rattle.cc_operands.specs.CcSyntax.SameTypes.{is_void_shape}
+use Rattle.cc_operands.specs.CcSyntax.Types.{Named}
+use Rattle.cc_operands.specs.CcSyntax.Values.{ValueType, NoValue, Integer, ToObject, ToFunction, pointer_shape, pointer_to, is_void}
 use Rattle.cc_operand_types.specs.Typed.{Pointers, is_pointed_kind, stands, IsNullType, HasType, IsTypedOperand}
-use Rattle.cc_syntax.proofs.AlikeLemmas.{tested, alike_mirrored}
+use Rattle.cc_operands.proofs.CcSyntax.AlikeLemmas.{tested, alike_mirrored}
 use Rattle.cc_operand_types.proofs.Operands.{exact, as_operand}
 use Rattle.cc_operand_types.proofs.Requalified.{kind_at, Requalified, requalifies, there, widened, not_void, pointer_plain, function_plain}
 use Rattle.cc_operand_types.proofs.Rolls.{type-Null}
-use Rattle.cc_syntax.specs.Views.{View, kind_in}
-use Rattle.cc_syntax.specs.Expressions.{null_type}
+use Rattle.cc_operands.specs.CcSyntax.Views.{View, kind_in}
+use Rattle.cc_operands.specs.CcSyntax.Expressions.{null_type}
 
 abbrev pub is_func : shape.Shape-F Shape CType Sig → Bool
 is_func (shape.Func s) = true

@@ -1,26 +1,26 @@
 -- Typed operands: what follows of one, and how one is made.
 use Rattle.std.proofs.Common.{◌≡◌, ℤ, Bool, true, false, List, Option, Some, Ok, Err, refl, ap, sym, ◌∙◌, subst}
 use Rattle.std.specs.Prelude.{if◌then◌else◌}
-use Rattle.cc_num.specs.declared.int_type.IntType.{IntType}
-use Rattle.cc_num.specs.Integers.{is_value_of}
+use Rattle.cc_program.specs.CcNum.declared.int_type.IntType.{IntType}
+use Rattle.cc_program.specs.CcNum.Integers.{is_value_of}
 use Rattle.cc_program.specs.declared.expr.Expr.{Expr, Const, Conv, out-Expr, roll-out-Expr, map-Expr}
 use Rattle.cc_program.specs.declared.expr.Expr.TheOpen as one
 use Rattle.cc_program.specs.declared.expr.Place.{Place}
 use Rattle.cc_operands.specs.Operands.{Operand, operand, integer, constant_at, constancy, folded, cast_to, converted_by, converted_to, is_nothing, is_void_value, with_value, no_structure}
 use Rattle.cc_operands.specs.Verdicts.{Judged, must}
 use Rattle.cc_operands.specs.declared.rule.Rule.{Rule}
-use Rattle.cc_syntax.specs.Folding.{Constant, NoConstant, Value, Traps, converted_constant}
-use Rattle.cc_syntax.specs.Operators.{when}
-use Rattle.cc_syntax.specs.SameTypes.{same_int}
-use Rattle.cc_syntax.specs.Types.{Named}
-use Rattle.cc_syntax.specs.Values.{ValueType, Integer, PlaceType}
+use Rattle.cc_operands.specs.CcSyntax.Folding.{Constant, NoConstant, Value, Traps, converted_constant}
+use Rattle.cc_operands.specs.CcSyntax.Operators.{when}
+use Rattle.cc_operands.specs.CcSyntax.SameTypes.{same_int}
+use Rattle.cc_operands.specs.CcSyntax.Types.{Named}
+use Rattle.cc_operands.specs.CcSyntax.Values.{ValueType, Integer, PlaceType}
 use Rattle.cc_operand_types.specs.Typed.{Same, stands, HasType, IsTypedOperand, Valued, Void, Structure}
 use Rattle.cc_operand_types.proofs.Agreement.{integer_agrees}
 use Rattle.cc_operand_types.proofs.Constants.{Fits, converted_fits}
 use Rattle.cc_operand_types.proofs.Rolls.{expr-roll, type-Const, type-Conv}
-use Rattle.cc_syntax.proofs.SameLemmas.{int_same}
-use Rattle.cc_syntax.specs.Views.{View}
-use Rattle.cc_syntax.specs.Expressions.{expr_step, type_of, place_type}
+use Rattle.cc_operands.proofs.CcSyntax.SameLemmas.{int_same}
+use Rattle.cc_operands.specs.CcSyntax.Views.{View}
+use Rattle.cc_operands.specs.CcSyntax.Expressions.{expr_step, type_of, place_type}
 
 -- ---- verdicts
 

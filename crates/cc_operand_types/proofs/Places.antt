@@ -2,7 +2,7 @@
 use Rattle.std.proofs.Common.{◌≡◌, ℕ, Bool, true, false, ◌&&◌, List, Option, Some, None, Ok, Err, refl, ap, sym, ◌∙◌, subst}
 use Rattle.std.specs.Prelude.{pos, if◌then◌else◌}
 use Rattle.std.proofs.lemmas.Option.{same_Some}
-use Rattle.cc_num.specs.declared.int_type.IntType.TheVariants as int
+use Rattle.cc_program.specs.CcNum.declared.int_type.IntType.TheVariants as int
 use Rattle.cc_program.specs.declared.expr.Expr.{Expr, Const, Load, AddrOf, FuncAddr, Move}
 use Rattle.cc_program.specs.declared.expr.Place.{Place, Element, Member, Deref}
 use Rattle.cc_program.specs.declared.types.CType.{CType}
@@ -15,10 +15,10 @@ use Rattle.cc_operands.specs.declared.rule.Rule.{Rule}
 use Rattle.cc_operands.specs.declared.rule.Rule.TheVariants as rule
 use Rattle.cc_designators.specs.Designators.{TypedExpr, IsPlace, IsValue, IsFunction, IsIntrinsic, IsAddress, first_element, loaded, value_at}
 use Rattle.cc_designators.specs.Postfix.{element_by, pointed_by, subscripted, element, position_of, member_by, member_at, dot, arrow_to, arrow, address_at, address, pointed_at, indirection}
-use Rattle.cc_syntax.specs.Operators.{when, is_integer, points_to_object}
-use Rattle.cc_syntax.specs.Types.{Named}
-use Rattle.cc_syntax.specs.Values.{ValueType, NoValue, Integer, ToObject, ToFunction, PlaceType, DevicePlace, ObjectPlace, FunctionPlace, pointer_to, scalar_shape, address_of, pointed_to, element_shape, element_of, member_of}
-use Rattle.cc_syntax.proofs.Prefixes.{both_true}
+use Rattle.cc_operands.specs.CcSyntax.Operators.{when, is_integer, points_to_object}
+use Rattle.cc_operands.specs.CcSyntax.Types.{Named}
+use Rattle.cc_operands.specs.CcSyntax.Values.{ValueType, NoValue, Integer, ToObject, ToFunction, PlaceType, DevicePlace, ObjectPlace, FunctionPlace, pointer_to, scalar_shape, address_of, pointed_to, element_shape, element_of, member_of}
+use Rattle.cc_operands.proofs.CcSyntax.Prefixes.{both_true}
 use Rattle.cc_operand_types.specs.Typed.{SamePlace, MembersStand, HasType, IsTypedPlace, IsTypedOperand, Structure, IsTypedExpr}
 use Rattle.cc_operand_types.proofs.Agreement.{integral_agrees, member_agrees, read_agrees, address_agrees, pointed_agrees, element_agrees}
 use Rattle.cc_operand_types.proofs.Constants.{truth_fits}
@@ -27,8 +27,8 @@ use Rattle.cc_operand_types.proofs.Operands.{ok_is, must_ok, value_ok, value_of,
 use Rattle.cc_operand_types.proofs.Pointers.{integer_there, object_there, move_typed}
 use Rattle.cc_operand_types.proofs.Rolls.{type-Const, type-Load, type-AddrOf, place-Element, place-Member, place-Deref}
 use Rattle.cc_operand_types.proofs.Standing.{pointer_stands, pointed_stands, address_stands, elements_stand, members_stand}
-use Rattle.cc_syntax.specs.Views.{View}
-use Rattle.cc_syntax.specs.Expressions.{type_of}
+use Rattle.cc_operands.specs.CcSyntax.Views.{View}
+use Rattle.cc_operands.specs.CcSyntax.Expressions.{type_of}
 
 address_there : (t : PlaceType) (r : ValueType) → address_of t ≡ Some r → is_nothing r ≡ false
 address_there (DevicePlace c i) r h = absurd (cc)

@@ -1,13 +1,13 @@
 -- Operators on scalars are typed: pointers that are compared and moved, conditions, and unary operators.
 use Rattle.std.proofs.Common.{◌≡◌, Bool, true, false, ◌&&◌, List, Some, Ok, Err, refl, ap, sym, ◌∙◌, subst}
 use Rattle.std.specs.Prelude.{if◌then◌else◌}
-use Rattle.cc_lex.specs.declared.token.Mark.{Mark}
-use Rattle.cc_lex.specs.declared.token.Mark.TheVariants as m
-use Rattle.cc_num.specs.declared.int_type.IntType.{IntType}
-use Rattle.cc_num.specs.declared.int_type.IntType.TheVariants as int
-use Rattle.cc_num.specs.declared.op.BinOp.{BinOp}
-use Rattle.cc_num.specs.declared.op.BinOp.TheVariants as op
-use Rattle.cc_num.specs.declared.op.UnOp.TheVariants as unary
+use Rattle.cc_operands.specs.CcLex.declared.token.Mark.{Mark}
+use Rattle.cc_operands.specs.CcLex.declared.token.Mark.TheVariants as m
+use Rattle.cc_program.specs.CcNum.declared.int_type.IntType.{IntType}
+use Rattle.cc_program.specs.CcNum.declared.int_type.IntType.TheVariants as int
+use Rattle.cc_program.specs.CcNum.declared.op.BinOp.{BinOp}
+use Rattle.cc_program.specs.CcNum.declared.op.BinOp.TheVariants as op
+use Rattle.cc_program.specs.CcNum.declared.op.UnOp.TheVariants as unary
 use Rattle.cc_program.specs.declared.expr.Expr.{Expr, Move, Gap, Compare, Both, Either}
 use Rattle.cc_program.specs.declared.types.Structure.{Structure}
 use Rattle.cc_operands.specs.Arithmetic.{truth, is_equality, both, either, scalars, is_null_beside, pointers_compared, moved, sum_by, gap, difference_by, compared_by, binary_by, binary_of}
@@ -19,22 +19,22 @@ use Rattle.cc_operands.specs.declared.operator.Operator.TheVariants as operator
 use Rattle.cc_operands.specs.declared.operator.UnaryOperator.{UnaryOperator}
 use Rattle.cc_operands.specs.declared.operator.UnaryOperator.TheVariants as unary_operator
 use Rattle.cc_operands.specs.declared.rule.Rule.TheVariants as rule
-use Rattle.cc_syntax.specs.Folding.{both_constant, either_constant}
-use Rattle.cc_syntax.specs.Operators.{when, is_comparison, is_integer, difference_type, has_difference, points_to_object}
-use Rattle.cc_syntax.specs.Types.{Named}
-use Rattle.cc_syntax.specs.Values.{ValueType, NoValue, Integer, ToObject, ToFunction, is_scalar, point_alike}
-use Rattle.cc_syntax.proofs.Prefixes.{both_true}
+use Rattle.cc_operands.specs.CcSyntax.Folding.{both_constant, either_constant}
+use Rattle.cc_operands.specs.CcSyntax.Operators.{when, is_comparison, is_integer, difference_type, has_difference, points_to_object}
+use Rattle.cc_operands.specs.CcSyntax.Types.{Named}
+use Rattle.cc_operands.specs.CcSyntax.Values.{ValueType, NoValue, Integer, ToObject, ToFunction, is_scalar, point_alike}
+use Rattle.cc_operands.proofs.CcSyntax.Prefixes.{both_true}
 use Rattle.cc_operand_types.specs.Typed.{HasType, IsTypedOperand}
 use Rattle.std.proofs.lemmas.Option.{same_Some as some_same}
-use Rattle.cc_syntax.proofs.AlikeLemmas.{alike_itself}
+use Rattle.cc_operands.proofs.CcSyntax.AlikeLemmas.{alike_itself}
 use Rattle.cc_operand_types.proofs.Agreement.{scalar_agrees, integral_agrees, object_agrees, difference_agrees, pointers_alike}
 use Rattle.cc_operand_types.proofs.Constants.{both_fits, either_fits}
 use Rattle.cc_operand_types.proofs.Integers.{when_two, arithmetic_typed, integers_typed, integer_typed, plus_typed}
 use Rattle.cc_operand_types.proofs.Nulls.{null_typed}
 use Rattle.cc_operand_types.proofs.Operands.{ok_is, must_ok, value_ok, value_of, as_operand, integer_operand, as_folded}
 use Rattle.cc_operand_types.proofs.Rolls.{type-Move, type-Gap, type-Compare, type-Both, type-Either}
-use Rattle.cc_syntax.proofs.SameLemmas.{sig_compared}
-use Rattle.cc_syntax.specs.Views.{View}
+use Rattle.cc_operands.proofs.CcSyntax.SameLemmas.{sig_compared}
+use Rattle.cc_operands.specs.CcSyntax.Views.{View}
 
 -- ---- what has a value
 

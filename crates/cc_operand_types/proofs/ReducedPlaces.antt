@@ -9,11 +9,11 @@ use Rattle.cc_program.specs.declared.types.Shape.{Shape, out-Shape}
 use Rattle.cc_program.specs.declared.types.Shape.TheOpen as shape
 use Rattle.cc_program.specs.declared.types.Sig.{Sig}
 use Rattle.cc_program.specs.declared.types.Structure.{Structure}
-use Rattle.cc_syntax.specs.SameTypes.{alike}
-use Rattle.cc_syntax.specs.Types.{Named}
-use Rattle.cc_syntax.specs.Values.{ValueType, Integer, ToObject, ToFunction, PlaceType, DevicePlace, ObjectPlace, FunctionPlace, is_void, implies, read_from, written_to, address_of, pointed_to, element_of, element_shape, member_of, member_shape, member_in, member_at, scalar_value}
-use Rattle.cc_syntax.proofs.AlikeLemmas.{alike-scalar, implies_itself, shares, tested}
-use Rattle.cc_syntax.proofs.SameLemmas.{Alike, SameShape, Arrays}
+use Rattle.cc_operands.specs.CcSyntax.SameTypes.{alike}
+use Rattle.cc_operands.specs.CcSyntax.Types.{Named}
+use Rattle.cc_operands.specs.CcSyntax.Values.{ValueType, Integer, ToObject, ToFunction, PlaceType, DevicePlace, ObjectPlace, FunctionPlace, is_void, implies, read_from, written_to, address_of, pointed_to, element_of, element_shape, member_of, member_shape, member_in, member_at, scalar_value}
+use Rattle.cc_operands.proofs.CcSyntax.AlikeLemmas.{alike-scalar, implies_itself, shares, tested}
+use Rattle.cc_operands.proofs.CcSyntax.SameLemmas.{Alike, SameShape, Arrays}
 use Rattle.cc_operand_types.specs.Reduced.{Reduced, Unused, Integers, Pointers, Functions, ReducedPlace, Devices, Defined, Objects, FunctionPlaces}
 use Rattle.cc_operand_types.proofs.Follows.{Gives}
 use Rattle.cc_operand_types.proofs.Values.{alike_itself}

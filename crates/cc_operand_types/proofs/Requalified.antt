@@ -11,13 +11,13 @@ use Rattle.cc_program.specs.declared.types.Sig.{Sig, fold-Sig}
 use Rattle.cc_program.proofs.QualifierLemmas.{const-opens, volatile-opens, parts_const, parts_volatile}
 use Rattle.cc_program.proofs.TypeInduction.{with_shape, TypeParts, by_type}
 use Rattle.cc_operands.specs.Qualified.{ShapeChange, shape_change, type_change, at_element, with_shape as changed_shape, instead, qualified_as}
-use Rattle.cc_syntax.specs.Kinds.{Kind, IsVoid, IsScalar, IsStructure, IsArray, IsIncomplete, IsFunction, bytes_in, is_small, array_kind, pointer_kind, with_qualifiers, is_plain_scalar, extent_kind, shape_kind, qualified_kind, is_sig}
-use Rattle.cc_syntax.specs.Values.{is_void}
-use Rattle.cc_syntax.specs.SameTypes.{is_void_shape}
-use Rattle.cc_syntax.proofs.KindRolls.{parts_kind, kind-opens}
+use Rattle.cc_operands.specs.CcSyntax.Kinds.{Kind, IsVoid, IsScalar, IsStructure, IsArray, IsIncomplete, IsFunction, bytes_in, is_small, array_kind, pointer_kind, with_qualifiers, is_plain_scalar, extent_kind, shape_kind, qualified_kind, is_sig}
+use Rattle.cc_operands.specs.CcSyntax.Values.{is_void}
+use Rattle.cc_operands.specs.CcSyntax.SameTypes.{is_void_shape}
+use Rattle.cc_operands.proofs.CcSyntax.KindRolls.{parts_kind, kind-opens}
 use Rattle.cc_operand_types.specs.Typed.{is_pointed_kind}
-use Rattle.cc_syntax.proofs.SameLemmas.{Alike, SameShape, Arrays}
-use Rattle.cc_syntax.specs.Views.{View, kind_in}
+use Rattle.cc_operands.proofs.CcSyntax.SameLemmas.{Alike, SameShape, Arrays}
+use Rattle.cc_operands.specs.CcSyntax.Views.{View, kind_in}
 
 or_false : (b : Bool) → (b || false) ≡ b
 or_false true = refl

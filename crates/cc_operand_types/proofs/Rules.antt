@@ -1,23 +1,23 @@
 -- Each rule of types gives of types that lack qualifiers one that does.
 use Rattle.std.proofs.Common.{◌≡◌, Bool, true, false, not, ◌&&◌, List, [], ◌∷◌, Option, Some, None, refl, sym, subst}
 use Rattle.std.specs.Prelude.{if◌then◌else◌}
-use Rattle.cc_num.specs.declared.int_type.IntType.{IntType}
-use Rattle.cc_num.specs.declared.int_type.IntType.TheVariants as int
-use Rattle.cc_num.specs.declared.op.BinOp.{BinOp}
-use Rattle.cc_num.specs.declared.op.UnOp.{UnOp}
-use Rattle.cc_num.specs.declared.target.Target.{Target}
-use Rattle.cc_num.specs.Promotions.{promoted, usual_of}
-use Rattle.cc_num.specs.Results.{is_shift}
+use Rattle.cc_program.specs.CcNum.declared.int_type.IntType.{IntType}
+use Rattle.cc_program.specs.CcNum.declared.int_type.IntType.TheVariants as int
+use Rattle.cc_program.specs.CcNum.declared.op.BinOp.{BinOp}
+use Rattle.cc_program.specs.CcNum.declared.op.UnOp.{UnOp}
+use Rattle.cc_program.specs.CcNum.declared.target.Target.{Target}
+use Rattle.cc_program.specs.CcNum.Promotions.{promoted, usual_of}
+use Rattle.cc_program.specs.CcNum.Results.{is_shift}
 use Rattle.cc_program.specs.declared.expr.Intr.{Intr}
 use Rattle.cc_program.specs.declared.expr.Intr.TheVariants as intr
 use Rattle.cc_program.specs.declared.types.CType.{CType}
 use Rattle.cc_program.specs.declared.types.Sig.{out-Sig}
 use Rattle.cc_program.specs.declared.types.Structure.{Structure}
-use Rattle.cc_syntax.specs.Operators.{unary_type, unary_result, binary_type, binary_result, conversion_type, when_assignable, moved_type, gap_type, difference_type, comparison_type, is_comparison, logical_type, choice_type, common_type, assignment_type, change_type, changes_by, call_type, intrinsic_type, subscript_type, is_promoted, is_promoted_value, is_of, is_integer, is_additive, second_fits, points_to_object, has_difference}
-use Rattle.cc_syntax.specs.SameTypes.{same_int}
-use Rattle.cc_syntax.specs.Types.{is_complete}
-use Rattle.cc_syntax.specs.Values.{ValueType, NoValue, Integer, ToObject, ToFunction, PlaceType, is_scalar, point_alike, is_assignable, is_assignable_some, are_assignable, scalar_value, result_value, element_of}
-use Rattle.cc_syntax.proofs.Prefixes.{both_true}
+use Rattle.cc_operands.specs.CcSyntax.Operators.{unary_type, unary_result, binary_type, binary_result, conversion_type, when_assignable, moved_type, gap_type, difference_type, comparison_type, is_comparison, logical_type, choice_type, common_type, assignment_type, change_type, changes_by, call_type, intrinsic_type, subscript_type, is_promoted, is_promoted_value, is_of, is_integer, is_additive, second_fits, points_to_object, has_difference}
+use Rattle.cc_operands.specs.CcSyntax.SameTypes.{same_int}
+use Rattle.cc_operands.specs.CcSyntax.Types.{is_complete}
+use Rattle.cc_operands.specs.CcSyntax.Values.{ValueType, NoValue, Integer, ToObject, ToFunction, PlaceType, is_scalar, point_alike, is_assignable, is_assignable_some, are_assignable, scalar_value, result_value, element_of}
+use Rattle.cc_operands.proofs.CcSyntax.Prefixes.{both_true}
 use Rattle.cc_operand_types.specs.Reduced.{Reduced, Unused, Integers, Pointers, Functions, ReducedPlace}
 use Rattle.cc_operand_types.proofs.Follows.{Gives, Follows, when_follows}
 use Rattle.cc_operand_types.proofs.ReducedPlaces.{element_reduced}

@@ -9,15 +9,15 @@ use Rattle.cc_program.specs.declared.types.Shape.{Shape, out-Shape}
 use Rattle.cc_program.specs.declared.types.Shape.TheOpen as shape
 use Rattle.cc_program.specs.declared.types.Sig.{Sig, out-Sig, fold_out-Sig}
 use Rattle.cc_program.specs.declared.types.Structure.{Structure}
-use Rattle.cc_syntax.specs.Kinds.{Kind, IsVoid, IsScalar, IsStructure, IsArray, IsIncomplete, IsFunction, bytes_in, is_small, array_kind, pointer_kind, is_result, is_plain_scalar, is_object_type, extent_kind, shape_kind, type_kind, is_signature, kind_of, is_sig}
-use Rattle.cc_syntax.specs.SameTypes.{is_void_shape}
-use Rattle.cc_syntax.specs.Types.{Named}
-use Rattle.cc_syntax.specs.Values.{ValueType, NoValue, Integer, ToObject, ToFunction, PlaceType, DevicePlace, ObjectPlace, FunctionPlace, pointer_shape, pointer_to, scalar_shape, scalar_value, result_value, is_void, written_to, pointed_to, element_shape, element_of, member_at, member_in, member_shape, member_of, address_of}
-use Rattle.cc_syntax.proofs.Prefixes.{both_true}
+use Rattle.cc_operands.specs.CcSyntax.Kinds.{Kind, IsVoid, IsScalar, IsStructure, IsArray, IsIncomplete, IsFunction, bytes_in, is_small, array_kind, pointer_kind, is_result, is_plain_scalar, is_object_type, extent_kind, shape_kind, type_kind, is_signature, kind_of, is_sig}
+use Rattle.cc_operands.specs.CcSyntax.SameTypes.{is_void_shape}
+use Rattle.cc_operands.specs.CcSyntax.Types.{Named}
+use Rattle.cc_operands.specs.CcSyntax.Values.{ValueType, NoValue, Integer, ToObject, ToFunction, PlaceType, DevicePlace, ObjectPlace, FunctionPlace, pointer_shape, pointer_to, scalar_shape, scalar_value, result_value, is_void, written_to, pointed_to, element_shape, element_of, member_at, member_in, member_shape, member_of, address_of}
+use Rattle.cc_operands.proofs.CcSyntax.Prefixes.{both_true}
 use Rattle.cc_operand_types.specs.Typed.{is_pointed_kind, stands, place_stands, MembersStand}
 use Rattle.cc_operand_types.proofs.Nulls.{is_func, to_object}
 use Rattle.cc_operand_types.proofs.Requalified.{kind_at, shaped, qualified, arrayed, there, not_void, any_pointed, element_kind}
-use Rattle.cc_syntax.specs.Views.{View, kind_in}
+use Rattle.cc_operands.specs.CcSyntax.Views.{View, kind_in}
 
 -- an object's type may be pointed to
 pub object_type : (o : Option Kind) → is_object_type o ≡ true → is_pointed_kind false o ≡ true

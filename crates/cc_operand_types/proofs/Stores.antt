@@ -2,15 +2,15 @@
 use Rattle.std.proofs.Common.{◌≡◌, Bool, true, false, not, ◌&&◌, ◌||◌, List, Option, Some, None, Ok, Err, refl, ap, sym, ◌∙◌, subst}
 use Rattle.std.specs.Prelude.{pos, if◌then◌else◌}
 use Rattle.std.proofs.lemmas.Option.{same_Some}
-use Rattle.cc_lex.specs.declared.token.Mark.{Mark}
-use Rattle.cc_lex.specs.declared.token.Mark.TheVariants as m
-use Rattle.cc_num.specs.declared.int_type.IntType.{IntType}
-use Rattle.cc_num.specs.declared.int_type.IntType.TheVariants as int
-use Rattle.cc_num.specs.declared.op.BinOp.{BinOp}
-use Rattle.cc_num.specs.declared.op.BinOp.TheVariants as op
-use Rattle.cc_num.specs.declared.target.Target.{Target}
-use Rattle.cc_num.specs.Promotions.{promoted, usual_of}
-use Rattle.cc_num.specs.Results.{is_shift}
+use Rattle.cc_operands.specs.CcLex.declared.token.Mark.{Mark}
+use Rattle.cc_operands.specs.CcLex.declared.token.Mark.TheVariants as m
+use Rattle.cc_program.specs.CcNum.declared.int_type.IntType.{IntType}
+use Rattle.cc_program.specs.CcNum.declared.int_type.IntType.TheVariants as int
+use Rattle.cc_program.specs.CcNum.declared.op.BinOp.{BinOp}
+use Rattle.cc_program.specs.CcNum.declared.op.BinOp.TheVariants as op
+use Rattle.cc_program.specs.CcNum.declared.target.Target.{Target}
+use Rattle.cc_program.specs.CcNum.Promotions.{promoted, usual_of}
+use Rattle.cc_program.specs.CcNum.Results.{is_shift}
 use Rattle.cc_program.specs.declared.expr.Expr.{Expr, Assign, Change, After}
 use Rattle.cc_program.specs.declared.expr.Place.{Place}
 use Rattle.cc_program.specs.declared.types.CType.{CType}
@@ -25,12 +25,12 @@ use Rattle.cc_operands.specs.Verdicts.{Judged, must, judge_then}
 use Rattle.cc_operands.specs.declared.rule.Rule.TheVariants as rule
 use Rattle.cc_designators.specs.Assignments.{assign_to, change_of, assign_by, assign_of, one, stepped_before, stepped_after}
 use Rattle.cc_designators.specs.Designators.{TypedExpr, IsPlace, IsValue, IsFunction, IsIntrinsic, IsAddress}
-use Rattle.cc_syntax.specs.Operators.{is_comparison, is_additive, is_integer, is_promoted, changes_by, points_to_object}
-use Rattle.cc_syntax.specs.SameTypes.{same_int}
-use Rattle.cc_syntax.specs.Types.{Named, is_complete}
-use Rattle.cc_syntax.specs.Values.{ValueType, NoValue, Integer, ToObject, ToFunction, PlaceType, DevicePlace, ObjectPlace, FunctionPlace, is_assignable, scalar_shape, scalar_value, pointer_to, written_to}
+use Rattle.cc_operands.specs.CcSyntax.Operators.{is_comparison, is_additive, is_integer, is_promoted, changes_by, points_to_object}
+use Rattle.cc_operands.specs.CcSyntax.SameTypes.{same_int}
+use Rattle.cc_operands.specs.CcSyntax.Types.{Named, is_complete}
+use Rattle.cc_operands.specs.CcSyntax.Values.{ValueType, NoValue, Integer, ToObject, ToFunction, PlaceType, DevicePlace, ObjectPlace, FunctionPlace, is_assignable, scalar_shape, scalar_value, pointer_to, written_to}
 use Rattle.cc_operand_types.specs.Typed.{stands, HasType, IsTypedPlace, IsTypedOperand, IsTypedExpr, IsAssigned}
-use Rattle.cc_syntax.proofs.AlikeLemmas.{alike_itself, implies_itself, assignable_object, function_itself}
+use Rattle.cc_operands.proofs.CcSyntax.AlikeLemmas.{alike_itself, implies_itself, assignable_object, function_itself}
 use Rattle.cc_operand_types.proofs.Agreement.{assigned_from, written_agrees}
 use Rattle.cc_operand_types.proofs.Constants.{truth_fits}
 use Rattle.cc_operand_types.proofs.Integers.{when_one, when_two, when_three, promoted_is}
@@ -38,11 +38,11 @@ use Rattle.cc_operand_types.proofs.Nulls.{null_typed, points_something}
 use Rattle.cc_operand_types.proofs.Operands.{ok_is, must_ok, value_ok, structure_ok, value_of, integer_as, exact, as_operand, as_constant, IsInteger, cast_typed, converted_typed, value_integer}
 use Rattle.cc_operand_types.proofs.Pointers.{against_typed}
 use Rattle.cc_operand_types.proofs.Rolls.{type-Assign, type-Change, type-After}
-use Rattle.cc_syntax.proofs.SameLemmas.{int_same, int_itself, and_true}
+use Rattle.cc_operands.proofs.CcSyntax.SameLemmas.{int_same, int_itself, and_true}
 use Rattle.cc_operand_types.proofs.Standing.{written_stands}
 use Rattle.cc_operand_types.proofs.Usual.{usual_again}
-use Rattle.cc_syntax.specs.Views.{View}
-use Rattle.cc_syntax.specs.Expressions.{type_of}
+use Rattle.cc_operands.specs.CcSyntax.Views.{View}
+use Rattle.cc_operands.specs.CcSyntax.Expressions.{type_of}
 
 pub then_ok : {A B : Type 0} (j : Judged A) (next : A → Judged B) (r : B) → judge_then j next ≡ Ok r → (x : A) × (j ≡ Ok x) × (next x ≡ Ok r)
 then_ok (Ok x) next r h = (x, refl, h)

@@ -1,7 +1,7 @@
 -- An expression that is typed over locals as they are declared is typed over those of the function, which may lack qualifiers.
 use Rattle.std.proofs.Common.{◌≡◌, ℕ, List, [], ◌∷◌, map, Option, Some, None, slice_get, option_map, refl, ap, sym, ◌∙◌, subst}
 use Rattle.std.proofs.lemmas.Option.{same_Some}
-use Rattle.cc_syntax.specs.Views.{View}
+use Rattle.cc_operands.specs.CcSyntax.Views.{View}
 use Rattle.cc_operand_types.proofs.Rolls.{expr-roll, place-roll}
 use Rattle.cc_program.specs.Qualifiers.{is_const, is_volatile}
 use Rattle.cc_program.specs.declared.expr.Expr.{Expr, roll-Expr, map-Expr}
@@ -9,10 +9,10 @@ use Rattle.cc_program.specs.declared.expr.Expr.TheOpen as one
 use Rattle.cc_program.specs.declared.expr.Place.{Place, roll-Place, map-Place}
 use Rattle.cc_program.proofs.Each.{Each}
 use Rattle.cc_program.proofs.ExprInduction.{Parts, PlaceParts, by_expr, by_place}
-use Rattle.cc_syntax.specs.Expressions.{of_one, of_two, type_of, place_type, expr_step, place_step, pointer_type}
-use Rattle.cc_syntax.specs.Operators.{unary_type, binary_type, conversion_type, when_assignable, moved_type, gap_type, comparison_type, logical_type, choice_type, assignment_type, change_type, after_type, call_type, subscript_type}
-use Rattle.cc_syntax.specs.Types.{Named}
-use Rattle.cc_syntax.specs.Values.{ValueType, PlaceType, read_from, written_to, address_of, pointed_to, member_of, object_place}
+use Rattle.cc_operands.specs.CcSyntax.Expressions.{of_one, of_two, type_of, place_type, expr_step, place_step, pointer_type}
+use Rattle.cc_operands.specs.CcSyntax.Operators.{unary_type, binary_type, conversion_type, when_assignable, moved_type, gap_type, comparison_type, logical_type, choice_type, assignment_type, change_type, after_type, call_type, subscript_type}
+use Rattle.cc_operands.specs.CcSyntax.Types.{Named}
+use Rattle.cc_operands.specs.CcSyntax.Values.{ValueType, PlaceType, read_from, written_to, address_of, pointed_to, member_of, object_place}
 use Rattle.cc_operand_types.specs.Reduced.{Reduced, ReducedPlace, Objects, ReducedType, ReducedLocals}
 use Rattle.cc_operand_types.proofs.Follows.{Gives, Follows, one_follows, two_follows, gives_from}
 use Rattle.cc_operand_types.proofs.ReducedPlaces.{place_itself, read_reduced, written_reduced, address_reduced, pointed_reduced, member_reduced}

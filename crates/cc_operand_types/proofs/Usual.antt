@@ -1,11 +1,11 @@
 -- The usual conversions with what they give change nothing more.
 use Rattle.std.proofs.Common.{◌≡◌, ◌≤◌, Bool, true, false, refl, ap, sym, ◌∙◌, arith, if◌then◌else◌}
-use Rattle.cc_num.specs.declared.int_type.IntType.{IntType}
-use Rattle.cc_num.specs.declared.int_type.IntType.TheVariants as int
-use Rattle.cc_num.specs.declared.target.Target.{Target}
-use Rattle.cc_num.specs.Integers.{represents_all}
-use Rattle.cc_num.specs.Promotions.{rank_of, promoted, common_of, usual_of}
-use Rattle.cc_num.proofs.PromotionLaws.{rank_of-promoted, promoted-usual_of}
+use Rattle.cc_program.specs.CcNum.declared.int_type.IntType.{IntType}
+use Rattle.cc_program.specs.CcNum.declared.int_type.IntType.TheVariants as int
+use Rattle.cc_program.specs.CcNum.declared.target.Target.{Target}
+use Rattle.cc_program.specs.CcNum.Integers.{represents_all}
+use Rattle.cc_program.specs.CcNum.Promotions.{rank_of, promoted, common_of, usual_of}
+use Rattle.cc_program.proofs.CcNum.PromotionLaws.{rank_of-promoted, promoted-usual_of}
 
 of-UInt-Long : (c : Target) (b : Bool) → represents_all int.Long int.UInt c ≡ b → common_of int.UInt (if b then int.Long else int.ULong) c ≡ (if b then int.Long else int.ULong)
 of-UInt-Long c true h = rw h refl

@@ -1,20 +1,20 @@
 -- Values whose types lack qualifiers: what the rules ask of a type holds of it too.
 use Rattle.std.proofs.Common.{◌≡◌, Bool, true, false, not, ◌&&◌, ◌||◌, List, Option, Some, None, refl, ap, sym, ◌∙◌, subst}
 use Rattle.std.specs.Prelude.{if◌then◌else◌}
-use Rattle.cc_num.specs.declared.int_type.IntType.{IntType}
-use Rattle.cc_num.specs.declared.op.BinOp.{BinOp}
-use Rattle.cc_num.specs.declared.target.Target.{Target}
-use Rattle.cc_num.specs.Results.{is_shift}
+use Rattle.cc_program.specs.CcNum.declared.int_type.IntType.{IntType}
+use Rattle.cc_program.specs.CcNum.declared.op.BinOp.{BinOp}
+use Rattle.cc_program.specs.CcNum.declared.target.Target.{Target}
+use Rattle.cc_program.specs.CcNum.Results.{is_shift}
 use Rattle.cc_operand_types.proofs.Agreement.{complete_alike, void_alike}
 use Rattle.cc_program.specs.declared.types.CType.{CType}
 use Rattle.cc_program.specs.declared.types.Sig.{Sig}
 use Rattle.cc_program.specs.declared.types.Structure.{Structure}
-use Rattle.cc_syntax.specs.Operators.{is_of, is_promoted_value, is_integer, second_fits, points_to_object, has_difference, common_type}
-use Rattle.cc_syntax.specs.SameTypes.{alike}
-use Rattle.cc_syntax.specs.Values.{ValueType, NoValue, Integer, ToObject, ToFunction, is_scalar, is_void, point_alike, is_assignable, is_assignable_some, implies}
-use Rattle.cc_syntax.proofs.AlikeLemmas.{alike_joined, alike_mirrored, implies_itself, assignable_object, assigned_on}
-use Rattle.cc_syntax.proofs.Prefixes.{both_true}
-use Rattle.cc_syntax.proofs.SameLemmas.{compared}
+use Rattle.cc_operands.specs.CcSyntax.Operators.{is_of, is_promoted_value, is_integer, second_fits, points_to_object, has_difference, common_type}
+use Rattle.cc_operands.specs.CcSyntax.SameTypes.{alike}
+use Rattle.cc_operands.specs.CcSyntax.Values.{ValueType, NoValue, Integer, ToObject, ToFunction, is_scalar, is_void, point_alike, is_assignable, is_assignable_some, implies}
+use Rattle.cc_operands.proofs.CcSyntax.AlikeLemmas.{alike_joined, alike_mirrored, implies_itself, assignable_object, assigned_on}
+use Rattle.cc_operands.proofs.CcSyntax.Prefixes.{both_true}
+use Rattle.cc_operands.proofs.CcSyntax.SameLemmas.{compared}
 use Rattle.cc_operand_types.specs.Reduced.{Reduced, Unused, Integers, Pointers, Functions}
 use Rattle.cc_operand_types.proofs.Follows.{Follows}
 

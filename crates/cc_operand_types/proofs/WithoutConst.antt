@@ -10,9 +10,9 @@ use Rattle.cc_program.specs.declared.types.Shape.TheVariants.{outs-Array}
 use Rattle.cc_program.specs.declared.types.Sig.{Sig}
 use Rattle.cc_program.proofs.QualifierLemmas.{const-opens, volatile-opens, parts_const, parts_volatile}
 use Rattle.cc_program.proofs.TypeInduction.{with_shape, TypeParts, by_type}
-use Rattle.cc_syntax.specs.Values.{implies}
-use Rattle.cc_syntax.proofs.AlikeLemmas.{implies_itself}
-use Rattle.cc_syntax.proofs.SameLemmas.{compared, arrays_compared}
+use Rattle.cc_operands.specs.CcSyntax.Values.{implies}
+use Rattle.cc_operands.proofs.CcSyntax.AlikeLemmas.{implies_itself}
+use Rattle.cc_operands.proofs.CcSyntax.SameLemmas.{compared, arrays_compared}
 use Rattle.cc_operand_types.specs.Reduced.{ReducedType}
 
 pub reduced_itself : (t : CType) → ReducedType t t

@@ -1,9 +1,9 @@
 -- What statements ask of the type of an expression, kept where it has another type (C99 6.8).
 use Rattle.std.specs.Prelude.{◌≡◌, ℤ, true, List, Option, is_some}
-use Rattle.cc_num.specs.declared.target.Target.{Target}
+use Rattle.cc_program.specs.CcNum.declared.target.Target.{Target}
 use Rattle.cc_program.specs.declared.types.CType.{CType}
-use Rattle.cc_syntax.specs.Statements.{is_condition, labels_fit}
-use Rattle.cc_syntax.specs.Values.{ValueType, is_assignable_some, scalar_value}
+use Rattle.cc_operands.specs.CcSyntax.Statements.{is_condition, labels_fit}
+use Rattle.cc_operands.specs.CcSyntax.Values.{ValueType, is_assignable_some, scalar_value}
 
 -- in functions that give such results
 pub record Keeps (target : Target) (before after : CType) (o p : Option ValueType) : Type 0 where

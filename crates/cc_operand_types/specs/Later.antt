@@ -1,6 +1,6 @@
 -- Structures that are completed, and what the kind of a type becomes.
 use Rattle.std.specs.Prelude.{◌≡◌, ℕ, Option, Some, None}
-use Rattle.cc_syntax.specs.Kinds.{Kind, IsStructure, IsIncomplete}
+use Rattle.cc_operands.specs.CcSyntax.Kinds.{Kind, IsStructure, IsIncomplete}
 
 -- what is complete stays so, with as many bytes, and what is there stays there
 pub record Grow (before after : ℕ → Option (Option ℕ)) : Type 0 where

@@ -1,13 +1,13 @@
 -- Types that are one but for qualifiers which the first may lack: the outermost ones at an object, and at what is pointed to
 -- (C99 6.7.3).
 use Rattle.std.specs.Prelude.{◌≡◌, ℕ, Bool, true, List, Some, slice_get}
-use Rattle.cc_num.specs.declared.int_type.IntType.{IntType}
+use Rattle.cc_program.specs.CcNum.declared.int_type.IntType.{IntType}
 use Rattle.cc_program.specs.Qualifiers.{is_const, is_volatile}
 use Rattle.cc_program.specs.declared.types.CType.{CType}
 use Rattle.cc_program.specs.declared.types.Sig.{Sig}
-use Rattle.cc_syntax.specs.SameTypes.{alike}
-use Rattle.cc_syntax.specs.Types.{Named}
-use Rattle.cc_syntax.specs.Values.{ValueType, NoValue, Integer, ToObject, ToFunction, PlaceType, DevicePlace, ObjectPlace, FunctionPlace, implies, scalar_value}
+use Rattle.cc_operands.specs.CcSyntax.SameTypes.{alike}
+use Rattle.cc_operands.specs.CcSyntax.Types.{Named}
+use Rattle.cc_operands.specs.CcSyntax.Values.{ValueType, NoValue, Integer, ToObject, ToFunction, PlaceType, DevicePlace, ObjectPlace, FunctionPlace, implies, scalar_value}
 
 -- of values; what has none may have one then, as nothing reads it
 pub data Reduced : ValueType → ValueType → Type 0 where

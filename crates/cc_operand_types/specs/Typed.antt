@@ -8,12 +8,12 @@ use Rattle.cc_program.specs.declared.types.CType.{CType}
 use Rattle.cc_program.specs.declared.types.Shape.{out-Shape}
 use Rattle.cc_program.specs.declared.types.Shape.TheOpen as shape
 use Rattle.cc_program.specs.declared.types.Structure.{Structure as Content}
-use Rattle.cc_syntax.specs.Kinds.{Kind, IsVoid, IsScalar, IsStructure, IsArray, IsIncomplete, IsFunction as IsOfFunction, is_sig}
-use Rattle.cc_syntax.specs.SameTypes.{alike}
-use Rattle.cc_syntax.specs.Types.{Named}
-use Rattle.cc_syntax.specs.Values.{ValueType, NoValue, Integer, ToObject, ToFunction, PlaceType, DevicePlace, ObjectPlace, FunctionPlace, is_assignable, pointer_to}
-use Rattle.cc_syntax.specs.Views.{View, kind_in}
-use Rattle.cc_syntax.specs.Expressions.{type_of, place_type, null_type}
+use Rattle.cc_operands.specs.CcSyntax.Kinds.{Kind, IsVoid, IsScalar, IsStructure, IsArray, IsIncomplete, IsFunction as IsOfFunction, is_sig}
+use Rattle.cc_operands.specs.CcSyntax.SameTypes.{alike}
+use Rattle.cc_operands.specs.CcSyntax.Types.{Named}
+use Rattle.cc_operands.specs.CcSyntax.Values.{ValueType, NoValue, Integer, ToObject, ToFunction, PlaceType, DevicePlace, ObjectPlace, FunctionPlace, is_assignable, pointer_to}
+use Rattle.cc_operands.specs.CcSyntax.Views.{View, kind_in}
+use Rattle.cc_operands.specs.CcSyntax.Expressions.{type_of, place_type, null_type}
 
 -- two types of values that are one: the outermost qualifiers in the type that is pointed to say nothing
 pub data Agree : ValueType → ValueType → Type 0 where

@@ -1,11 +1,11 @@
 ghost use Rattle.std.specs.Prelude.{◌≡◌, ℕ, true, [], List, Option, Some, length};
-ghost use Rattle.cc_num.specs.declared.target.Target.{Target};
+ghost use Rattle.cc_program.specs.CcNum.declared.target.Target.{Target};
 ghost use Rattle.cc_operand_types.specs.Typed.{MembersStand};
-ghost use Rattle.cc_syntax.specs.Views.{of_program};
+ghost use Rattle.cc_operands.specs.CcSyntax.Views.{of_program};
 ghost use Rattle.cc_program.specs.declared.program.Program.{Program};
 ghost use Rattle.cc_program.specs.declared.types.CType.{CType};
-ghost use Rattle.cc_syntax.specs.Kinds.{Kind, kind_of};
-ghost use Rattle.cc_syntax.specs.Sound.{are_structures};
+ghost use Rattle.cc_operands.specs.CcSyntax.Kinds.{Kind, kind_of};
+ghost use Rattle.cc_operands.specs.CcSyntax.Sound.{are_structures};
 ghost use Rattle.cc_operand_types.specs.Later.{Grow, Later};
 
 /// What holds of the kinds of types where structures are completed (C99 6.2.5, 22; 6.7.2.1). The call does nothing.

@@ -4,11 +4,11 @@ ghost use Rattle.cc_designators.specs.Calls.{called, intrinsic};
 ghost use Rattle.cc_designators.specs.Casts.{cast_of, size_value};
 ghost use Rattle.cc_designators.specs.Designators.{TypedExpr, IsPlace, IsFunction, null, value_at};
 ghost use Rattle.cc_designators.specs.Postfix.{address, arrow, dot, element, indirection, subscripted};
-ghost use Rattle.cc_lex.specs.declared.token.Mark.{Mark};
-ghost use Rattle.cc_lex.specs.declared.token.Suffix.{Suffix};
-ghost use Rattle.cc_num.specs.declared.int_type.IntType.{IntType};
-ghost use Rattle.cc_num.specs.declared.int_type.IntType.TheVariants as int;
-ghost use Rattle.cc_num.specs.Integers.{is_value_of};
+ghost use Rattle.cc_operands.specs.CcLex.declared.token.Mark.{Mark};
+ghost use Rattle.cc_operands.specs.CcLex.declared.token.Suffix.{Suffix};
+ghost use Rattle.cc_program.specs.CcNum.declared.int_type.IntType.{IntType};
+ghost use Rattle.cc_program.specs.CcNum.declared.int_type.IntType.TheVariants as int;
+ghost use Rattle.cc_program.specs.CcNum.Integers.{is_value_of};
 ghost use Rattle.cc_operands.specs.Arithmetic.{binary_of};
 ghost use Rattle.cc_operands.specs.Assignments.{assigned};
 ghost use Rattle.cc_operands.specs.Choices.{choose_of, comma_of};
@@ -25,12 +25,12 @@ ghost use Rattle.cc_program.specs.declared.types.CType.{CType};
 ghost use Rattle.cc_program.specs.declared.types.Shape.{out-Shape};
 ghost use Rattle.cc_program.specs.declared.types.Shape.TheOpen as shape;
 ghost use Rattle.cc_program.specs.declared.types.Sig.{Sig};
-ghost use Rattle.cc_syntax.specs.Kinds.{Kind, is_object_type};
-ghost use Rattle.cc_syntax.specs.Types.{Named};
-ghost use Rattle.cc_syntax.specs.Values.{Integer, ToFunction, PlaceType, ValueType, is_scalar, object_place};
+ghost use Rattle.cc_operands.specs.CcSyntax.Kinds.{Kind, is_object_type};
+ghost use Rattle.cc_operands.specs.CcSyntax.Types.{Named};
+ghost use Rattle.cc_operands.specs.CcSyntax.Values.{Integer, ToFunction, PlaceType, ValueType, is_scalar, object_place};
 ghost use Rattle.cc_operand_types.specs.Typed.{HasType, IsAssigned, IsNullType, IsTypedExpr, IsTypedOperand, IsTypedPlace, MembersStand, is_pointed_kind, stands, place_stands};
-ghost use Rattle.cc_syntax.specs.Views.{View, kind_in};
-ghost use Rattle.cc_syntax.specs.Expressions.{type_of};
+ghost use Rattle.cc_operands.specs.CcSyntax.Views.{View, kind_in};
+ghost use Rattle.cc_operands.specs.CcSyntax.Expressions.{type_of};
 
 /// What holds of constants, conversions and operators, over any view of a program and any locals, where the operands are typed (C99 6.5.3.3, 6.5.5 to 6.5.15, 6.5.17). The call does nothing.
 pub fn operator_laws()

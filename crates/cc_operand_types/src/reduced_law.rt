@@ -1,14 +1,14 @@
 ghost use Rattle.std.specs.Prelude.{◌≡◌, Bool, true, List, Some};
-ghost use Rattle.cc_syntax.specs.Views.{View};
-ghost use Rattle.cc_syntax.specs.Expressions.{place_type, type_of};
+ghost use Rattle.cc_operands.specs.CcSyntax.Views.{View};
+ghost use Rattle.cc_operands.specs.CcSyntax.Expressions.{place_type, type_of};
 ghost use Rattle.cc_program.specs.declared.expr.Expr.{Expr};
 ghost use Rattle.cc_program.specs.declared.expr.Place.{Place};
 ghost use Rattle.cc_program.specs.declared.stmt.Stmt.{Stmt};
 ghost use Rattle.cc_program.specs.declared.types.CType.{CType};
-ghost use Rattle.cc_syntax.specs.Types.{Named};
-ghost use Rattle.cc_syntax.specs.Values.{PlaceType, ValueType};
+ghost use Rattle.cc_operands.specs.CcSyntax.Types.{Named};
+ghost use Rattle.cc_operands.specs.CcSyntax.Values.{PlaceType, ValueType};
 ghost use Rattle.cc_operand_types.specs.Reduced.{Reduced, ReducedLocals, ReducedPlace};
-ghost use Rattle.cc_syntax.specs.Statements.{is_sound_body, is_sound_stmt};
+ghost use Rattle.cc_operands.specs.CcSyntax.Statements.{is_sound_body, is_sound_stmt};
 
 /// Over locals whose types lack qualifiers that the declared ones have, expressions have types that may lack qualifiers at what is pointed to,
 /// and statements stay sound (C99 6.5, 6.7.3, 6.8). The call does nothing.

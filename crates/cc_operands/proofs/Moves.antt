@@ -1,8 +1,8 @@
 -- A pointer that can be moved points to an object.
 use Rattle.std.proofs.Common.{◌≡◌, Bool, true, false, ◌&&◌, Option, Some, None, option_map, refl}
 use Rattle.std.specs.Prelude.{is_some}
-use Rattle.cc_syntax.specs.Operators.{when}
-use Rattle.cc_syntax.specs.Values.{ValueType}
+use Rattle.cc_typed.specs.CcSyntax.Operators.{when}
+use Rattle.cc_typed.specs.CcSyntax.Values.{ValueType}
 use Rattle.cc_typed.specs.View.{value_view}
 use Rattle.cc_typed.specs.declared.values.ValueType.{ValueType as CodeValue}
 

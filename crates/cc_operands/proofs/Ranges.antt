@@ -3,13 +3,13 @@ use Rattle.std.proofs.Common.{arith, rules, ◌≡◌, true, ◌&&◌, ℤ}
 use Rattle.std.specs.Prelude.{◌≤ℤ◌, int_le}
 use Rattle.std.proofs.lemmas.Int.{ints}
 use denote.Enum.Bare.{same_true}
-use Rattle.cc_num.specs.contracts.int_type.IntType as int_type
-use Rattle.cc_num.specs.declared.int_type.IntType.{IntType}
-use Rattle.cc_num.specs.declared.target.Target.{Target}
-use Rattle.cc_num.specs.Integers.{IsValueOf, is_value_of, least_of, most_of}
-use Rattle.cc_num.specs.Promotions.{promoted}
-use Rattle.cc_syntax.specs.Operators.{is_promoted}
-use Rattle.cc_syntax.specs.SameTypes.{same_int}
+use Rattle.cc_program.specs.CcNum.contracts.int_type.IntType as int_type
+use Rattle.cc_program.specs.CcNum.declared.int_type.IntType.{IntType}
+use Rattle.cc_program.specs.CcNum.declared.target.Target.{Target}
+use Rattle.cc_program.specs.CcNum.Integers.{IsValueOf, is_value_of, least_of, most_of}
+use Rattle.cc_program.specs.CcNum.Promotions.{promoted}
+use Rattle.cc_typed.specs.CcSyntax.Operators.{is_promoted}
+use Rattle.cc_typed.specs.CcSyntax.SameTypes.{same_int}
 
 above : (a b c : ℤ) → int_le a b && int_le b c ≡ true → a ≤ℤ b
 above a b c h = grind (arith, ints)

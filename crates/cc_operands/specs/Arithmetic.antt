@@ -1,12 +1,12 @@
 -- Binary operators on values (C99 6.5.5 to 6.5.14).
 use Rattle.std.specs.Prelude.{Bool, true, false, ◌&&◌, List, Ok, Err, if◌then◌else◌}
-use Rattle.cc_num.specs.declared.int_type.IntType.{IntType}
-use Rattle.cc_num.specs.declared.int_type.IntType.TheVariants as int
-use Rattle.cc_num.specs.declared.op.BinOp.{BinOp}
-use Rattle.cc_num.specs.declared.op.BinOp.TheVariants as op
-use Rattle.cc_num.specs.declared.target.Target.{Target}
-use Rattle.cc_num.specs.Promotions.{promoted, usual_of}
-use Rattle.cc_num.specs.Results.{is_shift}
+use Rattle.cc_program.specs.CcNum.declared.int_type.IntType.{IntType}
+use Rattle.cc_program.specs.CcNum.declared.int_type.IntType.TheVariants as int
+use Rattle.cc_program.specs.CcNum.declared.op.BinOp.{BinOp}
+use Rattle.cc_program.specs.CcNum.declared.op.BinOp.TheVariants as op
+use Rattle.cc_program.specs.CcNum.declared.target.Target.{Target}
+use Rattle.cc_program.specs.CcNum.Promotions.{promoted, usual_of}
+use Rattle.cc_program.specs.CcNum.Results.{is_shift}
 use Rattle.cc_operands.specs.Operands.{Operand, operand, constancy, folded, converted_to, is_pointer, is_null_constant, null_of, against_null, with_value}
 use Rattle.cc_operands.specs.Verdicts.{Judged, must}
 use Rattle.cc_operands.specs.declared.operator.Operator.{Operator}
@@ -14,9 +14,9 @@ use Rattle.cc_operands.specs.declared.operator.Operator.TheVariants as operator
 use Rattle.cc_operands.specs.declared.rule.Rule.TheVariants as rule
 use Rattle.cc_program.specs.declared.expr.Expr.{Expr, Bin, Move, Gap, Compare, Both, Either}
 use Rattle.cc_program.specs.declared.types.Structure.{Structure}
-use Rattle.cc_syntax.specs.Folding.{binary_constant, both_constant, either_constant}
-use Rattle.cc_syntax.specs.Operators.{binary_result, difference_type, has_difference, points_to_object}
-use Rattle.cc_syntax.specs.Values.{ValueType, Integer, ToFunction, is_scalar, point_alike}
+use Rattle.cc_typed.specs.CcSyntax.Folding.{binary_constant, both_constant, either_constant}
+use Rattle.cc_typed.specs.CcSyntax.Operators.{binary_result, difference_type, has_difference, points_to_object}
+use Rattle.cc_typed.specs.CcSyntax.Values.{ValueType, Integer, ToFunction, is_scalar, point_alike}
 
 abbrev pub truth : Expr → Operand
 truth e = operand e (Integer int.Int)

@@ -1,11 +1,11 @@
 -- Assignment, and what converts as if by it: arguments, results, first values (C99 6.5.16, 6.5.2.2, 6.5.2.4, 6.5.3.1).
 -- What a place takes that is written is None where it is const or has no scalar type.
 use Rattle.std.specs.Prelude.{Bool, List, Option, Some, None, Ok, Err, if◌then◌else◌}
-use Rattle.cc_num.specs.declared.int_type.IntType.{IntType}
-use Rattle.cc_num.specs.declared.int_type.IntType.TheVariants as int
-use Rattle.cc_num.specs.declared.op.BinOp.{BinOp}
-use Rattle.cc_num.specs.declared.op.BinOp.TheVariants as op
-use Rattle.cc_num.specs.declared.target.Target.{Target}
+use Rattle.cc_program.specs.CcNum.declared.int_type.IntType.{IntType}
+use Rattle.cc_program.specs.CcNum.declared.int_type.IntType.TheVariants as int
+use Rattle.cc_program.specs.CcNum.declared.op.BinOp.{BinOp}
+use Rattle.cc_program.specs.CcNum.declared.op.BinOp.TheVariants as op
+use Rattle.cc_program.specs.CcNum.declared.target.Target.{Target}
 use Rattle.cc_operands.specs.Arithmetic.{working_type, second_type, truth}
 use Rattle.cc_operands.specs.Operands.{Operand, operand, cast_to, converted_to, is_null_constant, null_of, against_null, with_value, no_structure}
 use Rattle.cc_operands.specs.Verdicts.{Judged, must, judge_then}
@@ -14,9 +14,9 @@ use Rattle.cc_operands.specs.declared.rule.Rule.TheVariants as rule
 use Rattle.cc_program.specs.declared.expr.Expr.{Assign, Change, After}
 use Rattle.cc_program.specs.declared.expr.Place.{Place}
 use Rattle.cc_program.specs.declared.types.Structure.{Structure}
-use Rattle.cc_syntax.specs.Operators.{points_to_object, is_integer, is_additive}
-use Rattle.cc_syntax.specs.SameTypes.{same_int}
-use Rattle.cc_syntax.specs.Values.{ValueType, NoValue, Integer, is_assignable}
+use Rattle.cc_typed.specs.CcSyntax.Operators.{points_to_object, is_integer, is_additive}
+use Rattle.cc_typed.specs.CcSyntax.SameTypes.{same_int}
+use Rattle.cc_typed.specs.CcSyntax.Values.{ValueType, NoValue, Integer, is_assignable}
 
 -- a null constant, or a pointer to the same type that loses no qualifier
 abbrev pub assigned_pointer : ValueType → Operand → Judged Operand

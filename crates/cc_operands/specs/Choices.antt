@@ -1,15 +1,15 @@
 -- `c ? a : b` and `a, b` (C99 6.5.15, 6.5.17).
 use Rattle.std.specs.Prelude.{Bool, true, false, ◌&&◌, ◌||◌, Ok, Err, if◌then◌else◌}
-use Rattle.cc_num.specs.declared.int_type.IntType.{IntType}
-use Rattle.cc_num.specs.declared.target.Target.{Target}
-use Rattle.cc_num.specs.Promotions.{usual_of}
+use Rattle.cc_program.specs.CcNum.declared.int_type.IntType.{IntType}
+use Rattle.cc_program.specs.CcNum.declared.target.Target.{Target}
+use Rattle.cc_program.specs.CcNum.Promotions.{usual_of}
 use Rattle.cc_operands.specs.Operands.{Operand, operand, as_nothing, constancy, folded, converted_to, is_pointer, is_nothing, is_to_void, is_null_constant, null_of, with_value, no_structure}
 use Rattle.cc_operands.specs.Verdicts.{Judged, must}
 use Rattle.cc_operands.specs.declared.rule.Rule.TheVariants as rule
 use Rattle.cc_program.specs.declared.expr.Expr.{Expr, Choose, Seq}
-use Rattle.cc_syntax.specs.Folding.{Constant, NoConstant, Value, Traps, is_true, chosen_constant}
-use Rattle.cc_syntax.specs.Operators.{common_type}
-use Rattle.cc_syntax.specs.Values.{ValueType, NoValue, Integer, is_scalar, point_alike}
+use Rattle.cc_typed.specs.CcSyntax.Folding.{Constant, NoConstant, Value, Traps, is_true, chosen_constant}
+use Rattle.cc_typed.specs.CcSyntax.Operators.{common_type}
+use Rattle.cc_typed.specs.CcSyntax.Values.{ValueType, NoValue, Integer, is_scalar, point_alike}
 
 abbrev pub chosen_integer : IntType → Operand → Operand → Operand → Operand
 chosen_integer t c x y = folded t (chosen_constant (constancy c) (constancy x) (constancy y)) (Choose c.value x.value y.value)

@@ -8,3 +8,6 @@ pub mod RuleNumbers
 pub mod Unary
 pub mod Verdicts
 pub mod View
+pub mod CcLex
+pub mod CcSyntax
+pub mod CcTyped

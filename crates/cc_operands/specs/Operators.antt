@@ -2,8 +2,8 @@
 use Rattle.std.specs.Prelude.{Option, Some, None}
 use Rattle.cc_lex.specs.declared.token.Mark.{Mark}
 use Rattle.cc_lex.specs.declared.token.Mark.TheVariants as m
-use Rattle.cc_num.specs.declared.op.BinOp.{BinOp}
-use Rattle.cc_num.specs.declared.op.BinOp.TheVariants as op
+use Rattle.cc_program.specs.CcNum.declared.op.BinOp.{BinOp}
+use Rattle.cc_program.specs.CcNum.declared.op.BinOp.TheVariants as op
 use Rattle.cc_operands.specs.declared.operator.Operator.{Operator}
 use Rattle.cc_operands.specs.declared.operator.Operator.TheVariants as operator
 use Rattle.cc_operands.specs.declared.operator.UnaryOperator.{UnaryOperator}

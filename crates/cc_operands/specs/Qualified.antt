@@ -4,8 +4,8 @@ use Rattle.cc_program.specs.declared.types.CType.{CType, fold-CType}
 use Rattle.cc_program.specs.declared.types.Shape.{Shape, Void, Int, Pointer, Array, Func, out-Shape}
 use Rattle.cc_program.specs.declared.types.Shape.TheOpen as shape
 use Rattle.cc_program.specs.declared.types.Sig.{Sig}
-use Rattle.cc_syntax.specs.SameTypes.{is_func_shape}
-use Rattle.cc_syntax.specs.Values.{ValueType, NoValue, Integer, ToObject, ToFunction}
+use Rattle.cc_typed.specs.CcSyntax.SameTypes.{is_func_shape}
+use Rattle.cc_typed.specs.CcSyntax.Values.{ValueType, NoValue, Integer, ToObject, ToFunction}
 
 -- a type without qualifiers
 abbrev pub plain : Shape → CType

@@ -1,11 +1,11 @@
 -- Unary operators on values (C99 6.5.3.3).
 use Rattle.std.specs.Prelude.{Ok, Err}
-use Rattle.cc_num.specs.declared.int_type.IntType.{IntType}
-use Rattle.cc_num.specs.declared.op.BinOp.TheVariants as op
-use Rattle.cc_num.specs.declared.op.UnOp.{UnOp}
-use Rattle.cc_num.specs.declared.op.UnOp.TheVariants as unary
-use Rattle.cc_num.specs.declared.target.Target.{Target}
-use Rattle.cc_num.specs.Promotions.{promoted}
+use Rattle.cc_program.specs.CcNum.declared.int_type.IntType.{IntType}
+use Rattle.cc_program.specs.CcNum.declared.op.BinOp.TheVariants as op
+use Rattle.cc_program.specs.CcNum.declared.op.UnOp.{UnOp}
+use Rattle.cc_program.specs.CcNum.declared.op.UnOp.TheVariants as unary
+use Rattle.cc_program.specs.CcNum.declared.target.Target.{Target}
+use Rattle.cc_program.specs.CcNum.Promotions.{promoted}
 use Rattle.cc_operands.specs.Arithmetic.{truth}
 use Rattle.cc_operands.specs.Operands.{Operand, constancy, folded, converted_to, against_null, with_value}
 use Rattle.cc_operands.specs.Verdicts.{Judged}
@@ -14,9 +14,9 @@ use Rattle.cc_operands.specs.declared.operator.UnaryOperator.TheVariants as unar
 use Rattle.cc_operands.specs.declared.rule.Rule.{Rule}
 use Rattle.cc_operands.specs.declared.rule.Rule.TheVariants as rule
 use Rattle.cc_program.specs.declared.expr.Expr.{Un}
-use Rattle.cc_syntax.specs.Folding.{unary_constant}
-use Rattle.cc_syntax.specs.Operators.{unary_result}
-use Rattle.cc_syntax.specs.Values.{ValueType, NoValue, Integer}
+use Rattle.cc_typed.specs.CcSyntax.Folding.{unary_constant}
+use Rattle.cc_typed.specs.CcSyntax.Operators.{unary_result}
+use Rattle.cc_typed.specs.CcSyntax.Values.{ValueType, NoValue, Integer}
 
 module _ (target : Target) where
   abbrev pub negated : UnOp → IntType → Operand → Operand

@@ -5,8 +5,8 @@ use Rattle.cc_operands.specs.declared.constants.Constant.TheVariants as constant
 use Rattle.cc_operands.specs.declared.operand.Operand.{Operand as CodeOperand}
 use Rattle.cc_operands.specs.declared.types.OperandType.{OperandType}
 use Rattle.cc_operands.specs.declared.types.OperandType.TheVariants as type
-use Rattle.cc_syntax.specs.Folding.{Constant, NoConstant, Value, Traps}
-use Rattle.cc_syntax.specs.Values.{ValueType, NoValue, Integer, ToObject, ToFunction}
+use Rattle.cc_typed.specs.CcSyntax.Folding.{Constant, NoConstant, Value, Traps}
+use Rattle.cc_typed.specs.CcSyntax.Values.{ValueType, NoValue, Integer, ToObject, ToFunction}
 
 abbrev pub constant_view : CodeConstant → Constant
 constant_view constant.NoConstant = NoConstant

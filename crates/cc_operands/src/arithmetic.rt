@@ -6,16 +6,16 @@ ghost use Rattle.cc_operands.specs.Operands.{against_null as against_null_of, nu
 ghost use Rattle.cc_operands.specs.Verdicts.{Judges};
 ghost use Rattle.cc_operands.specs.View.{operand_view, type_view};
 ghost use Rattle.cc_program.specs.declared.expr.Expr.{Compare as CompareOf};
-ghost use Rattle.cc_syntax.specs.Operators.{binary_result as binary_result_of, difference_type as difference_type_of, has_difference as has_difference_of};
+ghost use Rattle.cc_typed.specs.CcSyntax.Operators.{binary_result as binary_result_of, difference_type as difference_type_of, has_difference as has_difference_of};
 
 use crate::operand::{Operand, against_null, converted_to, folded, null_of, typed};
 use crate::operator::Operator;
 use crate::rule::Rule;
 use crate::types::OperandType;
 use crate::verdict::Breach;
-use cc_num::{BinOp, Boxed, IntType, NoMemory, Target, promote, usual};
-use cc_syntax::{Expr, Structure};
+use cc_program::num::{BinOp, Boxed, IntType, NoMemory, Target, promote, usual};
 use cc_typed::is_shift;
+use cc_typed::syntax::{Expr, Structure};
 use std::alloc::Global;
 
 /// What is 0 or 1.

@@ -11,9 +11,9 @@ use crate::operand::{Operand, against_null, cast_to, converted_to, null_of, type
 use crate::rule::Rule;
 use crate::types::OperandType;
 use crate::verdict::Breach;
-use cc_num::{BinOp, Boxed, IntType, NoMemory, Target};
-use cc_syntax::{Expr, Place, Structure};
+use cc_program::num::{BinOp, Boxed, IntType, NoMemory, Target};
 use cc_typed::same_int;
+use cc_typed::syntax::{Expr, Place, Structure};
 use std::alloc::Global;
 
 /// A pointer as a _Bool (C99 6.3.1.2).

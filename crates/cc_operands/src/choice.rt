@@ -6,16 +6,16 @@ ghost use Rattle.cc_operands.specs.Operands.{converted_to as converted_to_of, is
 ghost use Rattle.cc_operands.specs.Verdicts.{Judges};
 ghost use Rattle.cc_operands.specs.View.{operand_view, type_view, constant_view};
 ghost use Rattle.cc_program.specs.declared.expr.Expr.{Choose as ChooseOf};
-ghost use Rattle.cc_syntax.specs.Operators.{common_type as common_type_of};
+ghost use Rattle.cc_typed.specs.CcSyntax.Operators.{common_type as common_type_of};
 
 use crate::constants::{Constant, is_true};
 use crate::operand::{Operand, as_nothing, converted_to, folded, null_of, typed};
 use crate::rule::Rule;
 use crate::types::{OperandType, owned};
 use crate::verdict::Breach;
-use cc_num::{Boxed, IntType, NoMemory, Target, usual};
-use cc_syntax::Expr;
+use cc_program::num::{Boxed, IntType, NoMemory, Target, usual};
 use cc_typed::ValueType;
+use cc_typed::syntax::Expr;
 use std::alloc::Global;
 
 /// The expression of a choice.

@@ -1,10 +1,10 @@
 //! What an expression is as an integer constant expression (C99 6.6).
 
 ghost use Rattle.std.specs.Prelude.{◌≡◌};
-ghost use Rattle.cc_syntax.specs.Folding.{result_constant as result_constant_of, unary_value as unary_value_of, unary_constant, binary_value as binary_value_of, binary_constant, converted_constant, is_true as is_true_of, truth_constant, settled as settled_of, both_constant, either_constant, chosen_constant};
+ghost use Rattle.cc_typed.specs.CcSyntax.Folding.{result_constant as result_constant_of, unary_value as unary_value_of, unary_constant, binary_value as binary_value_of, binary_constant, converted_constant, is_true as is_true_of, truth_constant, settled as settled_of, both_constant, either_constant, chosen_constant};
 ghost use Rattle.cc_operands.specs.View.{constant_view};
 
-use cc_num::{BinOp, IntType, Target, UnOp, apply, apply_one, convert};
+use cc_program::num::{BinOp, IntType, Target, UnOp, apply, apply_one, convert};
 use cc_typed::{is_promoted, is_shift};
 
 /// What an expression is as an integer constant expression.

@@ -15,6 +15,9 @@ mod verdict;
 
 pub use arithmetic::binary;
 pub use assignment::{assigned, changed, stepped, stored};
+pub use cc_lex as lex;
+pub use cc_typed as typed_crate;
+pub use cc_typed::syntax;
 pub use choice::{chosen, comma};
 pub use constants::Constant;
 pub use operand::{

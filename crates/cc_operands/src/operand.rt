@@ -8,9 +8,9 @@ use crate::constants::Constant;
 use crate::qualified::type_of_value;
 use crate::types::OperandType;
 use cc_lex::Suffix;
-use cc_num::{BinOp, Boxed, IntType, NoMemory, Target, convert};
-use cc_syntax::Expr;
+use cc_program::num::{BinOp, Boxed, IntType, NoMemory, Target, convert};
 use cc_typed::same_int;
+use cc_typed::syntax::Expr;
 use std::alloc::Global;
 
 /// What an expression gives, and its type.

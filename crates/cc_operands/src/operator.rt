@@ -4,7 +4,7 @@ ghost use Rattle.std.specs.Prelude.{◌≡◌};
 ghost use Rattle.cc_operands.specs.Operators.{operator_of as operator_of_of, unary_operator_of as unary_operator_of_of, assigns_by as assigns_by_of};
 
 use cc_lex::Mark;
-use cc_num::BinOp;
+use cc_program::num::BinOp;
 
 /// A binary operator, by what its operands may be.
 #[derive(Clone, Copy)]

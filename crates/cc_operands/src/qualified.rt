@@ -6,8 +6,8 @@ ghost use Rattle.cc_operands.specs.View.{type_view};
 ghost use Rattle.cc_program.specs.declared.types.Shape.{Pointer as PointerTo};
 
 use crate::types::OperandType;
-use cc_num::{Boxed, NoMemory};
-use cc_syntax::{CType, Shape};
+use cc_program::num::{Boxed, NoMemory};
+use cc_typed::syntax::{CType, Shape};
 use std::alloc::Global;
 
 /// A type without qualifiers.

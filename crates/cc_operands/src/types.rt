@@ -3,12 +3,12 @@
 ghost use Rattle.std.specs.Prelude.{◌≡◌, IfOk};
 ghost use Rattle.cc_operands.specs.Operands.{is_pointer as is_pointer_of, is_nothing as is_nothing_of, is_to_void as is_to_void_of};
 ghost use Rattle.cc_operands.specs.View.{type_view};
-ghost use Rattle.cc_syntax.specs.Operators.{is_integer as is_integer_of, points_to_object as points_to_object_of};
-ghost use Rattle.cc_syntax.specs.Values.{is_scalar as is_scalar_of, point_alike as point_alike_of, is_assignable as is_assignable_of};
+ghost use Rattle.cc_typed.specs.CcSyntax.Operators.{is_integer as is_integer_of, points_to_object as points_to_object_of};
+ghost use Rattle.cc_typed.specs.CcSyntax.Values.{is_scalar as is_scalar_of, point_alike as point_alike_of, is_assignable as is_assignable_of};
 ghost use Rattle.cc_typed.specs.View.{value_view};
 
-use cc_num::{Boxed, IntType, NoMemory};
-use cc_syntax::{CType, Sig, Structure};
+use cc_program::num::{Boxed, IntType, NoMemory};
+use cc_typed::syntax::{CType, Sig, Structure};
 use cc_typed::{ValueType, is_void};
 use std::alloc::Global;
 

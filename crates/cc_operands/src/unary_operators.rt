@@ -4,7 +4,7 @@ ghost use Rattle.std.specs.Prelude.{◌≡◌, IfOk};
 ghost use Rattle.cc_operands.specs.Unary.{negated as negated_of, integer_by, plus_by, not_by, unary_of};
 ghost use Rattle.cc_operands.specs.Verdicts.{Judges};
 ghost use Rattle.cc_operands.specs.View.{operand_view, type_view};
-ghost use Rattle.cc_syntax.specs.Operators.{unary_result as unary_result_of};
+ghost use Rattle.cc_typed.specs.CcSyntax.Operators.{unary_result as unary_result_of};
 
 use crate::arithmetic::truth;
 use crate::operand::{Operand, against_null, converted_to, folded};
@@ -12,8 +12,8 @@ use crate::operator::UnaryOperator;
 use crate::rule::Rule;
 use crate::types::OperandType;
 use crate::verdict::Breach;
-use cc_num::{BinOp, Boxed, IntType, NoMemory, Target, UnOp, promote};
-use cc_syntax::Expr;
+use cc_program::num::{BinOp, Boxed, IntType, NoMemory, Target, UnOp, promote};
+use cc_typed::syntax::Expr;
 use std::alloc::Global;
 
 fn unary_result(op: UnOp, t: IntType) -> IntType

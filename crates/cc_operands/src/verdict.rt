@@ -15,10 +15,10 @@ pub enum Breach {
     NoMemory,
 }
 
-impl From<cc_num::NoMemory> for Breach {
+impl From<cc_program::num::NoMemory> for Breach {
     ghost from_gives = { λ _ e. e ≡ NoRoom };
 
-    fn from(_error: cc_num::NoMemory) -> Breach {
+    fn from(_error: cc_program::num::NoMemory) -> Breach {
         Breach::NoMemory
     }
 }

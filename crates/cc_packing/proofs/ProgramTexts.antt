@@ -18,11 +18,11 @@ use Rattle.cc_status.specs.declared.status.Status.{Status}
 use Rattle.cc_status.specs.declared.status.Status.TheVariants as status
 use Rattle.cc_status.specs.declared.status.What.{What}
 use Rattle.cc_status.specs.declared.status.What.TheVariants as what
-use Rattle.cc_steps.specs.Runs.{Follows, Answers}
-use Rattle.cc_syntax.proofs.StructureLemmas.{sound_sizes}
-use Rattle.cc_syntax.specs.Layout.{HasSizes}
-use Rattle.cc_syntax.specs.Normal.{IsNormal}
-use Rattle.cc_syntax.specs.Sound.{IsSound}
+use Rattle.cc_states.specs.CcSteps.Runs.{Follows, Answers}
+use Rattle.cc_states.proofs.CcSyntax.StructureLemmas.{sound_sizes}
+use Rattle.cc_states.specs.CcSyntax.Layout.{HasSizes}
+use Rattle.cc_states.specs.CcSyntax.Normal.{IsNormal}
+use Rattle.cc_states.specs.CcSyntax.Sound.{IsSound}
 use Rattle.cc_table.specs.Table.{table_text}
 
 -- ---- the texts that are written of a program in normal form

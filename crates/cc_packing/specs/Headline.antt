@@ -7,15 +7,15 @@ use Rattle.cc_layout.specs.Seats.{ram}
 use Rattle.cc_lower.specs.Lowered.{lowered}
 use Rattle.cc_material.specs.Material.{IsProfile}
 use Rattle.cc_material.specs.Programs.{IsProgram, IsWithin}
-use Rattle.cc_num.specs.declared.target.Target.{Target}
+use Rattle.cc_program.specs.CcNum.declared.target.Target.{Target}
 use Rattle.cc_packing.specs.Asked.{Asked}
 use Rattle.cc_packing.specs.Outputs.{AreWritten, IsOutLeft, IsTableLeft}
 use Rattle.cc_print.specs.Printed.{text}
 use Rattle.cc_program.specs.declared.program.Program.{Program}
 use Rattle.cc_program.specs.declared.program.Roles.{Roles}
 use Rattle.cc_read.specs.Texts.{Reads}
-use Rattle.cc_steps.specs.Runs.{Follows, Answers}
-use Rattle.cc_syntax.specs.Normal.{IsNormal}
+use Rattle.cc_states.specs.CcSteps.Runs.{Follows, Answers}
+use Rattle.cc_states.specs.CcSyntax.Normal.{IsNormal}
 use Rattle.cc_table.specs.Table.{table_text}
 
 -- the program q does what p does, in no more RAM

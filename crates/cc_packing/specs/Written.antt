@@ -4,7 +4,7 @@ use Rattle.cc_layout.specs.Seats.{ram}
 use Rattle.cc_print.specs.Printed.{text}
 use Rattle.cc_program.specs.declared.program.Program.{Program}
 use Rattle.cc_read.specs.Texts.{Reads}
-use Rattle.cc_syntax.specs.Normal.{IsNormal}
+use Rattle.cc_states.specs.CcSyntax.Normal.{IsNormal}
 use Rattle.cc_table.specs.Table.{table_text}
 
 -- the printed text, as which alone the program reads, and the rows of the table

@@ -14,7 +14,7 @@ use crate::outputs::{Texts, Unwritten, write};
 use crate::texts::texts_of_sources;
 use cc_edge::Store;
 use cc_files::copy_name;
-use cc_num::{List, Name, NoMemory};
+use cc_program::num::{List, Name, NoMemory};
 use cc_status::Status;
 use std::alloc::Global;
 

@@ -11,8 +11,8 @@ ghost use Rattle.cc_packing.specs.Written.{AreTextsOf};
 ghost use Rattle.cc_print.specs.Printed.{text};
 ghost use Rattle.cc_status.specs.declared.status.Status.TheVariants as status;
 ghost use Rattle.cc_status.specs.declared.status.What.TheVariants as what;
-ghost use Rattle.cc_syntax.specs.Normal.{IsNormal};
-ghost use Rattle.cc_syntax.specs.Sound.{IsSound};
+ghost use Rattle.cc_states.specs.CcSyntax.Normal.{IsNormal};
+ghost use Rattle.cc_states.specs.CcSyntax.Sound.{IsSound};
 
 use crate::outputs::Texts;
 use cc_discard::discard_program;

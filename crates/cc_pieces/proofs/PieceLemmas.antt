@@ -8,7 +8,7 @@ use Rattle.std.proofs.lemmas.Nat.{div-add-mod'}
 use Rattle.cc_lex.specs.declared.token.Mark.{Mark}
 use Rattle.cc_lex.specs.declared.token.Kind.TheVariants as kind
 use Rattle.cc_lex.specs.declared.token.Suffix.{Suffix}
-use Rattle.cc_words.specs.declared.word.Word.{Word}
+use Rattle.cc_program.specs.CcWords.declared.word.Word.{Word}
 use Rattle.cc_pieces.specs.declared.piece.Symbol.{Symbol}
 use Rattle.cc_pieces.specs.declared.piece.Symbol.TheVariants as symbol
 use Rattle.cc_pieces.specs.Pieces.{Gap, Token, Pieces, bytes_of, flat, indentation, space, end_of_line}

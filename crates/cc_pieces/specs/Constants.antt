@@ -2,11 +2,11 @@
 -- one in parentheses, and the least of its type by a difference, since its number alone has no such type.
 use Rattle.std.specs.Prelude.{ℕ, ◌-◌, ℤ, pos, int_lt, unsigned_abs, Bool, true, false, nat_lt, ◌∷◌, if◌then◌else◌}
 use Rattle.std.specs.Ordering.{int_eq}
-use Rattle.cc_num.specs.declared.int_type.IntType.{IntType}
-use Rattle.cc_num.specs.declared.int_type.IntType.TheVariants as int
-use Rattle.cc_num.specs.declared.target.Target.{Target}
-use Rattle.cc_num.specs.Integers.{least_of}
-use Rattle.cc_num.specs.Promotions.{rank_of}
+use Rattle.cc_program.specs.CcNum.declared.int_type.IntType.{IntType}
+use Rattle.cc_program.specs.CcNum.declared.int_type.IntType.TheVariants as int
+use Rattle.cc_program.specs.CcNum.declared.target.Target.{Target}
+use Rattle.cc_program.specs.CcNum.Integers.{least_of}
+use Rattle.cc_program.specs.CcNum.Promotions.{rank_of}
 use Rattle.cc_lex.specs.declared.token.Mark.TheVariants as m
 use Rattle.cc_pieces.specs.Pieces.{Piece, Pieces, punct, number, plain_number, space}
 

@@ -8,7 +8,7 @@ ghost use Rattle.cc_pieces.specs.View.{ended, left, number_in as number_in_of, p
 use crate::piece::Symbol;
 use crate::spellings::{suffix_text, word_text};
 use cc_lex::spelling;
-use cc_num::NoMemory;
+use cc_program::num::NoMemory;
 use std::alloc::Global;
 
 fn spell_number(alloc: Global, out: &mut Vec<u8>, number: u128) -> Result<(), NoMemory>

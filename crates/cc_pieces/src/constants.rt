@@ -7,7 +7,7 @@ ghost use Rattle.cc_pieces.specs.View.{piece_of, pieces_of};
 use crate::piece::{Piece, Symbol};
 use crate::puts::{number_piece, put, put_all};
 use cc_lex::Mark;
-use cc_num::{IntType, NoMemory, Target};
+use cc_program::num::{IntType, NoMemory, Target};
 
 fn has_unsigned_letter(t: IntType) -> bool
     ensures { result ≡ has_unsigned_letter_of t }

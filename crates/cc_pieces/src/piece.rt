@@ -1,5 +1,5 @@
 use cc_lex::{Mark, Suffix};
-use cc_words::Word;
+use cc_program::words::Word;
 
 /// A piece of a printed text: a token, or what stands between tokens.
 #[derive(Clone, Copy)]

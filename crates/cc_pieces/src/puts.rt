@@ -8,8 +8,8 @@ ghost use Rattle.cc_pieces.specs.View.{piece_of, pieces_of, put_in_front};
 
 use crate::piece::{Piece, Symbol};
 use cc_lex::{Mark, Suffix};
-use cc_num::NoMemory;
-use cc_words::Word;
+use cc_program::num::NoMemory;
+use cc_program::words::Word;
 
 /// Puts the symbols of bytes in front, from the last byte on.
 fn put_bytes(out: &mut Vec<Symbol>, bytes: &[u8]) -> Result<(), NoMemory>

@@ -1,11 +1,11 @@
 //! How keywords and suffixes are spelled (C99 6.4).
 
 ghost use Rattle.std.specs.Prelude.{◌≡◌};
-ghost use Rattle.cc_words.specs.Words.{spellings};
+ghost use Rattle.cc_program.specs.CcWords.Words.{spellings};
 ghost use Rattle.cc_pieces.specs.Pieces.{first_of, suffix_text as suffix_text_of};
 
 use cc_lex::Suffix;
-use cc_words::Word;
+use cc_program::words::Word;
 
 /// How a keyword is spelled plainly (C99 6.4.1).
 pub fn word_text(word: Word) -> &'static [u8]

@@ -7,14 +7,14 @@ ghost use Rattle.cc_pieces.specs.View.{pieces_of};
 ghost use Rattle.cc_pieces.specs.Pieces.{keyword, plain_number, punct, space};
 ghost use Rattle.cc_lex.specs.declared.token.Mark.TheVariants as m;
 ghost use Rattle.cc_program.specs.declared.types.Sig.{out-Sig};
-ghost use Rattle.cc_words.specs.declared.word.Word.TheVariants as w;
+ghost use Rattle.cc_program.specs.CcWords.declared.word.Word.TheVariants as w;
 
 use crate::piece::{Piece, Symbol};
 use crate::puts::{close, mark, name, number_piece, open, put, put_all, two_words, word};
 use cc_lex::Mark;
-use cc_num::{IntType, NoMemory, at};
+use cc_program::num::{IntType, NoMemory, at};
+use cc_program::words::Word;
 use cc_program::{CType, Shape, Sig, Structure};
-use cc_words::Word;
 
 /// What stands beside what a type writes, on the side of the declared name.
 #[derive(Clone, Copy)]

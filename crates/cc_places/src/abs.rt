@@ -8,8 +8,8 @@ ghost use Rattle.cc_places.specs.laws.AbstractLaws.{kind_itself, kind_back, abs_
 
 use crate::addrs::Addrs;
 use cc_lattice::{IntDomain, Lattice};
-use cc_num::NoMemory;
 use cc_program::Value;
+use cc_program::num::NoMemory;
 use std::alloc::Global;
 
 /// The values that a scalar may have: integers, told by a domain, or addresses. Two of them are of one kind

@@ -4,7 +4,7 @@ ghost use Rattle.std.specs.Prelude.{◌≡◌, ◌↔◌, IsTrue, IfOk, map};
 ghost use Rattle.cc_places.specs.Kept.{kept_root, kept, starred_part, starred, part_for, path_for, member_for};
 
 use crate::order::compare_paths;
-use cc_num::{List, NoMemory};
+use cc_program::num::{List, NoMemory};
 use cc_program::{Address, Part, Root, copy_list};
 use std::alloc::Global;
 

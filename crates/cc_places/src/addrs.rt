@@ -3,8 +3,8 @@
 ghost use Rattle.std.specs.Prelude.{IsTrue};
 ghost use Rattle.cc_places.specs.Members.{are_members};
 
-use cc_num::List;
 use cc_program::Address;
+use cc_program::num::List;
 
 /// How many addresses a set can tell exactly.
 pub(crate) const MOST_EXACT: usize = 64;

@@ -9,8 +9,8 @@ ghost use Rattle.cc_places.specs.laws.SetLaws.{within_itself, within_through, se
 use crate::addrs::Addrs;
 use crate::grow::{copy, union};
 use cc_lattice::Lattice;
-use cc_num::NoMemory;
 use cc_program::Address;
+use cc_program::num::NoMemory;
 use std::alloc::Global;
 
 impl Lattice for Addrs {

@@ -9,8 +9,8 @@ use crate::address::member_for;
 use crate::addrs::{Addrs, MOST_EXACT};
 use crate::listed::has_object;
 use crate::members::{add, copied};
-use cc_num::{List, NoMemory};
 use cc_program::Address;
+use cc_program::num::{List, NoMemory};
 use std::alloc::Global;
 
 impl Addrs {

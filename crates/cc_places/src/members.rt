@@ -7,8 +7,8 @@ ghost use Rattle.cc_places.specs.Members.{place_of, added};
 
 use crate::address::is_member_for;
 use crate::order::compare;
-use cc_num::{NoMemory, at};
 use cc_program::Address;
+use cc_program::num::{NoMemory, at};
 use std::alloc::Global;
 
 /// The members with an address at its place, unless it is there.

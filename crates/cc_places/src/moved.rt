@@ -11,7 +11,7 @@ ghost use Rattle.cc_places.specs.Moves.{IsMoved, AreMoved, HasMoved};
 use crate::addrs::Addrs;
 use crate::grow::with;
 use cc_lattice::Concrete;
-use cc_num::{List, NoMemory};
+use cc_program::num::{List, NoMemory};
 use cc_program::{Address, Part, Root, copy_list};
 use std::alloc::Global;
 

@@ -9,8 +9,8 @@ ghost use Rattle.cc_places.specs.Sets.{HasAddress, room_left};
 use crate::address::member_for;
 use crate::addrs::{Addrs, MOST_EXACT};
 use crate::members::contains;
-use cc_num::{List, NoMemory};
 use cc_program::Address;
+use cc_program::num::{List, NoMemory};
 use std::alloc::Global;
 
 impl Addrs {

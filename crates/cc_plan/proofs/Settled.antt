@@ -8,9 +8,9 @@ use Rattle.cc_cost.specs.declared.profile.Profile.{Profile}
 use Rattle.cc_cost_ranking.specs.declared.costs.Cost.{Cost}
 use Rattle.cc_cost_ranking.specs.declared.types.Budgets.{Budgets}
 use Rattle.cc_cost_ranking.specs.declared.types.Weights.{Weights}
-use Rattle.cc_flow.specs.declared.types.Flow.{Flow}
-use Rattle.cc_flow.specs.declared.types.Point.{Point}
-use Rattle.cc_flow.specs.Points.{flow_of}
+use Rattle.cc_state_points.specs.CcFlow.declared.types.Flow.{Flow}
+use Rattle.cc_state_points.specs.CcFlow.declared.types.Point.{Point}
+use Rattle.cc_state_points.specs.CcFlow.Points.{flow_of}
 use Rattle.cc_layout.specs.Seats.{ram}
 use Rattle.cc_plan.specs.Plans.{IsBreachOf, IsPlanOf, IsTableOf, candidates_of, costs_of, prices_of}
 use Rattle.cc_plan.specs.Settings.{budgets_of, weights_of}
@@ -29,8 +29,8 @@ use Rattle.cc_sets.specs.declared.vals.Vals.{Vals}
 use Rattle.cc_slots.specs.Domain.{vals_domain}
 use Rattle.cc_slots.specs.Slots.{AreSlots}
 use Rattle.cc_slots_types.specs.declared.slot.Slot.{Slot}
-use Rattle.cc_state_facts.specs.declared.facts.Facts.{Facts}
-use Rattle.cc_syntax.proofs.Prefixes.{both_true}
+use Rattle.cc_state_points.specs.CcStateFacts.declared.facts.Facts.{Facts}
+use Rattle.cc_state_points.proofs.CcSyntax.Prefixes.{both_true}
 
 within : (n most : ℕ) → nat_le n most ≡ true → n ≤ most
 within n most h = grind (arith, nat_tests)

@@ -8,10 +8,10 @@ use Rattle.std.proofs.lemmas.List.Elements.{All-contains, All-contains_itself, A
 use Rattle.std.proofs.lemmas.Nat.{mul-le}
 use Rattle.std.proofs.lemmas.Option.{none-some, slice_get_within}
 use Rattle.cc_code.specs.Members.{has_coding}
-use Rattle.cc_flow.specs.Points.{count_of}
+use Rattle.cc_state_points.specs.CcFlow.Points.{count_of}
 use Rattle.cc_layout.specs.Seats.{ram}
-use Rattle.cc_num.proofs.Conversions.{few_bytes}
-use Rattle.cc_num.specs.declared.target.Target.{Target}
+use Rattle.cc_program.proofs.CcNum.Conversions.{few_bytes}
+use Rattle.cc_program.specs.CcNum.declared.target.Target.{Target}
 use Rattle.cc_plan.proofs.Ascending.{few_ascending}
 use Rattle.cc_plan.specs.Plans.{candidates_of}
 use Rattle.cc_plan_costs.specs.Costs.{IsPriceable}
@@ -38,18 +38,18 @@ use Rattle.cc_slots_accesses.specs.Arrays.{is_array}
 use Rattle.cc_slots_types.specs.declared.reason.Reason.{Reason}
 use Rattle.cc_slots_types.specs.declared.reason.Reason.TheVariants as reason
 use Rattle.cc_slots_types.specs.declared.slot.Slot.{Slot}
-use Rattle.cc_state.specs.Covered.{IsInLimits}
-use Rattle.cc_state.specs.Shape.{HaveShape, IsSlot, ctype_of, is_row_shape, is_scalar_type, is_slot_type}
-use Rattle.cc_state_facts.specs.declared.facts.Facts.{Facts}
-use Rattle.cc_state_facts.specs.declared.facts.Key.{Key}
-use Rattle.cc_state_facts.specs.declared.facts.Key.TheVariants as key
-use Rattle.cc_state_facts.specs.declared.facts.PointFact.{PointFact}
-use Rattle.cc_state_facts.specs.Facts.{fact_at}
-use Rattle.cc_state_keys.specs.Keys.{has_member_key, has_object_key, keys_of, local_keys, member_keys}
-use Rattle.cc_state_keys.specs.Lists.{all_from, made_from, only_if}
-use Rattle.cc_syntax.specs.Layout.{layouts, shape_layout, size_of}
-use Rattle.cc_syntax.specs.Values.{scalar_shape}
-use Rattle.cc_syntax.proofs.TypeLayouts.{layout-opens, parts_layout}
+use Rattle.cc_state_points.specs.CcState.Covered.{IsInLimits}
+use Rattle.cc_state_points.specs.CcState.Shape.{HaveShape, IsSlot, ctype_of, is_row_shape, is_scalar_type, is_slot_type}
+use Rattle.cc_state_points.specs.CcStateFacts.declared.facts.Facts.{Facts}
+use Rattle.cc_state_points.specs.CcStateFacts.declared.facts.Key.{Key}
+use Rattle.cc_state_points.specs.CcStateFacts.declared.facts.Key.TheVariants as key
+use Rattle.cc_state_points.specs.CcStateFacts.declared.facts.PointFact.{PointFact}
+use Rattle.cc_state_points.specs.CcStateFacts.Facts.{fact_at}
+use Rattle.cc_state_points.specs.CcStateKeys.Keys.{has_member_key, has_object_key, keys_of, local_keys, member_keys}
+use Rattle.cc_state_points.specs.CcStateKeys.Lists.{all_from, made_from, only_if}
+use Rattle.cc_state_points.specs.CcSyntax.Layout.{layouts, shape_layout, size_of}
+use Rattle.cc_state_points.specs.CcSyntax.Values.{scalar_shape}
+use Rattle.cc_state_points.proofs.CcSyntax.TypeLayouts.{layout-opens, parts_layout}
 
 -- ---- a scalar has at most 8 bytes
 

@@ -2,7 +2,7 @@
 use Rattle.std.specs.Prelude.{◌≡◌, ℕ, List, Option, None, length, map}
 use Rattle.cc_cost.specs.declared.profile.Profile.{Profile}
 use Rattle.cc_cost_ranking.specs.declared.costs.Cost.{Cost}
-use Rattle.cc_flow.specs.Points.{flow_of}
+use Rattle.cc_state_points.specs.CcFlow.Points.{flow_of}
 use Rattle.cc_layout.specs.Seats.{ram}
 use Rattle.cc_rewrite_names.specs.NewNames.{word_names}
 use Rattle.cc_plan_choice.specs.Choice.{IsChoice}
@@ -21,7 +21,7 @@ use Rattle.cc_slots.specs.Domain.{vals_domain}
 use Rattle.cc_slots.specs.Slots.{AreSlots}
 use Rattle.cc_slots_accesses.specs.Arrays.{is_array}
 use Rattle.cc_slots_types.specs.declared.slot.Slot.{Slot}
-use Rattle.cc_state_facts.specs.declared.facts.Facts.{Facts}
+use Rattle.cc_state_points.specs.CcStateFacts.declared.facts.Facts.{Facts}
 use Rattle.cc_plan.specs.Settings.{budgets_of, weights_of}
 
 -- slots as plans see them

@@ -1,22 +1,22 @@
 //! Whether a plan is legal.
 
 ghost use Rattle.std.specs.Prelude.{◌≡◌, ◌≤◌, IfOk};
-ghost use Rattle.cc_flow.specs.Points.{flow_of};
+ghost use Rattle.cc_state_points.specs.CcFlow.Points.{flow_of};
 ghost use Rattle.cc_layout.specs.Seats.{ram as ram_of};
 ghost use Rattle.cc_plan.specs.Plans.{IsBreachOf};
 ghost use Rattle.cc_slots.specs.Domain.{vals_domain};
-ghost use Rattle.cc_state.specs.Covered.{IsInLimits};
-ghost use Rattle.cc_state.specs.Shape.{HaveShape};
+ghost use Rattle.cc_state_points.specs.CcState.Covered.{IsInLimits};
+ghost use Rattle.cc_state_points.specs.CcState.Shape.{HaveShape};
 
-use cc_flow::Flow;
-use cc_num::NoMemory;
 use cc_plan_costs::candidates;
 use cc_plan_legal::kinds::Plan;
 use cc_plan_legal::{Illegal, first_illegal};
 use cc_program::Program;
+use cc_program::num::NoMemory;
 use cc_sets::Vals;
 use cc_slots::slots;
-use cc_state_facts::Facts;
+use cc_state_points::flow::Flow;
+use cc_state_points::state_facts::Facts;
 use std::alloc::Global;
 
 /// The first slot of a program that breaks a rule in a plan, and its least rule. None where the plan is legal. The only error is want of

@@ -1,23 +1,23 @@
 //! The plan of a program.
 
 ghost use Rattle.std.specs.Prelude.{◌≡◌, ◌≤◌, IfOk};
-ghost use Rattle.cc_flow.specs.Points.{flow_of};
+ghost use Rattle.cc_state_points.specs.CcFlow.Points.{flow_of};
 ghost use Rattle.cc_layout.specs.Seats.{ram as ram_of};
 ghost use Rattle.cc_plan.specs.Plans.{IsLegal, IsPlanOf};
 ghost use Rattle.cc_slots.specs.Domain.{vals_domain};
-ghost use Rattle.cc_state.specs.Covered.{IsInLimits};
-ghost use Rattle.cc_state.specs.Shape.{HaveShape};
+ghost use Rattle.cc_state_points.specs.CcState.Covered.{IsInLimits};
+ghost use Rattle.cc_state_points.specs.CcState.Shape.{HaveShape};
 
 use crate::settings::{budgets_of, weights_of};
 use cc_cost::Profile;
-use cc_flow::Flow;
-use cc_num::NoMemory;
 use cc_plan_costs::{candidates, counts_of, prices};
 use cc_plan_legal::kinds::Plan;
 use cc_program::Program;
+use cc_program::num::NoMemory;
 use cc_sets::Vals;
 use cc_slots::slots;
-use cc_state_facts::Facts;
+use cc_state_points::flow::Flow;
+use cc_state_points::state_facts::Facts;
 use std::alloc::Global;
 
 /// The plan of a program, by facts of its shape and a profile: of the slots that have no reason those are coded that gain most for what

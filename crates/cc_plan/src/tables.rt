@@ -1,25 +1,25 @@
 //! The table of a plan.
 
 ghost use Rattle.std.specs.Prelude.{◌≡◌, ◌≤◌, IfOk};
-ghost use Rattle.cc_flow.specs.Points.{flow_of};
+ghost use Rattle.cc_state_points.specs.CcFlow.Points.{flow_of};
 ghost use Rattle.cc_layout.specs.Seats.{ram as ram_of};
 ghost use Rattle.cc_plan.specs.Plans.{IsTableOf};
 ghost use Rattle.cc_slots.specs.Domain.{vals_domain};
-ghost use Rattle.cc_state.specs.Covered.{IsInLimits};
-ghost use Rattle.cc_state.specs.Shape.{HaveShape};
+ghost use Rattle.cc_state_points.specs.CcState.Covered.{IsInLimits};
+ghost use Rattle.cc_state_points.specs.CcState.Shape.{HaveShape};
 
 use cc_cost::Profile;
-use cc_flow::Flow;
 use cc_layout::ram;
-use cc_num::NoMemory;
 use cc_plan_costs::{costs, counts_of};
 use cc_plan_legal::kinds::Plan;
 use cc_plan_table::Ram;
 use cc_program::Program;
+use cc_program::num::NoMemory;
 use cc_rewrite_names::word_names;
 use cc_sets::Vals;
 use cc_slots::slots;
-use cc_state_facts::Facts;
+use cc_state_points::flow::Flow;
+use cc_state_points::state_facts::Facts;
 use std::alloc::Global;
 
 /// The table of a plan for a program: how each of its slots is coded or why it is not, and what that saves and costs, where the program

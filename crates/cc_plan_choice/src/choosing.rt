@@ -15,9 +15,9 @@ use crate::lists::{slots_with, wants};
 use crate::order::{by_slot, in_order, slots_of};
 use cc_bins::{Bins, place};
 use cc_cost_ranking::{Budgets, Costed, Weights, rank};
-use cc_num::{List, NoMemory};
 use cc_plan_legal::kinds::Plan;
 use cc_plan_legal::{Candidate, Parts};
+use cc_program::num::{List, NoMemory};
 use std::alloc::Global;
 
 /// The lists of the plan that takes these slots, which are in order, and places them so.

@@ -6,8 +6,8 @@ ghost use Rattle.cc_plan_choice.specs.Fates.{has_fate as has_fate_of, slots_with
 
 use crate::fate::{Fate, fate_of, is_wanted};
 use cc_bins::Want;
-use cc_num::NoMemory;
 use cc_plan_legal::Candidate;
+use cc_program::num::NoMemory;
 use std::alloc::Global;
 
 fn has_fate(taken: &[u32], fielded: &[u32], fate: Fate, slot: u32, candidate: &Candidate) -> bool

@@ -6,7 +6,7 @@ ghost use Rattle.cc_plan_legal.specs.Legality.{is_among as is_among_of};
 ghost use Rattle.cc_plan_legal.specs.Plans.{slots_of as slots_of_fields};
 
 use cc_bins::Field;
-use cc_num::NoMemory;
+use cc_program::num::NoMemory;
 use std::alloc::Global;
 
 /// Slots in order.

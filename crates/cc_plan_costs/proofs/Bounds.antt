@@ -3,8 +3,8 @@ use Rattle.std.proofs.Common.{◌≡◌, ◌≤◌, true, length, arith}
 use Rattle.std.proofs.lemmas.List.{length-map}
 use Rattle.cc_code.specs.Members.{has_coding, members_of}
 use Rattle.cc_code.proofs.MemberLemmas.{few_addresses}
-use Rattle.cc_places.specs.declared.abs.Abs.{Abs}
-use Rattle.cc_places.specs.declared.abs.Abs.TheVariants.{Ints, Addrs}
+use Rattle.cc_rules_flows.specs.CcPlaces.declared.abs.Abs.{Abs}
+use Rattle.cc_rules_flows.specs.CcPlaces.declared.abs.Abs.TheVariants.{Ints, Addrs}
 use Rattle.cc_program.specs.declared.value.Value.TheVariants as value
 use Rattle.cc_sets.specs.declared.vals.Vals.{Vals}
 use Rattle.cc_sets.specs.declared.vals.Vals.TheVariants.{Few, Many}

@@ -4,13 +4,13 @@ use Rattle.std.specs.Prelude.{bit_or, max, nat_eq}
 use Rattle.std.specs.Int.{bit_at}
 use Rattle.std.specs.List.{list_any}
 use Rattle.std.proofs.lemmas.Nat.Bits.{bit_at_or}
-use Rattle.cc_flow.specs.declared.types.Point.{Point}
+use Rattle.cc_rules_flows.specs.CcFlow.declared.types.Point.{Point}
 use Rattle.cc_plan_costs.specs.Guards.{from_at, is_entered, levels_to, running_at, with_from}
 use Rattle.cc_sets.specs.declared.vals.Vals.{Vals}
 use Rattle.cc_slots_accesses.specs.Known.{may_be_on}
-use Rattle.cc_state_facts.specs.declared.facts.Facts.{Facts}
-use Rattle.cc_state_facts.specs.Facts.{fact_at}
-use Rattle.cc_state_facts.specs.Levels.{all_levels, has_level, may_enter, one_may_enter}
+use Rattle.cc_rules_flows.specs.CcStateFacts.declared.facts.Facts.{Facts}
+use Rattle.cc_rules_flows.specs.CcStateFacts.Facts.{fact_at}
+use Rattle.cc_rules_flows.specs.CcStateFacts.Levels.{all_levels, has_level, may_enter, one_may_enter}
 
 -- ---- truth values
 

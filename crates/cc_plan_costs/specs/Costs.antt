@@ -6,11 +6,11 @@ use Rattle.cc_code.specs.Codings.{kind_of}
 use Rattle.cc_code.specs.Members.{has_coding, members_of}
 use Rattle.cc_cost_ranking.specs.declared.costs.Cost.{Cost}
 use Rattle.cc_cost_ranking.specs.Estimates.{cost, estimate_of}
-use Rattle.cc_flow.specs.declared.types.Point.{Point}
+use Rattle.cc_rules_flows.specs.CcFlow.declared.types.Point.{Point}
 use Rattle.cc_program.specs.declared.program.Program.{Program}
 use Rattle.cc_slots_types.specs.declared.reason.Reason.{Reason}
 use Rattle.cc_slots_types.specs.declared.slot.Slot.{Slot}
-use Rattle.cc_state_facts.specs.declared.facts.Facts.{Facts}
+use Rattle.cc_rules_flows.specs.CcStateFacts.declared.facts.Facts.{Facts}
 use Rattle.cc_plan_costs.specs.Sites.{sites_of}
 
 -- no more accesses than a program has points; and a slot without a reason has a coding

@@ -1,7 +1,7 @@
 -- How often functions run, as a profile says it; and so how often a point does.
 use Rattle.std.specs.Prelude.{ℕ, List, [], ◌∷◌, map, bytes_eq, slice_get, unwrap_or, if◌then◌else◌}
 use Rattle.std.specs.Option.{option_map_or}
-use Rattle.cc_flow.specs.declared.types.Point.{Point}
+use Rattle.cc_rules_flows.specs.CcFlow.declared.types.Point.{Point}
 use Rattle.cc_program.specs.declared.func.Func.{Func}
 use Rattle.cc_program.specs.declared.program.Program.{Program}
 

@@ -1,7 +1,7 @@
 -- Which accesses of a slot are guarded, before words are made: those of a word that holds one more slot, which is touched as this one
 -- is; of a packed array, those of its elements. The word has 16 bits where the slot has more than 8, and else 8.
 use Rattle.std.specs.Prelude.{ℕ, Bool, true, false, not, ◌&&◌, ◌||◌, nat_lt, bit_or, List, fold, if◌then◌else◌}
-use Rattle.cc_flow.specs.declared.types.Point.{Point}
+use Rattle.cc_rules_flows.specs.CcFlow.declared.types.Point.{Point}
 use Rattle.cc_plan_legal.specs.Short.{element_bits}
 use Rattle.cc_program.specs.declared.program.Program.{Program}
 use Rattle.cc_slots_accesses.specs.Arrays.{is_array}
@@ -9,9 +9,9 @@ use Rattle.cc_slots_accesses.specs.Known.{may_be_on}
 use Rattle.cc_slots_types.specs.declared.class.Class.{Class}
 use Rattle.cc_slots_types.specs.declared.class.Class.TheVariants.{Lone, Read, Written}
 use Rattle.cc_slots_types.specs.declared.slot.Slot.{Slot}
-use Rattle.cc_state_facts.specs.declared.facts.Facts.{Facts}
-use Rattle.cc_state_facts.specs.Facts.{fact_at, levels_of}
-use Rattle.cc_state_facts.specs.Levels.{one_may_enter}
+use Rattle.cc_rules_flows.specs.CcStateFacts.declared.facts.Facts.{Facts}
+use Rattle.cc_rules_flows.specs.CcStateFacts.Facts.{fact_at, levels_of}
+use Rattle.cc_rules_flows.specs.CcStateFacts.Levels.{one_may_enter}
 use Rattle.cc_plan_costs.specs.Counts.{func_of}
 
 -- handlers read or write the slot; they may write it

@@ -1,11 +1,11 @@
 -- The accesses of a slot: how many there are at its points, or how often they are made.
 use Rattle.std.specs.Prelude.{ℕ, ◌+◌, List, sum_by, if◌then◌else◌}
 use Rattle.cc_cost_ranking.specs.declared.costs.Sites.{Sites}
-use Rattle.cc_flow.specs.declared.types.Point.{Point}
+use Rattle.cc_rules_flows.specs.CcFlow.declared.types.Point.{Point}
 use Rattle.cc_program.specs.declared.program.Program.{Program}
 use Rattle.cc_slots_accesses.specs.Arrays.{is_array}
 use Rattle.cc_slots_types.specs.declared.slot.Slot.{Slot}
-use Rattle.cc_state_facts.specs.declared.facts.Facts.{Facts}
+use Rattle.cc_rules_flows.specs.CcStateFacts.declared.facts.Facts.{Facts}
 use Rattle.cc_plan_costs.specs.Counts.{weight_at}
 use Rattle.cc_plan_costs.specs.Guards.{against_read, against_write, is_entered}
 

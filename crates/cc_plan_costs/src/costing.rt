@@ -8,13 +8,13 @@ use crate::sites::sites_of;
 use cc_code::kind_of;
 use cc_code::kinds::Coding;
 use cc_cost_ranking::{Cost, Sites, estimate};
-use cc_flow::Point;
-use cc_num::NoMemory;
-use cc_places::Abs;
 use cc_program::Program;
+use cc_program::num::NoMemory;
+use cc_rules_flows::flow::Point;
+use cc_rules_flows::places::Abs;
+use cc_rules_flows::state_facts::Facts;
 use cc_sets::Vals;
 use cc_slots_types::Slot;
-use cc_state_facts::Facts;
 use std::alloc::Global;
 
 pub(crate) fn coding_of(slot: &Slot) -> Coding

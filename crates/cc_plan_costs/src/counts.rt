@@ -3,8 +3,8 @@
 ghost use Rattle.std.specs.Prelude.{◌≡◌, ◌≤◌, ◌^◌, All, IfOk, bytes_eq};
 ghost use Rattle.cc_plan_costs.specs.Counts.{count_for as count_for_name, counts_of as counts_of_program};
 
-use cc_num::{Name, NoMemory};
 use cc_program::Program;
+use cc_program::num::{Name, NoMemory};
 use std::alloc::Global;
 
 fn is_same(name: &[u8], other: &[u8]) -> bool

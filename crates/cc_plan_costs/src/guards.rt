@@ -6,15 +6,15 @@ ghost use Rattle.cc_plan_costs.specs.Guards.{against_access as against_access_of
 ghost use Rattle.cc_plan_legal.specs.Short.{element_bits as element_bits_of};
 ghost use Rattle.cc_slots_accesses.specs.Arrays.{is_array as is_array_of};
 ghost use Rattle.cc_slots_accesses.specs.Known.{may_be_on as may_be_on_of};
-ghost use Rattle.cc_state_facts.specs.Facts.{fact_at as fact_at_of, levels_of as levels_of_number};
+ghost use Rattle.cc_rules_flows.specs.CcStateFacts.Facts.{fact_at as fact_at_of, levels_of as levels_of_number};
 
 use crate::weights::func_of;
-use cc_flow::Point;
-use cc_num::at;
 use cc_program::Program;
+use cc_program::num::at;
+use cc_rules_flows::flow::Point;
+use cc_rules_flows::state_facts::{Facts, Key, PointFact, levels_of_both, one_may_enter};
 use cc_slots_accesses::array_length;
 use cc_slots_types::{Class, Slot};
-use cc_state_facts::{Facts, Key, PointFact, levels_of_both, one_may_enter};
 
 /// What is known at a point.
 fn fact_at<I>(facts: &Facts<I>, n: u32) -> Option<&PointFact<I>>

@@ -1,12 +1,12 @@
 ghost use Rattle.std.specs.Prelude.{◌≡◌, ◌&&◌, ℕ, List};
 ghost use Rattle.std.specs.List.{list_any};
-ghost use Rattle.cc_flow.specs.declared.types.Point.{Point};
+ghost use Rattle.cc_rules_flows.specs.CcFlow.declared.types.Point.{Point};
 ghost use Rattle.cc_plan_costs.specs.Guards.{from_at, is_entered, levels_to, running_at};
 ghost use Rattle.cc_sets.specs.declared.vals.Vals.{Vals};
 ghost use Rattle.cc_slots_accesses.specs.Known.{may_be_on};
-ghost use Rattle.cc_state_facts.specs.declared.facts.Facts.{Facts};
-ghost use Rattle.cc_state_facts.specs.Facts.{fact_at};
-ghost use Rattle.cc_state_facts.specs.Levels.{one_may_enter};
+ghost use Rattle.cc_rules_flows.specs.CcStateFacts.declared.facts.Facts.{Facts};
+ghost use Rattle.cc_rules_flows.specs.CcStateFacts.Facts.{fact_at};
+ghost use Rattle.cc_rules_flows.specs.CcStateFacts.Levels.{one_may_enter};
 
 /// When an access is guarded against others. The call does nothing.
 pub fn laws()

@@ -5,9 +5,9 @@ ghost use Rattle.cc_plan_legal.specs.Candidates.{candidate_of as candidate_of_sl
 ghost use Rattle.cc_slots_accesses.specs.Arrays.{is_array as is_array_of};
 
 use crate::guards::is_array;
-use cc_num::NoMemory;
 use cc_plan_legal::{Candidate, candidate_of};
 use cc_program::Program;
+use cc_program::num::NoMemory;
 use cc_slots_types::Slot;
 use std::alloc::Global;
 

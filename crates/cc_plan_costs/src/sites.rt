@@ -6,10 +6,10 @@ ghost use Rattle.cc_plan_costs.specs.Sites.{guarded_of as guarded_of_points, gua
 use crate::guards::{against_access, against_write, is_array, is_entered};
 use crate::weights::{total_of, weight_at};
 use cc_cost_ranking::Sites;
-use cc_flow::Point;
 use cc_program::Program;
+use cc_rules_flows::flow::Point;
+use cc_rules_flows::state_facts::Facts;
 use cc_slots_types::Slot;
-use cc_state_facts::Facts;
 
 /// How often a point is come to, where a handler of one of some levels may enter there.
 fn guarded_weight<I>(points: &[Point], counts: &[u64], facts: &Facts<I>, levels: u8, n: u32) -> u64

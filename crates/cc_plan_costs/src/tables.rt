@@ -7,11 +7,11 @@ ghost use Rattle.cc_plan_costs.specs.Costs.{price_of as price_of_slot, table_byt
 use crate::costing::{accesses_cost, coding_of, member_count};
 use cc_code::kinds::Coding;
 use cc_cost_ranking::Cost;
-use cc_flow::Point;
-use cc_num::NoMemory;
 use cc_program::Program;
+use cc_program::num::NoMemory;
+use cc_rules_flows::flow::Point;
+use cc_rules_flows::state_facts::Facts;
 use cc_slots_types::Slot;
-use cc_state_facts::Facts;
 use std::alloc::Global;
 
 /// The bytes of a slot's table: a scalar for each member.

@@ -4,8 +4,8 @@ ghost use Rattle.std.specs.Prelude.{◌≡◌, ◌≤◌, ◌^◌, All, length};
 ghost use Rattle.cc_plan_costs.specs.Counts.{func_of as func_of_point, weight_at as weight_at_point};
 ghost use Rattle.cc_plan_costs.specs.Sites.{total_of as total_of_points};
 
-use cc_flow::Point;
-use cc_num::at;
+use cc_program::num::at;
+use cc_rules_flows::flow::Point;
 
 /// The function in which a point stands, by its id.
 pub(crate) fn func_of(points: &[Point], n: u32) -> u32

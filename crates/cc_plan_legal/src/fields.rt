@@ -7,7 +7,7 @@ ghost use Rattle.cc_plan_legal.specs.Legality.{end_of as end_of_field, overlap a
 
 use crate::candidate::Candidate;
 use cc_bins::Field;
-use cc_num::at;
+use cc_program::num::at;
 
 /// The bits of a slot's code.
 pub(crate) fn bits_of(slots: &[Candidate], slot: u32) -> u32

@@ -4,7 +4,7 @@ ghost use Rattle.std.specs.Prelude.{◌≡◌, ◌++◌, ◌∷◌, [], IfOk, On
 ghost use Rattle.cc_plan_legal.specs.Lookup.{no_fields, put_at, put_all};
 
 use cc_bins::{Field, Word};
-use cc_num::{List, NoMemory};
+use cc_program::num::{List, NoMemory};
 use std::alloc::Global;
 use std::mem;
 

@@ -9,7 +9,7 @@ ghost use Rattle.cc_plan_legal.specs.Plans.{ascends, slots_of as slots_of_fields
 use crate::groups::{Group, by_word};
 use crate::kinds::Plan;
 use cc_bins::Field;
-use cc_num::{List, NoMemory, at};
+use cc_program::num::{List, NoMemory, at};
 use std::alloc::Global;
 
 /// The slots of a plan's fields, and for each word its fields.

@@ -4,7 +4,7 @@ ghost use Rattle.std.specs.Prelude.{IsTrue};
 ghost use Rattle.cc_plan_legal.specs.Plans.{ascends, slots_of, are_in, are_used};
 
 use cc_bins::{Field, Word};
-use cc_num::List;
+use cc_program::num::List;
 
 /// Which slots are coded, and how; each list ascends by slot.
 #[derive(Drop)]

@@ -8,7 +8,7 @@ use crate::candidate::Candidate;
 use crate::index::{Index, index_of};
 use crate::kinds::Plan;
 use crate::rules::breaks;
-use cc_num::NoMemory;
+use cc_program::num::NoMemory;
 use std::alloc::Global;
 
 /// A slot that breaks a rule, and the least rule that it breaks: what it has, and what it would need.

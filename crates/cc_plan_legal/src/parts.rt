@@ -6,7 +6,7 @@ ghost use Rattle.cc_plan_legal.specs.Parts.{is_plan, HasParts};
 use crate::kinds::Plan;
 use crate::plans::{are_in, are_used, ascend, fields_ascend};
 use cc_bins::{Field, Word};
-use cc_num::List;
+use cc_program::num::List;
 
 /// Lists that may be those of a plan.
 #[derive(Drop)]

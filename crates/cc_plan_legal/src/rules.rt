@@ -11,7 +11,7 @@ use crate::kinds::Plan;
 use crate::legal::Illegal;
 use crate::standing::{stands_as, times};
 use cc_bins::{Field, Word};
-use cc_num::at;
+use cc_program::num::at;
 
 fn breach(slot: u32, rule: u8, have: u64, need: u64) -> Illegal
     ensures { result ≡ breach_of slot rule have need }

@@ -5,8 +5,8 @@ ghost use Rattle.cc_plan_legal.specs.Short.{element_bits as element_bits_of};
 ghost use Rattle.cc_plan_offers.specs.Offers.{bits_by, gain_of, offer_of, offers_from};
 
 use cc_cost_ranking::{Cost, Costed};
-use cc_num::NoMemory;
 use cc_plan_legal::{Candidate, Form};
+use cc_program::num::NoMemory;
 use std::alloc::Global;
 
 /// The bits that an element of a packed array takes.

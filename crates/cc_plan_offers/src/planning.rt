@@ -9,10 +9,10 @@ ghost use Rattle.cc_plan_offers.specs.Offers.{offers_from};
 
 use crate::offered::offers;
 use cc_cost_ranking::{Budgets, Cost, Weights};
-use cc_num::NoMemory;
 use cc_plan_choice::choose;
 use cc_plan_legal::Candidate;
 use cc_plan_legal::kinds::Plan;
+use cc_program::num::NoMemory;
 use std::alloc::Global;
 
 /// The plan of slots, where it is known what coding each costs: those without a reason are ranked by what they gain for their price, and

@@ -8,7 +8,7 @@ use Rattle.cc_code.specs.Codings.{by_optional_ends}
 use Rattle.cc_code.specs.Members.{members_of}
 use Rattle.cc_cost_ranking.specs.declared.costs.Cost.{Cost}
 use Rattle.cc_explicit.specs.Sets.{list_ends}
-use Rattle.cc_num.specs.Integers.{least_of_bits, most_of_bits}
+use Rattle.cc_program.specs.CcNum.Integers.{least_of_bits, most_of_bits}
 use Rattle.cc_places.specs.declared.abs.Abs.TheVariants.{Ints, Addrs}
 use Rattle.cc_places.specs.declared.addrs.Addrs.{Addrs as Set}
 use Rattle.cc_plan_legal.specs.declared.kinds.Plan.{Plan}

@@ -3,7 +3,7 @@
 ghost use Rattle.std.specs.Prelude.{◌≡◌, ◌++◌, OnOk};
 ghost use Rattle.cc_plan_table.specs.Table.{fields_of, line_of};
 
-use cc_num::NoMemory;
+use cc_program::num::NoMemory;
 use cc_state_texts::put;
 use csv::WriterBuilder;
 use std::alloc::Global;

@@ -9,10 +9,10 @@ use crate::columns::coding_of;
 use crate::standing::standing_in;
 use cc_code::kinds::Coding;
 use cc_cost_ranking::Cost;
-use cc_num::at;
 use cc_places::Abs;
 use cc_plan_legal::Index;
 use cc_plan_legal::kinds::Plan;
+use cc_program::num::at;
 use cc_sets::Vals;
 use cc_slots_types::Slot;
 

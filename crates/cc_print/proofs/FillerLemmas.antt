@@ -1,7 +1,7 @@
 -- The value of a type by its shape; that of a structure stands on the structures before it.
 use Rattle.std.proofs.Common.{arith, ◌≡◌, ◌<◌, ◌≤◌, ◌+◌, ℕ, zero, suc, fold, List, [], ◌∷◌, ◌++◌, length, length-append, take, drop, get_or, refl, ap, sym, ◌∙◌, Option, Some, None, slice_get, unwrap_or}
 use Rattle.std.proofs.lemmas.Option.{slice_get_past}
-use Rattle.cc_num.specs.declared.int_type.IntType.{IntType}
+use Rattle.cc_program.specs.CcNum.declared.int_type.IntType.{IntType}
 use Rattle.cc_program.specs.declared.program.Program.{Program}
 use Rattle.cc_program.specs.declared.types.CType.{CType, fold-CType, fold_out-CType}
 use Rattle.cc_program.specs.declared.types.Shape.{Shape, Void, Int, Pointer, Array, Struct, Func, fold-Shape, fold_out-Shape, out-Shape, map-Shape}
@@ -12,9 +12,9 @@ use Rattle.cc_program.specs.declared.types.Structure.{Structure}
 use Rattle.cc_program.specs.declared.value.Leaf.{Leaf}
 use Rattle.cc_lex.specs.declared.token.Mark.TheVariants as m
 use Rattle.cc_pieces.specs.Pieces.{Pieces, punct}
-use Rattle.cc_syntax.specs.Types.{Named}
-use Rattle.cc_syntax.proofs.Prefixes.{take_length}
-use Rattle.cc_syntax.proofs.Shapes.{read_at}
+use Rattle.cc_typed.specs.CcSyntax.Types.{Named}
+use Rattle.cc_typed.proofs.CcSyntax.Prefixes.{take_length}
+use Rattle.cc_typed.proofs.CcSyntax.Shapes.{read_at}
 use Rattle.cc_print.specs.Values.{Filled, Filler, filled, in_front, braced, elements, all_members, member_fillers, pointee_shape, int_leaf, pointer_leaf, scalar, shape_filler, filler_over, structure_filler, structure_fillers, filler}
 
 some_same : {A : Type 0} → {x y : A} → Some x ≡ Some y → x ≡ y

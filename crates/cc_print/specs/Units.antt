@@ -1,8 +1,8 @@
 -- The pieces of a program's declarations (C99 6.7, 6.9), in front of those that follow.
 use Rattle.std.specs.Prelude.{ℕ, ◌+◌, Bool, true, false, ◌||◌, nat_eq, List, [], ◌∷◌, Option, Some, None, codes, map, take, drop, if◌then◌else◌}
 use Rattle.std.specs.List.{list_any}
-use Rattle.cc_num.specs.declared.int_type.IntType.TheVariants as int
-use Rattle.cc_words.specs.declared.word.Word.TheVariants as w
+use Rattle.cc_program.specs.CcNum.declared.int_type.IntType.TheVariants as int
+use Rattle.cc_program.specs.CcWords.declared.word.Word.TheVariants as w
 use Rattle.cc_lex.specs.declared.token.Mark.TheVariants as m
 use Rattle.cc_program.specs.declared.expr.Expr.{out-Expr}
 use Rattle.cc_program.specs.declared.expr.Intr.{Intr}
@@ -19,7 +19,7 @@ use Rattle.cc_program.specs.declared.types.CType.{CType, fold-CType}
 use Rattle.cc_program.specs.declared.types.Shape.TheOpen as shape
 use Rattle.cc_program.specs.declared.types.Sig.{Sig, out-Sig, fold-Sig}
 use Rattle.cc_program.specs.declared.types.Structure.{Structure}
-use Rattle.cc_syntax.specs.Types.{Named}
+use Rattle.cc_typed.specs.CcSyntax.Types.{Named}
 use Rattle.cc_pieces.specs.Declarators.{declarator, signature, declaration, int_name, qualifiers}
 use Rattle.cc_pieces.specs.declared.types.Inside.TheVariants.{Name}
 use Rattle.cc_pieces.specs.Pieces.{Pieces, punct, keyword, ident, space, indent}

@@ -1,8 +1,8 @@
 -- The first values of static objects (C99 6.7.8). A value is printed from its last scalar to its first, each with the
 -- last of the leaves that are left; where there is none it is zero or null.
 use Rattle.std.specs.Prelude.{ℕ, zero, suc, ◌-◌, pos, Bool, true, false, ◌||◌, nat_eq, fold, List, [], ◌∷◌, ◌++◌, length, map, Option, Some, None, unwrap_or, slice_get, option_and_then, if◌then◌else◌}
-use Rattle.cc_num.specs.declared.int_type.IntType.{IntType}
-use Rattle.cc_words.specs.declared.word.Word.TheVariants as w
+use Rattle.cc_program.specs.CcNum.declared.int_type.IntType.{IntType}
+use Rattle.cc_program.specs.CcWords.declared.word.Word.TheVariants as w
 use Rattle.cc_lex.specs.declared.token.Mark.TheVariants as m
 use Rattle.cc_program.specs.Qualifiers.{is_const}
 use Rattle.cc_program.specs.declared.object.Object.{Object}
@@ -20,10 +20,10 @@ use Rattle.cc_program.specs.declared.value.Part.{Part}
 use Rattle.cc_program.specs.declared.value.Part.TheVariants as part
 use Rattle.cc_program.specs.declared.value.Root.{Root}
 use Rattle.cc_program.specs.declared.value.Root.TheVariants as root
-use Rattle.cc_syntax.specs.Initial.{step_into}
-use Rattle.cc_syntax.specs.SameTypes.{alike}
-use Rattle.cc_syntax.specs.Types.{Named}
-use Rattle.cc_syntax.specs.Values.{PlaceType, DevicePlace, ObjectPlace, FunctionPlace, object_place, element_of}
+use Rattle.cc_typed.specs.CcSyntax.Initial.{step_into}
+use Rattle.cc_typed.specs.CcSyntax.SameTypes.{alike}
+use Rattle.cc_typed.specs.CcSyntax.Types.{Named}
+use Rattle.cc_typed.specs.CcSyntax.Values.{PlaceType, DevicePlace, ObjectPlace, FunctionPlace, object_place, element_of}
 use Rattle.cc_pieces.specs.Constants.{constant}
 use Rattle.cc_pieces.specs.Declarators.{declaration}
 use Rattle.cc_pieces.specs.Pieces.{Pieces, punct, keyword, plain_number, space}

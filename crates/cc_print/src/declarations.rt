@@ -5,18 +5,18 @@ ghost use Rattle.std.specs.Option.{option_copied};
 ghost use Rattle.cc_pieces.specs.Declarators.{signature};
 ghost use Rattle.cc_pieces.specs.View.{pieces_of};
 ghost use Rattle.cc_print.specs.Units.{each, attribute, entry_attribute, function_head, prototype, further_parameters, named_parameters, object_line, device_named, device_line, function};
-ghost use Rattle.cc_syntax.specs.Sizes.{AreSized};
+ghost use Rattle.cc_typed.specs.CcSyntax.Sizes.{AreSized};
 
 use crate::structures::put_member_lines;
 use cc_bodies::{Context, put_closed, put_ended, put_opened, put_stmts};
 use cc_lex::Mark;
-use cc_num::{Name, NoMemory};
 use cc_pieces::{
     Inside, Piece, Symbol, mark, name, put_all, put_behind, put_declaration, put_front,
     put_int_name, put_parameters, put_qualifiers, word,
 };
+use cc_program::num::{Name, NoMemory};
+use cc_program::words::Word;
 use cc_program::{CType, Device, Entry, Func, Object, Program, Structure};
-use cc_words::Word;
 
 fn put_device_named<'p>(
     out: &mut Vec<Symbol>,

@@ -3,15 +3,15 @@
 ghost use Rattle.std.specs.Prelude.{◌≡◌, IfOk, OnOk};
 ghost use Rattle.cc_pieces.specs.View.{pieces_of};
 ghost use Rattle.cc_print.specs.Printed.{intrinsics, types, objects, printed, text};
-ghost use Rattle.cc_syntax.specs.Normal.{IsNormal};
-ghost use Rattle.cc_syntax.specs.Sizes.{AreSized};
+ghost use Rattle.cc_typed.specs.CcSyntax.Normal.{IsNormal};
+ghost use Rattle.cc_typed.specs.CcSyntax.Sizes.{AreSized};
 
 use crate::declarations::{put_device_lines, put_functions, put_object_lines, put_prototypes};
 use crate::structures::{put_announcements, put_structures};
 use crate::uses::put_intrinsic_prototype;
 use crate::values::put_definitions;
-use cc_num::NoMemory;
 use cc_pieces::{Symbol, spell};
+use cc_program::num::NoMemory;
 use cc_program::{Intr, Program};
 use std::alloc::Global;
 

@@ -3,17 +3,17 @@
 ghost use Rattle.std.specs.Prelude.{◌≡◌, ◌∷◌, OnOk, take};
 ghost use Rattle.cc_pieces.specs.Pieces.{ident, keyword, space};
 ghost use Rattle.cc_pieces.specs.View.{pieces_of};
-ghost use Rattle.cc_words.specs.declared.word.Word.TheVariants as w;
+ghost use Rattle.cc_program.specs.CcWords.declared.word.Word.TheVariants as w;
 ghost use Rattle.cc_print.specs.Units.{each, is_base as is_base_of, is_named_in as is_named_in_of, is_named_by as is_named_by_of, any_true, naming as naming_of, or_else, member_naming as member_naming_of, first_naming as first_naming_of, is_in_parameters as is_in_parameters_of, tag_line, line_if, announcements, member_line, structure_of, structure};
 ghost use Rattle.std.specs.Prelude.{map};
 ghost use Rattle.cc_program.specs.declared.types.Sig.{out-Sig};
 
 use cc_bodies::{put_ended, put_opened};
 use cc_lex::Mark;
-use cc_num::{Name, NoMemory};
 use cc_pieces::{Piece, Symbol, mark, put, put_all, put_declaration};
+use cc_program::num::{Name, NoMemory};
+use cc_program::words::Word;
 use cc_program::{CType, Shape, Sig, Structure};
-use cc_words::Word;
 
 /// Whether the words of a type name the structure.
 #[tactic(auto, unfolding(crate::specs::Units::is_base))]

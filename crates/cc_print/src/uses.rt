@@ -10,10 +10,10 @@ ghost use Rattle.std.specs.List.{list_any};
 
 use cc_bodies::{intrinsic_name, put_ended};
 use cc_lex::Mark;
-use cc_num::{IntType, NoMemory};
 use cc_pieces::{Piece, Symbol, mark, put_all, put_int_name, word};
+use cc_program::num::{IntType, NoMemory};
+use cc_program::words::Word;
 use cc_program::{Case, Expr, Intr, Program, Stmt};
-use cc_words::Word;
 
 fn is_same(i: Intr, j: Intr) -> bool
     ensures { result ≡ is_intr i j }

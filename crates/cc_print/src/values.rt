@@ -7,18 +7,18 @@ ghost use Rattle.cc_print.specs.Values.{filled, is_element as is_element_of, has
 ghost use Rattle.cc_print.specs.Units.{each};
 ghost use Rattle.cc_lex.specs.declared.token.Mark.TheVariants as m;
 ghost use Rattle.cc_pieces.specs.Pieces.{punct, plain_number, space};
-ghost use Rattle.cc_syntax.specs.Values.{element_of as element_of_place};
+ghost use Rattle.cc_typed.specs.CcSyntax.Values.{element_of as element_of_place};
 ghost use Rattle.cc_typed.specs.View.{place_view};
 
 use cc_bodies::{func_name, member_name, put_ended, put_named};
 use cc_lex::Mark;
-use cc_num::{IntType, Name, NoMemory, at};
 use cc_pieces::{
     Piece, Symbol, mark, number, number_piece, put_all, put_constant, put_declaration, spaced_mark,
 };
+use cc_program::num::{IntType, Name, NoMemory, at};
+use cc_program::words::Word;
 use cc_program::{Address, CType, Leaf, Object, Part, Program, Root, Shape, Structure};
 use cc_typed::{PlaceType, alike, object_place, step_into};
-use cc_words::Word;
 
 fn is_element(to: &CType, element: Option<PlaceType>) -> bool
     ensures { result ≡ is_element_of to.now (option_map place_view element.entry) }

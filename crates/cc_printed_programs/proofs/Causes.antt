@@ -33,18 +33,18 @@ use Rattle.cc_printed_programs.proofs.Things.{thing_with, things-are, how-many, 
 use Rattle.cc_printed_programs.proofs.UnitNames.{function-there, Shown, NamedDevice, AFunction, AnObject, NumberedDevice, shown-at}
 use Rattle.cc_structures.proofs.Elements.{In, any-in, in-any, in-map_from}
 use Rattle.cc_structures.specs.Structures.{Known, Numbering, type_in}
-use Rattle.cc_syntax.proofs.Parts.{all_at}
-use Rattle.cc_syntax.proofs.Prefixes.{both_true}
-use Rattle.cc_syntax.proofs.SameLemmas.{compared}
-use Rattle.cc_syntax.specs.Lists.{come_first}
-use Rattle.cc_syntax.specs.Normal.{has_name}
-use Rattle.cc_syntax.specs.Operators.{is_handler}
-use Rattle.cc_syntax.specs.SameTypes.{same_type}
-use Rattle.cc_syntax.specs.Sound.{IsSound, IsFunc, entry_fits, form_fits, is_handler_name, is_main, is_main_there, is_plain_int, is_plain_void, main_name, takes_nothing}
+use Rattle.cc_type.proofs.CcSyntax.Parts.{all_at}
+use Rattle.cc_type.proofs.CcSyntax.Prefixes.{both_true}
+use Rattle.cc_type.proofs.CcSyntax.SameLemmas.{compared}
+use Rattle.cc_type.specs.CcSyntax.Lists.{come_first}
+use Rattle.cc_type.specs.CcSyntax.Normal.{has_name}
+use Rattle.cc_type.specs.CcSyntax.Operators.{is_handler}
+use Rattle.cc_type.specs.CcSyntax.SameTypes.{same_type}
+use Rattle.cc_type.specs.CcSyntax.Sound.{IsSound, IsFunc, entry_fits, form_fits, is_handler_name, is_main, is_main_there, is_plain_int, is_plain_void, main_name, takes_nothing}
 use Rattle.cc_things.specs.Mentions.{mentions_of}
 use Rattle.cc_things.specs.Things.{Thing, things, is_defined, is_device, is_used, is_external}
-use Rattle.cc_unit.specs.declared.ids.Ids.{Ids}
-use Rattle.cc_unit.specs.declared.unit.UnitName.{UnitName}
+use Rattle.cc_type.specs.CcUnit.declared.ids.Ids.{Ids}
+use Rattle.cc_type.specs.CcUnit.declared.unit.UnitName.{UnitName}
 
 not-true : (b : Bool) → (b ≡ true → ⊥) → b ≡ false
 not-true true h = absurd (h refl)

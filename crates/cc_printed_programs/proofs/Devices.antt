@@ -3,9 +3,9 @@ use Rattle.std.proofs.Common.{◌≡◌, ◌∙◌, Bool, true, false, not, ◌|
 use Rattle.std.specs.Prelude.{if◌then◌else◌}
 use Rattle.std.specs.List.{list_any}
 use Rattle.cc_program.specs.declared.object.Device.{Device}
-use Rattle.cc_syntax.specs.Lists.{come_first}
-use Rattle.cc_syntax.specs.Normal.{has_name, count_named}
-use Rattle.cc_syntax.specs.Sound.{is_numbered}
+use Rattle.cc_type.specs.CcSyntax.Lists.{come_first}
+use Rattle.cc_type.specs.CcSyntax.Normal.{has_name, count_named}
+use Rattle.cc_type.specs.CcSyntax.Sound.{is_numbered}
 
 or-both : (a b : Bool) → (a || b) ≡ false → (a ≡ false) × (b ≡ false)
 or-both false b h = (refl, h)

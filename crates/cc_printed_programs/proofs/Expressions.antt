@@ -21,18 +21,18 @@ use Rattle.cc_shown_expressions.specs.OperationNumbers.{expr_step as number_step
 use Rattle.cc_shown_expressions.proofs.Levels.{one-is, two-is, type-at, place-at, expr-at, place-numbered-at}
 use Rattle.cc_printed_programs.specs.Returning.{Returns, HoldsOfNames}
 use Rattle.cc_printed_programs.proofs.Types.{comes, null-comes, pointer-stands}
-use Rattle.cc_syntax.proofs.Prefixes.{both_true}
-use Rattle.cc_syntax.specs.Expressions.{of_one, of_two, pointer_type}
-use Rattle.cc_syntax.specs.Operators.{when, when_assignable, function_type, is_handler, unary_type, binary_type, conversion_type, moved_type, gap_type, comparison_type, logical_type, choice_type, assignment_type, change_type, after_type, call_type, intrinsic_type, subscript_type}
-use Rattle.cc_syntax.specs.Expressions.{qualified_type}
-use Rattle.cc_syntax.specs.Programs.{expr_step, place_step, type_of, place_type}
-use Rattle.cc_syntax.specs.Values.{ValueType, NoValue, Integer, ToObject, ToFunction, PlaceType, is_assignable_some, are_assignable, scalar_value, result_value, read_from, written_to, address_of, pointed_to, member_of}
-use Rattle.cc_syntax.specs.Views.{of_program}
-use Rattle.cc_unit.specs.Mentioned as mentioned
-use Rattle.cc_unit.specs.Mentioned.{in_expr, in_place, all_of}
-use Rattle.cc_unit.specs.Renumbered as renumbered
-use Rattle.cc_unit.specs.Renumbered.{expr_renumbered, place_renumbered, type_renumbered}
-use Rattle.cc_unit.specs.declared.ids.Ids.{Ids}
+use Rattle.cc_type.proofs.CcSyntax.Prefixes.{both_true}
+use Rattle.cc_type.specs.CcSyntax.Expressions.{of_one, of_two, pointer_type}
+use Rattle.cc_type.specs.CcSyntax.Operators.{when, when_assignable, function_type, is_handler, unary_type, binary_type, conversion_type, moved_type, gap_type, comparison_type, logical_type, choice_type, assignment_type, change_type, after_type, call_type, intrinsic_type, subscript_type}
+use Rattle.cc_type.specs.CcSyntax.Expressions.{qualified_type}
+use Rattle.cc_type.specs.CcSyntax.Programs.{expr_step, place_step, type_of, place_type}
+use Rattle.cc_type.specs.CcSyntax.Values.{ValueType, NoValue, Integer, ToObject, ToFunction, PlaceType, is_assignable_some, are_assignable, scalar_value, result_value, read_from, written_to, address_of, pointed_to, member_of}
+use Rattle.cc_type.specs.CcSyntax.Views.{of_program}
+use Rattle.cc_type.specs.CcUnit.Mentioned as mentioned
+use Rattle.cc_type.specs.CcUnit.Mentioned.{in_expr, in_place, all_of}
+use Rattle.cc_type.specs.CcUnit.Renumbered as renumbered
+use Rattle.cc_type.specs.CcUnit.Renumbered.{expr_renumbered, place_renumbered, type_renumbered}
+use Rattle.cc_type.specs.CcUnit.declared.ids.Ids.{Ids}
 
 -- ---- what is there
 

@@ -14,15 +14,15 @@ use Rattle.cc_printed_programs.proofs.Naming.{Apart, parted, joined, flipped, ap
 use Rattle.cc_printed_programs.proofs.Things.{mention_at}
 use Rattle.cc_printed_programs.proofs.UnitNames.{named, Shown, NamedDevice, AFunction, AnObject, NumberedDevice, shown-at}
 use Rattle.cc_structures.proofs.Elements.{any-in, length-map_of}
-use Rattle.cc_syntax.proofs.Prefixes.{both_true}
-use Rattle.cc_syntax.specs.Lists.{come_first}
-use Rattle.cc_syntax.specs.Names.{device_names, file_names, intrinsic_names}
-use Rattle.cc_syntax.specs.Normal.{has_name, count_named}
-use Rattle.cc_syntax.specs.SameTypes.{same_int, same_flag}
-use Rattle.cc_syntax.specs.Sound.{IsSound, devices_differ, is_numbered, is_same_device}
+use Rattle.cc_type.proofs.CcSyntax.Prefixes.{both_true}
+use Rattle.cc_type.specs.CcSyntax.Lists.{come_first}
+use Rattle.cc_type.specs.CcSyntax.Names.{device_names, file_names, intrinsic_names}
+use Rattle.cc_type.specs.CcSyntax.Normal.{has_name, count_named}
+use Rattle.cc_type.specs.CcSyntax.SameTypes.{same_int, same_flag}
+use Rattle.cc_type.specs.CcSyntax.Sound.{IsSound, devices_differ, is_numbered, is_same_device}
 use Rattle.cc_things.specs.Things.{Identity, External, Numbered, Single, identity_of, external_or, address_or, position_of_type}
-use Rattle.cc_unit.specs.declared.unit.UnitName.{UnitName}
-use Rattle.cc_words.specs.Names.{is_name, are_distinct}
+use Rattle.cc_type.specs.CcUnit.declared.unit.UnitName.{UnitName}
+use Rattle.cc_program.specs.CcWords.Names.{is_name, are_distinct}
 
 -- ---- names that a program's file has, in the order of its text
 

@@ -16,7 +16,7 @@ use Rattle.cc_program.specs.declared.types.Shape.TheOpen as shape
 use Rattle.cc_program.specs.declared.types.Shape.TheVariants.{outs-Func}
 use Rattle.cc_program.specs.declared.types.Sig.{Sig, out-Sig, roll-out-Sig}
 use Rattle.cc_program.specs.declared.value.Leaf.{Leaf}
-use Rattle.cc_operands.specs.Qualified.{plain}
+use Rattle.cc_type.specs.CcOperands.Qualified.{plain}
 use Rattle.cc_shown_declarations.specs.Numbers.{leaf_numbered}
 use Rattle.cc_shown_effects.specs.Numbers.{stmt_numbered}
 use Rattle.cc_shown_expressions.specs.KnownNames.{TypesStand}
@@ -37,17 +37,17 @@ use Rattle.cc_printed_programs.proofs.Types.{comes, sig-back}
 use Rattle.cc_printed_programs.proofs.UnitNames.{Shown, NamedDevice, AFunction, AnObject, NumberedDevice, shown-at}
 use Rattle.cc_printed_programs.proofs.Values.{LeavesCome, initial-comes}
 use Rattle.cc_structures.proofs.Elements.{In, in-any, in-cases}
-use Rattle.cc_syntax.proofs.Parts.{all_at}
-use Rattle.cc_syntax.specs.Kinds.{Kind, is_object_type, is_sig, is_plain_scalar, extent_in}
-use Rattle.cc_syntax.specs.Lists.{come_first}
-use Rattle.cc_syntax.specs.Normal.{has_name, count_named}
-use Rattle.cc_syntax.specs.Operators.{is_handler}
-use Rattle.cc_syntax.specs.Programs.{kind_in, IsInitial}
-use Rattle.cc_syntax.specs.Sound.{IsSound, IsFunc, is_main_there}
-use Rattle.cc_unit.specs.Mentioned.{mentioned, in_kind}
-use Rattle.cc_unit.specs.Renumbered.{type_renumbered, sig_renumbered}
-use Rattle.cc_unit.specs.declared.ids.Ids.{Ids}
-use Rattle.cc_unit.specs.declared.unit.UnitName.{UnitName}
+use Rattle.cc_type.proofs.CcSyntax.Parts.{all_at}
+use Rattle.cc_type.specs.CcSyntax.Kinds.{Kind, is_object_type, is_sig, is_plain_scalar, extent_in}
+use Rattle.cc_type.specs.CcSyntax.Lists.{come_first}
+use Rattle.cc_type.specs.CcSyntax.Normal.{has_name, count_named}
+use Rattle.cc_type.specs.CcSyntax.Operators.{is_handler}
+use Rattle.cc_type.specs.CcSyntax.Programs.{kind_in, IsInitial}
+use Rattle.cc_type.specs.CcSyntax.Sound.{IsSound, IsFunc, is_main_there}
+use Rattle.cc_type.specs.CcUnit.Mentioned.{mentioned, in_kind}
+use Rattle.cc_type.specs.CcUnit.Renumbered.{type_renumbered, sig_renumbered}
+use Rattle.cc_type.specs.CcUnit.declared.ids.Ids.{Ids}
+use Rattle.cc_type.specs.CcUnit.declared.unit.UnitName.{UnitName}
 
 not-true : (b : Bool) → (b ≡ true → ⊥) → b ≡ false
 not-true true h = absurd (h refl)

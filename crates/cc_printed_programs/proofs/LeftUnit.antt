@@ -5,11 +5,11 @@ use Rattle.std.proofs.lemmas.Bool.Decides.{nat_tests}
 use Rattle.std.proofs.lemmas.List.{length-map, length-append}
 use Rattle.std.specs.Prelude.{nat_lt, if◌then◌else◌}
 use Rattle.cc_expression_trees.proofs.Levels.{sig-roll}
-use Rattle.cc_numbering.specs.Names.{own_id, count_of, name_in}
-use Rattle.cc_numbering.specs.Structures.{all_named_in}
-use Rattle.cc_numbering.specs.Units.{ids_of, unit_left}
-use Rattle.cc_operands.specs.Qualified.{plain}
-use Rattle.cc_typed_terms.specs.Devices.{declared_device}
+use Rattle.cc_type.specs.CcNumbering.Names.{own_id, count_of, name_in}
+use Rattle.cc_type.specs.CcNumbering.Structures.{all_named_in}
+use Rattle.cc_type.specs.CcNumbering.Units.{ids_of, unit_left}
+use Rattle.cc_type.specs.CcOperands.Qualified.{plain}
+use Rattle.cc_type.specs.CcTypedTerms.Devices.{declared_device}
 use Rattle.cc_program.specs.declared.expr.Place.{Device as DeviceAt}
 use Rattle.cc_program.specs.declared.func.Entry.{Entry}
 use Rattle.cc_program.specs.declared.func.Func.{Func}
@@ -25,8 +25,8 @@ use Rattle.cc_program.specs.declared.value.Leaf.{Leaf}
 use Rattle.cc_program.specs.declared.value.Leaf.TheVariants as leaf
 use Rattle.cc_program.specs.declared.value.Root.{Root}
 use Rattle.cc_program.specs.declared.value.Root.TheVariants as root
-use Rattle.cc_scopes.specs.State.{State}
-use Rattle.cc_scopes.specs.declared.unit.Declared.{Declared}
+use Rattle.cc_type.specs.CcScopes.State.{State}
+use Rattle.cc_type.specs.CcScopes.declared.unit.Declared.{Declared}
 use Rattle.cc_shown_declarations.specs.Entries.{written_entry}
 use Rattle.cc_shown_declarations.specs.Numbers.{root_numbered, leaf_numbered}
 use Rattle.cc_shown_declarations.proofs.Left.{number-left, structures-left}
@@ -46,22 +46,22 @@ use Rattle.cc_printed_programs.specs.Units.{structure_shown, device_linkage, dev
 use Rattle.cc_printed_programs.proofs.ShownLists.{get-left, get-right, get-map}
 use Rattle.cc_printed_programs.proofs.Statements.{body-comes}
 use Rattle.cc_printed_programs.proofs.Types.{comes, sig-back}
-use Rattle.cc_syntax.proofs.Parts.{all_at}
-use Rattle.cc_syntax.proofs.Prefixes.{both_true}
-use Rattle.cc_syntax.specs.Kinds.{is_sig, is_plain_scalar, extent_in}
-use Rattle.cc_syntax.specs.Lists.{come_first, is_count}
-use Rattle.cc_syntax.specs.Normal.{IsNormal, has_name, count_named, next_of, devices_in_text}
-use Rattle.cc_syntax.specs.Programs.{kind_in}
-use Rattle.cc_syntax.specs.Sound.{IsSound, IsFunc, is_numbered, is_object}
-use Rattle.cc_syntax.specs.Types.{Named}
+use Rattle.cc_type.proofs.CcSyntax.Parts.{all_at}
+use Rattle.cc_type.proofs.CcSyntax.Prefixes.{both_true}
+use Rattle.cc_type.specs.CcSyntax.Kinds.{is_sig, is_plain_scalar, extent_in}
+use Rattle.cc_type.specs.CcSyntax.Lists.{come_first, is_count}
+use Rattle.cc_type.specs.CcSyntax.Normal.{IsNormal, has_name, count_named, next_of, devices_in_text}
+use Rattle.cc_type.specs.CcSyntax.Programs.{kind_in}
+use Rattle.cc_type.specs.CcSyntax.Sound.{IsSound, IsFunc, is_numbered, is_object}
+use Rattle.cc_type.specs.CcSyntax.Types.{Named}
 use Rattle.cc_unit_trees.specs.Externals.{is_given}
-use Rattle.cc_unit.specs.Renumbered.{structure_by, object_by, device_by, func_by, type_renumbered, sig_renumbered, stmt_renumbered}
-use Rattle.cc_unit.specs.declared.ids.Ids.{Ids}
-use Rattle.cc_unit.specs.declared.unit.Linkage.{Linkage}
-use Rattle.cc_unit.specs.declared.unit.Linkage.TheVariants as linkage
-use Rattle.cc_unit.specs.declared.unit.UnitKind.TheVariants as kind
-use Rattle.cc_unit.specs.declared.unit.UnitName.{UnitName}
-use Rattle.cc_unit.specs.declared.unit.UnitStructure.{UnitStructure}
+use Rattle.cc_type.specs.CcUnit.Renumbered.{structure_by, object_by, device_by, func_by, type_renumbered, sig_renumbered, stmt_renumbered}
+use Rattle.cc_type.specs.CcUnit.declared.ids.Ids.{Ids}
+use Rattle.cc_type.specs.CcUnit.declared.unit.Linkage.{Linkage}
+use Rattle.cc_type.specs.CcUnit.declared.unit.Linkage.TheVariants as linkage
+use Rattle.cc_type.specs.CcUnit.declared.unit.UnitKind.TheVariants as kind
+use Rattle.cc_type.specs.CcUnit.declared.unit.UnitName.{UnitName}
+use Rattle.cc_type.specs.CcUnit.declared.unit.UnitStructure.{UnitStructure}
 use Rattle.cc_printed_programs.proofs.Devices.{none-dropped, numbered-behind}
 use Rattle.cc_printed_programs.proofs.Lists.{get-there, placed-there, placed-length, own-at, four-mapped, mapped-all}
 use Rattle.cc_printed_programs.proofs.Names.{count-one, linkage-named, no-name, object-some, sig-own, int-stays, function-type, same-structures}

@@ -6,10 +6,10 @@ use Rattle.cc_printed_programs.specs.Ascending.{Ascend}
 use Rattle.cc_printed_programs.specs.Units.{unit_shown}
 use Rattle.cc_printed_programs.proofs.Kept.{are-kept}
 use Rattle.cc_printed_programs.proofs.Program.{ids, ids-return, kept-links}
-use Rattle.cc_syntax.proofs.Prefixes.{both_true}
-use Rattle.cc_syntax.specs.Lists.{come_first, is_count}
-use Rattle.cc_syntax.specs.Normal.{devices_in_order, has_name, count_named, devices_in_text, next_of}
-use Rattle.cc_syntax.specs.Sound.{IsSound}
+use Rattle.cc_type.proofs.CcSyntax.Prefixes.{both_true}
+use Rattle.cc_type.specs.CcSyntax.Lists.{come_first, is_count}
+use Rattle.cc_type.specs.CcSyntax.Normal.{devices_in_order, has_name, count_named, devices_in_text, next_of}
+use Rattle.cc_type.specs.CcSyntax.Sound.{IsSound}
 use Rattle.cc_things.specs.declared.text.Text.{Text}
 
 abbrev pub text_with : Program → (ℕ → ℕ) → (ℕ → ℕ) → List (List ℕ) → Text

@@ -21,13 +21,13 @@ use Rattle.cc_printed_programs.proofs.Things.{thing_with, numbers-are}
 use Rattle.cc_printed_programs.proofs.UnitNames.{named, numbered, in-positioned, passes-at, named-there, function-there, object-there, Shown, NamedDevice, AFunction, AnObject, NumberedDevice, shown-at}
 use Rattle.cc_structures.proofs.Elements.{In, in-map_from, length-map_of}
 use Rattle.cc_structures.specs.Structures.{Known}
-use Rattle.cc_syntax.specs.Lists.{come_first}
-use Rattle.cc_syntax.specs.Names.{intrinsic_names, local_names}
-use Rattle.cc_syntax.specs.Normal.{has_name, count_named}
-use Rattle.cc_syntax.specs.SameTypes.{same_flag}
-use Rattle.cc_syntax.specs.Sound.{IsSound, is_numbered}
+use Rattle.cc_type.specs.CcSyntax.Lists.{come_first}
+use Rattle.cc_type.specs.CcSyntax.Names.{intrinsic_names, local_names}
+use Rattle.cc_type.specs.CcSyntax.Normal.{has_name, count_named}
+use Rattle.cc_type.specs.CcSyntax.SameTypes.{same_flag}
+use Rattle.cc_type.specs.CcSyntax.Sound.{IsSound, is_numbered}
 use Rattle.cc_things.specs.Things.{Thing, things, is_external_linkage}
-use Rattle.cc_unit.specs.declared.unit.UnitName.{UnitName}
+use Rattle.cc_type.specs.CcUnit.declared.unit.UnitName.{UnitName}
 
 length-append : {A : Type 0} (xs ys : List A) → length (xs ++ ys) ≡ length xs + length ys
 length-append [] ys = omega arith

@@ -3,9 +3,9 @@ use Rattle.std.proofs.Common.{◌≡◌, ◌∙◌, ℕ, suc, Bool, true, false,
 use Rattle.std.proofs.lemmas.Bool.Decides.{nat_tests}
 use Rattle.std.specs.Prelude.{nat_lt, if◌then◌else◌}
 use Rattle.std.specs.Option.{is_none}
-use Rattle.cc_num.specs.declared.int_type.IntType.{IntType}
-use Rattle.cc_numbering.specs.Names.{count_of}
-use Rattle.cc_operands.specs.Qualified.{plain}
+use Rattle.cc_program.specs.CcNum.declared.int_type.IntType.{IntType}
+use Rattle.cc_type.specs.CcNumbering.Names.{count_of}
+use Rattle.cc_type.specs.CcOperands.Qualified.{plain}
 use Rattle.cc_program.specs.declared.types.CType.{CType}
 use Rattle.cc_program.specs.declared.types.Shape.{Int, out-Shape, Func as FuncShape}
 use Rattle.cc_program.specs.declared.types.Shape.TheOpen as shape
@@ -20,11 +20,11 @@ use Rattle.cc_shown_expressions.proofs.Numbering.{level-at}
 use Rattle.cc_printed_programs.specs.Units.{members_shown, structure_shown, device_linkage}
 use Rattle.cc_structures.proofs.WordLaws.{level-renumbered}
 use Rattle.cc_structures.proofs.WordLaws as words
-use Rattle.cc_syntax.specs.Kinds.{Kind, is_object_type}
-use Rattle.cc_syntax.specs.Types.{Named}
-use Rattle.cc_unit.specs.Renumbered.{type_renumbered, sig_renumbered}
-use Rattle.cc_unit.specs.declared.unit.Linkage.TheVariants as linkage
-use Rattle.cc_unit.specs.declared.unit.UnitStructure.{UnitStructure}
+use Rattle.cc_type.specs.CcSyntax.Kinds.{Kind, is_object_type}
+use Rattle.cc_type.specs.CcSyntax.Types.{Named}
+use Rattle.cc_type.specs.CcUnit.Renumbered.{type_renumbered, sig_renumbered}
+use Rattle.cc_type.specs.CcUnit.declared.unit.Linkage.TheVariants as linkage
+use Rattle.cc_type.specs.CcUnit.declared.unit.UnitStructure.{UnitStructure}
 
 pub count-one : (b : Bool) → count_of true (if b then 1 else 0) ≡ 1
 count-one true = refl

@@ -6,8 +6,8 @@ use Rattle.std.proofs.lemmas.List.Folds.{list_any-append}
 use Rattle.cc_given_names.proofs.Among.{same-text, itself, absent-both, left-absent, right-absent}
 use Rattle.cc_names.specs.Names.{Own, is_among, name_for, names_for}
 use Rattle.cc_structures.proofs.Elements.{In, any-in, in-any, in-cases}
-use Rattle.cc_syntax.proofs.Prefixes.{both_true}
-use Rattle.cc_words.specs.Names.{are_distinct}
+use Rattle.cc_type.proofs.CcSyntax.Prefixes.{both_true}
+use Rattle.cc_program.specs.CcWords.Names.{are_distinct}
 
 not-true : (b : Bool) → (b ≡ true → ⊥) → b ≡ false
 not-true true h = absurd (h refl)

@@ -45,21 +45,21 @@ use Rattle.cc_printed_programs.proofs.Things.{id-here}
 use Rattle.cc_printed_programs.proofs.UnitNames.{named, numbered, devices-are, named-there, numbered-there, function-there, object-there, device-there}
 use Rattle.cc_structures.proofs.Elements.{In, map-both, length-map_of}
 use Rattle.cc_structures.specs.Structures.{Known, Numbering}
-use Rattle.cc_syntax.proofs.Parts.{all_at}
-use Rattle.cc_syntax.proofs.Prefixes.{both_true}
-use Rattle.cc_syntax.specs.Lists.{come_first}
-use Rattle.cc_syntax.specs.Names.{file_names, intrinsic_names, local_names, tags}
-use Rattle.cc_syntax.specs.Normal.{has_name, count_named}
-use Rattle.cc_syntax.specs.Sound.{IsSound, IsFunc, main_name}
-use Rattle.cc_syntax.specs.Types.{Named}
+use Rattle.cc_type.proofs.CcSyntax.Parts.{all_at}
+use Rattle.cc_type.proofs.CcSyntax.Prefixes.{both_true}
+use Rattle.cc_type.specs.CcSyntax.Lists.{come_first}
+use Rattle.cc_type.specs.CcSyntax.Names.{file_names, intrinsic_names, local_names, tags}
+use Rattle.cc_type.specs.CcSyntax.Normal.{has_name, count_named}
+use Rattle.cc_type.specs.CcSyntax.Sound.{IsSound, IsFunc, main_name}
+use Rattle.cc_type.specs.CcSyntax.Types.{Named}
 use Rattle.cc_things.specs.Things.{Thing}
 use Rattle.cc_things.specs.declared.text.Text.{Text}
-use Rattle.cc_unit.specs.Renumbered.{structure_by, object_by as object_id_by, func_by as func_id_by, device_by as device_id_by, type_renumbered, leaf_renumbered, stmt_renumbered}
-use Rattle.cc_unit.specs.declared.ids.Id.{Id}
-use Rattle.cc_unit.specs.declared.ids.Ids.{Ids}
-use Rattle.cc_unit.specs.declared.unit.TypedUnit.{TypedUnit}
-use Rattle.cc_unit.specs.declared.unit.UnitName.{UnitName}
-use Rattle.cc_words.specs.Names.{is_name, are_distinct}
+use Rattle.cc_type.specs.CcUnit.Renumbered.{structure_by, object_by as object_id_by, func_by as func_id_by, device_by as device_id_by, type_renumbered, leaf_renumbered, stmt_renumbered}
+use Rattle.cc_type.specs.CcUnit.declared.ids.Id.{Id}
+use Rattle.cc_type.specs.CcUnit.declared.ids.Ids.{Ids}
+use Rattle.cc_type.specs.CcUnit.declared.unit.TypedUnit.{TypedUnit}
+use Rattle.cc_type.specs.CcUnit.declared.unit.UnitName.{UnitName}
+use Rattle.cc_program.specs.CcWords.Names.{is_name, are_distinct}
 
 program-of_fields : (p : Program) (ss : List Structure) (ds : List Device) (os : List Object) (fs : List Func) (m : ℕ) → ss ≡ p.structures → ds ≡ p.devices → os ≡ p.objects → fs ≡ p.funcs → m ≡ p.main →
     p ≡ record { target = p.target; roles = p.roles; structures = ss; devices = ds; objects = os; funcs = fs; main = m }

@@ -1,15 +1,15 @@
 -- A text whose tree is typed to the unit that a program is reads as the program.
 use Rattle.std.proofs.Common.{◌≡◌, ◌<◌, ◌≤◌, ℕ, List, [], ◌∷◌, length, None, Ok, refl, ap, ◌∙◌, subst, sym}
 use Rattle.std.proofs.lemmas.List.{length-map}
-use Rattle.cc_lex.specs.declared.token.Token.{Token}
-use Rattle.cc_lex.specs.Tokens.{Tokens}
+use Rattle.cc_type.specs.CcLex.declared.token.Token.{Token}
+use Rattle.cc_type.specs.CcLex.Tokens.{Tokens}
 use Rattle.cc_link.specs.Linked.{Links}
-use Rattle.cc_numbering.specs.Units.{unit_left}
+use Rattle.cc_type.specs.CcNumbering.Units.{unit_left}
 use Rattle.cc_print.specs.Printed.{text}
 use Rattle.cc_program.specs.declared.program.Program.{Program}
 use Rattle.cc_read.specs.Texts.{Reads, identifiers_of}
-use Rattle.cc_scopes.specs.State.{State, at_first}
-use Rattle.cc_scopes.specs.Verdicts.{checked}
+use Rattle.cc_type.specs.CcScopes.State.{State, at_first}
+use Rattle.cc_type.specs.CcScopes.Verdicts.{checked}
 use Rattle.cc_shown_names.specs.Parts.{HasParts}
 use Rattle.cc_shown_names.specs.States.{last_state, place_at, place_in, places}
 use Rattle.cc_printed_programs.specs.Ascending.{Ascend}
@@ -23,7 +23,7 @@ use Rattle.cc_tree.specs.Sentences.{IsSentence}
 use Rattle.cc_type.specs.Defined.{defined_names}
 use Rattle.cc_type.specs.Typed.{IsTyped}
 use Rattle.cc_type.specs.Units.{items_found, unit_found, unit_of}
-use Rattle.cc_unit.specs.declared.unit.TypedUnit.{TypedUnit}
+use Rattle.cc_type.specs.CcUnit.declared.unit.TypedUnit.{TypedUnit}
 use Rattle.cc_unit_trees.specs.Programs.{ShowsProgram}
 
 -- what the items leave is the unit

@@ -21,15 +21,15 @@ use Rattle.cc_printed_programs.proofs.Ranges.{numbers-joined, length-numbers, in
 use Rattle.cc_printed_programs.proofs.Things.{mention_here, thing_with, thing-here, numbers-are}
 use Rattle.cc_printed_programs.proofs.UnitNames.{named, numbered, devices-are, length-positioned, in-positioned, in-mapped, function-there, object-there}
 use Rattle.cc_structures.proofs.Elements.{In, in-cases, length-map_of}
-use Rattle.cc_syntax.specs.Lists.{come_first}
-use Rattle.cc_syntax.specs.Normal.{has_name, count_named}
-use Rattle.cc_syntax.specs.Sound.{IsSound}
+use Rattle.cc_type.specs.CcSyntax.Lists.{come_first}
+use Rattle.cc_type.specs.CcSyntax.Normal.{has_name, count_named}
+use Rattle.cc_type.specs.CcSyntax.Sound.{IsSound}
 use Rattle.cc_things.specs.Mentions.{Mention}
 use Rattle.cc_things.specs.Things.{Thing, things, is_device, identity_of}
 use Rattle.cc_things.specs.declared.text.Text.{Text}
-use Rattle.cc_unit.specs.Mentioned.{mentioned}
-use Rattle.cc_unit.specs.declared.ids.Id.TheVariants as id
-use Rattle.cc_unit.specs.declared.unit.UnitName.{UnitName}
+use Rattle.cc_type.specs.CcUnit.Mentioned.{mentioned}
+use Rattle.cc_type.specs.CcUnit.declared.ids.Id.TheVariants as id
+use Rattle.cc_type.specs.CcUnit.declared.unit.UnitName.{UnitName}
 
 -- numbers, or none
 abbrev pub section : Bool → ℕ → ℕ → List ℕ

@@ -6,7 +6,7 @@ use Rattle.std.proofs.lemmas.Bool.{lt-ltb}
 use Rattle.cc_linked_programs.proofs.ThingLists.{order-in}
 use Rattle.cc_order.specs.Order.{inserted, in_order}
 use Rattle.cc_structures.proofs.Elements.{In}
-use Rattle.cc_syntax.specs.Lists.{come_first}
+use Rattle.cc_type.specs.CcSyntax.Lists.{come_first}
 
 -- ---- by positions
 

@@ -18,15 +18,15 @@ use Rattle.cc_shown_effects.specs.Numbers.{stmt_numbered, case_numbered, stmt_st
 use Rattle.cc_shown_expressions.specs.OperationNumbers.{Numbers, expr_numbered}
 use Rattle.cc_printed_programs.specs.Returning.{Returns, HoldsOfNames}
 use Rattle.cc_printed_programs.proofs.Expressions.{each-append, some-value, ExprComes, expr-comes}
-use Rattle.cc_syntax.proofs.Prefixes.{both_true}
-use Rattle.cc_syntax.specs.Programs.{type_of, is_sound_stmt, is_sound_body, is_typed, is_optional_condition, sound_step}
-use Rattle.cc_syntax.specs.Statements.{SoundWhere, Labelled, has_label, are_apart, labels_fit, is_condition}
-use Rattle.cc_syntax.specs.Values.{ValueType, scalar_value}
-use Rattle.cc_unit.specs.Mentioned as mentioned
-use Rattle.cc_unit.specs.Mentioned.{in_expr, in_maybe, in_stmt, in_case, all_of}
-use Rattle.cc_unit.specs.Renumbered as renumbered
-use Rattle.cc_unit.specs.Renumbered.{expr_renumbered, stmt_renumbered, case_renumbered}
-use Rattle.cc_unit.specs.declared.ids.Ids.{Ids}
+use Rattle.cc_type.proofs.CcSyntax.Prefixes.{both_true}
+use Rattle.cc_type.specs.CcSyntax.Programs.{type_of, is_sound_stmt, is_sound_body, is_typed, is_optional_condition, sound_step}
+use Rattle.cc_type.specs.CcSyntax.Statements.{SoundWhere, Labelled, has_label, are_apart, labels_fit, is_condition}
+use Rattle.cc_type.specs.CcSyntax.Values.{ValueType, scalar_value}
+use Rattle.cc_type.specs.CcUnit.Mentioned as mentioned
+use Rattle.cc_type.specs.CcUnit.Mentioned.{in_expr, in_maybe, in_stmt, in_case, all_of}
+use Rattle.cc_type.specs.CcUnit.Renumbered as renumbered
+use Rattle.cc_type.specs.CcUnit.Renumbered.{expr_renumbered, stmt_renumbered, case_renumbered}
+use Rattle.cc_type.specs.CcUnit.declared.ids.Ids.{Ids}
 
 -- ---- levels
 

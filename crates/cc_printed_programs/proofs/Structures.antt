@@ -13,12 +13,12 @@ use Rattle.cc_relocation.specs.Relocated.{member_with}
 use Rattle.cc_structures.specs.Structures.{Known, Numbering, known_in, structures, number_of, numbers_of, has_one_number, firsts_of, HavePositions, is_complete, in_program_order, IsSame, IsMatching, LooksTheSame, MayBeOne, IsOne, Fits, AreAboveZero, AreNumbered}
 use Rattle.cc_structures.proofs.Elements.{In, in-of}
 use Rattle.cc_structures.proofs.OrderLemmas.{filter-all}
-use Rattle.cc_syntax.specs.Lists.{come_first}
-use Rattle.cc_syntax.specs.Sound.{is_only_named}
-use Rattle.cc_syntax.specs.Types.{Named}
-use Rattle.cc_unit.specs.Renumbered.{structure_by, type_renumbered}
-use Rattle.cc_unit.specs.declared.unit.TypedUnit.{TypedUnit}
-use Rattle.cc_unit.specs.declared.unit.UnitStructure.{UnitStructure}
+use Rattle.cc_type.specs.CcSyntax.Lists.{come_first}
+use Rattle.cc_type.specs.CcSyntax.Sound.{is_only_named}
+use Rattle.cc_type.specs.CcSyntax.Types.{Named}
+use Rattle.cc_type.specs.CcUnit.Renumbered.{structure_by, type_renumbered}
+use Rattle.cc_type.specs.CcUnit.declared.unit.TypedUnit.{TypedUnit}
+use Rattle.cc_type.specs.CcUnit.declared.unit.UnitStructure.{UnitStructure}
 use Rattle.cc_printed_programs.specs.Units.{members_shown, structure_shown}
 use Rattle.cc_printed_programs.proofs.ShownLists.{within, first-then, filter-same}
 use Rattle.cc_printed_programs.proofs.Ranges.{length-numbers, get-number}

@@ -14,8 +14,8 @@ use Rattle.cc_things.specs.Things.{Identity, Thing, same_identity, identity_of, 
 use Rattle.cc_things.specs.View.{no_thing}
 use Rattle.cc_things.specs.declared.text.Text.{Text}
 use Rattle.cc_things.proofs.SameIdentity.{same_identity-self, same_identity-equal}
-use Rattle.cc_unit.specs.Mentioned.{mentioned}
-use Rattle.cc_unit.specs.declared.unit.UnitName.{UnitName}
+use Rattle.cc_type.specs.CcUnit.Mentioned.{mentioned}
+use Rattle.cc_type.specs.CcUnit.declared.unit.UnitName.{UnitName}
 use Rattle.cc_printed_programs.proofs.ShownLists.{get-left, get-right, get-map, get-unmap, get-in, within, unique-place, unique-filter}
 use Rattle.cc_printed_programs.proofs.Ranges.{below-are, selected, filter-selected}
 

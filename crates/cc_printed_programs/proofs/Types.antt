@@ -20,16 +20,16 @@ use Rattle.cc_shown_expressions.proofs.Standing.{Stands, kind-at, pointed-stands
 use Rattle.cc_printed_programs.proofs.ShownLists.{get-inside}
 use Rattle.cc_structures.proofs.WordLaws.{number_by, renumbered_level, level-renumbered, sig_level}
 use Rattle.cc_structures.proofs.WordLaws as words
-use Rattle.cc_syntax.proofs.Prefixes.{both_true}
-use Rattle.cc_syntax.specs.Expressions.{null_type, pointer_type}
-use Rattle.cc_syntax.specs.Kinds.{qualified_kind, extent_kind, extent_in, is_sig, is_plain_scalar}
-use Rattle.cc_syntax.specs.Operators.{when, first_of, void_pointer_in, pointer_in, is_unqualified}
-use Rattle.cc_syntax.specs.Programs.{kind_in}
-use Rattle.cc_syntax.specs.SameTypes.{is_void_shape}
-use Rattle.cc_syntax.specs.Types.{has_members}
-use Rattle.cc_syntax.specs.Values.{ValueType, is_void, pointer_to}
-use Rattle.cc_syntax.specs.Views.{of_program}
-use Rattle.cc_unit.specs.Renumbered.{type_renumbered, sig_renumbered}
+use Rattle.cc_type.proofs.CcSyntax.Prefixes.{both_true}
+use Rattle.cc_type.specs.CcSyntax.Expressions.{null_type, pointer_type}
+use Rattle.cc_type.specs.CcSyntax.Kinds.{qualified_kind, extent_kind, extent_in, is_sig, is_plain_scalar}
+use Rattle.cc_type.specs.CcSyntax.Operators.{when, first_of, void_pointer_in, pointer_in, is_unqualified}
+use Rattle.cc_type.specs.CcSyntax.Programs.{kind_in}
+use Rattle.cc_type.specs.CcSyntax.SameTypes.{is_void_shape}
+use Rattle.cc_type.specs.CcSyntax.Types.{has_members}
+use Rattle.cc_type.specs.CcSyntax.Values.{ValueType, is_void, pointer_to}
+use Rattle.cc_type.specs.CcSyntax.Views.{of_program}
+use Rattle.cc_type.specs.CcUnit.Renumbered.{type_renumbered, sig_renumbered}
 
 module _ (p : Program) where
   abbrev extent : ℕ → Option (Option ℕ)

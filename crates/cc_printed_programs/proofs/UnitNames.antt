@@ -9,10 +9,10 @@ use Rattle.cc_shown_declarations.specs.UnitNumbers.{first_function, first_object
 use Rattle.cc_printed_programs.specs.Units.{positioned_from, device_shown, function_shown, object_shown, functions_shown, objects_shown, names_shown}
 use Rattle.cc_printed_programs.proofs.ShownLists.{get-left, get-right, get-split, get-map, get-unmap, within, first-then, filter-same}
 use Rattle.cc_structures.proofs.Elements.{In, length-map_of}
-use Rattle.cc_syntax.specs.Lists.{come_first}
-use Rattle.cc_syntax.specs.Normal.{has_name, count_named}
-use Rattle.cc_syntax.specs.Sound.{is_numbered}
-use Rattle.cc_unit.specs.declared.unit.UnitName.{UnitName}
+use Rattle.cc_type.specs.CcSyntax.Lists.{come_first}
+use Rattle.cc_type.specs.CcSyntax.Normal.{has_name, count_named}
+use Rattle.cc_type.specs.CcSyntax.Sound.{is_numbered}
+use Rattle.cc_type.specs.CcUnit.declared.unit.UnitName.{UnitName}
 
 -- ---- elements with their positions
 

@@ -15,15 +15,15 @@ use Rattle.cc_shown_declarations.specs.Numbers.{leaf_numbered, address_numbered}
 use Rattle.cc_shown_expressions.specs.OperationNumbers.{Numbers}
 use Rattle.cc_printed_programs.specs.Returning.{Returns, HoldsOfNames}
 use Rattle.cc_printed_programs.proofs.Expressions.{each-append, function-there, mapped-there}
-use Rattle.cc_syntax.specs.Expressions.{of_one}
-use Rattle.cc_syntax.specs.Initial.{AreLeaves, OfInteger, OfPointer, OfArray, OfStructure, AreElements, NoElement, Element, AreMembers, NoMember, Member, IsInitial, is_address, static_place, place_at, names}
-use Rattle.cc_syntax.specs.Operators.{function_type}
-use Rattle.cc_syntax.specs.Types.{Named}
-use Rattle.cc_syntax.specs.Values.{ValueType, PlaceType, is_assignable_some, pointer_to}
-use Rattle.cc_syntax.specs.Views.{of_program}
-use Rattle.cc_unit.specs.Mentioned.{in_address, in_leaf}
-use Rattle.cc_unit.specs.Renumbered.{address_renumbered, leaf_renumbered}
-use Rattle.cc_unit.specs.declared.ids.Ids.{Ids}
+use Rattle.cc_type.specs.CcSyntax.Expressions.{of_one}
+use Rattle.cc_type.specs.CcSyntax.Initial.{AreLeaves, OfInteger, OfPointer, OfArray, OfStructure, AreElements, NoElement, Element, AreMembers, NoMember, Member, IsInitial, is_address, static_place, place_at, names}
+use Rattle.cc_type.specs.CcSyntax.Operators.{function_type}
+use Rattle.cc_type.specs.CcSyntax.Types.{Named}
+use Rattle.cc_type.specs.CcSyntax.Values.{ValueType, PlaceType, is_assignable_some, pointer_to}
+use Rattle.cc_type.specs.CcSyntax.Views.{of_program}
+use Rattle.cc_type.specs.CcUnit.Mentioned.{in_address, in_leaf}
+use Rattle.cc_type.specs.CcUnit.Renumbered.{address_renumbered, leaf_renumbered}
+use Rattle.cc_type.specs.CcUnit.declared.ids.Ids.{Ids}
 
 module _ (p : Program) (ids : Ids) (n m : Numbers) (returns : Returns p ids n m) (M : ℕ → Type 0) (holds : HoldsOfNames p n M) where
   pub record LeavesCome (ls : List Leaf) : Type 0 where

@@ -10,12 +10,12 @@ use Rattle.cc_shown_effects.specs.Numbers.{stmt_numbered}
 use Rattle.cc_shown_declarations.specs.UnitNumbers.{first_function}
 use Rattle.cc_printed_programs.specs.Numbers.{unit_numbers}
 use Rattle.cc_structures.proofs.Elements.{In}
-use Rattle.cc_syntax.specs.Operators.{is_handler}
-use Rattle.cc_syntax.specs.Types.{Named}
-use Rattle.cc_unit.specs.Mentioned.{mentioned}
-use Rattle.cc_unit.specs.Renumbered.{type_renumbered, sig_renumbered, leaf_renumbered, stmt_renumbered}
-use Rattle.cc_unit.specs.declared.ids.Ids.{Ids}
-use Rattle.cc_unit.specs.declared.unit.UnitName.{UnitName}
+use Rattle.cc_type.specs.CcSyntax.Operators.{is_handler}
+use Rattle.cc_type.specs.CcSyntax.Types.{Named}
+use Rattle.cc_type.specs.CcUnit.Mentioned.{mentioned}
+use Rattle.cc_type.specs.CcUnit.Renumbered.{type_renumbered, sig_renumbered, leaf_renumbered, stmt_renumbered}
+use Rattle.cc_type.specs.CcUnit.declared.ids.Ids.{Ids}
+use Rattle.cc_type.specs.CcUnit.declared.unit.UnitName.{UnitName}
 
 pub record AreKept (p : Program) (ids : Ids) (names : List UnitName) : Type 0 where
   pub members : (s : Structure) → In s p.structures → (m : Named) → In m s.members → type_renumbered ids.structures m.1 ≡ m.1

@@ -7,9 +7,9 @@ use Rattle.cc_program.specs.declared.object.Object.{Object}
 use Rattle.cc_program.specs.declared.program.Program.{Program}
 use Rattle.cc_program.specs.declared.types.Structure.{Structure}
 use Rattle.cc_shown_expressions.specs.OperationNumbers.{Numbers}
-use Rattle.cc_syntax.specs.Operators.{is_handler}
-use Rattle.cc_unit.specs.Renumbered.{structure_by, object_by, device_by, func_by}
-use Rattle.cc_unit.specs.declared.ids.Ids.{Ids}
+use Rattle.cc_type.specs.CcSyntax.Operators.{is_handler}
+use Rattle.cc_type.specs.CcUnit.Renumbered.{structure_by, object_by, device_by, func_by}
+use Rattle.cc_type.specs.CcUnit.declared.ids.Ids.{Ids}
 
 module _ (p : Program) where
   -- from numbers, by ids, to other numbers

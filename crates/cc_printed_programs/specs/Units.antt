@@ -1,7 +1,7 @@
 -- The typed unit that a program's text is: what the program has, with the numbers of the unit. Each function and each object is
 -- defined once, at an offset; whether the roles name a function as a handler the unit does not say (C99 6.2.2, 6.9).
 use Rattle.std.specs.Prelude.{ℕ, suc, true, List, [], ◌∷◌, ◌++◌, map, filter, Option, Some, None}
-use Rattle.cc_operands.specs.Qualified.{plain}
+use Rattle.cc_type.specs.CcOperands.Qualified.{plain}
 use Rattle.cc_program.specs.declared.func.Func.{Func}
 use Rattle.cc_program.specs.declared.object.Device.{Device}
 use Rattle.cc_program.specs.declared.object.Object.{Object}
@@ -12,15 +12,15 @@ use Rattle.cc_shown_declarations.specs.Entries.{written_entry}
 use Rattle.cc_shown_declarations.specs.Numbers.{leaf_numbered}
 use Rattle.cc_shown_effects.specs.Numbers.{stmt_numbered}
 use Rattle.cc_printed_programs.specs.Numbers.{unit_numbers}
-use Rattle.cc_syntax.specs.Normal.{has_name}
-use Rattle.cc_syntax.specs.Sound.{is_numbered}
-use Rattle.cc_syntax.specs.Types.{Named}
-use Rattle.cc_unit.specs.declared.unit.Linkage.{Linkage}
-use Rattle.cc_unit.specs.declared.unit.Linkage.TheVariants as linkage
-use Rattle.cc_unit.specs.declared.unit.TypedUnit.{TypedUnit}
-use Rattle.cc_unit.specs.declared.unit.UnitKind.TheVariants as kind
-use Rattle.cc_unit.specs.declared.unit.UnitName.{UnitName}
-use Rattle.cc_unit.specs.declared.unit.UnitStructure.{UnitStructure}
+use Rattle.cc_type.specs.CcSyntax.Normal.{has_name}
+use Rattle.cc_type.specs.CcSyntax.Sound.{is_numbered}
+use Rattle.cc_type.specs.CcSyntax.Types.{Named}
+use Rattle.cc_type.specs.CcUnit.declared.unit.Linkage.{Linkage}
+use Rattle.cc_type.specs.CcUnit.declared.unit.Linkage.TheVariants as linkage
+use Rattle.cc_type.specs.CcUnit.declared.unit.TypedUnit.{TypedUnit}
+use Rattle.cc_type.specs.CcUnit.declared.unit.UnitKind.TheVariants as kind
+use Rattle.cc_type.specs.CcUnit.declared.unit.UnitName.{UnitName}
+use Rattle.cc_type.specs.CcUnit.declared.unit.UnitStructure.{UnitStructure}
 
 -- one without members is only named
 abbrev pub members_shown : List Named → Option (List Named)

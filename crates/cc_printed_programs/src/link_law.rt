@@ -5,8 +5,8 @@ ghost use Rattle.cc_link.specs.Linked.{Links};
 ghost use Rattle.cc_program.specs.declared.program.Program.{Program};
 ghost use Rattle.cc_printed_programs.specs.Ascending.{Ascend};
 ghost use Rattle.cc_printed_programs.specs.Units.{unit_shown};
-ghost use Rattle.cc_syntax.specs.Normal.{devices_in_order};
-ghost use Rattle.cc_syntax.specs.Sound.{IsSound};
+ghost use Rattle.cc_type.specs.CcSyntax.Normal.{devices_in_order};
+ghost use Rattle.cc_type.specs.CcSyntax.Sound.{IsSound};
 ghost use Rattle.cc_things.specs.declared.text.Text.{Text};
 
 /// What holds of the unit that a sound program's text is, where the offsets of the functions' definitions never fall and those

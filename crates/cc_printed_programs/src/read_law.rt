@@ -4,7 +4,7 @@ ghost use Rattle.std.specs.Prelude.{◌≡◌, [], ◌∷◌};
 ghost use Rattle.cc_print.specs.Printed.{text};
 ghost use Rattle.cc_program.specs.declared.program.Program.{Program};
 ghost use Rattle.cc_read.specs.Texts.{Reads};
-ghost use Rattle.cc_syntax.specs.Normal.{IsNormal};
+ghost use Rattle.cc_type.specs.CcSyntax.Normal.{IsNormal};
 
 use crate::link_law::shown_programs_link;
 use cc_read::laws;

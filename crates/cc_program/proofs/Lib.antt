@@ -5,3 +5,4 @@ pub mod Levels
 pub mod QualifierLemmas
 pub mod StmtInduction
 pub mod TypeInduction
+pub mod CcNum

@@ -1,1 +1,3 @@
 pub mod Qualifiers
+pub mod CcNum
+pub mod CcWords

@@ -11,6 +11,8 @@ mod stmt;
 mod types;
 mod value;
 
+pub use cc_num as num;
+pub use cc_words as words;
 pub use copies::copy_list;
 pub use expr::{Expr, Intr, Place};
 pub use func::{Entry, Func};

@@ -1,19 +1,19 @@
 -- What is asked of a program, for its own rules.
 use Rattle.std.proofs.Common.{arith, ◌≡◌, ◌<◌, ◌≤◌, ◌^◌, ℕ, length, Some, slice_get, sym, subst}
 use Rattle.std.proofs.lemmas.Option.{get_or_from_slice_get, slice_get_within}
-use Rattle.cc_flow.specs.Points.{count_of}
+use Rattle.cc_rules_grow.specs.CcFlow.Points.{count_of}
 use Rattle.cc_program.specs.declared.func.Func.{Func}
 use Rattle.cc_program.specs.declared.program.Program.{Program}
 use Rattle.cc_rules_made.specs.declared.rules.Rules.{Rules}
 use Rattle.cc_rules_made.specs.Rules.{AreOf}
-use Rattle.cc_state.specs.Covered.{IsInLimits}
-use Rattle.cc_state.specs.Shape.{HaveShape}
-use Rattle.cc_state_facts.specs.declared.facts.Facts.{Facts}
-use Rattle.cc_state_keys.proofs.Typed.{few-locals}
-use Rattle.cc_state_keys.specs.Keys.{keys_of}
-use Rattle.cc_state_operators.specs.Domains.{Domain}
-use Rattle.cc_syntax.proofs.NameRules.{sound-typed}
-use Rattle.cc_syntax.specs.Normal.{IsNormal}
+use Rattle.cc_rules_grow.specs.CcState.Covered.{IsInLimits}
+use Rattle.cc_rules_grow.specs.CcState.Shape.{HaveShape}
+use Rattle.cc_rules_grow.specs.CcStateFacts.declared.facts.Facts.{Facts}
+use Rattle.cc_rules_grow.proofs.CcStateKeys.Typed.{few-locals}
+use Rattle.cc_rules_grow.specs.CcStateKeys.Keys.{keys_of}
+use Rattle.cc_rules_grow.specs.CcStateOperators.Domains.{Domain}
+use Rattle.cc_rules_grow.proofs.CcSyntax.NameRules.{sound-typed}
+use Rattle.cc_rules_grow.specs.CcSyntax.Normal.{IsNormal}
 
 pub few_keys : {I : Type 0} (d : Domain I) (p : Program) (facts : Facts I) → IsInLimits d p facts → length (keys_of p) < 2 ^ 32
 few_keys d p facts limits = let few = limits.few_facts in omega (arith, few)

@@ -2,14 +2,14 @@
 use Rattle.std.specs.Prelude.{◌≡◌, ℤ, Option, Some, None}
 use Rattle.cc_program.specs.declared.program.Program.{Program}
 use Rattle.cc_proof.specs.declared.broken.Broken.{Broken}
-use Rattle.cc_rules.specs.Broken.{IsFirstBroken}
-use Rattle.cc_rules.specs.Constraints.{Constraint, rule_number}
-use Rattle.cc_rules.specs.Rules.{IsSolution}
-use Rattle.cc_rules_needs.specs.declared.needs.Part.{Part}
-use Rattle.cc_rules_needs.specs.declared.needs.Slot.{Slot}
+use Rattle.cc_rules_grow.specs.CcRules.Broken.{IsFirstBroken}
+use Rattle.cc_rules_grow.specs.CcRules.Constraints.{Constraint, rule_number}
+use Rattle.cc_rules_grow.specs.CcRules.Rules.{IsSolution}
+use Rattle.cc_rules_grow.specs.CcRulesNeeds.declared.needs.Part.{Part}
+use Rattle.cc_rules_grow.specs.CcRulesNeeds.declared.needs.Slot.{Slot}
 use Rattle.cc_rules_texts.specs.Texts.{had_text, part_text}
-use Rattle.cc_state_facts.specs.declared.facts.Facts.{Facts}
-use Rattle.cc_state_operators.specs.Domains.{Domain}
+use Rattle.cc_rules_grow.specs.CcStateFacts.declared.facts.Facts.{Facts}
+use Rattle.cc_rules_grow.specs.CcStateOperators.Domains.{Domain}
 
 -- over a domain, and the bounds of its sets
 module _ {I : Type 0} (d : Domain I) (ends : I → Option (ℤ × ℤ)) (p : Program) (facts : Facts I) where

@@ -4,8 +4,8 @@ use Rattle.cc_program.specs.declared.program.Program.{Program}
 use Rattle.cc_proof.specs.Broken.{IsFirst}
 use Rattle.cc_proof.specs.declared.denied.Denied.{Denied}
 use Rattle.cc_proof.specs.declared.denied.Denied.TheVariants as denied
-use Rattle.cc_state_facts.specs.declared.facts.Facts.{Facts}
-use Rattle.cc_state_operators.specs.Domains.{Domain}
+use Rattle.cc_rules_grow.specs.CcStateFacts.declared.facts.Facts.{Facts}
+use Rattle.cc_rules_grow.specs.CcStateOperators.Domains.{Domain}
 
 module _ {I : Type 0} (d : Domain I) (ends : I → Option (ℤ × ℤ)) (p : Program) (facts : Facts I) where
   -- the constraint is the first that they break

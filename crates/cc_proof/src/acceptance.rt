@@ -2,20 +2,20 @@
 
 ghost use Rattle.std.specs.Prelude.{◌≡◌, IfOk, IfErr};
 ghost use Rattle.cc_proof.specs.Denied.{IsDenied};
-ghost use Rattle.cc_rules.specs.Rules.{IsSolution};
-ghost use Rattle.cc_state.specs.Covered.{Covers, IsInLimits};
-ghost use Rattle.cc_state.specs.Shape.{HaveShape};
-ghost use Rattle.cc_state_operators.specs.Domains.{domain};
+ghost use Rattle.cc_rules_grow.specs.CcRules.Rules.{IsSolution};
+ghost use Rattle.cc_rules_grow.specs.CcState.Covered.{Covers, IsInLimits};
+ghost use Rattle.cc_rules_grow.specs.CcState.Shape.{HaveShape};
+ghost use Rattle.cc_rules_grow.specs.CcStateOperators.Domains.{domain};
 
 use crate::broken::first_broken;
 use crate::denied::Denied;
-use cc_lattice::IntDomain;
-use cc_num::NoMemory;
 use cc_program::Program;
+use cc_program::num::NoMemory;
 use cc_proof_rules::solutions;
-use cc_state::covered;
-use cc_state::kinds::Covered;
-use cc_state_facts::Facts;
+use cc_rules_grow::lattice::IntDomain;
+use cc_rules_grow::state::covered;
+use cc_rules_grow::state::kinds::Covered;
+use cc_rules_grow::state_facts::Facts;
 use std::alloc::Global;
 
 /// Facts of a program's shape, kept where they meet each of its constraints: then they cover it. Else the first constraint

@@ -1,24 +1,24 @@
 //! The first constraint that facts break, as reports have it.
 
 ghost use Rattle.std.specs.Prelude.{◌≡◌, ◌≤◌, IfOk};
-ghost use Rattle.cc_flow.specs.Points.{count_of, flow_of};
+ghost use Rattle.cc_rules_grow.specs.CcFlow.Points.{count_of, flow_of};
 ghost use Rattle.cc_proof.specs.Broken.{IsTold, IsFirstOrNone};
-ghost use Rattle.cc_rules.specs.Constraints.{rule_number};
+ghost use Rattle.cc_rules_grow.specs.CcRules.Constraints.{rule_number};
 ghost use Rattle.cc_rules_numbered.specs.Numbered.{rule_view, constraint_view};
 ghost use Rattle.cc_rules_texts.specs.Names.{AreNames};
-ghost use Rattle.cc_state.specs.Covered.{IsInLimits};
-ghost use Rattle.cc_state.specs.Shape.{HaveShape};
-ghost use Rattle.cc_state_operators.specs.Domains.{domain};
+ghost use Rattle.cc_rules_grow.specs.CcState.Covered.{IsInLimits};
+ghost use Rattle.cc_rules_grow.specs.CcState.Shape.{HaveShape};
+ghost use Rattle.cc_rules_grow.specs.CcStateOperators.Domains.{domain};
 
-use cc_flow::{Flow, FlowEnd, points};
-use cc_lattice::IntDomain;
-use cc_num::NoMemory;
 use cc_program::Program;
+use cc_program::num::NoMemory;
 use cc_rules_constraints::{Broken as Lacking, first_broken as first_lacking};
+use cc_rules_grow::flow::{Flow, FlowEnd, points};
+use cc_rules_grow::lattice::IntDomain;
+use cc_rules_grow::state_facts::Facts;
 use cc_rules_made::rules_of;
 use cc_rules_numbered::Rule;
 use cc_rules_texts::{Names, had_text, part_text};
-use cc_state_facts::Facts;
 use std::alloc::Global;
 
 /// A constraint that facts break.

@@ -3,18 +3,18 @@ use Rattle.std.proofs.Common.{◌≡◌, ◌⊎◌, inl, inr, ℕ, ℤ, Bool, tr
 use Rattle.std.proofs.lemmas.Bool.{eqb-true, eq-eqb}
 use Rattle.std.proofs.lemmas.Option.{same_Some}
 use Rattle.std.specs.Prelude.{if◌then◌else◌, ◌==◌}
-use Rattle.cc_cells.specs.Cells.{scalar_in, with_scalar}
-use Rattle.cc_eval.proofs.MarkLemmas.{last_or_not, IsLast}
-use Rattle.cc_eval.specs.Progress.{Waits}
-use Rattle.cc_eval.specs.declared.action.Action.TheVariants.{Read, Write, Choose, Call, Flag, Save}
-use Rattle.cc_eval.specs.declared.action.Action.{Action}
-use Rattle.cc_eval.specs.declared.action.Manner.{Manner}
-use Rattle.cc_eval.specs.declared.mark.Mark.TheVariants.{Gave, Did, Chose}
-use Rattle.cc_eval.specs.declared.mark.Mark.{Mark}
+use Rattle.cc_flow_sound.specs.CcCells.Cells.{scalar_in, with_scalar}
+use Rattle.cc_flow_sound.proofs.CcEval.MarkLemmas.{last_or_not, IsLast}
+use Rattle.cc_flow_sound.specs.CcEval.Progress.{Waits}
+use Rattle.cc_flow_sound.specs.CcEval.declared.action.Action.TheVariants.{Read, Write, Choose, Call, Flag, Save}
+use Rattle.cc_flow_sound.specs.CcEval.declared.action.Action.{Action}
+use Rattle.cc_flow_sound.specs.CcEval.declared.action.Manner.{Manner}
+use Rattle.cc_flow_sound.specs.CcEval.declared.mark.Mark.TheVariants.{Gave, Did, Chose}
+use Rattle.cc_flow_sound.specs.CcEval.declared.mark.Mark.{Mark}
 use Rattle.cc_flow_sound.proofs.Opened.{all_normal}
 use Rattle.cc_flow_sound.specs.Moves.{entry}
-use Rattle.cc_num.specs.Integers.{converted}
-use Rattle.cc_num.specs.Results.{one_if}
+use Rattle.cc_program.specs.CcNum.Integers.{converted}
+use Rattle.cc_program.specs.CcNum.Results.{one_if}
 use Rattle.cc_program.specs.declared.func.Func.{Func}
 use Rattle.cc_program.specs.declared.object.Device.{Device}
 use Rattle.cc_program.specs.declared.program.Program.{Program}
@@ -37,21 +37,21 @@ use Rattle.cc_proof_covers.specs.Invariant.{MayBeWritten, ActivationFits, IsCurr
 use Rattle.cc_proof_covers.specs.Pending.{value_in}
 use Rattle.cc_proof_covers.specs.Rules.{AllowedLocal, Flows, AllowedRegister, AllowedWrite, AllowedCall, Allowed, IsClosed}
 use Rattle.cc_proof_covers.specs.Views.{View}
-use Rattle.cc_states.proofs.ListLemmas.{not_equal}
-use Rattle.cc_states.proofs.StateLemmas.{asked}
-use Rattle.cc_states.specs.States.{expression_of, IsActive, AreActive}
-use Rattle.cc_steps.proofs.MarkLemmas.{marked_call, marked_with}
-use Rattle.cc_steps.specs.Access.{content, local_content, with_locals, is_open, with_local}
-use Rattle.cc_steps.specs.State.{Active, Memory, State}
-use Rattle.cc_steps.specs.State.{IsSameCall}
-use Rattle.cc_steps.specs.Step.{stopped, with_stack, with_flag, with_statics, with_inputs, with_event, static_content, content_at, progress_at, progress_of, with_mark, marked, did, cell_position, has_read, input_read, read, has_written, write, activation, opened, opened_if, call, perform}
-use Rattle.cc_steps.specs.Turn.{running_level}
-use Rattle.cc_steps.specs.declared.content.Content.TheVariants.{Gone, Unwritten, Holds}
-use Rattle.cc_steps.specs.declared.content.Content.{Content}
-use Rattle.cc_steps.specs.declared.event.End.TheVariants.{Trap, Starved}
-use Rattle.cc_steps.specs.declared.event.Event.TheVariants as event
-use Rattle.cc_steps.specs.declared.event.Event.{Event}
-use Rattle.cc_syntax.specs.Registers.{is_register}
+use Rattle.cc_flow_sound.proofs.CcStates.ListLemmas.{not_equal}
+use Rattle.cc_flow_sound.proofs.CcStates.StateLemmas.{asked}
+use Rattle.cc_flow_sound.specs.CcStates.States.{expression_of, IsActive, AreActive}
+use Rattle.cc_flow_sound.proofs.CcSteps.MarkLemmas.{marked_call, marked_with}
+use Rattle.cc_flow_sound.specs.CcSteps.Access.{content, local_content, with_locals, is_open, with_local}
+use Rattle.cc_flow_sound.specs.CcSteps.State.{Active, Memory, State}
+use Rattle.cc_flow_sound.specs.CcSteps.State.{IsSameCall}
+use Rattle.cc_flow_sound.specs.CcSteps.Step.{stopped, with_stack, with_flag, with_statics, with_inputs, with_event, static_content, content_at, progress_at, progress_of, with_mark, marked, did, cell_position, has_read, input_read, read, has_written, write, activation, opened, opened_if, call, perform}
+use Rattle.cc_flow_sound.specs.CcSteps.Turn.{running_level}
+use Rattle.cc_flow_sound.specs.CcSteps.declared.content.Content.TheVariants.{Gone, Unwritten, Holds}
+use Rattle.cc_flow_sound.specs.CcSteps.declared.content.Content.{Content}
+use Rattle.cc_flow_sound.specs.CcSteps.declared.event.End.TheVariants.{Trap, Starved}
+use Rattle.cc_flow_sound.specs.CcSteps.declared.event.Event.TheVariants as event
+use Rattle.cc_flow_sound.specs.CcSteps.declared.event.Event.{Event}
+use Rattle.cc_flow_sound.specs.CcSyntax.Registers.{is_register}
 
 static_content_is : (o : Option Value) (x : Value) → static_content o ≡ Holds x → o ≡ Some x
 static_content_is None x h = absurd (cc)

@@ -3,10 +3,10 @@
 use Rattle.std.proofs.Common.{arith, ◌≡◌, ◌⊎◌, inl, inr, ◌<◌, ℕ, Bool, true, false, List, [], ◌∷◌, max, Option, Some, refl, ap, sym, ◌∙◌, subst, slice_get}
 use Rattle.std.proofs.lemmas.Bool.{eqb-true}
 use Rattle.std.specs.Prelude.{if◌then◌else◌, ◌==◌}
-use Rattle.cc_cells.specs.Cells.{scalar_in, with_scalar}
-use Rattle.cc_eval.specs.declared.action.Action.TheVariants.{Read, Write, Choose, Call, Flag, Save}
-use Rattle.cc_eval.specs.declared.action.Action.{Action}
-use Rattle.cc_eval.specs.declared.mark.Mark.{Mark}
+use Rattle.cc_flow_sound.specs.CcCells.Cells.{scalar_in, with_scalar}
+use Rattle.cc_flow_sound.specs.CcEval.declared.action.Action.TheVariants.{Read, Write, Choose, Call, Flag, Save}
+use Rattle.cc_flow_sound.specs.CcEval.declared.action.Action.{Action}
+use Rattle.cc_flow_sound.specs.CcEval.declared.mark.Mark.{Mark}
 use Rattle.cc_program.specs.declared.func.Func.{Func}
 use Rattle.cc_program.specs.declared.program.Program.{Program}
 use Rattle.cc_program.specs.declared.value.Cell.TheVariants as cell
@@ -19,9 +19,9 @@ use Rattle.cc_proof_covers.specs.Invariant.{MayBeWritten, AreCurrent, Activation
 use Rattle.cc_proof_covers.specs.Pending.{value_in}
 use Rattle.cc_proof_covers.specs.Rules.{IsStable, IsClosed}
 use Rattle.cc_proof_covers.specs.Views.{View}
-use Rattle.cc_states.proofs.ListLemmas.{not_equal}
-use Rattle.cc_steps.specs.State.{Active, Memory}
-use Rattle.cc_steps.specs.Turn.{level_of, running_level}
+use Rattle.cc_flow_sound.proofs.CcStates.ListLemmas.{not_equal}
+use Rattle.cc_flow_sound.specs.CcSteps.State.{Active, Memory}
+use Rattle.cc_flow_sound.specs.CcSteps.Turn.{level_of, running_level}
 
 -- a list, as a role that is not the running one
 abbrev pub IsBelow : Role → Type 0

@@ -2,13 +2,13 @@
 use Rattle.std.proofs.Common.{◌≡◌, ◌<◌, ◌^◌, ℕ, Bool, true, false, List, [], ◌∷◌, ◌++◌, Option, Some, None, refl, ap, sym, ◌∙◌, subst, slice_get}
 use Rattle.std.specs.Prelude.{if◌then◌else◌}
 use Rattle.std.specs.List.{Contains}
-use Rattle.cc_control.specs.Control.{Control, behind}
-use Rattle.cc_eval.proofs.Works.{same_action}
-use Rattle.cc_eval.specs.declared.action.Action.TheVariants.{Read}
-use Rattle.cc_eval.specs.declared.action.Action.{Action}
-use Rattle.cc_eval.specs.declared.mark.Mark.TheVariants.{Gave, Did}
-use Rattle.cc_eval.specs.declared.mark.Mark.{Mark}
-use Rattle.cc_flow.specs.Points.{count_of}
+use Rattle.cc_flow_sound.specs.CcControl.Control.{Control, behind}
+use Rattle.cc_flow_sound.proofs.CcEval.Works.{same_action}
+use Rattle.cc_flow_sound.specs.CcEval.declared.action.Action.TheVariants.{Read}
+use Rattle.cc_flow_sound.specs.CcEval.declared.action.Action.{Action}
+use Rattle.cc_flow_sound.specs.CcEval.declared.mark.Mark.TheVariants.{Gave, Did}
+use Rattle.cc_flow_sound.specs.CcEval.declared.mark.Mark.{Mark}
+use Rattle.cc_flow_sound.specs.CcFlow.Points.{count_of}
 use Rattle.cc_flow_sound.proofs.Apart.{one_point}
 use Rattle.cc_flow_sound.proofs.Numbered.{at_statement, at_point}
 use Rattle.cc_flow_sound.proofs.Opened.{all_normal, NormalAt}
@@ -29,9 +29,9 @@ use Rattle.cc_proof_covers.specs.Covers.{Role, Running, Interrupted, Waiting, un
 use Rattle.cc_proof_covers.specs.Invariant.{IsAtPoint, IsPending, CountsAt, IsReadIn, AreReadIn, MemoryFits, ActivationFits, StackFits, Fits}
 use Rattle.cc_proof_covers.specs.Pending.{has_result, written_next, pending, value_in}
 use Rattle.cc_proof_covers.specs.Views.{View}
-use Rattle.cc_states.specs.States.{expression_of, worked_at, IsActive, AreActive}
-use Rattle.cc_steps.specs.State.{Active, Memory, State}
-use Rattle.cc_steps.specs.Step.{progress_at, progress_of, is_known, with_mark, goes_to, settled_in, marked}
+use Rattle.cc_flow_sound.specs.CcStates.States.{expression_of, worked_at, IsActive, AreActive}
+use Rattle.cc_flow_sound.specs.CcSteps.State.{Active, Memory, State}
+use Rattle.cc_flow_sound.specs.CcSteps.Step.{progress_at, progress_of, is_known, with_mark, goes_to, settled_in, marked}
 
 not_empty : (ms : List Mark) (m : Mark) → ms ++ m ∷ [] ≡ [] → ⊥
 not_empty [] m h = cc

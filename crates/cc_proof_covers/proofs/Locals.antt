@@ -3,10 +3,10 @@ use Rattle.std.proofs.Common.{◌≡◌, ◌⊎◌, inl, inr, ◌<◌, ℕ, Bool
 use Rattle.std.proofs.lemmas.Bool.{eqb-true}
 use Rattle.std.proofs.lemmas.Option.{same_Some}
 use Rattle.std.specs.Prelude.{if◌then◌else◌, ◌==◌}
-use Rattle.cc_cells.specs.Cells.{scalar_in, with_scalar}
-use Rattle.cc_eval.specs.declared.action.Action.TheVariants.{Read, Write, Choose, Call, Flag, Save}
-use Rattle.cc_eval.specs.declared.action.Action.{Action}
-use Rattle.cc_eval.specs.declared.mark.Mark.{Mark}
+use Rattle.cc_flow_sound.specs.CcCells.Cells.{scalar_in, with_scalar}
+use Rattle.cc_flow_sound.specs.CcEval.declared.action.Action.TheVariants.{Read, Write, Choose, Call, Flag, Save}
+use Rattle.cc_flow_sound.specs.CcEval.declared.action.Action.{Action}
+use Rattle.cc_flow_sound.specs.CcEval.declared.mark.Mark.{Mark}
 use Rattle.cc_program.specs.declared.func.Func.{Func}
 use Rattle.cc_program.specs.declared.program.Program.{Program}
 use Rattle.cc_program.specs.declared.value.Cell.TheVariants as cell
@@ -19,14 +19,14 @@ use Rattle.cc_proof_covers.specs.Invariant.{Awaits, ActivationFits, CountsAt, Is
 use Rattle.cc_proof_covers.specs.Pending.{value_in}
 use Rattle.cc_proof_covers.specs.Rules.{IsClosed}
 use Rattle.cc_proof_covers.specs.Views.{View}
-use Rattle.cc_states.specs.States.{IsActive, AreActive}
-use Rattle.cc_steps.proofs.MarkLemmas.{marked_with}
-use Rattle.cc_steps.specs.Access.{content, local_content, with_locals, with_local}
-use Rattle.cc_steps.specs.State.{Active, Memory}
-use Rattle.cc_steps.specs.Step.{with_mark, return_mark}
-use Rattle.cc_steps.specs.Turn.{level_of, running_level}
-use Rattle.cc_steps.specs.declared.content.Content.TheVariants.{Holds}
-use Rattle.cc_syntax.specs.Registers.{is_register}
+use Rattle.cc_flow_sound.specs.CcStates.States.{IsActive, AreActive}
+use Rattle.cc_flow_sound.proofs.CcSteps.MarkLemmas.{marked_with}
+use Rattle.cc_flow_sound.specs.CcSteps.Access.{content, local_content, with_locals, with_local}
+use Rattle.cc_flow_sound.specs.CcSteps.State.{Active, Memory}
+use Rattle.cc_flow_sound.specs.CcSteps.Step.{with_mark, return_mark}
+use Rattle.cc_flow_sound.specs.CcSteps.Turn.{level_of, running_level}
+use Rattle.cc_flow_sound.specs.CcSteps.declared.content.Content.TheVariants.{Holds}
+use Rattle.cc_flow_sound.specs.CcSyntax.Registers.{is_register}
 
 abbrev Locals : Type 0
 Locals = List (List (Option Value))

@@ -1,15 +1,15 @@
 -- An activation with one more mark keeps its locals.
 use Rattle.std.proofs.Common.{◌≡◌, Bool, true, false, List, [], ◌∷◌, Option, Some, refl}
 use Rattle.std.specs.Prelude.{if◌then◌else◌}
-use Rattle.cc_control.specs.Control.{behind}
-use Rattle.cc_eval.specs.declared.mark.Mark.{Mark}
+use Rattle.cc_flow_sound.specs.CcControl.Control.{behind}
+use Rattle.cc_flow_sound.specs.CcEval.declared.mark.Mark.{Mark}
 use Rattle.cc_program.specs.declared.program.Program.{Program}
 use Rattle.cc_program.specs.declared.stmt.Case.{Case}
 use Rattle.cc_program.specs.declared.stmt.Stmt.{Stmt, out-Stmt}
 use Rattle.cc_program.specs.declared.stmt.Stmt.TheOpen as is
 use Rattle.cc_program.specs.declared.value.Value.{Value}
-use Rattle.cc_steps.specs.State.{Active}
-use Rattle.cc_steps.specs.Step.{moved, at_test, with_mark, progress_of, is_known, passes, goes_to, settled_in, settled, marked}
+use Rattle.cc_flow_sound.specs.CcSteps.State.{Active}
+use Rattle.cc_flow_sound.specs.CcSteps.Step.{moved, at_test, with_mark, progress_of, is_known, passes, goes_to, settled_in, settled, marked}
 
 abbrev Locals : Type 0
 Locals = List (List (Option Value))

@@ -3,17 +3,17 @@ use Rattle.std.proofs.Common.{◌≡◌, inl, inr, ℕ, Bool, true, false, List,
 use Rattle.std.specs.Prelude.{if◌then◌else◌, ◌&&◌}
 use Rattle.std.specs.List.{list_all}
 use Rattle.std.proofs.lemmas.Option.{same_Some}
-use Rattle.cc_eval.proofs.Links.{level, place_level}
-use Rattle.cc_eval.proofs.Works.{works_known, works_ask, works_bind, works_needs, works_choice}
-use Rattle.cc_eval.specs.Context.{Context, reached, cell_at}
-use Rattle.cc_eval.specs.declared.action.Action.TheVariants.{Read}
-use Rattle.cc_eval.specs.declared.action.Action.{Action}
-use Rattle.cc_eval.specs.declared.mark.Mark.{Mark}
-use Rattle.cc_eval.specs.declared.spots.Spot.TheVariants as spot
-use Rattle.cc_eval.specs.declared.spots.Spot.{Spot}
-use Rattle.cc_eval.specs.Eval.{Meaning, Designation, meaning, designation, opened, place_opened, manner, from_one, both_values, from_two, place_and_value, choice, as_condition, each, assigned_by, fetched}
-use Rattle.cc_eval.specs.Marks.{Works}
-use Rattle.cc_eval.specs.Progress.{Get, ask, bind, known, given}
+use Rattle.cc_flow_sound.proofs.CcEval.Links.{level, place_level}
+use Rattle.cc_flow_sound.proofs.CcEval.Works.{works_known, works_ask, works_bind, works_needs, works_choice}
+use Rattle.cc_flow_sound.specs.CcEval.Context.{Context, reached, cell_at}
+use Rattle.cc_flow_sound.specs.CcEval.declared.action.Action.TheVariants.{Read}
+use Rattle.cc_flow_sound.specs.CcEval.declared.action.Action.{Action}
+use Rattle.cc_flow_sound.specs.CcEval.declared.mark.Mark.{Mark}
+use Rattle.cc_flow_sound.specs.CcEval.declared.spots.Spot.TheVariants as spot
+use Rattle.cc_flow_sound.specs.CcEval.declared.spots.Spot.{Spot}
+use Rattle.cc_flow_sound.specs.CcEval.Eval.{Meaning, Designation, meaning, designation, opened, place_opened, manner, from_one, both_values, from_two, place_and_value, choice, as_condition, each, assigned_by, fetched}
+use Rattle.cc_flow_sound.specs.CcEval.Marks.{Works}
+use Rattle.cc_flow_sound.specs.CcEval.Progress.{Get, ask, bind, known, given}
 use Rattle.cc_program.proofs.ExprInduction.{Parts, PlaceParts, by_expr, by_place}
 use Rattle.cc_program.specs.declared.expr.Expr.TheOpen as one
 use Rattle.cc_program.specs.declared.expr.Expr.{Expr, roll-Expr}
@@ -26,12 +26,12 @@ use Rattle.cc_program.specs.declared.value.Root.TheVariants as root
 use Rattle.cc_program.specs.declared.value.Root.{Root}
 use Rattle.cc_program.specs.declared.value.Value.{Value}
 use Rattle.cc_proof_covers.specs.Operands.{IsOperandStep}
-use Rattle.cc_syntax.proofs.Prefixes.{both_true}
-use Rattle.cc_syntax.specs.Effects.{Registers, also, is_soft}
-use Rattle.cc_syntax.specs.Expressions.{of_two}
-use Rattle.cc_syntax.specs.Registers.{is_register}
-use Rattle.cc_syntax.specs.Values.{PlaceType}
-use Rattle.cc_values.specs.Values.{truth, of_truth}
+use Rattle.cc_flow_sound.proofs.CcSyntax.Prefixes.{both_true}
+use Rattle.cc_flow_sound.specs.CcSyntax.Effects.{Registers, also, is_soft}
+use Rattle.cc_flow_sound.specs.CcSyntax.Expressions.{of_two}
+use Rattle.cc_flow_sound.specs.CcSyntax.Registers.{is_register}
+use Rattle.cc_flow_sound.specs.CcSyntax.Values.{PlaceType}
+use Rattle.cc_flow_sound.specs.CcValues.Values.{truth, of_truth}
 
 -- the cell of what a name designates
 pub named_cell : (p : Program) (t : Option PlaceType) (object : Root) (path : List Part) (at : Cell) → of_two t (Some (spot.Object object path)) (cell_at p) ≡ Some at → at ≡ cell.At object path

@@ -3,17 +3,17 @@
 use Rattle.std.proofs.Common.{◌≡◌, ◌⊎◌, inl, inr, ℕ, Bool, true, false, ◌&&◌, ◌||◌, List, [], ◌∷◌, map, Option, Some, None, refl, ap, sym, ◌∙◌, subst}
 use Rattle.std.specs.Prelude.{if◌then◌else◌, is_some}
 use Rattle.std.specs.List.{list_all}
-use Rattle.cc_eval.proofs.Links.{pure_linked, register_linked}
-use Rattle.cc_eval.proofs.Opened.{meaning_at}
-use Rattle.cc_eval.proofs.Works.{answers_of, works_known, works_trap, works_ask, works_bind, works_needs}
-use Rattle.cc_eval.specs.Context.{Context}
-use Rattle.cc_eval.specs.declared.action.Action.TheVariants.{Call, Flag, Save}
-use Rattle.cc_eval.specs.declared.action.Action.{Action}
-use Rattle.cc_eval.specs.declared.mark.Mark.{Mark}
-use Rattle.cc_eval.specs.declared.spots.Spot.{Spot}
-use Rattle.cc_eval.specs.Eval.{Meaning, meaning, designation, opened, next_of, called_with, each, all_good, stored}
-use Rattle.cc_eval.specs.Marks.{Works, AnswerSteps}
-use Rattle.cc_eval.specs.Progress.{Progress, Known, Waits, Traps, Get, ask, bind, known, needs, given}
+use Rattle.cc_flow_sound.proofs.CcEval.Links.{pure_linked, register_linked}
+use Rattle.cc_flow_sound.proofs.CcEval.Opened.{meaning_at}
+use Rattle.cc_flow_sound.proofs.CcEval.Works.{answers_of, works_known, works_trap, works_ask, works_bind, works_needs}
+use Rattle.cc_flow_sound.specs.CcEval.Context.{Context}
+use Rattle.cc_flow_sound.specs.CcEval.declared.action.Action.TheVariants.{Call, Flag, Save}
+use Rattle.cc_flow_sound.specs.CcEval.declared.action.Action.{Action}
+use Rattle.cc_flow_sound.specs.CcEval.declared.mark.Mark.{Mark}
+use Rattle.cc_flow_sound.specs.CcEval.declared.spots.Spot.{Spot}
+use Rattle.cc_flow_sound.specs.CcEval.Eval.{Meaning, meaning, designation, opened, next_of, called_with, each, all_good, stored}
+use Rattle.cc_flow_sound.specs.CcEval.Marks.{Works, AnswerSteps}
+use Rattle.cc_flow_sound.specs.CcEval.Progress.{Progress, Known, Waits, Traps, Get, ask, bind, known, needs, given}
 use Rattle.cc_flow_sound.proofs.Opened.{all_normal, normal_case, NormalAt}
 use Rattle.cc_program.specs.declared.expr.Expr.TheOpen as one
 use Rattle.cc_program.specs.declared.expr.Expr.{Expr, out-Expr}
@@ -31,16 +31,16 @@ use Rattle.cc_proof_covers.specs.Invariant.{IsPending, IsReadIn, AreReadIn}
 use Rattle.cc_proof_covers.specs.Operands.{IsOperandStep}
 use Rattle.cc_proof_covers.specs.Pending.{is_given, assigns_result, has_result, local_written, written_next, pending}
 use Rattle.cc_proof_covers.specs.Views.{View}
-use Rattle.cc_states.proofs.Options.{either_true}
-use Rattle.cc_states.specs.States.{expression_of, context_in}
-use Rattle.cc_steps.specs.State.{Active}
-use Rattle.cc_steps.specs.Step.{progress_of}
-use Rattle.cc_syntax.proofs.Prefixes.{both_true}
-use Rattle.cc_syntax.specs.Effects.{Registers, no_one, also, is_soft, effects_of, place_effects_of}
-use Rattle.cc_syntax.specs.Folding.{is_folded}
-use Rattle.cc_syntax.specs.Forms.{Form, ConstantForm, LoadForm, form_of, form_at}
-use Rattle.cc_syntax.specs.Normal.{is_one, is_operand, is_register_place, is_other_place, is_callee, is_call, is_place_read, is_assignment, is_expression_statement}
-use Rattle.cc_values.specs.Values.{address_in, truth}
+use Rattle.cc_flow_sound.proofs.CcStates.Options.{either_true}
+use Rattle.cc_flow_sound.specs.CcStates.States.{expression_of, context_in}
+use Rattle.cc_flow_sound.specs.CcSteps.State.{Active}
+use Rattle.cc_flow_sound.specs.CcSteps.Step.{progress_of}
+use Rattle.cc_flow_sound.proofs.CcSyntax.Prefixes.{both_true}
+use Rattle.cc_flow_sound.specs.CcSyntax.Effects.{Registers, no_one, also, is_soft, effects_of, place_effects_of}
+use Rattle.cc_flow_sound.specs.CcSyntax.Folding.{is_folded}
+use Rattle.cc_flow_sound.specs.CcSyntax.Forms.{Form, ConstantForm, LoadForm, form_of, form_at}
+use Rattle.cc_flow_sound.specs.CcSyntax.Normal.{is_one, is_operand, is_register_place, is_other_place, is_callee, is_call, is_place_read, is_assignment, is_expression_statement}
+use Rattle.cc_flow_sound.specs.CcValues.Values.{address_in, truth}
 
 yes_no : {C : Type 0} (b : Bool) → b ≡ true → b ≡ false → C
 yes_no b h k = absurd (cc)

@@ -3,11 +3,11 @@
 use Rattle.std.proofs.Common.{◌≡◌, ℕ, Bool, true, false, List, [], ◌∷◌, ◌++◌, Option, Some, None, refl, ap, sym, ◌∙◌, subst, slice_get}
 use Rattle.std.specs.Prelude.{if◌then◌else◌}
 use Rattle.std.proofs.lemmas.Option.{same_Some}
-use Rattle.cc_control.specs.Control.{behind}
-use Rattle.cc_eval.specs.declared.mark.Mark.{Mark}
-use Rattle.cc_eval.specs.Eval.{next_of}
-use Rattle.cc_eval.specs.Progress.{Progress, Known, Waits, Traps}
-use Rattle.cc_flow.specs.declared.next.Site.{Site}
+use Rattle.cc_flow_sound.specs.CcControl.Control.{behind}
+use Rattle.cc_flow_sound.specs.CcEval.declared.mark.Mark.{Mark}
+use Rattle.cc_flow_sound.specs.CcEval.Eval.{next_of}
+use Rattle.cc_flow_sound.specs.CcEval.Progress.{Progress, Known, Waits, Traps}
+use Rattle.cc_flow_sound.specs.CcFlow.declared.next.Site.{Site}
 use Rattle.cc_flow_sound.proofs.Goes.{goes_at}
 use Rattle.cc_flow_sound.proofs.Opened.{all_normal, NormalAt, normal_level, normal_head}
 use Rattle.cc_flow_sound.proofs.Places.{AreNormal, sited, normal_inside, behind_at}
@@ -20,10 +20,10 @@ use Rattle.cc_program.specs.declared.stmt.Stmt.TheOpen as is
 use Rattle.cc_program.specs.declared.stmt.Stmt.{Stmt, out-Stmt}
 use Rattle.cc_program.specs.declared.value.Value.{Value}
 use Rattle.cc_proof_covers.specs.Invariant.{IsAtPoint, EndsAt}
-use Rattle.cc_states.specs.Inside.{AreInside}
-use Rattle.cc_states.specs.States.{expression_of, worked_at, context_in, IsActive}
-use Rattle.cc_steps.specs.State.{Active}
-use Rattle.cc_steps.specs.Step.{worked, progress_in, progress_at, is_known, with_mark, goes_to, settled_in, settled, marked}
+use Rattle.cc_flow_sound.specs.CcStates.Inside.{AreInside}
+use Rattle.cc_flow_sound.specs.CcStates.States.{expression_of, worked_at, context_in, IsActive}
+use Rattle.cc_flow_sound.specs.CcSteps.State.{Active}
+use Rattle.cc_flow_sound.specs.CcSteps.Step.{worked, progress_in, progress_at, is_known, with_mark, goes_to, settled_in, settled, marked}
 
 -- its statement, with what is left of the list behind it, and the site of that; what is left of all lists is normal
 pub record AtStatement (p : Program) (a : Active) (f : Func) : Type 0 where

@@ -3,14 +3,14 @@ use Rattle.std.proofs.Common.{◌≡◌, ℕ, Bool, true, false, List, [], ◌�
 use Rattle.std.proofs.lemmas.Bool.{eqb-true, eq-eqb}
 use Rattle.std.proofs.lemmas.Option.{same_Some}
 use Rattle.std.specs.Prelude.{if◌then◌else◌, ◌==◌}
-use Rattle.cc_cells.specs.Cells.{scalar_in, with_scalar}
-use Rattle.cc_control.specs.Control.{level, close}
-use Rattle.cc_control.specs.declared.phase.Phase.TheVariants.{First}
-use Rattle.cc_eval.proofs.MarkLemmas.{nothing_in}
-use Rattle.cc_eval.specs.declared.action.Action.TheVariants.{Read, Write, Choose, Call, Flag, Save}
-use Rattle.cc_eval.specs.declared.action.Action.{Action}
-use Rattle.cc_eval.specs.declared.mark.Mark.TheVariants.{Did}
-use Rattle.cc_eval.specs.declared.mark.Mark.{Mark}
+use Rattle.cc_flow_sound.specs.CcCells.Cells.{scalar_in, with_scalar}
+use Rattle.cc_flow_sound.specs.CcControl.Control.{level, close}
+use Rattle.cc_flow_sound.specs.CcControl.declared.phase.Phase.TheVariants.{First}
+use Rattle.cc_flow_sound.proofs.CcEval.MarkLemmas.{nothing_in}
+use Rattle.cc_flow_sound.specs.CcEval.declared.action.Action.TheVariants.{Read, Write, Choose, Call, Flag, Save}
+use Rattle.cc_flow_sound.specs.CcEval.declared.action.Action.{Action}
+use Rattle.cc_flow_sound.specs.CcEval.declared.mark.Mark.TheVariants.{Did}
+use Rattle.cc_flow_sound.specs.CcEval.declared.mark.Mark.{Mark}
 use Rattle.cc_flow_sound.proofs.Goes.{goes_at}
 use Rattle.cc_flow_sound.proofs.Numbered.{entered_at}
 use Rattle.cc_flow_sound.proofs.Opened.{all_normal}
@@ -32,16 +32,16 @@ use Rattle.cc_proof_covers.specs.Invariant.{AreCurrent, ActivationFits, IsPendin
 use Rattle.cc_proof_covers.specs.Pending.{value_in}
 use Rattle.cc_proof_covers.specs.Rules.{IsClosed}
 use Rattle.cc_proof_covers.specs.Views.{View}
-use Rattle.cc_states.proofs.ListLemmas.{not_equal}
-use Rattle.cc_steps.proofs.MarkLemmas.{marked_call, marked_with}
-use Rattle.cc_steps.specs.Access.{with_locals, is_open, with_local}
-use Rattle.cc_steps.specs.State.{Active, Memory, State, locals_with}
-use Rattle.cc_steps.specs.State.{IsSameCall}
-use Rattle.cc_steps.specs.Step.{stopped, with_stack, with_event, written, marked, on_top, did, cell_position, has_written, write, activation}
-use Rattle.cc_steps.specs.declared.event.End.{End}
-use Rattle.cc_steps.specs.declared.event.Event.TheVariants as event
-use Rattle.cc_steps.specs.declared.event.Event.{Event}
-use Rattle.cc_syntax.specs.Registers.{is_register}
+use Rattle.cc_flow_sound.proofs.CcStates.ListLemmas.{not_equal}
+use Rattle.cc_flow_sound.proofs.CcSteps.MarkLemmas.{marked_call, marked_with}
+use Rattle.cc_flow_sound.specs.CcSteps.Access.{with_locals, is_open, with_local}
+use Rattle.cc_flow_sound.specs.CcSteps.State.{Active, Memory, State, locals_with}
+use Rattle.cc_flow_sound.specs.CcSteps.State.{IsSameCall}
+use Rattle.cc_flow_sound.specs.CcSteps.Step.{stopped, with_stack, with_event, written, marked, on_top, did, cell_position, has_written, write, activation}
+use Rattle.cc_flow_sound.specs.CcSteps.declared.event.End.{End}
+use Rattle.cc_flow_sound.specs.CcSteps.declared.event.Event.TheVariants as event
+use Rattle.cc_flow_sound.specs.CcSteps.declared.event.Event.{Event}
+use Rattle.cc_flow_sound.specs.CcSyntax.Registers.{is_register}
 
 yes_no : (b : Bool) → b ≡ true → b ≡ false → ⊥
 yes_no b h k = cc

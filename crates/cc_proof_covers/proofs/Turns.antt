@@ -4,14 +4,14 @@ use Rattle.std.proofs.Common.{arith, ◌≡◌, ◌⊎◌, inl, inr, ◌<◌, �
 use Rattle.std.proofs.lemmas.Bool.{eqb-true, eq-eqb, ltb-true}
 use Rattle.std.proofs.lemmas.Option.{same_Some}
 use Rattle.std.specs.Prelude.{if◌then◌else◌, ◌==◌, option_map}
-use Rattle.cc_cells.specs.Cells.{scalar_in}
-use Rattle.cc_cells.specs.Scalars.{zeros}
-use Rattle.cc_eval.specs.Progress.{Progress, Known, Waits, Traps, no_value}
-use Rattle.cc_eval.specs.declared.action.Action.TheVariants.{Write}
-use Rattle.cc_eval.specs.declared.action.Action.{Action}
-use Rattle.cc_eval.specs.declared.mark.Mark.TheVariants.{Gave, Did}
-use Rattle.cc_eval.specs.declared.mark.Mark.{Mark}
-use Rattle.cc_flow.proofs.Tests.{zero_of}
+use Rattle.cc_flow_sound.specs.CcCells.Cells.{scalar_in}
+use Rattle.cc_flow_sound.specs.CcCells.Scalars.{zeros}
+use Rattle.cc_flow_sound.specs.CcEval.Progress.{Progress, Known, Waits, Traps, no_value}
+use Rattle.cc_flow_sound.specs.CcEval.declared.action.Action.TheVariants.{Write}
+use Rattle.cc_flow_sound.specs.CcEval.declared.action.Action.{Action}
+use Rattle.cc_flow_sound.specs.CcEval.declared.mark.Mark.TheVariants.{Gave, Did}
+use Rattle.cc_flow_sound.specs.CcEval.declared.mark.Mark.{Mark}
+use Rattle.cc_flow_sound.proofs.CcFlow.Tests.{zero_of}
 use Rattle.cc_flow_sound.proofs.Opened.{all_normal}
 use Rattle.cc_flow_sound.proofs.Places.{end_at}
 use Rattle.cc_flow_sound.specs.Moves.{entry}
@@ -33,22 +33,22 @@ use Rattle.cc_proof_covers.specs.Invariant.{Awaits, ActivationFits, MayInterrupt
 use Rattle.cc_proof_covers.specs.Pending.{value_in}
 use Rattle.cc_proof_covers.specs.Rules.{Goes, IsHere, Enters, IsClosed}
 use Rattle.cc_proof_covers.specs.Views.{View}
-use Rattle.cc_states.proofs.Options.{either_true}
-use Rattle.cc_states.proofs.StartLemmas.{start_state}
-use Rattle.cc_states.proofs.TurnLemmas.{turn_state}
-use Rattle.cc_states.specs.States.{expression_of, worked_at, AreActive, IsState}
-use Rattle.cc_steps.proofs.MarkLemmas.{marked_call, gone}
-use Rattle.cc_steps.specs.Runs.{Arrivals, run}
-use Rattle.cc_steps.specs.State.{Active, State, locals_with}
-use Rattle.cc_steps.specs.Step.{stopped, with_stack, with_flag, with_event, worked, progress_in, progress_at, progress_of, with_mark, marked, perform, activation, next_place, is_return, gives_nothing, return_mark, goes_to, returned, stepped, active_step, proceed}
-use Rattle.cc_steps.specs.Turn.{is_going, only_handler, level_of, running_level, may_enter, entered, turn_by, turn, start, first_of_stack}
-use Rattle.cc_steps.specs.declared.event.End.TheVariants.{Trap}
-use Rattle.cc_steps.specs.declared.event.Event.TheVariants.{Enter}
-use Rattle.cc_syntax.proofs.Prefixes.{both_true}
-use Rattle.cc_syntax.specs.Operators.{is_handler}
-use Rattle.cc_syntax.specs.Registers.{is_register}
-use Rattle.cc_syntax.specs.Sound.{IsTypedProgram}
-use Rattle.cc_syntax.specs.Types.{Named}
+use Rattle.cc_flow_sound.proofs.CcStates.Options.{either_true}
+use Rattle.cc_flow_sound.proofs.CcStates.StartLemmas.{start_state}
+use Rattle.cc_flow_sound.proofs.CcStates.TurnLemmas.{turn_state}
+use Rattle.cc_flow_sound.specs.CcStates.States.{expression_of, worked_at, AreActive, IsState}
+use Rattle.cc_flow_sound.proofs.CcSteps.MarkLemmas.{marked_call, gone}
+use Rattle.cc_flow_sound.specs.CcSteps.Runs.{Arrivals, run}
+use Rattle.cc_flow_sound.specs.CcSteps.State.{Active, State, locals_with}
+use Rattle.cc_flow_sound.specs.CcSteps.Step.{stopped, with_stack, with_flag, with_event, worked, progress_in, progress_at, progress_of, with_mark, marked, perform, activation, next_place, is_return, gives_nothing, return_mark, goes_to, returned, stepped, active_step, proceed}
+use Rattle.cc_flow_sound.specs.CcSteps.Turn.{is_going, only_handler, level_of, running_level, may_enter, entered, turn_by, turn, start, first_of_stack}
+use Rattle.cc_flow_sound.specs.CcSteps.declared.event.End.TheVariants.{Trap}
+use Rattle.cc_flow_sound.specs.CcSteps.declared.event.Event.TheVariants.{Enter}
+use Rattle.cc_flow_sound.proofs.CcSyntax.Prefixes.{both_true}
+use Rattle.cc_flow_sound.specs.CcSyntax.Operators.{is_handler}
+use Rattle.cc_flow_sound.specs.CcSyntax.Registers.{is_register}
+use Rattle.cc_flow_sound.specs.CcSyntax.Sound.{IsTypedProgram}
+use Rattle.cc_flow_sound.specs.CcSyntax.Types.{Named}
 
 known_waits : (w : Option Value) (ms : List Mark) (action : Action) → Known w ms ≡ Waits action → ⊥
 known_waits w ms action e = cc

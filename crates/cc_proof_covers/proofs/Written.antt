@@ -2,8 +2,8 @@
 use Rattle.std.proofs.Common.{◌≡◌, ◌⊎◌, inl, inr, ℕ, zero, suc, List, [], ◌∷◌, Option, Some, None, refl, ap, sym, ◌∙◌, slice_get, slice_set}
 use Rattle.std.proofs.lemmas.Option.{same_Some}
 use Rattle.std.specs.Prelude.{option_and_then}
-use Rattle.cc_cells.specs.Cells.{scalar_in, set_scalar, with_scalar}
-use Rattle.cc_steps.proofs.CellsApart.{set_elsewhere}
+use Rattle.cc_flow_sound.specs.CcCells.Cells.{scalar_in, set_scalar, with_scalar}
+use Rattle.cc_flow_sound.proofs.CcSteps.CellsApart.{set_elsewhere}
 
 slice_at : {A : Type 0} → (xs : List A) (k : ℕ) (x y : A) → slice_get (slice_set xs k x) k ≡ Some y → y ≡ x
 slice_at [] k x y h = absurd (cc)

@@ -1,14 +1,14 @@
 -- A state of a run lies in what facts say.
 use Rattle.std.specs.Prelude.{◌≡◌, ℕ, ℤ, Bool, true, false, List, [], ◌∷◌, ◌++◌, Option, Some, None, slice_get, if◌then◌else◌}
 use Rattle.std.specs.List.{Contains}
-use Rattle.cc_cells.specs.Cells.{scalar_in}
-use Rattle.cc_eval.specs.declared.action.Action.TheVariants.{Read}
-use Rattle.cc_eval.specs.declared.action.Manner.{Manner}
-use Rattle.cc_eval.specs.declared.mark.Mark.{Mark}
-use Rattle.cc_eval.specs.declared.mark.Mark.TheVariants.{Gave}
-use Rattle.cc_eval.specs.Progress.{Waits}
+use Rattle.cc_flow_sound.specs.CcCells.Cells.{scalar_in}
+use Rattle.cc_flow_sound.specs.CcEval.declared.action.Action.TheVariants.{Read}
+use Rattle.cc_flow_sound.specs.CcEval.declared.action.Manner.{Manner}
+use Rattle.cc_flow_sound.specs.CcEval.declared.mark.Mark.{Mark}
+use Rattle.cc_flow_sound.specs.CcEval.declared.mark.Mark.TheVariants.{Gave}
+use Rattle.cc_flow_sound.specs.CcEval.Progress.{Waits}
 use Rattle.cc_flow_sound.specs.Moves.{IsAt, standing}
-use Rattle.cc_num.specs.Integers.{converted}
+use Rattle.cc_program.specs.CcNum.Integers.{converted}
 use Rattle.cc_program.specs.declared.func.Func.{Func}
 use Rattle.cc_program.specs.declared.object.Device.{Device}
 use Rattle.cc_program.specs.declared.program.Program.{Program}
@@ -19,11 +19,11 @@ use Rattle.cc_program.specs.declared.value.Value.TheVariants.{Int}
 use Rattle.cc_program.specs.declared.value.Value.{Value}
 use Rattle.cc_proof_covers.specs.Pending.{pending, value_in}
 use Rattle.cc_proof_covers.specs.Views.{View}
-use Rattle.cc_states.specs.States.{expression_of}
-use Rattle.cc_steps.specs.State.{Active, Memory, State}
-use Rattle.cc_steps.specs.Step.{progress_at, cell_position}
-use Rattle.cc_steps.specs.Turn.{level_of, running_level}
-use Rattle.cc_syntax.specs.Registers.{is_register}
+use Rattle.cc_flow_sound.specs.CcStates.States.{expression_of}
+use Rattle.cc_flow_sound.specs.CcSteps.State.{Active, Memory, State}
+use Rattle.cc_flow_sound.specs.CcSteps.Step.{progress_at, cell_position}
+use Rattle.cc_flow_sound.specs.CcSteps.Turn.{level_of, running_level}
+use Rattle.cc_flow_sound.specs.CcSyntax.Registers.{is_register}
 
 -- the first activation of the stack runs; one below another was interrupted by it, or waits for its function
 pub data Role : Type 0 where

@@ -1,12 +1,12 @@
 -- What each turn keeps: a state lies in what facts say, and what the next turns need besides.
 use Rattle.std.specs.Prelude.{◌≡◌, ◌⊎◌, ◌<◌, ◌+◌, ℕ, Bool, true, false, List, [], ◌∷◌, ◌++◌, Option, Some, None, slice_get, max, if◌then◌else◌}
-use Rattle.cc_cells.specs.Cells.{scalar_in}
-use Rattle.cc_eval.specs.declared.action.Action.{Action}
-use Rattle.cc_eval.specs.declared.action.Action.TheVariants.{Read, Write, Choose, Call, Flag, Save}
-use Rattle.cc_eval.specs.declared.mark.Mark.{Mark}
-use Rattle.cc_eval.specs.declared.mark.Mark.TheVariants.{Gave, Did, Chose}
-use Rattle.cc_eval.specs.Progress.{Waits}
-use Rattle.cc_flow.specs.Points.{total_of}
+use Rattle.cc_flow_sound.specs.CcCells.Cells.{scalar_in}
+use Rattle.cc_flow_sound.specs.CcEval.declared.action.Action.{Action}
+use Rattle.cc_flow_sound.specs.CcEval.declared.action.Action.TheVariants.{Read, Write, Choose, Call, Flag, Save}
+use Rattle.cc_flow_sound.specs.CcEval.declared.mark.Mark.{Mark}
+use Rattle.cc_flow_sound.specs.CcEval.declared.mark.Mark.TheVariants.{Gave, Did, Chose}
+use Rattle.cc_flow_sound.specs.CcEval.Progress.{Waits}
+use Rattle.cc_flow_sound.specs.CcFlow.Points.{total_of}
 use Rattle.cc_flow_sound.specs.Moves.{entry}
 use Rattle.cc_flow_sound.specs.Sites.{base_of, IsPoint}
 use Rattle.cc_program.specs.declared.func.Func.{Func}
@@ -18,11 +18,11 @@ use Rattle.cc_program.specs.declared.value.Value.{Value}
 use Rattle.cc_proof_covers.specs.Covers.{Role, Running, Interrupted, Waiting, under, innermost, AreStaticsIn, AreLocalsIn, IsReached, AreRegistersIn, IsDeviceValue, WasIn}
 use Rattle.cc_proof_covers.specs.Pending.{has_result, value_in}
 use Rattle.cc_proof_covers.specs.Views.{View}
-use Rattle.cc_states.specs.States.{expression_of}
-use Rattle.cc_steps.specs.State.{Active, Memory, State}
-use Rattle.cc_steps.specs.Step.{progress_at, progress_of, with_mark, marked, return_mark, gives_nothing, cell_position}
-use Rattle.cc_steps.specs.Turn.{level_of, running_level}
-use Rattle.cc_syntax.specs.Registers.{is_register}
+use Rattle.cc_flow_sound.specs.CcStates.States.{expression_of}
+use Rattle.cc_flow_sound.specs.CcSteps.State.{Active, Memory, State}
+use Rattle.cc_flow_sound.specs.CcSteps.Step.{progress_at, progress_of, with_mark, marked, return_mark, gives_nothing, cell_position}
+use Rattle.cc_flow_sound.specs.CcSteps.Turn.{level_of, running_level}
+use Rattle.cc_flow_sound.specs.CcSyntax.Registers.{is_register}
 
 module _ (p : Program) where
   abbrev pub exit_of : ℕ → Func → ℕ

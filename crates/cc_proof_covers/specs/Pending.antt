@@ -1,20 +1,20 @@
 -- Results that were given and are not written yet: between a call that has returned, or an intrinsic that was done, and the write of the
 -- register to which the statement assigns.
 use Rattle.std.specs.Prelude.{ℕ, ◌==◌, Bool, true, false, Option, Some, None, if◌then◌else◌}
-use Rattle.cc_cells.specs.Cells.{scalar_in}
-use Rattle.cc_eval.specs.declared.action.Action.{Action}
-use Rattle.cc_eval.specs.declared.action.Action.TheVariants.{Read, Write, Choose, Call, Flag, Save}
-use Rattle.cc_eval.specs.Progress.{Progress, Waits, Known, Traps}
+use Rattle.cc_flow_sound.specs.CcCells.Cells.{scalar_in}
+use Rattle.cc_flow_sound.specs.CcEval.declared.action.Action.{Action}
+use Rattle.cc_flow_sound.specs.CcEval.declared.action.Action.TheVariants.{Read, Write, Choose, Call, Flag, Save}
+use Rattle.cc_flow_sound.specs.CcEval.Progress.{Progress, Waits, Known, Traps}
 use Rattle.cc_program.specs.declared.expr.Expr.{Expr}
 use Rattle.cc_program.specs.declared.program.Program.{Program}
 use Rattle.cc_program.specs.declared.value.Cell.{Cell}
 use Rattle.cc_program.specs.declared.value.Cell.TheVariants as cell
 use Rattle.cc_program.specs.declared.value.Root.TheVariants as root
 use Rattle.cc_program.specs.declared.value.Value.{Value}
-use Rattle.cc_states.specs.States.{expression_of}
-use Rattle.cc_steps.specs.State.{Active}
-use Rattle.cc_steps.specs.Step.{progress_of}
-use Rattle.cc_syntax.specs.Forms.{Form, AssignForm, CallForm, IntrinsicForm, ConstantForm, FunctionForm, LoadForm, OtherForm, form_of}
+use Rattle.cc_flow_sound.specs.CcStates.States.{expression_of}
+use Rattle.cc_flow_sound.specs.CcSteps.State.{Active}
+use Rattle.cc_flow_sound.specs.CcSteps.Step.{progress_of}
+use Rattle.cc_flow_sound.specs.CcSyntax.Forms.{Form, AssignForm, CallForm, IntrinsicForm, ConstantForm, FunctionForm, LoadForm, OtherForm, form_of}
 
 -- a call or an intrinsic
 abbrev pub is_given : Form → Bool

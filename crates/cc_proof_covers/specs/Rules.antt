@@ -1,14 +1,14 @@
 -- Facts that are closed under the rules of a program: what a step takes an activation to is in the sets of where it leads, whichever
 -- activation at a point asks for it, with what facts say of the point.
 use Rattle.std.specs.Prelude.{◌≡◌, ◌⊎◌, ℕ, Bool, true, false, List, [], ◌∷◌, Option, Some, None, slice_get, map}
-use Rattle.cc_cells.specs.Cells.{scalar_in}
-use Rattle.cc_eval.specs.declared.action.Action.{Action}
-use Rattle.cc_eval.specs.declared.action.Action.TheVariants.{Read, Write, Choose, Call, Flag, Save}
-use Rattle.cc_eval.specs.declared.mark.Mark.{Mark}
-use Rattle.cc_eval.specs.declared.mark.Mark.TheVariants.{Gave, Did}
-use Rattle.cc_eval.specs.Progress.{Waits, Known, no_value}
+use Rattle.cc_flow_sound.specs.CcCells.Cells.{scalar_in}
+use Rattle.cc_flow_sound.specs.CcEval.declared.action.Action.{Action}
+use Rattle.cc_flow_sound.specs.CcEval.declared.action.Action.TheVariants.{Read, Write, Choose, Call, Flag, Save}
+use Rattle.cc_flow_sound.specs.CcEval.declared.mark.Mark.{Mark}
+use Rattle.cc_flow_sound.specs.CcEval.declared.mark.Mark.TheVariants.{Gave, Did}
+use Rattle.cc_flow_sound.specs.CcEval.Progress.{Waits, Known, no_value}
 use Rattle.cc_flow_sound.specs.Moves.{entry}
-use Rattle.cc_num.specs.Results.{one_if}
+use Rattle.cc_program.specs.CcNum.Results.{one_if}
 use Rattle.cc_program.specs.declared.func.Func.{Func}
 use Rattle.cc_program.specs.declared.program.Program.{Program}
 use Rattle.cc_program.specs.declared.stmt.Case.{Case}
@@ -26,12 +26,12 @@ use Rattle.cc_proof_covers.specs.Covers.{AreStaticsIn, AreLocalsIn, AreRegisters
 use Rattle.cc_proof_covers.specs.Invariant.{exit_of, IsAtPoint, EndsAt, CountsAt, MayInterrupt, MayBeWritten, IsReady, Resumes, Awaits}
 use Rattle.cc_proof_covers.specs.Pending.{value_in}
 use Rattle.cc_proof_covers.specs.Views.{View}
-use Rattle.cc_states.specs.States.{expression_of, IsActive}
-use Rattle.cc_steps.specs.State.{Active, Memory, locals_with, first_values}
-use Rattle.cc_steps.specs.Step.{progress_of, with_mark, marked, next_place, is_return, goes_to, gives_nothing, cell_position}
-use Rattle.cc_steps.specs.Turn.{level_of}
-use Rattle.cc_syntax.specs.Operators.{is_handler}
-use Rattle.cc_syntax.specs.Registers.{is_register}
+use Rattle.cc_flow_sound.specs.CcStates.States.{expression_of, IsActive}
+use Rattle.cc_flow_sound.specs.CcSteps.State.{Active, Memory, locals_with, first_values}
+use Rattle.cc_flow_sound.specs.CcSteps.Step.{progress_of, with_mark, marked, next_place, is_return, goes_to, gives_nothing, cell_position}
+use Rattle.cc_flow_sound.specs.CcSteps.Turn.{level_of}
+use Rattle.cc_flow_sound.specs.CcSyntax.Operators.{is_handler}
+use Rattle.cc_flow_sound.specs.CcSyntax.Registers.{is_register}
 
 module _ (p : Program) (v : View) where
   -- ---- from a point to a next one

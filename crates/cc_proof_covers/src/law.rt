@@ -1,13 +1,13 @@
 ghost use Rattle.std.specs.Prelude.{◌<◌, ◌^◌, ℕ, ℤ, List};
-ghost use Rattle.cc_flow.specs.Points.{count_of};
+ghost use Rattle.cc_flow_sound.specs.CcFlow.Points.{count_of};
 ghost use Rattle.cc_program.specs.declared.program.Program.{Program};
 ghost use Rattle.cc_proof_covers.specs.Covers.{Lies};
 ghost use Rattle.cc_proof_covers.specs.Invariant.{Fits};
 ghost use Rattle.cc_proof_covers.specs.Rules.{IsClosed};
 ghost use Rattle.cc_proof_covers.specs.Views.{view_of};
-ghost use Rattle.cc_steps.specs.Runs.{Arrivals, run};
-ghost use Rattle.cc_steps.specs.Turn.{start};
-ghost use Rattle.cc_syntax.specs.Normal.{IsNormal};
+ghost use Rattle.cc_flow_sound.specs.CcSteps.Runs.{Arrivals, run};
+ghost use Rattle.cc_flow_sound.specs.CcSteps.Turn.{start};
+ghost use Rattle.cc_flow_sound.specs.CcSyntax.Normal.{IsNormal};
 
 use crate::FactView;
 

@@ -1,14 +1,14 @@
 -- The arguments of calls: what they are known to be, and what the parameters of the function that is called are then.
 use Rattle.std.proofs.Common.{◌≡◌, ℕ, zero, suc, List, [], ◌∷◌, length, replicate, Option, Some, None, refl, sym, subst, slice_get}
 use Rattle.std.proofs.lemmas.Option.{same_Some}
-use Rattle.cc_cells.specs.Cells.{scalar_in}
-use Rattle.cc_cells.specs.Scalars.{zeros}
-use Rattle.cc_eval.specs.Eval.{in_front, all_good}
+use Rattle.cc_flow_sound.specs.CcCells.Cells.{scalar_in}
+use Rattle.cc_flow_sound.specs.CcCells.Scalars.{zeros}
+use Rattle.cc_flow_sound.specs.CcEval.Eval.{in_front, all_good}
 use Rattle.cc_program.specs.declared.program.Program.{Program}
 use Rattle.cc_program.specs.declared.value.Value.{Value}
 use Rattle.cc_proof_forms.specs.Sets.{Good}
-use Rattle.cc_steps.specs.State.{locals_with}
-use Rattle.cc_syntax.specs.Types.{Named}
+use Rattle.cc_flow_sound.specs.CcSteps.State.{locals_with}
+use Rattle.cc_flow_sound.specs.CcSyntax.Types.{Named}
 
 -- each argument that is good has its property
 abbrev pub AreArguments : (ℕ → Value → Type 0) → List (Option Value) → Type 0

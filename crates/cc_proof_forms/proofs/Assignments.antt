@@ -1,18 +1,18 @@
 -- What assignments ask for: what their operands ask for, and then the write.
 use Rattle.std.proofs.Common.{◌≡◌, inl, inr, ℕ, Bool, List, [], ◌∷◌, Option, Some, None, refl, ap, sym, ◌∙◌, subst}
-use Rattle.cc_eval.proofs.MeaningUses.{meaning_uses, designation_uses}
-use Rattle.cc_eval.proofs.Opened.{meaning_at}
-use Rattle.cc_eval.proofs.Uses.{uses_known, uses_bind}
-use Rattle.cc_eval.proofs.Works.{works_known, works_ask, works_bind, works_needs}
-use Rattle.cc_eval.specs.Context.{Context, reached, is_seen}
-use Rattle.cc_eval.specs.declared.action.Action.TheVariants.{Write}
-use Rattle.cc_eval.specs.declared.action.Action.{Action}
-use Rattle.cc_eval.specs.declared.mark.Mark.TheVariants.{Did}
-use Rattle.cc_eval.specs.declared.mark.Mark.{Mark}
-use Rattle.cc_eval.specs.declared.spots.Spot.{Spot}
-use Rattle.cc_eval.specs.Eval.{Meaning, Designation, meaning, designation, next_of, place_and_value, stored}
-use Rattle.cc_eval.specs.Marks.{UsesFirst, Works}
-use Rattle.cc_eval.specs.Progress.{Progress, Known, Waits, Traps, Get, known, ask, bind, needs}
+use Rattle.cc_flow_sound.proofs.CcEval.MeaningUses.{meaning_uses, designation_uses}
+use Rattle.cc_flow_sound.proofs.CcEval.Opened.{meaning_at}
+use Rattle.cc_flow_sound.proofs.CcEval.Uses.{uses_known, uses_bind}
+use Rattle.cc_flow_sound.proofs.CcEval.Works.{works_known, works_ask, works_bind, works_needs}
+use Rattle.cc_flow_sound.specs.CcEval.Context.{Context, reached, is_seen}
+use Rattle.cc_flow_sound.specs.CcEval.declared.action.Action.TheVariants.{Write}
+use Rattle.cc_flow_sound.specs.CcEval.declared.action.Action.{Action}
+use Rattle.cc_flow_sound.specs.CcEval.declared.mark.Mark.TheVariants.{Did}
+use Rattle.cc_flow_sound.specs.CcEval.declared.mark.Mark.{Mark}
+use Rattle.cc_flow_sound.specs.CcEval.declared.spots.Spot.{Spot}
+use Rattle.cc_flow_sound.specs.CcEval.Eval.{Meaning, Designation, meaning, designation, next_of, place_and_value, stored}
+use Rattle.cc_flow_sound.specs.CcEval.Marks.{UsesFirst, Works}
+use Rattle.cc_flow_sound.specs.CcEval.Progress.{Progress, Known, Waits, Traps, Get, known, ask, bind, needs}
 use Rattle.cc_program.specs.declared.expr.Expr.TheOpen as one
 use Rattle.cc_program.specs.declared.expr.Expr.{Expr, out-Expr}
 use Rattle.cc_program.specs.declared.expr.Place.{Place}
@@ -28,10 +28,10 @@ use Rattle.cc_proof_covers.specs.Rules.{GoesOn, Allowed, AllowedWrite}
 use Rattle.cc_proof_covers.specs.Views.{View}
 use Rattle.cc_proof_forms.proofs.FullSteps.{next, not_known, step_allowed}
 use Rattle.cc_proof_forms.proofs.LastStep.{IsOneStep}
-use Rattle.cc_states.specs.States.{expression_of, context_in}
-use Rattle.cc_steps.specs.State.{Active, Memory}
-use Rattle.cc_steps.specs.Step.{progress_of}
-use Rattle.cc_syntax.specs.Effects.{Registers, no_one, also}
+use Rattle.cc_flow_sound.specs.CcStates.States.{expression_of, context_in}
+use Rattle.cc_flow_sound.specs.CcSteps.State.{Active, Memory}
+use Rattle.cc_flow_sound.specs.CcSteps.Step.{progress_of}
+use Rattle.cc_flow_sound.specs.CcSyntax.Effects.{Registers, no_one, also}
 
 -- ---- the write
 

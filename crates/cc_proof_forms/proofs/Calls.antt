@@ -1,18 +1,18 @@
 -- Calls, of functions by name or by pointer, whose result is assigned to a register or is not used.
 use Rattle.std.proofs.Common.{◌≡◌, ◌⊎◌, inl, inr, ℕ, suc, Bool, true, false, List, [], ◌∷◌, map, Option, Some, None, refl, ap, sym, ◌∙◌, subst, slice_get}
 use Rattle.std.specs.Prelude.{if◌then◌else◌}
-use Rattle.cc_eval.proofs.MeaningUses.{meaning_uses}
-use Rattle.cc_eval.proofs.Opened.{meaning_at}
-use Rattle.cc_eval.proofs.Uses.{uses_known, uses_bind}
-use Rattle.cc_eval.proofs.Works.{works_known, works_ask, works_bind, works_needs}
-use Rattle.cc_eval.specs.Context.{Context}
-use Rattle.cc_eval.specs.declared.action.Action.TheVariants.{Call}
-use Rattle.cc_eval.specs.declared.action.Action.{Action}
-use Rattle.cc_eval.specs.declared.mark.Mark.TheVariants.{Gave, Did}
-use Rattle.cc_eval.specs.declared.mark.Mark.{Mark}
-use Rattle.cc_eval.specs.Eval.{Meaning, meaning, designation, each, assigned_by, all_good}
-use Rattle.cc_eval.specs.Marks.{UsesFirst, Works}
-use Rattle.cc_eval.specs.Progress.{Progress, Known, Waits, Traps, Get, known, ask, and_then, bind, needs, given, no_value}
+use Rattle.cc_flow_sound.proofs.CcEval.MeaningUses.{meaning_uses}
+use Rattle.cc_flow_sound.proofs.CcEval.Opened.{meaning_at}
+use Rattle.cc_flow_sound.proofs.CcEval.Uses.{uses_known, uses_bind}
+use Rattle.cc_flow_sound.proofs.CcEval.Works.{works_known, works_ask, works_bind, works_needs}
+use Rattle.cc_flow_sound.specs.CcEval.Context.{Context}
+use Rattle.cc_flow_sound.specs.CcEval.declared.action.Action.TheVariants.{Call}
+use Rattle.cc_flow_sound.specs.CcEval.declared.action.Action.{Action}
+use Rattle.cc_flow_sound.specs.CcEval.declared.mark.Mark.TheVariants.{Gave, Did}
+use Rattle.cc_flow_sound.specs.CcEval.declared.mark.Mark.{Mark}
+use Rattle.cc_flow_sound.specs.CcEval.Eval.{Meaning, meaning, designation, each, assigned_by, all_good}
+use Rattle.cc_flow_sound.specs.CcEval.Marks.{UsesFirst, Works}
+use Rattle.cc_flow_sound.specs.CcEval.Progress.{Progress, Known, Waits, Traps, Get, known, ask, and_then, bind, needs, given, no_value}
 use Rattle.cc_program.specs.declared.expr.Expr.TheOpen as one
 use Rattle.cc_program.specs.declared.expr.Expr.{Expr, out-Expr}
 use Rattle.cc_program.specs.declared.expr.Place.{Place as PlaceOf}
@@ -38,13 +38,13 @@ use Rattle.cc_proof_forms.proofs.Places.{register_allowed}
 use Rattle.cc_proof_forms.specs.Sets.{Good}
 use Rattle.cc_proof_forms.proofs.Results.{is_pending}
 use Rattle.cc_proof_forms.specs.CallRules.{CallRule}
-use Rattle.cc_states.specs.States.{expression_of, context_in}
-use Rattle.cc_steps.specs.State.{Active, Memory}
-use Rattle.cc_steps.specs.Step.{gives_nothing, return_mark, with_mark, progress_of}
-use Rattle.cc_syntax.specs.Effects.{Registers, no_one, also}
-use Rattle.cc_syntax.specs.Forms.{form_of, form_at}
-use Rattle.cc_syntax.specs.Values.{PlaceType}
-use Rattle.cc_values.specs.Values.{address_in}
+use Rattle.cc_flow_sound.specs.CcStates.States.{expression_of, context_in}
+use Rattle.cc_flow_sound.specs.CcSteps.State.{Active, Memory}
+use Rattle.cc_flow_sound.specs.CcSteps.Step.{gives_nothing, return_mark, with_mark, progress_of}
+use Rattle.cc_flow_sound.specs.CcSyntax.Effects.{Registers, no_one, also}
+use Rattle.cc_flow_sound.specs.CcSyntax.Forms.{form_of, form_at}
+use Rattle.cc_flow_sound.specs.CcSyntax.Values.{PlaceType}
+use Rattle.cc_flow_sound.specs.CcValues.Values.{address_in}
 
 -- what is worked one behind the other, as a pair
 second_grouped : {A B C : Type 0} (k : A × B → Get C) (w : A) (q : Progress B) → and_then q (λ u. k (w, u)) ≡ and_then (and_then q (λ u. known (w, u))) k

@@ -1,14 +1,14 @@
 -- Facts that have what each statement of a program in normal form asks at its point are closed.
 use Rattle.std.proofs.Common.{◌≡◌, ◌<◌, ◌^◌, ℕ, true, false, ◌&&◌, List, [], ◌∷◌, map, Option, Some, None, refl, ap, sym, ◌∙◌, subst, slice_get}
 use Rattle.std.specs.List.{list_all}
-use Rattle.cc_eval.proofs.Opened.{meaning_at}
-use Rattle.cc_eval.specs.declared.action.Action.{Action}
-use Rattle.cc_eval.specs.declared.mark.Mark.{Mark}
-use Rattle.cc_eval.specs.Eval.{Meaning, meaning, opened}
-use Rattle.cc_eval.specs.Progress.{Progress, Known, Waits, no_value}
-use Rattle.cc_flow.specs.declared.next.Site.{Site}
-use Rattle.cc_flow.specs.declared.types.Point.{Point}
-use Rattle.cc_flow.specs.Points.{count_of, flow_of}
+use Rattle.cc_flow_sound.proofs.CcEval.Opened.{meaning_at}
+use Rattle.cc_flow_sound.specs.CcEval.declared.action.Action.{Action}
+use Rattle.cc_flow_sound.specs.CcEval.declared.mark.Mark.{Mark}
+use Rattle.cc_flow_sound.specs.CcEval.Eval.{Meaning, meaning, opened}
+use Rattle.cc_flow_sound.specs.CcEval.Progress.{Progress, Known, Waits, no_value}
+use Rattle.cc_flow_sound.specs.CcFlow.declared.next.Site.{Site}
+use Rattle.cc_flow_sound.specs.CcFlow.declared.types.Point.{Point}
+use Rattle.cc_flow_sound.specs.CcFlow.Points.{count_of, flow_of}
 use Rattle.cc_flow_sound.proofs.Normal.{normal_body}
 use Rattle.cc_flow_sound.proofs.Numbered.{at_statement}
 use Rattle.cc_flow_sound.proofs.Opened.{all_normal, normal_case, NormalAt}
@@ -16,7 +16,7 @@ use Rattle.cc_flow_sound.proofs.Places.{first_number, exit_of as site_exit}
 use Rattle.cc_flow_sound.proofs.Reached.{active_statement}
 use Rattle.cc_flow_sound.specs.Sites.{arm_point, number_at, StandsAt, base_of}
 use Rattle.cc_flow_sound.specs.Statements.{statement_at}
-use Rattle.cc_num.specs.Results.{one_if}
+use Rattle.cc_program.specs.CcNum.Results.{one_if}
 use Rattle.cc_program.specs.declared.expr.Expr.TheOpen as one
 use Rattle.cc_program.specs.declared.expr.Expr.{Expr, out-Expr}
 use Rattle.cc_program.specs.declared.expr.Place.{Place}
@@ -39,14 +39,14 @@ use Rattle.cc_proof_forms.proofs.Tests.{jump_goes, tested_goes, if_there, switch
 use Rattle.cc_proof_forms.specs.Branches.{switch_point}
 use Rattle.cc_proof_forms.specs.Sets.{OperandSets}
 use Rattle.cc_proof_forms.specs.StatementRules.{StatementRule, AtExpression, AtJump, AtIf, AtSwitch, AtReturn, AtEnd, AreStatementRules}
-use Rattle.cc_states.specs.States.{expression_of, worked_at, context_in}
-use Rattle.cc_steps.specs.State.{Active, Memory}
-use Rattle.cc_steps.specs.Step.{progress_in, progress_of, is_return, number_in}
-use Rattle.cc_syntax.proofs.Prefixes.{both_true}
-use Rattle.cc_syntax.specs.Effects.{no_one}
-use Rattle.cc_syntax.specs.Forms.{form_of, form_at}
-use Rattle.cc_syntax.specs.Normal.{IsNormal, is_one, is_operand}
-use Rattle.cc_values.specs.Values.{is_true}
+use Rattle.cc_flow_sound.specs.CcStates.States.{expression_of, worked_at, context_in}
+use Rattle.cc_flow_sound.specs.CcSteps.State.{Active, Memory}
+use Rattle.cc_flow_sound.specs.CcSteps.Step.{progress_in, progress_of, is_return, number_in}
+use Rattle.cc_flow_sound.proofs.CcSyntax.Prefixes.{both_true}
+use Rattle.cc_flow_sound.specs.CcSyntax.Effects.{no_one}
+use Rattle.cc_flow_sound.specs.CcSyntax.Forms.{form_of, form_at}
+use Rattle.cc_flow_sound.specs.CcSyntax.Normal.{IsNormal, is_one, is_operand}
+use Rattle.cc_flow_sound.specs.CcValues.Values.{is_true}
 
 known_waits : (q : Progress (Option Value)) (ms : List Mark) (x : Action) → q ≡ Known (Some no_value) ms → q ≡ Waits x → ⊥
 known_waits q ms x h k = cc

@@ -1,9 +1,9 @@
 -- Facts that have what each point of a program in normal form asks are closed, so they cover its runs.
 use Rattle.std.proofs.Common.{◌≡◌, ◌<◌, ◌^◌, ℕ, ℤ, false, List, [], Option, Some, None, ap, sym, ◌∙◌, subst, slice_get}
-use Rattle.cc_eval.specs.declared.mark.Mark.TheVariants.{Did}
-use Rattle.cc_eval.specs.Progress.{no_value}
-use Rattle.cc_flow.specs.declared.types.Point.{Point}
-use Rattle.cc_flow.specs.Points.{count_of, flow_of}
+use Rattle.cc_flow_sound.specs.CcEval.declared.mark.Mark.TheVariants.{Did}
+use Rattle.cc_flow_sound.specs.CcEval.Progress.{no_value}
+use Rattle.cc_flow_sound.specs.CcFlow.declared.types.Point.{Point}
+use Rattle.cc_flow_sound.specs.CcFlow.Points.{count_of, flow_of}
 use Rattle.cc_flow_sound.proofs.Normal.{normal_body}
 use Rattle.cc_flow_sound.proofs.Numbered.{at_point}
 use Rattle.cc_flow_sound.proofs.Places.{end_at}
@@ -20,13 +20,13 @@ use Rattle.cc_proof_covers.specs.Views.{View}
 use Rattle.cc_proof_forms.proofs.ClosedFacts.{steps_of, goes_of, leaves_of}
 use Rattle.cc_proof_forms.specs.PointRules.{PointRule, AreRules}
 use Rattle.cc_proof_forms.specs.Sets.{OperandSets}
-use Rattle.cc_steps.proofs.MarkLemmas.{marked_call}
-use Rattle.cc_steps.specs.Runs.{Arrivals, run}
-use Rattle.cc_steps.specs.State.{Active}
-use Rattle.cc_steps.specs.Step.{marked, gives_nothing}
-use Rattle.cc_steps.specs.Turn.{start}
-use Rattle.cc_syntax.proofs.NameRules.{sound-typed}
-use Rattle.cc_syntax.specs.Normal.{IsNormal}
+use Rattle.cc_flow_sound.proofs.CcSteps.MarkLemmas.{marked_call}
+use Rattle.cc_flow_sound.specs.CcSteps.Runs.{Arrivals, run}
+use Rattle.cc_flow_sound.specs.CcSteps.State.{Active}
+use Rattle.cc_flow_sound.specs.CcSteps.Step.{marked, gives_nothing}
+use Rattle.cc_flow_sound.specs.CcSteps.Turn.{start}
+use Rattle.cc_flow_sound.proofs.CcSyntax.NameRules.{sound-typed}
+use Rattle.cc_flow_sound.specs.CcSyntax.Normal.{IsNormal}
 
 module _ (p : Program) (v : View) (o : OperandSets) (normal : IsNormal p) (few : count_of p < 2 ^ 32) (rules : AreRules p v o) where
   -- the point of which facts speak is one of the activation's function

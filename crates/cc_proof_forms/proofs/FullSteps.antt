@@ -1,13 +1,13 @@
 -- An expression statement whose full expression asks for operands, and then for one step: each step that it asks for is allowed where those of
 -- the operands are, and the last one.
 use Rattle.std.proofs.Common.{◌≡◌, ◌⊎◌, inl, inr, ℕ, List, [], ◌∷◌, ◌++◌, Option, Some, refl, ap, sym, ◌∙◌, subst}
-use Rattle.cc_eval.proofs.Works.{answers_of, left_answers}
-use Rattle.cc_eval.specs.Context.{Context}
-use Rattle.cc_eval.specs.declared.action.Action.{Action}
-use Rattle.cc_eval.specs.declared.mark.Mark.{Mark}
-use Rattle.cc_eval.specs.Eval.{next_of}
-use Rattle.cc_eval.specs.Marks.{UsesFirst, Works, AnswerSteps}
-use Rattle.cc_eval.specs.Progress.{Known, Waits, Get, ask, bind}
+use Rattle.cc_flow_sound.proofs.CcEval.Works.{answers_of, left_answers}
+use Rattle.cc_flow_sound.specs.CcEval.Context.{Context}
+use Rattle.cc_flow_sound.specs.CcEval.declared.action.Action.{Action}
+use Rattle.cc_flow_sound.specs.CcEval.declared.mark.Mark.{Mark}
+use Rattle.cc_flow_sound.specs.CcEval.Eval.{next_of}
+use Rattle.cc_flow_sound.specs.CcEval.Marks.{UsesFirst, Works, AnswerSteps}
+use Rattle.cc_flow_sound.specs.CcEval.Progress.{Known, Waits, Get, ask, bind}
 use Rattle.cc_program.specs.declared.expr.Expr.{Expr}
 use Rattle.cc_program.specs.declared.func.Func.{Func}
 use Rattle.cc_program.specs.declared.program.Program.{Program}
@@ -20,9 +20,9 @@ use Rattle.cc_proof_covers.specs.Invariant.{EndsAt, IsCurrent, AreCurrent}
 use Rattle.cc_proof_covers.specs.Rules.{GoesOn, Allowed}
 use Rattle.cc_proof_covers.specs.Views.{View}
 use Rattle.cc_proof_forms.proofs.LastStep.{IsOneStep, IsOperand, IsFinal, operand_or_final}
-use Rattle.cc_states.specs.States.{expression_of, context_in}
-use Rattle.cc_steps.specs.State.{Active, Memory}
-use Rattle.cc_steps.specs.Step.{progress_at, progress_of}
+use Rattle.cc_flow_sound.specs.CcStates.States.{expression_of, context_in}
+use Rattle.cc_flow_sound.specs.CcSteps.State.{Active, Memory}
+use Rattle.cc_flow_sound.specs.CcSteps.Step.{progress_at, progress_of}
 
 module _ (p : Program) (v : View) (m : Memory) (a : Active) (f : Func) (n : ℕ) where
   -- a step of operands: a register is read whole, and a branch is chosen

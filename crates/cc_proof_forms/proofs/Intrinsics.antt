@@ -1,19 +1,19 @@
 -- `irq_off()`, `irq_on()`, `irq_restore(operand)` and `irq_save()`: the flag is as they say at what is behind, and what `irq_save()` gives waits to be
 -- written, as a call's result does, or is not used.
 use Rattle.std.proofs.Common.{◌≡◌, inl, inr, ℕ, Bool, true, false, List, [], ◌∷◌, Option, Some, None, refl, ap, sym, ◌∙◌, subst}
-use Rattle.cc_eval.proofs.MeaningUses.{meaning_uses}
-use Rattle.cc_eval.proofs.Opened.{meaning_at}
-use Rattle.cc_eval.proofs.Uses.{uses_known}
-use Rattle.cc_eval.proofs.Works.{works_known, works_ask, works_bind, works_needs}
-use Rattle.cc_eval.specs.Context.{Context}
-use Rattle.cc_eval.specs.declared.action.Action.TheVariants.{Flag, Save}
-use Rattle.cc_eval.specs.declared.action.Action.{Action}
-use Rattle.cc_eval.specs.declared.mark.Mark.TheVariants.{Gave, Did}
-use Rattle.cc_eval.specs.declared.mark.Mark.{Mark}
-use Rattle.cc_eval.specs.Eval.{Meaning, meaning, designation}
-use Rattle.cc_eval.specs.Marks.{Works}
-use Rattle.cc_eval.specs.Progress.{Progress, Known, Waits, Traps, Get, known, ask, bind, needs, given, no_value}
-use Rattle.cc_num.specs.Results.{one_if}
+use Rattle.cc_flow_sound.proofs.CcEval.MeaningUses.{meaning_uses}
+use Rattle.cc_flow_sound.proofs.CcEval.Opened.{meaning_at}
+use Rattle.cc_flow_sound.proofs.CcEval.Uses.{uses_known}
+use Rattle.cc_flow_sound.proofs.CcEval.Works.{works_known, works_ask, works_bind, works_needs}
+use Rattle.cc_flow_sound.specs.CcEval.Context.{Context}
+use Rattle.cc_flow_sound.specs.CcEval.declared.action.Action.TheVariants.{Flag, Save}
+use Rattle.cc_flow_sound.specs.CcEval.declared.action.Action.{Action}
+use Rattle.cc_flow_sound.specs.CcEval.declared.mark.Mark.TheVariants.{Gave, Did}
+use Rattle.cc_flow_sound.specs.CcEval.declared.mark.Mark.{Mark}
+use Rattle.cc_flow_sound.specs.CcEval.Eval.{Meaning, meaning, designation}
+use Rattle.cc_flow_sound.specs.CcEval.Marks.{Works}
+use Rattle.cc_flow_sound.specs.CcEval.Progress.{Progress, Known, Waits, Traps, Get, known, ask, bind, needs, given, no_value}
+use Rattle.cc_program.specs.CcNum.Results.{one_if}
 use Rattle.cc_program.specs.declared.expr.Expr.TheOpen as one
 use Rattle.cc_program.specs.declared.expr.Expr.{Expr, out-Expr}
 use Rattle.cc_program.specs.declared.expr.Intr.TheVariants as intr
@@ -37,13 +37,13 @@ use Rattle.cc_proof_forms.proofs.Places.{register_allowed}
 use Rattle.cc_proof_forms.specs.Sets.{Good}
 use Rattle.cc_proof_forms.proofs.Results.{is_pending}
 use Rattle.cc_proof_forms.specs.CallRules.{SaveRule}
-use Rattle.cc_states.specs.States.{expression_of, context_in}
-use Rattle.cc_steps.specs.State.{Active, Memory}
-use Rattle.cc_steps.specs.Step.{with_mark, progress_of}
-use Rattle.cc_syntax.specs.Effects.{Registers, no_one}
-use Rattle.cc_syntax.specs.Forms.{form_of, form_at}
-use Rattle.cc_syntax.specs.Values.{PlaceType}
-use Rattle.cc_values.specs.Values.{truth}
+use Rattle.cc_flow_sound.specs.CcStates.States.{expression_of, context_in}
+use Rattle.cc_flow_sound.specs.CcSteps.State.{Active, Memory}
+use Rattle.cc_flow_sound.specs.CcSteps.Step.{with_mark, progress_of}
+use Rattle.cc_flow_sound.specs.CcSyntax.Effects.{Registers, no_one}
+use Rattle.cc_flow_sound.specs.CcSyntax.Forms.{form_of, form_at}
+use Rattle.cc_flow_sound.specs.CcSyntax.Values.{PlaceType}
+use Rattle.cc_flow_sound.specs.CcValues.Values.{truth}
 
 waits_both : (q : Progress (Option Value)) (x y : Action) → q ≡ Waits x → q ≡ Waits y → x ≡ y
 waits_both q x y h k = cc

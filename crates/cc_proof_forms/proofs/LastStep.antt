@@ -1,11 +1,11 @@
 -- A full expression whose last step is known apart: what asks for operands, and then for one step. Where it waits, it waits for an operand,
 -- and is not known after any mark; or the operands are known, and it is known after the mark of the one step.
 use Rattle.std.proofs.Common.{◌≡◌, ◌⊎◌, inl, inr, List, [], ◌∷◌, ◌++◌, append-nil, refl, ap, sym, ◌∙◌}
-use Rattle.cc_eval.specs.declared.action.Action.{Action}
-use Rattle.cc_eval.specs.declared.mark.Mark.{Mark}
-use Rattle.cc_eval.specs.Marks.{IsUsed, UsesFirst}
-use Rattle.cc_eval.specs.Progress.{Progress, Known, Waits, Traps, Get, ask, and_then, bind}
-use Rattle.cc_eval.proofs.MarkLemmas.{last_or_not, IsLast}
+use Rattle.cc_flow_sound.specs.CcEval.declared.action.Action.{Action}
+use Rattle.cc_flow_sound.specs.CcEval.declared.mark.Mark.{Mark}
+use Rattle.cc_flow_sound.specs.CcEval.Marks.{IsUsed, UsesFirst}
+use Rattle.cc_flow_sound.specs.CcEval.Progress.{Progress, Known, Waits, Traps, Get, ask, and_then, bind}
+use Rattle.cc_flow_sound.proofs.CcEval.MarkLemmas.{last_or_not, IsLast}
 
 -- one step, or a trap
 abbrev pub IsOneStep : {A : Type 0} → Get A → Type 0

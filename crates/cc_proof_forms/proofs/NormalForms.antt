@@ -2,16 +2,16 @@
 use Rattle.std.proofs.Common.{◌≡◌, ◌⊎◌, inl, inr, Bool, true, false, ◌&&◌, ◌||◌, List, Option, refl}
 use Rattle.std.specs.Prelude.{if◌then◌else◌}
 use Rattle.std.specs.List.{list_all}
-use Rattle.cc_num.specs.declared.target.Target.{Target}
+use Rattle.cc_program.specs.CcNum.declared.target.Target.{Target}
 use Rattle.cc_program.specs.declared.expr.Expr.TheOpen as one
 use Rattle.cc_program.specs.declared.expr.Expr.{Expr, out-Expr}
 use Rattle.cc_program.specs.declared.expr.Intr.{Intr}
 use Rattle.cc_program.specs.declared.expr.Place.{Place}
 use Rattle.cc_program.specs.declared.func.Func.{Func}
-use Rattle.cc_states.proofs.Options.{either_true}
-use Rattle.cc_syntax.proofs.Prefixes.{both_true}
-use Rattle.cc_syntax.specs.Forms.{form_of, form_at}
-use Rattle.cc_syntax.specs.Normal.{is_operand, is_optional_operand, is_register_place, is_other_place, is_callee, is_call, is_place_read, is_expression_statement}
+use Rattle.cc_flow_sound.proofs.CcStates.Options.{either_true}
+use Rattle.cc_flow_sound.proofs.CcSyntax.Prefixes.{both_true}
+use Rattle.cc_flow_sound.specs.CcSyntax.Forms.{form_of, form_at}
+use Rattle.cc_flow_sound.specs.CcSyntax.Normal.{is_operand, is_optional_operand, is_register_place, is_other_place, is_callee, is_call, is_place_read, is_expression_statement}
 
 module _ (target : Target) (f : Func) where
   -- what a register may get, but for operands

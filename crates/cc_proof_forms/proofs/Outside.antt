@@ -2,10 +2,10 @@
 use Rattle.std.proofs.Common.{arith, ◌≡◌, ◌≤◌, ◌<◌, ◌⊎◌, inl, inr, ◌+◌, ℕ, Bool, true, false, nat_eq, List, [], ◌∷◌, refl, ap, ◌∙◌}
 use Rattle.std.specs.Prelude.{if◌then◌else◌}
 use Rattle.std.proofs.lemmas.List.Sums.{sum_by-cons}
-use Rattle.cc_control.specs.Control.{Level}
-use Rattle.cc_flow.proofs.Tests.{zero_of}
-use Rattle.cc_flow.specs.declared.next.Site.{Site}
-use Rattle.cc_flow.specs.Points.{size_of, total_of}
+use Rattle.cc_flow_sound.specs.CcControl.Control.{Level}
+use Rattle.cc_flow_sound.proofs.CcFlow.Tests.{zero_of}
+use Rattle.cc_flow_sound.specs.CcFlow.declared.next.Site.{Site}
+use Rattle.cc_flow_sound.specs.CcFlow.Points.{size_of, total_of}
 use Rattle.cc_flow_sound.proofs.Opened.{form_size, size_at, total-append, total-bodies}
 use Rattle.cc_flow_sound.specs.Sites.{own_site, IsSiteIn, IsPlaced, StandsAt, base_of}
 use Rattle.cc_program.specs.declared.func.Func.{Func}

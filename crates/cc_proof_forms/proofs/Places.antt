@@ -1,18 +1,18 @@
 -- `place = operand`, `register = operand` and `register = place`: what they ask for, by what their operands may be.
 use Rattle.std.proofs.Common.{◌≡◌, ◌⊎◌, inl, inr, ℕ, [], Option, Some, refl, ap, sym, ◌∙◌, subst}
-use Rattle.cc_eval.proofs.Opened.{meaning_at}
-use Rattle.cc_eval.proofs.Works.{works_known, works_ask, works_bind, works_needs}
-use Rattle.cc_eval.specs.Context.{Context, reached}
-use Rattle.cc_eval.specs.declared.action.Action.TheVariants.{Read}
-use Rattle.cc_eval.specs.declared.action.Action.{Action}
-use Rattle.cc_eval.specs.declared.action.Manner.{Manner}
-use Rattle.cc_eval.specs.declared.mark.Mark.TheVariants.{Did}
-use Rattle.cc_eval.specs.declared.mark.Mark.{Mark}
-use Rattle.cc_eval.specs.declared.spots.Spot.TheVariants as spot
-use Rattle.cc_eval.specs.declared.spots.Spot.{Spot}
-use Rattle.cc_eval.specs.Eval.{Meaning, Designation, meaning, designation, fetched, manner}
-use Rattle.cc_eval.specs.Marks.{Works}
-use Rattle.cc_eval.specs.Progress.{Waits, known, ask, and_then, given}
+use Rattle.cc_flow_sound.proofs.CcEval.Opened.{meaning_at}
+use Rattle.cc_flow_sound.proofs.CcEval.Works.{works_known, works_ask, works_bind, works_needs}
+use Rattle.cc_flow_sound.specs.CcEval.Context.{Context, reached}
+use Rattle.cc_flow_sound.specs.CcEval.declared.action.Action.TheVariants.{Read}
+use Rattle.cc_flow_sound.specs.CcEval.declared.action.Action.{Action}
+use Rattle.cc_flow_sound.specs.CcEval.declared.action.Manner.{Manner}
+use Rattle.cc_flow_sound.specs.CcEval.declared.mark.Mark.TheVariants.{Did}
+use Rattle.cc_flow_sound.specs.CcEval.declared.mark.Mark.{Mark}
+use Rattle.cc_flow_sound.specs.CcEval.declared.spots.Spot.TheVariants as spot
+use Rattle.cc_flow_sound.specs.CcEval.declared.spots.Spot.{Spot}
+use Rattle.cc_flow_sound.specs.CcEval.Eval.{Meaning, Designation, meaning, designation, fetched, manner}
+use Rattle.cc_flow_sound.specs.CcEval.Marks.{Works}
+use Rattle.cc_flow_sound.specs.CcEval.Progress.{Waits, known, ask, and_then, given}
 use Rattle.cc_program.specs.declared.expr.Expr.TheOpen as one
 use Rattle.cc_program.specs.declared.expr.Expr.{Expr, out-Expr}
 use Rattle.cc_program.specs.declared.expr.Place.{Place}
@@ -33,10 +33,10 @@ use Rattle.cc_proof_covers.specs.Views.{View}
 use Rattle.cc_proof_forms.proofs.Assignments.{operands, last, assign_is, assign_allowed}
 use Rattle.cc_proof_forms.proofs.FullSteps.{next, next_is, operand_step}
 use Rattle.cc_proof_forms.specs.Sets.{Good}
-use Rattle.cc_states.specs.States.{expression_of, context_in}
-use Rattle.cc_steps.specs.State.{Active, Memory}
-use Rattle.cc_steps.specs.Step.{progress_of}
-use Rattle.cc_syntax.specs.Effects.{Registers, no_one}
+use Rattle.cc_flow_sound.specs.CcStates.States.{expression_of, context_in}
+use Rattle.cc_flow_sound.specs.CcSteps.State.{Active, Memory}
+use Rattle.cc_flow_sound.specs.CcSteps.Step.{progress_of}
+use Rattle.cc_flow_sound.specs.CcSyntax.Effects.{Registers, no_one}
 
 module _ (p : Program) (v : View) (m : Memory) (a : Active) (f : Func) (n : ℕ) (at : AtStatement p a f) (e : Expr) (is_do : out-Stmt at.statement ≡ is.Do e) (current : AreCurrent p v m a f n) (d : Place) (x : Expr) (assigns : out-Expr e ≡ one.Assign d x) where
   abbrev c : Context

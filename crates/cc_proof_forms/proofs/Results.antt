@@ -1,15 +1,15 @@
 -- `register = call` and `register = irq_save()`: once the result is given it waits to be written, and the activation counts as standing behind
 -- the statement.
 use Rattle.std.proofs.Common.{◌≡◌, ◌⊎◌, inl, inr, ℕ, Bool, true, List, [], ◌∷◌, ◌++◌, append-nil, Option, Some, ap, sym, ◌∙◌}
-use Rattle.cc_eval.specs.Context.{Context, reached, cell_at, is_seen}
-use Rattle.cc_eval.specs.declared.action.Action.TheVariants.{Write}
-use Rattle.cc_eval.specs.declared.action.Action.{Action}
-use Rattle.cc_eval.specs.declared.mark.Mark.TheVariants.{Gave, Did}
-use Rattle.cc_eval.specs.declared.mark.Mark.{Mark}
-use Rattle.cc_eval.specs.declared.spots.Spot.{Spot}
-use Rattle.cc_eval.specs.Eval.{meaning, designation, next_of}
-use Rattle.cc_eval.specs.Marks.{UsesFirst, Works, AnswerSteps}
-use Rattle.cc_eval.specs.Progress.{Progress, Known, Waits, Traps, Get, known, ask, and_then, bind, needs, given}
+use Rattle.cc_flow_sound.specs.CcEval.Context.{Context, reached, cell_at, is_seen}
+use Rattle.cc_flow_sound.specs.CcEval.declared.action.Action.TheVariants.{Write}
+use Rattle.cc_flow_sound.specs.CcEval.declared.action.Action.{Action}
+use Rattle.cc_flow_sound.specs.CcEval.declared.mark.Mark.TheVariants.{Gave, Did}
+use Rattle.cc_flow_sound.specs.CcEval.declared.mark.Mark.{Mark}
+use Rattle.cc_flow_sound.specs.CcEval.declared.spots.Spot.{Spot}
+use Rattle.cc_flow_sound.specs.CcEval.Eval.{meaning, designation, next_of}
+use Rattle.cc_flow_sound.specs.CcEval.Marks.{UsesFirst, Works, AnswerSteps}
+use Rattle.cc_flow_sound.specs.CcEval.Progress.{Progress, Known, Waits, Traps, Get, known, ask, and_then, bind, needs, given}
 use Rattle.cc_program.specs.declared.expr.Expr.TheOpen as one
 use Rattle.cc_program.specs.declared.expr.Expr.{Expr, out-Expr}
 use Rattle.cc_program.specs.declared.expr.Place.{Place}
@@ -29,13 +29,13 @@ use Rattle.cc_proof_forms.proofs.Assignments.{operands, last, assign_is, operand
 use Rattle.cc_proof_forms.proofs.FullSteps.{next, its_answers}
 use Rattle.cc_proof_forms.proofs.LastStep.{IsOneStep, IsOperand, IsFinal, operand_or_final}
 use Rattle.cc_proof_forms.proofs.Places.{spot_there, own_cell, leads_there}
-use Rattle.cc_states.specs.States.{expression_of, context_in}
-use Rattle.cc_steps.specs.State.{Active, Memory}
-use Rattle.cc_steps.specs.Step.{with_mark}
-use Rattle.cc_syntax.specs.Effects.{no_one, also}
-use Rattle.cc_syntax.specs.Expressions.{of_two}
-use Rattle.cc_syntax.specs.Forms.{form_of, form_at}
-use Rattle.cc_syntax.specs.Values.{PlaceType}
+use Rattle.cc_flow_sound.specs.CcStates.States.{expression_of, context_in}
+use Rattle.cc_flow_sound.specs.CcSteps.State.{Active, Memory}
+use Rattle.cc_flow_sound.specs.CcSteps.Step.{with_mark}
+use Rattle.cc_flow_sound.specs.CcSyntax.Effects.{no_one, also}
+use Rattle.cc_flow_sound.specs.CcSyntax.Expressions.{of_two}
+use Rattle.cc_flow_sound.specs.CcSyntax.Forms.{form_of, form_at}
+use Rattle.cc_flow_sound.specs.CcSyntax.Values.{PlaceType}
 
 -- what is asked for behind a named place is asked for by the value
 abbrev beside : Option Spot → Option Value → Get (Option Spot × Option Value)

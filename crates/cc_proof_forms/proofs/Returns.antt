@@ -1,11 +1,11 @@
 -- A return gives a value of its operand, and the exit has the memory.
 use Rattle.std.proofs.Common.{◌≡◌, ℕ, true, List, Some, None, sym, ◌∙◌}
-use Rattle.cc_eval.proofs.Works.{answers_of}
-use Rattle.cc_eval.specs.declared.action.Action.{Action}
-use Rattle.cc_eval.specs.declared.mark.Mark.{Mark}
-use Rattle.cc_eval.specs.Eval.{meaning, next_of}
-use Rattle.cc_eval.specs.Marks.{Works, AnswerSteps}
-use Rattle.cc_eval.specs.Progress.{Known}
+use Rattle.cc_flow_sound.proofs.CcEval.Works.{answers_of}
+use Rattle.cc_flow_sound.specs.CcEval.declared.action.Action.{Action}
+use Rattle.cc_flow_sound.specs.CcEval.declared.mark.Mark.{Mark}
+use Rattle.cc_flow_sound.specs.CcEval.Eval.{meaning, next_of}
+use Rattle.cc_flow_sound.specs.CcEval.Marks.{Works, AnswerSteps}
+use Rattle.cc_flow_sound.specs.CcEval.Progress.{Known}
 use Rattle.cc_program.specs.declared.expr.Expr.{Expr}
 use Rattle.cc_program.specs.declared.func.Func.{Func}
 use Rattle.cc_program.specs.declared.program.Program.{Program}
@@ -18,10 +18,10 @@ use Rattle.cc_proof_covers.specs.Invariant.{exit_of, IsCurrent, AreCurrent}
 use Rattle.cc_proof_covers.specs.Rules.{Flows, KeepsFlag, Leaves}
 use Rattle.cc_proof_covers.specs.Views.{View}
 use Rattle.cc_proof_forms.specs.Sets.{Good}
-use Rattle.cc_states.specs.States.{expression_of, context_in}
-use Rattle.cc_steps.specs.State.{Active, Memory}
-use Rattle.cc_steps.specs.Step.{gives_nothing, progress_of}
-use Rattle.cc_syntax.specs.Effects.{Registers, no_one}
+use Rattle.cc_flow_sound.specs.CcStates.States.{expression_of, context_in}
+use Rattle.cc_flow_sound.specs.CcSteps.State.{Active, Memory}
+use Rattle.cc_flow_sound.specs.CcSteps.Step.{gives_nothing, progress_of}
+use Rattle.cc_flow_sound.specs.CcSyntax.Effects.{Registers, no_one}
 
 module _ (p : Program) (v : View) (m : Memory) (a : Active) (f : Func) (n : ℕ) (at : AtStatement p a f) (current : AreCurrent p v m a f n) (w : Value) (ms : List Mark) (known : progress_of p a (expression_of a) ≡ Known (Some w) ms) where
   abbrev IsMark : Action → Mark → Type 0

@@ -1,19 +1,19 @@
 -- With what the rules of its form ask, the steps of an expression statement are allowed, and its value is not known at its point.
 use Rattle.std.proofs.Common.{◌≡◌, ◌⊎◌, inr, ℕ, true, false, List, [], Option, Some, None, refl, ap, sym, ◌∙◌, subst, slice_get}
 use Rattle.std.proofs.lemmas.Option.{same_Some}
-use Rattle.cc_cells.specs.Cells.{scalar_in}
-use Rattle.cc_eval.proofs.Links.{register_linked, place_type_linked}
-use Rattle.cc_eval.proofs.Works.{works_as}
-use Rattle.cc_eval.specs.Context.{Context, reached}
-use Rattle.cc_eval.specs.declared.action.Action.TheVariants.{Read}
-use Rattle.cc_eval.specs.declared.action.Action.{Action}
-use Rattle.cc_eval.specs.declared.action.Manner.{Manner}
-use Rattle.cc_eval.specs.declared.mark.Mark.TheVariants.{Did}
-use Rattle.cc_eval.specs.declared.mark.Mark.{Mark}
-use Rattle.cc_eval.specs.declared.spots.Spot.{Spot}
-use Rattle.cc_eval.specs.Eval.{meaning, designation}
-use Rattle.cc_eval.specs.Marks.{Works}
-use Rattle.cc_eval.specs.Progress.{Known, Waits}
+use Rattle.cc_flow_sound.specs.CcCells.Cells.{scalar_in}
+use Rattle.cc_flow_sound.proofs.CcEval.Links.{register_linked, place_type_linked}
+use Rattle.cc_flow_sound.proofs.CcEval.Works.{works_as}
+use Rattle.cc_flow_sound.specs.CcEval.Context.{Context, reached}
+use Rattle.cc_flow_sound.specs.CcEval.declared.action.Action.TheVariants.{Read}
+use Rattle.cc_flow_sound.specs.CcEval.declared.action.Action.{Action}
+use Rattle.cc_flow_sound.specs.CcEval.declared.action.Manner.{Manner}
+use Rattle.cc_flow_sound.specs.CcEval.declared.mark.Mark.TheVariants.{Did}
+use Rattle.cc_flow_sound.specs.CcEval.declared.mark.Mark.{Mark}
+use Rattle.cc_flow_sound.specs.CcEval.declared.spots.Spot.{Spot}
+use Rattle.cc_flow_sound.specs.CcEval.Eval.{meaning, designation}
+use Rattle.cc_flow_sound.specs.CcEval.Marks.{Works}
+use Rattle.cc_flow_sound.specs.CcEval.Progress.{Known, Waits}
 use Rattle.cc_program.specs.declared.expr.Expr.TheOpen as one
 use Rattle.cc_program.specs.declared.expr.Expr.{Expr, out-Expr}
 use Rattle.cc_program.specs.declared.expr.Place.{Place as PlaceOf}
@@ -37,13 +37,13 @@ use Rattle.cc_proof_forms.proofs.Intrinsics.{off_flags, on_flags, flag_set, flag
 use Rattle.cc_proof_forms.proofs.Places.{place_assigned, register_assigned, register_read}
 use Rattle.cc_proof_forms.specs.Sets.{OperandSets, Good}
 use Rattle.cc_proof_forms.specs.StatementRules.{IsCellOf, WasReadIn, IsReadWhole, GetsRegister, WriteRule, AreOperands, argument, RegisterRule, GetsOperand, GetsRead, GetsResult, GetsFlag, ExpressionRule, ToRegister, ToPlace, Calls, TurnsOff, TurnsOn, Restores, Saves}
-use Rattle.cc_states.proofs.StateLemmas.{asked}
-use Rattle.cc_states.specs.States.{expression_of, context_in}
-use Rattle.cc_steps.specs.State.{Active, Memory}
-use Rattle.cc_steps.specs.Step.{progress_of}
-use Rattle.cc_syntax.specs.Effects.{Registers}
-use Rattle.cc_syntax.specs.Programs.{place_type}
-use Rattle.cc_syntax.specs.Values.{PlaceType}
+use Rattle.cc_flow_sound.proofs.CcStates.StateLemmas.{asked}
+use Rattle.cc_flow_sound.specs.CcStates.States.{expression_of, context_in}
+use Rattle.cc_flow_sound.specs.CcSteps.State.{Active, Memory}
+use Rattle.cc_flow_sound.specs.CcSteps.Step.{progress_of}
+use Rattle.cc_flow_sound.specs.CcSyntax.Effects.{Registers}
+use Rattle.cc_flow_sound.specs.CcSyntax.Programs.{place_type}
+use Rattle.cc_flow_sound.specs.CcSyntax.Values.{PlaceType}
 
 module _ (p : Program) (v : View) (o : OperandSets) (m : Memory) (a : Active) (f : Func) (n : ℕ) (here : IsHere p v m a f n) (at : AtStatement p a f) (e : Expr) (is_do : out-Stmt at.statement ≡ is.Do e) where
   abbrev c : Context

@@ -1,12 +1,12 @@
 -- A test, and the operand of a return, ask for steps of operands alone, and stay at their statement.
 use Rattle.std.proofs.Common.{◌≡◌, ℕ, true, List, Some, sym, ◌∙◌}
-use Rattle.cc_eval.proofs.Works.{answers_of}
-use Rattle.cc_eval.specs.Context.{Context}
-use Rattle.cc_eval.specs.declared.action.Action.{Action}
-use Rattle.cc_eval.specs.declared.mark.Mark.{Mark}
-use Rattle.cc_eval.specs.Eval.{meaning, next_of}
-use Rattle.cc_eval.specs.Marks.{AnswerSteps}
-use Rattle.cc_eval.specs.Progress.{Waits}
+use Rattle.cc_flow_sound.proofs.CcEval.Works.{answers_of}
+use Rattle.cc_flow_sound.specs.CcEval.Context.{Context}
+use Rattle.cc_flow_sound.specs.CcEval.declared.action.Action.{Action}
+use Rattle.cc_flow_sound.specs.CcEval.declared.mark.Mark.{Mark}
+use Rattle.cc_flow_sound.specs.CcEval.Eval.{meaning, next_of}
+use Rattle.cc_flow_sound.specs.CcEval.Marks.{AnswerSteps}
+use Rattle.cc_flow_sound.specs.CcEval.Progress.{Waits}
 use Rattle.cc_program.specs.declared.expr.Expr.{Expr}
 use Rattle.cc_program.specs.declared.func.Func.{Func}
 use Rattle.cc_program.specs.declared.program.Program.{Program}
@@ -19,10 +19,10 @@ use Rattle.cc_proof_covers.specs.Invariant.{IsCurrent, AreCurrent}
 use Rattle.cc_proof_covers.specs.Rules.{GoesOn, Allowed}
 use Rattle.cc_proof_covers.specs.Views.{View}
 use Rattle.cc_proof_forms.proofs.FullSteps.{operand_step}
-use Rattle.cc_states.specs.States.{expression_of, context_in}
-use Rattle.cc_steps.specs.State.{Active, Memory}
-use Rattle.cc_steps.specs.Step.{progress_of}
-use Rattle.cc_syntax.specs.Effects.{no_one}
+use Rattle.cc_flow_sound.specs.CcStates.States.{expression_of, context_in}
+use Rattle.cc_flow_sound.specs.CcSteps.State.{Active, Memory}
+use Rattle.cc_flow_sound.specs.CcSteps.Step.{progress_of}
+use Rattle.cc_flow_sound.specs.CcSyntax.Effects.{no_one}
 
 module _ (p : Program) (v : View) (m : Memory) (a : Active) (f : Func) (n : ℕ) (at : AtStatement p a f) (current : AreCurrent p v m a f n) where
   abbrev c : Context

@@ -6,22 +6,22 @@ use Rattle.std.specs.Option.{option_or}
 use Rattle.std.specs.Ordering.{int_eq}
 use Rattle.std.proofs.lemmas.Bool.{eqb-true}
 use Rattle.std.proofs.lemmas.Option.{same_Some}
-use Rattle.cc_cells.specs.Cells.{scalar_in}
-use Rattle.cc_control.specs.Control.{Level, around_list, bodies, counted, from_label, is_label, is_default}
-use Rattle.cc_eval.proofs.Opened.{meaning_at}
-use Rattle.cc_eval.specs.declared.mark.Mark.{Mark}
-use Rattle.cc_eval.specs.Eval.{Meaning}
-use Rattle.cc_eval.specs.Progress.{Progress, Known}
-use Rattle.cc_flow.specs.declared.next.Site.{Site}
-use Rattle.cc_flow.specs.Next.{reached}
-use Rattle.cc_flow.specs.Points.{total_of}
+use Rattle.cc_flow_sound.specs.CcCells.Cells.{scalar_in}
+use Rattle.cc_flow_sound.specs.CcControl.Control.{Level, around_list, bodies, counted, from_label, is_label, is_default}
+use Rattle.cc_flow_sound.proofs.CcEval.Opened.{meaning_at}
+use Rattle.cc_flow_sound.specs.CcEval.declared.mark.Mark.{Mark}
+use Rattle.cc_flow_sound.specs.CcEval.Eval.{Meaning}
+use Rattle.cc_flow_sound.specs.CcEval.Progress.{Progress, Known}
+use Rattle.cc_flow_sound.specs.CcFlow.declared.next.Site.{Site}
+use Rattle.cc_flow_sound.specs.CcFlow.Next.{reached}
+use Rattle.cc_flow_sound.specs.CcFlow.Points.{total_of}
 use Rattle.cc_flow_sound.proofs.Goes.{arm_at, goes_at, next_at}
 use Rattle.cc_flow_sound.proofs.Opened.{all_normal, NormalAt, normal_lists, normal_parts, total-append}
 use Rattle.cc_flow_sound.proofs.Places.{behind_at, close_at, part_placed}
 use Rattle.cc_flow_sound.proofs.Starts.{labelled, IsLabelled}
 use Rattle.cc_flow_sound.specs.Sites.{switch_site, moved_to, arm_point, nexts, number_at, base_of, IsSiteIn, IsPoint, IsPlaced}
-use Rattle.cc_num.specs.declared.int_type.IntType.TheVariants as int
-use Rattle.cc_num.specs.declared.int_type.IntType.{IntType}
+use Rattle.cc_program.specs.CcNum.declared.int_type.IntType.TheVariants as int
+use Rattle.cc_program.specs.CcNum.declared.int_type.IntType.{IntType}
 use Rattle.cc_program.specs.declared.expr.Expr.TheOpen as one
 use Rattle.cc_program.specs.declared.expr.Expr.{Expr, out-Expr}
 use Rattle.cc_program.specs.declared.expr.Place.{Place}
@@ -38,17 +38,17 @@ use Rattle.cc_proof_covers.specs.Rules.{Flows, KeepsFlag, Goes, IsHere}
 use Rattle.cc_proof_covers.specs.Views.{View}
 use Rattle.cc_proof_forms.specs.Branches.{case_point, switch_point}
 use Rattle.cc_proof_forms.specs.Refined.{AtMember, MayLead, Refines}
-use Rattle.cc_states.proofs.ControlLemmas.{may_break_there, may_continue_there}
-use Rattle.cc_states.proofs.ListLemmas.{not_equal}
-use Rattle.cc_states.specs.States.{expression_of, context_in}
-use Rattle.cc_steps.specs.State.{Active, Memory}
-use Rattle.cc_steps.specs.Step.{progress_of, next_place, is_return, goes_to, number_in, in_case, switched}
-use Rattle.cc_syntax.proofs.Prefixes.{both_true}
-use Rattle.cc_syntax.specs.Forms.{form_of, form_at}
-use Rattle.cc_syntax.specs.Normal.{is_one}
-use Rattle.cc_syntax.specs.Registers.{is_register}
-use Rattle.cc_syntax.specs.SameTypes.{same_int}
-use Rattle.cc_values.specs.Values.{is_true}
+use Rattle.cc_flow_sound.proofs.CcStates.ControlLemmas.{may_break_there, may_continue_there}
+use Rattle.cc_flow_sound.proofs.CcStates.ListLemmas.{not_equal}
+use Rattle.cc_flow_sound.specs.CcStates.States.{expression_of, context_in}
+use Rattle.cc_flow_sound.specs.CcSteps.State.{Active, Memory}
+use Rattle.cc_flow_sound.specs.CcSteps.Step.{progress_of, next_place, is_return, goes_to, number_in, in_case, switched}
+use Rattle.cc_flow_sound.proofs.CcSyntax.Prefixes.{both_true}
+use Rattle.cc_flow_sound.specs.CcSyntax.Forms.{form_of, form_at}
+use Rattle.cc_flow_sound.specs.CcSyntax.Normal.{is_one}
+use Rattle.cc_flow_sound.specs.CcSyntax.Registers.{is_register}
+use Rattle.cc_flow_sound.specs.CcSyntax.SameTypes.{same_int}
+use Rattle.cc_flow_sound.specs.CcValues.Values.{is_true}
 
 -- ---- the test of `while (1)`
 

@@ -2,10 +2,10 @@
 use Rattle.std.specs.Prelude.{◌≤◌, ◌<◌, ◌⊎◌, ℕ, ◌+◌, ◌-◌, ℤ, List, Option, Some, None}
 use Rattle.std.specs.List.{list_any}
 use Rattle.std.specs.Option.{option_or}
-use Rattle.cc_control.specs.Control.{bodies, from_label, is_label, is_default}
-use Rattle.cc_flow.specs.declared.next.Site.{Site}
-use Rattle.cc_flow.specs.Next.{reached}
-use Rattle.cc_flow.specs.Points.{size_of, total_of}
+use Rattle.cc_flow_sound.specs.CcControl.Control.{bodies, from_label, is_label, is_default}
+use Rattle.cc_flow_sound.specs.CcFlow.declared.next.Site.{Site}
+use Rattle.cc_flow_sound.specs.CcFlow.Next.{reached}
+use Rattle.cc_flow_sound.specs.CcFlow.Points.{size_of, total_of}
 use Rattle.cc_program.specs.declared.stmt.Case.{Case}
 use Rattle.cc_program.specs.declared.stmt.Stmt.{Stmt}
 

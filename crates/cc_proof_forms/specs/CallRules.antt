@@ -1,7 +1,7 @@
 -- What facts have to say where a function is called, and where the flag is saved.
 use Rattle.std.specs.Prelude.{◌≡◌, ℕ, Bool, true, false, Option, Some, None}
 use Rattle.cc_flow_sound.specs.Moves.{entry}
-use Rattle.cc_num.specs.Results.{one_if}
+use Rattle.cc_program.specs.CcNum.Results.{one_if}
 use Rattle.cc_program.specs.declared.func.Func.{Func}
 use Rattle.cc_program.specs.declared.program.Program.{Program}
 use Rattle.cc_program.specs.declared.value.Value.TheVariants.{Int}
@@ -9,8 +9,8 @@ use Rattle.cc_program.specs.declared.value.Value.{Value}
 use Rattle.cc_proof_covers.specs.Invariant.{exit_of, FlowsBack}
 use Rattle.cc_proof_covers.specs.Rules.{Flows, Opens}
 use Rattle.cc_proof_covers.specs.Views.{View}
-use Rattle.cc_steps.specs.Step.{gives_nothing}
-use Rattle.cc_syntax.specs.Registers.{is_register}
+use Rattle.cc_flow_sound.specs.CcSteps.Step.{gives_nothing}
+use Rattle.cc_flow_sound.specs.CcSyntax.Registers.{is_register}
 
 -- the function g, over arguments of these properties, is called at the point n of the function id, and goes back to the point k, with its
 -- result in a register or without one, where it may return

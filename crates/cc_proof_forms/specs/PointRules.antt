@@ -1,8 +1,8 @@
 -- What facts have to say about a whole program, point by point.
 use Rattle.std.specs.Prelude.{◌≡◌, ℕ, true, false, Some, slice_get, map}
-use Rattle.cc_eval.specs.Progress.{no_value}
-use Rattle.cc_flow.specs.declared.types.Point.{Point}
-use Rattle.cc_flow.specs.Points.{flow_of}
+use Rattle.cc_flow_sound.specs.CcEval.Progress.{no_value}
+use Rattle.cc_flow_sound.specs.CcFlow.declared.types.Point.{Point}
+use Rattle.cc_flow_sound.specs.CcFlow.Points.{flow_of}
 use Rattle.cc_flow_sound.specs.Moves.{entry}
 use Rattle.cc_program.specs.declared.func.Func.{Func}
 use Rattle.cc_program.specs.declared.program.Program.{Program}
@@ -12,11 +12,11 @@ use Rattle.cc_proof_covers.specs.Rules.{Begins, Enters, IsStable}
 use Rattle.cc_proof_covers.specs.Views.{View}
 use Rattle.cc_proof_forms.specs.Sets.{OperandSets}
 use Rattle.cc_proof_forms.specs.StatementRules.{AreStatementRules}
-use Rattle.cc_steps.specs.State.{first_values}
-use Rattle.cc_steps.specs.Step.{gives_nothing}
-use Rattle.cc_steps.specs.Turn.{level_of}
-use Rattle.cc_syntax.specs.Operators.{is_handler}
-use Rattle.cc_syntax.specs.Registers.{is_register}
+use Rattle.cc_flow_sound.specs.CcSteps.State.{first_values}
+use Rattle.cc_flow_sound.specs.CcSteps.Step.{gives_nothing}
+use Rattle.cc_flow_sound.specs.CcSteps.Turn.{level_of}
+use Rattle.cc_flow_sound.specs.CcSyntax.Operators.{is_handler}
+use Rattle.cc_flow_sound.specs.CcSyntax.Registers.{is_register}
 
 module _ (p : Program) (v : View) where
   -- a point of the function id: handlers enter where the flag may be on, and what they may write is not known there by point alone

@@ -3,7 +3,7 @@ use Rattle.std.specs.Prelude.{◌≡◌, ◌⊎◌, ℕ, ℤ, Bool, true}
 use Rattle.cc_program.specs.declared.func.Func.{Func}
 use Rattle.cc_program.specs.declared.value.Value.{Value}
 use Rattle.cc_proof_covers.specs.Views.{View}
-use Rattle.cc_syntax.specs.Registers.{is_register}
+use Rattle.cc_flow_sound.specs.CcSyntax.Registers.{is_register}
 
 -- one register at this member, and the others as at the point
 abbrev pub AtMember : View → ℕ → ℕ → Value → ℕ → Value → Type 0

@@ -1,6 +1,6 @@
 -- What operands may be at points, as sets.
 use Rattle.std.specs.Prelude.{ℕ, ℤ, Option, Some, None}
-use Rattle.cc_eval.specs.declared.spots.Spot.{Spot}
+use Rattle.cc_flow_sound.specs.CcEval.declared.spots.Spot.{Spot}
 use Rattle.cc_program.specs.declared.expr.Expr.{Expr}
 use Rattle.cc_program.specs.declared.expr.Place.{Place}
 use Rattle.cc_program.specs.declared.value.Value.{Value}

@@ -1,19 +1,19 @@
 -- What facts have to say for each form of statement in normal form, at its point.
 use Rattle.std.specs.Prelude.{◌≡◌, ℕ, ℤ, Bool, true, false, List, [], ◌∷◌, Option, Some, None, slice_get}
 use Rattle.std.specs.List.{Contains}
-use Rattle.cc_cells.specs.Cells.{scalar_in}
-use Rattle.cc_eval.specs.Context.{reached}
-use Rattle.cc_eval.specs.declared.mark.Mark.{Mark}
-use Rattle.cc_eval.specs.declared.spots.Spot.{Spot}
-use Rattle.cc_eval.specs.Eval.{meaning, designation}
-use Rattle.cc_eval.specs.Marks.{Works}
-use Rattle.cc_eval.specs.Progress.{Known}
-use Rattle.cc_flow.specs.declared.next.Site.{Site}
-use Rattle.cc_flow.specs.declared.types.Point.{Point}
-use Rattle.cc_flow.specs.Points.{flow_of}
+use Rattle.cc_flow_sound.specs.CcCells.Cells.{scalar_in}
+use Rattle.cc_flow_sound.specs.CcEval.Context.{reached}
+use Rattle.cc_flow_sound.specs.CcEval.declared.mark.Mark.{Mark}
+use Rattle.cc_flow_sound.specs.CcEval.declared.spots.Spot.{Spot}
+use Rattle.cc_flow_sound.specs.CcEval.Eval.{meaning, designation}
+use Rattle.cc_flow_sound.specs.CcEval.Marks.{Works}
+use Rattle.cc_flow_sound.specs.CcEval.Progress.{Known}
+use Rattle.cc_flow_sound.specs.CcFlow.declared.next.Site.{Site}
+use Rattle.cc_flow_sound.specs.CcFlow.declared.types.Point.{Point}
+use Rattle.cc_flow_sound.specs.CcFlow.Points.{flow_of}
 use Rattle.cc_flow_sound.specs.Sites.{arm_point, nexts}
 use Rattle.cc_flow_sound.specs.Statements.{statement_at}
-use Rattle.cc_num.specs.Results.{one_if}
+use Rattle.cc_program.specs.CcNum.Results.{one_if}
 use Rattle.cc_program.specs.declared.expr.Expr.TheOpen as one
 use Rattle.cc_program.specs.declared.expr.Expr.{Expr, out-Expr}
 use Rattle.cc_program.specs.declared.expr.Intr.TheVariants as intr
@@ -38,14 +38,14 @@ use Rattle.cc_proof_forms.specs.Branches.{switch_point, LeadsOut}
 use Rattle.cc_proof_forms.specs.CallRules.{CallRule, SaveRule}
 use Rattle.cc_proof_forms.specs.Refined.{AtMember, MayLead, Refines}
 use Rattle.cc_proof_forms.specs.Sets.{OperandSets, Good}
-use Rattle.cc_states.specs.States.{expression_of, context_in}
-use Rattle.cc_steps.specs.State.{Active, Memory}
-use Rattle.cc_steps.specs.Step.{progress_of, is_return, gives_nothing, number_in, cell_position}
-use Rattle.cc_syntax.specs.Effects.{Registers, place_effects_of}
-use Rattle.cc_syntax.specs.Programs.{place_type}
-use Rattle.cc_syntax.specs.Registers.{is_register}
-use Rattle.cc_syntax.specs.Values.{PlaceType}
-use Rattle.cc_values.specs.Values.{is_true, truth}
+use Rattle.cc_flow_sound.specs.CcStates.States.{expression_of, context_in}
+use Rattle.cc_flow_sound.specs.CcSteps.State.{Active, Memory}
+use Rattle.cc_flow_sound.specs.CcSteps.Step.{progress_of, is_return, gives_nothing, number_in, cell_position}
+use Rattle.cc_flow_sound.specs.CcSyntax.Effects.{Registers, place_effects_of}
+use Rattle.cc_flow_sound.specs.CcSyntax.Programs.{place_type}
+use Rattle.cc_flow_sound.specs.CcSyntax.Registers.{is_register}
+use Rattle.cc_flow_sound.specs.CcSyntax.Values.{PlaceType}
+use Rattle.cc_flow_sound.specs.CcValues.Values.{is_true, truth}
 
 -- at the point n of the function id
 module _ (p : Program) (v : View) (o : OperandSets) (id : ℕ) (f : Func) (n : ℕ) where

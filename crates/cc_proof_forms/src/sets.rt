@@ -1,5 +1,5 @@
 ghost use Rattle.std.specs.Prelude.{ℕ, ℤ, Option};
-ghost use Rattle.cc_eval.specs.declared.spots.Spot.{Spot};
+ghost use Rattle.cc_flow_sound.specs.CcEval.declared.spots.Spot.{Spot};
 ghost use Rattle.cc_program.specs.declared.expr.Expr.{Expr};
 ghost use Rattle.cc_program.specs.declared.expr.Place.{Place};
 ghost use Rattle.cc_program.specs.declared.value.Value.{Value};

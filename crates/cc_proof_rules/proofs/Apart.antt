@@ -3,25 +3,25 @@ use Rattle.std.proofs.Common.{◌≡◌, ◌+ℤ◌, ℕ, ℤ, pos, Bool, true, 
 use Rattle.std.specs.Prelude.{nat_lt, option_map, option_and_then, if◌then◌else◌}
 use Rattle.std.proofs.lemmas.List.Elements.{Contains-append_left, Contains-append_right}
 use Rattle.std.proofs.lemmas.Option.{same_Some}
-use Rattle.cc_eval.proofs.Links.{level, place_level}
-use Rattle.cc_eval.proofs.Opened.{designation_at}
-use Rattle.cc_eval.proofs.Works.{works_known, works_ask, works_bind, works_needs, works_choice}
-use Rattle.cc_eval.specs.Context.{Context, object_type, has_elements, path_to, named_by, designated, reached, element_in, element, member}
-use Rattle.cc_eval.specs.declared.action.Action.{Action}
-use Rattle.cc_eval.specs.declared.action.Action.TheVariants.{Read}
-use Rattle.cc_eval.specs.declared.mark.Mark.{Mark}
-use Rattle.cc_eval.specs.declared.spots.Spot.{Spot}
-use Rattle.cc_eval.specs.declared.spots.Spot.TheVariants as spot
-use Rattle.cc_eval.specs.Eval.{Meaning, Designation, meaning, designation, opened, place_opened, manner, fetched, place_and_value, both_values, from_one, from_two, choice, as_condition, address_of as address_of_spot, element_at}
-use Rattle.cc_eval.specs.Marks.{Works}
-use Rattle.cc_eval.specs.Progress.{Get, known, ask, bind, given}
-use Rattle.cc_num.specs.declared.op.BinOp.{BinOp}
-use Rattle.cc_num.specs.declared.op.BinOp.TheVariants as op
-use Rattle.cc_num.specs.declared.int_type.IntType.{IntType}
-use Rattle.cc_num.specs.declared.op.UnOp.{UnOp}
-use Rattle.cc_num.specs.declared.target.Target.{Target}
-use Rattle.cc_num.specs.Results.{one_if}
-use Rattle.cc_places.specs.declared.abs.Abs.{Abs}
+use Rattle.cc_state_values_sound.proofs.CcEval.Links.{level, place_level}
+use Rattle.cc_state_values_sound.proofs.CcEval.Opened.{designation_at}
+use Rattle.cc_state_values_sound.proofs.CcEval.Works.{works_known, works_ask, works_bind, works_needs, works_choice}
+use Rattle.cc_state_values_sound.specs.CcEval.Context.{Context, object_type, has_elements, path_to, named_by, designated, reached, element_in, element, member}
+use Rattle.cc_state_values_sound.specs.CcEval.declared.action.Action.{Action}
+use Rattle.cc_state_values_sound.specs.CcEval.declared.action.Action.TheVariants.{Read}
+use Rattle.cc_state_values_sound.specs.CcEval.declared.mark.Mark.{Mark}
+use Rattle.cc_state_values_sound.specs.CcEval.declared.spots.Spot.{Spot}
+use Rattle.cc_state_values_sound.specs.CcEval.declared.spots.Spot.TheVariants as spot
+use Rattle.cc_state_values_sound.specs.CcEval.Eval.{Meaning, Designation, meaning, designation, opened, place_opened, manner, fetched, place_and_value, both_values, from_one, from_two, choice, as_condition, address_of as address_of_spot, element_at}
+use Rattle.cc_state_values_sound.specs.CcEval.Marks.{Works}
+use Rattle.cc_state_values_sound.specs.CcEval.Progress.{Get, known, ask, bind, given}
+use Rattle.cc_program.specs.CcNum.declared.op.BinOp.{BinOp}
+use Rattle.cc_program.specs.CcNum.declared.op.BinOp.TheVariants as op
+use Rattle.cc_program.specs.CcNum.declared.int_type.IntType.{IntType}
+use Rattle.cc_program.specs.CcNum.declared.op.UnOp.{UnOp}
+use Rattle.cc_program.specs.CcNum.declared.target.Target.{Target}
+use Rattle.cc_program.specs.CcNum.Results.{one_if}
+use Rattle.cc_state_values_sound.specs.CcPlaces.declared.abs.Abs.{Abs}
 use Rattle.cc_program.proofs.ExprInduction.{Parts, PlaceParts, by_place}
 use Rattle.cc_program.specs.declared.expr.Expr.{Expr, out-Expr, roll-Expr, roll-out-Expr, map-Expr, fold-roll-Expr}
 use Rattle.cc_program.specs.declared.expr.Expr.TheOpen as one
@@ -45,27 +45,27 @@ use Rattle.cc_proof_rules.proofs.Lists.{in_first}
 use Rattle.cc_proof_rules.proofs.Numbered.{tracked_scalar}
 use Rattle.cc_proof_rules.proofs.TakenKeys.{untaken}
 use Rattle.cc_proof_rules.specs.Operands.{root_static, address_static, spot_static}
-use Rattle.cc_state_facts.specs.declared.facts.Key.{Key}
-use Rattle.cc_state_facts.specs.declared.facts.Key.TheVariants as key
-use Rattle.cc_state_keys.specs.Addressed.{InExpr, InPlace, taken_step, place_taken_step, own_step, expr_in, place_in as place_in_step, in_expr, in_place, taken_in, IsAddressed}
-use Rattle.cc_state_keys.specs.Lists.{only}
-use Rattle.cc_state_keys.specs.Tracked.{tracked_number}
-use Rattle.cc_state_operators.specs.Domains.{Domain}
+use Rattle.cc_rules.specs.CcStateFacts.declared.facts.Key.{Key}
+use Rattle.cc_rules.specs.CcStateFacts.declared.facts.Key.TheVariants as key
+use Rattle.cc_rules.specs.CcStateKeys.Addressed.{InExpr, InPlace, taken_step, place_taken_step, own_step, expr_in, place_in as place_in_step, in_expr, in_place, taken_in, IsAddressed}
+use Rattle.cc_rules.specs.CcStateKeys.Lists.{only}
+use Rattle.cc_rules.specs.CcStateKeys.Tracked.{tracked_number}
+use Rattle.cc_state_values_sound.specs.CcStateOperators.Domains.{Domain}
 use Rattle.cc_state_values_sound.proofs.Choices.{GivesAll}
 use Rattle.cc_state_values_sound.specs.Steps.{MayGive}
 use Rattle.cc_state_values_sound.specs.Typed.{IsTypedAnswer}
-use Rattle.cc_states.proofs.Options.{with_one, with_two}
-use Rattle.cc_states.specs.Answers.{IsActivation}
-use Rattle.cc_steps.proofs.ScalarPlaces.{scalar_flat}
-use Rattle.cc_syntax.proofs.Prefixes.{both_true}
-use Rattle.cc_syntax.specs.Effects.{Registers, also, is_soft}
-use Rattle.cc_syntax.specs.Expressions.{of_two}
-use Rattle.cc_syntax.specs.Initial.{bound_of, step_into}
-use Rattle.cc_syntax.specs.Operators as rule
-use Rattle.cc_syntax.specs.Programs.{qualified_type}
-use Rattle.cc_syntax.specs.Registers.{is_register}
-use Rattle.cc_syntax.specs.Values.{ValueType, PlaceType, object_place, element_of, member_of, address_of, pointed_to}
-use Rattle.cc_values.specs.Values.{integer, index_in, address_in, unary, binary, conversion, truth, of_truth, offset, movement, in_one_array, difference, gap, compared, comparison}
+use Rattle.cc_state_values_sound.proofs.CcStates.Options.{with_one, with_two}
+use Rattle.cc_state_values_sound.specs.CcStates.Answers.{IsActivation}
+use Rattle.cc_state_values_sound.proofs.CcSteps.ScalarPlaces.{scalar_flat}
+use Rattle.cc_state_values_sound.proofs.CcSyntax.Prefixes.{both_true}
+use Rattle.cc_state_values_sound.specs.CcSyntax.Effects.{Registers, also, is_soft}
+use Rattle.cc_state_values_sound.specs.CcSyntax.Expressions.{of_two}
+use Rattle.cc_state_values_sound.specs.CcSyntax.Initial.{bound_of, step_into}
+use Rattle.cc_state_values_sound.specs.CcSyntax.Operators as rule
+use Rattle.cc_state_values_sound.specs.CcSyntax.Programs.{qualified_type}
+use Rattle.cc_state_values_sound.specs.CcSyntax.Registers.{is_register}
+use Rattle.cc_state_values_sound.specs.CcSyntax.Values.{ValueType, PlaceType, object_place, element_of, member_of, address_of, pointed_to}
+use Rattle.cc_state_values_sound.specs.CcValues.Values.{integer, index_in, address_in, unary, binary, conversion, truth, of_truth, offset, movement, in_one_array, difference, gap, compared, comparison}
 
 module _ (p : Program) where
   -- an address is none of a tracked object

@@ -5,9 +5,9 @@ use Rattle.std.specs.List.{flat_map}
 use Rattle.std.proofs.lemmas.Bool.{eqb-true, eq-eqb}
 use Rattle.std.proofs.lemmas.List.Elements.{All-contains, Contains-append_left, Contains-append_right}
 use Rattle.std.proofs.lemmas.Option.{same_Some, slice_get_within}
-use Rattle.cc_flow.specs.declared.types.Point.{Point}
-use Rattle.cc_places.specs.declared.abs.Abs.{Abs}
-use Rattle.cc_places.specs.Abstract.{HasValue}
+use Rattle.cc_rules.specs.CcFlow.declared.types.Point.{Point}
+use Rattle.cc_state_values_sound.specs.CcPlaces.declared.abs.Abs.{Abs}
+use Rattle.cc_state_values_sound.specs.CcPlaces.Abstract.{HasValue}
 use Rattle.cc_program.specs.declared.func.Func.{Func}
 use Rattle.cc_program.specs.declared.program.Program.{Program}
 use Rattle.cc_program.specs.declared.value.Value.{Value}
@@ -16,18 +16,18 @@ use Rattle.cc_proof_covers.specs.Views.{View}
 use Rattle.cc_proof_rules.proofs.Lists.{in_first, in_rest, in_map, in_flat, in_numbers, in_pairs, any_of, each_of, at_position, both_true}
 use Rattle.cc_proof_rules.specs.Arrivals.{flag_in, HasFlag, IsKnown, IsPairIn, Arrives, Keeps, KeepsFlags}
 use Rattle.cc_rules.specs.Rules.{NeedsAt}
-use Rattle.cc_rules_needs.specs.Flowing.{Flowing, of_fact, with_local, with_pair, with_cell, with_flags, IsLeastOver, IsJoined, numbers, each_pair, need_apart, need_local, need_cell}
-use Rattle.cc_rules_needs.specs.Needs.{flags_in, apart_in, AreValuesBelow, IsBelowPart, Has as HasPart, HasAll}
-use Rattle.cc_rules_needs.specs.declared.needs.Part.{Part}
-use Rattle.cc_rules_needs.specs.declared.needs.Part.TheVariants.{Mark, Flags}
-use Rattle.cc_rules_needs.specs.declared.needs.Slot.{Slot}
-use Rattle.cc_rules_needs.specs.declared.needs.Slot.TheVariants.{Flag, Apart}
+use Rattle.cc_rules.specs.CcRulesNeeds.Flowing.{Flowing, of_fact, with_local, with_pair, with_cell, with_flags, IsLeastOver, IsJoined, numbers, each_pair, need_apart, need_local, need_cell}
+use Rattle.cc_rules.specs.CcRulesNeeds.Needs.{flags_in, apart_in, AreValuesBelow, IsBelowPart, Has as HasPart, HasAll}
+use Rattle.cc_rules.specs.CcRulesNeeds.declared.needs.Part.{Part}
+use Rattle.cc_rules.specs.CcRulesNeeds.declared.needs.Part.TheVariants.{Mark, Flags}
+use Rattle.cc_rules.specs.CcRulesNeeds.declared.needs.Slot.{Slot}
+use Rattle.cc_rules.specs.CcRulesNeeds.declared.needs.Slot.TheVariants.{Flag, Apart}
 use Rattle.cc_state.specs.View.{Has, IsFunctionAt, IsReachedAt, MayBeAt, LocalAt as IsLocalAt, CellAt as IsCellAt, SameAt, view}
-use Rattle.cc_state_facts.specs.declared.facts.Facts.{Facts}
-use Rattle.cc_state_facts.specs.declared.facts.PointFact.{PointFact}
-use Rattle.cc_state_facts.specs.Facts.{fact_at, cell_at, cell_of, local_at, local_of, may_be_in, has_pair}
-use Rattle.cc_state_keys.specs.Tracked.{registers, register_number, tracked, tracked_number}
-use Rattle.cc_state_operators.specs.Domains.{Domain}
+use Rattle.cc_rules.specs.CcStateFacts.declared.facts.Facts.{Facts}
+use Rattle.cc_rules.specs.CcStateFacts.declared.facts.PointFact.{PointFact}
+use Rattle.cc_rules.specs.CcStateFacts.Facts.{fact_at, cell_at, cell_of, local_at, local_of, may_be_in, has_pair}
+use Rattle.cc_rules.specs.CcStateKeys.Tracked.{registers, register_number, tracked, tracked_number}
+use Rattle.cc_state_values_sound.specs.CcStateOperators.Domains.{Domain}
 use Rattle.cc_state_values_sound.proofs.Choices.{GivesAll, below_gives}
 
 -- ---- numbers of registers and tracked cells

@@ -1,27 +1,27 @@
 -- What constraints ask, by what the statement at the point does.
 use Rattle.std.proofs.Common.{◌≡◌, ℕ, Bool, true, false, not, ◌||◌, List, [], ◌∷◌, map, Option, Some, None, refl, sym, subst}
 use Rattle.std.specs.Prelude.{if◌then◌else◌}
-use Rattle.cc_flow.specs.declared.types.Point.{Point}
-use Rattle.cc_places.specs.declared.abs.Abs.{Abs}
-use Rattle.cc_places.specs.declared.abs.Abs.TheVariants as abs
+use Rattle.cc_rules.specs.CcFlow.declared.types.Point.{Point}
+use Rattle.cc_state_values_sound.specs.CcPlaces.declared.abs.Abs.{Abs}
+use Rattle.cc_state_values_sound.specs.CcPlaces.declared.abs.Abs.TheVariants as abs
 use Rattle.cc_program.specs.declared.expr.Expr.{Expr}
 use Rattle.cc_program.specs.declared.expr.Place.{Place, out-Place}
 use Rattle.cc_program.specs.declared.func.Func.{Func}
 use Rattle.cc_program.specs.declared.program.Program.{Program}
 use Rattle.cc_rules.specs.Rules.{AreKeys, reads, writes, Written, OfWrite, OfNone, Touched, ByRead, ByWrite, ByNone, Given, OfReturn, OfNoValue}
-use Rattle.cc_rules_flows.specs.Acts.{Act, Sets, Reads, Writes, Calls, Saves, Turns, Restores, Tests, Chooses, Returns, Passes}
-use Rattle.cc_rules_flows.specs.Flows.{tests_of, here, sets, ValueAt, to_all, FlagValue, Says, Flows, OfSets, OfReads, OfWrites, OfTurns, OfSaves, OfSavesAlone, OfRestores, OfTests, OfReturns, OfPasses, OfCalls}
-use Rattle.cc_rules_flows.specs.Tests.{Test}
-use Rattle.cc_rules_needs.specs.Flowing.{Flowing, with_local, with_pair, with_cell, with_flags}
-use Rattle.cc_rules_needs.specs.Needs.{Needs}
-use Rattle.cc_rules_needs.specs.declared.needs.Part.TheVariants.{Values}
-use Rattle.cc_rules_needs.specs.declared.needs.Slot.TheVariants.{Whole, Result}
-use Rattle.cc_state_facts.specs.declared.facts.Facts.{Facts}
-use Rattle.cc_state_facts.specs.declared.facts.PointFact.{PointFact}
-use Rattle.cc_state_facts.specs.Facts.{mark_of}
-use Rattle.cc_state_keys.specs.Tracked.{register_number}
-use Rattle.cc_state_operators.specs.Domains.{Domain, IsHull, MayBe}
-use Rattle.cc_state_reads.specs.Reads.{IsRead, tracked_in}
+use Rattle.cc_rules.specs.CcRulesFlows.Acts.{Act, Sets, Reads, Writes, Calls, Saves, Turns, Restores, Tests, Chooses, Returns, Passes}
+use Rattle.cc_rules.specs.CcRulesFlows.Flows.{tests_of, here, sets, ValueAt, to_all, FlagValue, Says, Flows, OfSets, OfReads, OfWrites, OfTurns, OfSaves, OfSavesAlone, OfRestores, OfTests, OfReturns, OfPasses, OfCalls}
+use Rattle.cc_rules.specs.CcRulesFlows.Tests.{Test}
+use Rattle.cc_rules.specs.CcRulesNeeds.Flowing.{Flowing, with_local, with_pair, with_cell, with_flags}
+use Rattle.cc_rules.specs.CcRulesNeeds.Needs.{Needs}
+use Rattle.cc_rules.specs.CcRulesNeeds.declared.needs.Part.TheVariants.{Values}
+use Rattle.cc_rules.specs.CcRulesNeeds.declared.needs.Slot.TheVariants.{Whole, Result}
+use Rattle.cc_rules.specs.CcStateFacts.declared.facts.Facts.{Facts}
+use Rattle.cc_rules.specs.CcStateFacts.declared.facts.PointFact.{PointFact}
+use Rattle.cc_rules.specs.CcStateFacts.Facts.{mark_of}
+use Rattle.cc_rules.specs.CcStateKeys.Tracked.{register_number}
+use Rattle.cc_state_values_sound.specs.CcStateOperators.Domains.{Domain, IsHull, MayBe}
+use Rattle.cc_rules.specs.CcStateReads.Reads.{IsRead, tracked_in}
 
 module _ {I : Type 0} (d : Domain I) (p : Program) (id : ℕ) (f : Func) (facts : Facts I) (point : Point) (n : ℕ) (fact : PointFact I) where
   abbrev its_here : Flowing I

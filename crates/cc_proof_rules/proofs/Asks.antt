@@ -4,8 +4,8 @@ use Rattle.std.specs.Prelude.{◌==◌, option_and_then}
 use Rattle.std.specs.List.{filter, flat_map}
 use Rattle.std.proofs.lemmas.Bool.{eq-eqb}
 use Rattle.std.proofs.lemmas.Option.{same_Some}
-use Rattle.cc_flow.specs.declared.types.Point.{Point}
-use Rattle.cc_flow.specs.Points.{count_of, flow_of}
+use Rattle.cc_rules.specs.CcFlow.declared.types.Point.{Point}
+use Rattle.cc_rules.specs.CcFlow.Points.{count_of, flow_of}
 use Rattle.cc_program.specs.declared.func.Func.{Func}
 use Rattle.cc_program.specs.declared.program.Program.{Program}
 use Rattle.cc_proof_rules.proofs.Arrivals.{arrives, joined_has_flag, joined_arrives}
@@ -14,15 +14,15 @@ use Rattle.cc_proof_rules.proofs.Lists.{contains_at, in_first, in_rest, in_map, 
 use Rattle.cc_proof_rules.specs.Arrivals.{HasFlag, IsKnown, Arrives}
 use Rattle.cc_rules.specs.Constraints.{Rule, Initial, Start, Flow, Write, Touch, Call, Back, Return, Handler, Stability, at_point, rules_at, constraints}
 use Rattle.cc_rules.specs.Rules.{act_at, AreFirstSets, IsStarted, flows_to, ComesTo, ComesToEach, ForEach, AskedHere, AskedIn, IsSolution}
-use Rattle.cc_rules_flows.specs.Nexts.{statement_of}
-use Rattle.cc_rules_needs.specs.Flowing.{Flowing, of_fact, numbers}
-use Rattle.cc_rules_needs.specs.Needs.{Needs, Has as HasPart, HasAll}
+use Rattle.cc_rules.specs.CcRulesFlows.Nexts.{statement_of}
+use Rattle.cc_rules.specs.CcRulesNeeds.Flowing.{Flowing, of_fact, numbers}
+use Rattle.cc_rules.specs.CcRulesNeeds.Needs.{Needs, Has as HasPart, HasAll}
 use Rattle.cc_state.specs.Shape.{HaveShape}
-use Rattle.cc_state_facts.specs.declared.facts.Facts.{Facts}
-use Rattle.cc_state_facts.specs.declared.facts.PointFact.{PointFact}
-use Rattle.cc_state_facts.specs.Facts.{fact_at}
-use Rattle.cc_state_keys.specs.Keys.{keys_of}
-use Rattle.cc_state_operators.specs.Domains.{Domain}
+use Rattle.cc_rules.specs.CcStateFacts.declared.facts.Facts.{Facts}
+use Rattle.cc_rules.specs.CcStateFacts.declared.facts.PointFact.{PointFact}
+use Rattle.cc_rules.specs.CcStateFacts.Facts.{fact_at}
+use Rattle.cc_rules.specs.CcStateKeys.Keys.{keys_of}
+use Rattle.cc_state_values_sound.specs.CcStateOperators.Domains.{Domain}
 use Rattle.cc_state_values_sound.proofs.Choices.{GivesAll}
 
 rule_there : (p : Program) (n : ℕ) (rule : Rule) → n < count_of p → Contains rules_at rule → Contains (constraints p) (at_point n rule)

@@ -3,9 +3,9 @@ use Rattle.std.proofs.Common.{arith, ◌≡◌, inl, inr, ℕ, zero, suc, ◌+�
 use Rattle.std.specs.Prelude.{option_and_then}
 use Rattle.std.proofs.lemmas.List.Elements.{All-head, All-tail}
 use Rattle.std.proofs.lemmas.Option.{same_Some, none-some}
-use Rattle.cc_eval.specs.Progress.{no_value}
-use Rattle.cc_flow_sound.specs.Moves.{entry}
-use Rattle.cc_places.specs.declared.abs.Abs.{Abs}
+use Rattle.cc_state_values_sound.specs.CcEval.Progress.{no_value}
+use Rattle.cc_rules.specs.CcFlowSound.Moves.{entry}
+use Rattle.cc_state_values_sound.specs.CcPlaces.declared.abs.Abs.{Abs}
 use Rattle.cc_program.specs.declared.func.Func.{Func}
 use Rattle.cc_program.specs.declared.program.Program.{Program}
 use Rattle.cc_program.specs.declared.value.Root.TheVariants as root
@@ -20,21 +20,21 @@ use Rattle.cc_proof_rules.proofs.Asks.{initial_met, start_met}
 use Rattle.cc_proof_rules.proofs.Numbered.{key_at, some_is}
 use Rattle.cc_proof_rules.specs.Arrivals.{Arrives}
 use Rattle.cc_rules.specs.Rules.{NeedsAt, IsFirstSet, AreFirstSets, IsStarted, AtStart, Elsewhere, IsSolution}
-use Rattle.cc_rules_needs.specs.Needs.{AreValuesBelow, Needs, Has as HasPart, HasAll}
-use Rattle.cc_rules_needs.specs.declared.needs.Part.{Part}
-use Rattle.cc_rules_needs.specs.declared.needs.Part.TheVariants.{Mark, LevelSet, Values}
-use Rattle.cc_rules_needs.specs.declared.needs.Slot.{Slot}
-use Rattle.cc_rules_needs.specs.declared.needs.Slot.TheVariants.{Whole, ByMain, Levels}
+use Rattle.cc_rules.specs.CcRulesNeeds.Needs.{AreValuesBelow, Needs, Has as HasPart, HasAll}
+use Rattle.cc_rules.specs.CcRulesNeeds.declared.needs.Part.{Part}
+use Rattle.cc_rules.specs.CcRulesNeeds.declared.needs.Part.TheVariants.{Mark, LevelSet, Values}
+use Rattle.cc_rules.specs.CcRulesNeeds.declared.needs.Slot.{Slot}
+use Rattle.cc_rules.specs.CcRulesNeeds.declared.needs.Slot.TheVariants.{Whole, ByMain, Levels}
 use Rattle.cc_state.specs.View.{Has, view}
-use Rattle.cc_state_facts.specs.declared.facts.Facts.{Facts}
-use Rattle.cc_state_facts.specs.declared.facts.Key.{Key}
-use Rattle.cc_state_facts.specs.Levels.{only_level}
-use Rattle.cc_state_keys.specs.Keys.{keys_of, cell_key}
-use Rattle.cc_state_keys.specs.Tracked.{tracked_number}
-use Rattle.cc_state_operators.specs.Domains.{Domain}
+use Rattle.cc_rules.specs.CcStateFacts.declared.facts.Facts.{Facts}
+use Rattle.cc_rules.specs.CcStateFacts.declared.facts.Key.{Key}
+use Rattle.cc_rules.specs.CcStateFacts.Levels.{only_level}
+use Rattle.cc_rules.specs.CcStateKeys.Keys.{keys_of, cell_key}
+use Rattle.cc_rules.specs.CcStateKeys.Tracked.{tracked_number}
+use Rattle.cc_state_values_sound.specs.CcStateOperators.Domains.{Domain}
 use Rattle.cc_state_values_sound.proofs.Choices.{GivesAll}
-use Rattle.cc_steps.specs.State.{first_values}
-use Rattle.cc_steps.specs.Step.{gives_nothing}
+use Rattle.cc_state_values_sound.specs.CcSteps.State.{first_values}
+use Rattle.cc_state_values_sound.specs.CcSteps.Step.{gives_nothing}
 
 module _ {I : Type 0} (d : Domain I) (all : GivesAll d) (p : Program) (facts : Facts I) (solution : IsSolution d p facts) where
   abbrev v : View

@@ -4,13 +4,13 @@ use Rattle.std.proofs.Common.{◌≡◌, ℕ, zero, suc, Bool, true, false, true
 use Rattle.std.specs.Prelude.{option_map, option_and_then, if◌then◌else◌}
 use Rattle.std.proofs.lemmas.List.Elements.{All-contains}
 use Rattle.std.proofs.lemmas.Option.{same_Some, none-some}
-use Rattle.cc_eval.specs.Context.{local_type}
-use Rattle.cc_places.specs.declared.abs.Abs.{Abs}
-use Rattle.cc_places.specs.declared.abs.Abs.TheVariants as abs
-use Rattle.cc_places.specs.declared.addrs.Addrs.{Addrs}
-use Rattle.cc_places.specs.Abstract.{HasValue}
-use Rattle.cc_places.specs.Kept.{member_for}
-use Rattle.cc_places.specs.Sets.{HasAddress}
+use Rattle.cc_state_values_sound.specs.CcEval.Context.{local_type}
+use Rattle.cc_state_values_sound.specs.CcPlaces.declared.abs.Abs.{Abs}
+use Rattle.cc_state_values_sound.specs.CcPlaces.declared.abs.Abs.TheVariants as abs
+use Rattle.cc_state_values_sound.specs.CcPlaces.declared.addrs.Addrs.{Addrs}
+use Rattle.cc_state_values_sound.specs.CcPlaces.Abstract.{HasValue}
+use Rattle.cc_state_values_sound.specs.CcPlaces.Kept.{member_for}
+use Rattle.cc_state_values_sound.specs.CcPlaces.Sets.{HasAddress}
 use Rattle.cc_program.specs.declared.expr.Expr.{Expr, out-Expr, map-Expr, fold_out-Expr}
 use Rattle.cc_program.specs.declared.expr.Expr.TheOpen as one
 use Rattle.cc_program.specs.declared.expr.Place.{Place as PlaceOf, out-Place, map-Place, fold_out-Place}
@@ -30,34 +30,34 @@ use Rattle.cc_program.specs.Qualifiers.{is_const, is_volatile}
 use Rattle.cc_proof_rules.proofs.Lists.{contains_at}
 use Rattle.cc_proof_rules.proofs.Numbered.{register_at, register_below}
 use Rattle.cc_state.specs.Shape.{IsSetIn, IsPointFact}
-use Rattle.cc_state_facts.specs.declared.facts.Facts.{Facts}
-use Rattle.cc_state_facts.specs.declared.facts.Key.{Key}
-use Rattle.cc_state_facts.specs.declared.facts.Key.TheVariants as key
-use Rattle.cc_state_facts.specs.declared.facts.PointFact.{PointFact}
-use Rattle.cc_state_facts.specs.Facts.{fact_at, local_at, local_of}
-use Rattle.cc_state_keys.specs.Keys.{key_along, cell_key}
-use Rattle.cc_state_keys.specs.Paths.{LeadsTo}
-use Rattle.cc_state_keys.specs.Tracked.{register_number}
-use Rattle.cc_state_operators.specs.Addresses.{IsOnly}
-use Rattle.cc_state_operators.specs.Domains.{Domain}
-use Rattle.cc_state_reads.specs.Reads.{registers_at}
-use Rattle.cc_state_values.specs.Values.{IsVal, OfConst, OfNull, OfFunction, OfRegister, OfAddress, OfUn, OfBin, OfConv, OfQualify, OfMove, OfGap, OfCompare, OfBoth, OfEither, OfChoose}
-use Rattle.cc_syntax.proofs.Prefixes.{both_true}
-use Rattle.cc_syntax.proofs.SameLemmas.{sig_compared, shape_of_same}
-use Rattle.cc_syntax.specs.Effects.{PlaceEffects, Effects, effect_step, place_effect_step, effects_of, place_effects_of}
-use Rattle.cc_syntax.specs.Expressions.{of_one, of_two, expr_step, place_step, type_of, place_type}
-use Rattle.cc_syntax.specs.Forms.{form_at, form_of}
-use Rattle.cc_syntax.specs.Initial.{bound_shape, is_below, place_at}
-use Rattle.cc_syntax.specs.Names.{are_names}
-use Rattle.cc_syntax.specs.Normal.{IsNormal, is_callee}
-use Rattle.cc_syntax.specs.Operators.{is_handler, function_type, assignment_type, call_type, when}
-use Rattle.cc_syntax.specs.Pairs.{all_pairs}
-use Rattle.cc_syntax.specs.Registers.{is_register}
-use Rattle.cc_syntax.specs.SameTypes.{is_void_shape, same_shape}
-use Rattle.cc_syntax.specs.Sound.{IsFuncBy, are_parameters}
-use Rattle.cc_syntax.specs.Types.{Named}
-use Rattle.cc_syntax.specs.Values.{ValueType, NoValue, Integer, ToObject, ToFunction, PlaceType, object_place, result_value, scalar_shape, scalar_value, read_from, written_to, element_shape, member_shape, is_void, is_assignable, is_assignable_some, are_assignable}
-use Rattle.cc_syntax.specs.Views.{View, of_program}
+use Rattle.cc_rules.specs.CcStateFacts.declared.facts.Facts.{Facts}
+use Rattle.cc_rules.specs.CcStateFacts.declared.facts.Key.{Key}
+use Rattle.cc_rules.specs.CcStateFacts.declared.facts.Key.TheVariants as key
+use Rattle.cc_rules.specs.CcStateFacts.declared.facts.PointFact.{PointFact}
+use Rattle.cc_rules.specs.CcStateFacts.Facts.{fact_at, local_at, local_of}
+use Rattle.cc_rules.specs.CcStateKeys.Keys.{key_along, cell_key}
+use Rattle.cc_rules.specs.CcStateKeys.Paths.{LeadsTo}
+use Rattle.cc_rules.specs.CcStateKeys.Tracked.{register_number}
+use Rattle.cc_state_values_sound.specs.CcStateOperators.Addresses.{IsOnly}
+use Rattle.cc_state_values_sound.specs.CcStateOperators.Domains.{Domain}
+use Rattle.cc_rules.specs.CcStateReads.Reads.{registers_at}
+use Rattle.cc_state_values_sound.specs.CcStateValues.Values.{IsVal, OfConst, OfNull, OfFunction, OfRegister, OfAddress, OfUn, OfBin, OfConv, OfQualify, OfMove, OfGap, OfCompare, OfBoth, OfEither, OfChoose}
+use Rattle.cc_state_values_sound.proofs.CcSyntax.Prefixes.{both_true}
+use Rattle.cc_state_values_sound.proofs.CcSyntax.SameLemmas.{sig_compared, shape_of_same}
+use Rattle.cc_state_values_sound.specs.CcSyntax.Effects.{PlaceEffects, Effects, effect_step, place_effect_step, effects_of, place_effects_of}
+use Rattle.cc_state_values_sound.specs.CcSyntax.Expressions.{of_one, of_two, expr_step, place_step, type_of, place_type}
+use Rattle.cc_state_values_sound.specs.CcSyntax.Forms.{form_at, form_of}
+use Rattle.cc_state_values_sound.specs.CcSyntax.Initial.{bound_shape, is_below, place_at}
+use Rattle.cc_state_values_sound.specs.CcSyntax.Names.{are_names}
+use Rattle.cc_state_values_sound.specs.CcSyntax.Normal.{IsNormal, is_callee}
+use Rattle.cc_state_values_sound.specs.CcSyntax.Operators.{is_handler, function_type, assignment_type, call_type, when}
+use Rattle.cc_state_values_sound.specs.CcSyntax.Pairs.{all_pairs}
+use Rattle.cc_state_values_sound.specs.CcSyntax.Registers.{is_register}
+use Rattle.cc_state_values_sound.specs.CcSyntax.SameTypes.{is_void_shape, same_shape}
+use Rattle.cc_state_values_sound.specs.CcSyntax.Sound.{IsFuncBy, are_parameters}
+use Rattle.cc_state_values_sound.specs.CcSyntax.Types.{Named}
+use Rattle.cc_state_values_sound.specs.CcSyntax.Values.{ValueType, NoValue, Integer, ToObject, ToFunction, PlaceType, object_place, result_value, scalar_shape, scalar_value, read_from, written_to, element_shape, member_shape, is_void, is_assignable, is_assignable_some, are_assignable}
+use Rattle.cc_state_values_sound.specs.CcSyntax.Views.{View, of_program}
 
 -- ---- lists of two that fit
 

@@ -5,11 +5,11 @@ use Rattle.std.specs.Prelude.{option_and_then}
 use Rattle.std.specs.List.{flat_map}
 use Rattle.std.proofs.lemmas.List.Elements.{All-head, All-tail}
 use Rattle.std.proofs.lemmas.Option.{same_Some, none-some}
-use Rattle.cc_flow.specs.declared.types.Point.{Point}
-use Rattle.cc_flow.specs.Points.{flow_of}
-use Rattle.cc_flow_sound.specs.Moves.{entry}
-use Rattle.cc_places.specs.declared.abs.Abs.{Abs}
-use Rattle.cc_places.specs.Abstract.{IsBelowAbs, HasValue}
+use Rattle.cc_rules.specs.CcFlow.declared.types.Point.{Point}
+use Rattle.cc_rules.specs.CcFlow.Points.{flow_of}
+use Rattle.cc_rules.specs.CcFlowSound.Moves.{entry}
+use Rattle.cc_state_values_sound.specs.CcPlaces.declared.abs.Abs.{Abs}
+use Rattle.cc_state_values_sound.specs.CcPlaces.Abstract.{IsBelowAbs, HasValue}
 use Rattle.cc_program.specs.declared.expr.Expr.{Expr}
 use Rattle.cc_program.specs.declared.func.Func.{Func}
 use Rattle.cc_program.specs.declared.program.Program.{Program}
@@ -32,29 +32,29 @@ use Rattle.cc_proof_rules.proofs.Numbered.{register_numbered}
 use Rattle.cc_proof_rules.specs.Arrivals.{flag_in, HasFlag, IsKnown, Arrives}
 use Rattle.cc_proof_rules.specs.Operands.{Holds}
 use Rattle.cc_rules.specs.Rules.{act_at, NeedsAt, IsValue, AreValues, AreCalled, ForEach, at_entry, need_whole, other_parameters, Entered, IsResult, OfMain, OfOther, of_exit, IsGiven, ToRegister, ToNone, Returned, FromExit, NoExit, CallAsks, OfEntries, OfReturns, OfNoCall, IsSolution}
-use Rattle.cc_rules_flows.specs.Acts.{Act, Calls}
-use Rattle.cc_rules_flows.specs.Nexts.{IsPoint, statement_of}
-use Rattle.cc_rules_needs.specs.Flowing.{Flowing, of_fact}
-use Rattle.cc_rules_needs.specs.Needs.{AreValuesBelow, Needs, Has as HasPart, HasAll}
-use Rattle.cc_rules_needs.specs.declared.needs.Part.{Part}
-use Rattle.cc_rules_needs.specs.declared.needs.Part.TheVariants.{Mark, LevelSet, Values}
-use Rattle.cc_rules_needs.specs.declared.needs.Slot.{Slot}
-use Rattle.cc_rules_needs.specs.declared.needs.Slot.TheVariants.{Whole, ByMain, ByHandler, Levels, From}
+use Rattle.cc_rules.specs.CcRulesFlows.Acts.{Act, Calls}
+use Rattle.cc_rules.specs.CcRulesFlows.Nexts.{IsPoint, statement_of}
+use Rattle.cc_rules.specs.CcRulesNeeds.Flowing.{Flowing, of_fact}
+use Rattle.cc_rules.specs.CcRulesNeeds.Needs.{AreValuesBelow, Needs, Has as HasPart, HasAll}
+use Rattle.cc_rules.specs.CcRulesNeeds.declared.needs.Part.{Part}
+use Rattle.cc_rules.specs.CcRulesNeeds.declared.needs.Part.TheVariants.{Mark, LevelSet, Values}
+use Rattle.cc_rules.specs.CcRulesNeeds.declared.needs.Slot.{Slot}
+use Rattle.cc_rules.specs.CcRulesNeeds.declared.needs.Slot.TheVariants.{Whole, ByMain, ByHandler, Levels, From}
 use Rattle.cc_state.specs.Shape.{HaveShape, IsPointFact}
 use Rattle.cc_state.specs.View.{Has, ResultOf, view}
-use Rattle.cc_state_facts.specs.declared.facts.Facts.{Facts}
-use Rattle.cc_state_facts.specs.declared.facts.Key.TheVariants as key
-use Rattle.cc_state_facts.specs.declared.facts.PointFact.{PointFact}
-use Rattle.cc_state_facts.specs.Facts.{fact_at, local_of, mark_of, levels_of}
-use Rattle.cc_state_keys.specs.Keys.{key_number, cell_key}
-use Rattle.cc_state_keys.specs.Tracked.{register_number}
-use Rattle.cc_state_operators.specs.Domains.{Domain}
+use Rattle.cc_rules.specs.CcStateFacts.declared.facts.Facts.{Facts}
+use Rattle.cc_rules.specs.CcStateFacts.declared.facts.Key.TheVariants as key
+use Rattle.cc_rules.specs.CcStateFacts.declared.facts.PointFact.{PointFact}
+use Rattle.cc_rules.specs.CcStateFacts.Facts.{fact_at, local_of, mark_of, levels_of}
+use Rattle.cc_rules.specs.CcStateKeys.Keys.{key_number, cell_key}
+use Rattle.cc_rules.specs.CcStateKeys.Tracked.{register_number}
+use Rattle.cc_state_values_sound.specs.CcStateOperators.Domains.{Domain}
 use Rattle.cc_state_values_sound.proofs.Choices.{GivesAll, below_gives}
-use Rattle.cc_steps.specs.Step.{gives_nothing}
-use Rattle.cc_syntax.specs.Forms.{form_of}
-use Rattle.cc_syntax.specs.Normal.{IsNormal, is_callee}
-use Rattle.cc_syntax.specs.Registers.{is_register}
-use Rattle.cc_syntax.specs.Values.{ValueType, NoValue}
+use Rattle.cc_state_values_sound.specs.CcSteps.Step.{gives_nothing}
+use Rattle.cc_state_values_sound.specs.CcSyntax.Forms.{form_of}
+use Rattle.cc_state_values_sound.specs.CcSyntax.Normal.{IsNormal, is_callee}
+use Rattle.cc_state_values_sound.specs.CcSyntax.Registers.{is_register}
+use Rattle.cc_state_values_sound.specs.CcSyntax.Values.{ValueType, NoValue}
 
 -- the first four of some things, and the others
 first_four : {A : Type 0} (P : A → Type 0) (a b c e : A) (rest : List A) → All P (a ∷ b ∷ c ∷ e ∷ rest) → P a × P b × P c × P e × All P rest

@@ -2,9 +2,9 @@
 use Rattle.std.proofs.Common.{arith, ◌≡◌, inl, inr, ℕ, suc, Bool, true, false, List, [], ◌∷◌, Contains, Option, Some, None, refl, ap, sym, ◌∙◌, subst}
 use Rattle.std.specs.Prelude.{nat_lt, option_map, if◌then◌else◌}
 use Rattle.std.proofs.lemmas.Option.{same_Some}
-use Rattle.cc_eval.specs.Context.{has_elements, path_to, named_by, designated, cell_of, cell_at, reached}
-use Rattle.cc_eval.specs.declared.spots.Spot.{Spot}
-use Rattle.cc_eval.specs.declared.spots.Spot.TheVariants as spot
+use Rattle.cc_state_values_sound.specs.CcEval.Context.{has_elements, path_to, named_by, designated, cell_of, cell_at, reached}
+use Rattle.cc_state_values_sound.specs.CcEval.declared.spots.Spot.{Spot}
+use Rattle.cc_state_values_sound.specs.CcEval.declared.spots.Spot.TheVariants as spot
 use Rattle.cc_program.specs.declared.expr.Expr.{Expr}
 use Rattle.cc_program.specs.declared.expr.Expr.TheOpen as one
 use Rattle.cc_program.specs.declared.expr.Place.{Place, out-Place}
@@ -20,22 +20,22 @@ use Rattle.cc_program.specs.declared.value.Root.{Root}
 use Rattle.cc_program.specs.declared.value.Root.TheVariants as root
 use Rattle.cc_proof_rules.proofs.Keys.{designated_class}
 use Rattle.cc_proof_rules.specs.Operands.{root_static, address_static, spot_static, HasClass, IsLed}
-use Rattle.cc_state_facts.specs.declared.facts.Facts.{Facts}
-use Rattle.cc_state_facts.specs.declared.facts.Key.{Key}
-use Rattle.cc_state_keys.specs.Keys.{cell_key}
-use Rattle.cc_state_keys.specs.Paths.{LeadsTo}
-use Rattle.cc_state_keys.specs.Tracked.{tracked_number}
-use Rattle.cc_state_operators.specs.Domains.{Domain}
-use Rattle.cc_state_reads.specs.Named.{AreClasses}
-use Rattle.cc_state_reads.specs.Reads.{registers_at, tracked_in, device_number}
-use Rattle.cc_states.proofs.GivenLemmas.{reached_cell}
-use Rattle.cc_states.proofs.MemoryLemmas.{part_in_memory}
-use Rattle.cc_states.proofs.PlaceLemmas.{CanPoint, real}
-use Rattle.cc_states.proofs.ReachLemmas.{cell_reached}
-use Rattle.cc_states.specs.Typed.{place_in, cell_type, IsInMemory, MayLead}
-use Rattle.cc_steps.specs.Step.{cell_position}
-use Rattle.cc_syntax.specs.Programs.{place_type}
-use Rattle.cc_syntax.specs.Values.{ValueType, PlaceType, DevicePlace, ObjectPlace, FunctionPlace, read_from}
+use Rattle.cc_rules.specs.CcStateFacts.declared.facts.Facts.{Facts}
+use Rattle.cc_rules.specs.CcStateFacts.declared.facts.Key.{Key}
+use Rattle.cc_rules.specs.CcStateKeys.Keys.{cell_key}
+use Rattle.cc_rules.specs.CcStateKeys.Paths.{LeadsTo}
+use Rattle.cc_rules.specs.CcStateKeys.Tracked.{tracked_number}
+use Rattle.cc_state_values_sound.specs.CcStateOperators.Domains.{Domain}
+use Rattle.cc_rules.specs.CcStateReads.Named.{AreClasses}
+use Rattle.cc_rules.specs.CcStateReads.Reads.{registers_at, tracked_in, device_number}
+use Rattle.cc_state_values_sound.proofs.CcStates.GivenLemmas.{reached_cell}
+use Rattle.cc_state_values_sound.proofs.CcStates.MemoryLemmas.{part_in_memory}
+use Rattle.cc_state_values_sound.proofs.CcStates.PlaceLemmas.{CanPoint, real}
+use Rattle.cc_state_values_sound.proofs.CcStates.ReachLemmas.{cell_reached}
+use Rattle.cc_state_values_sound.specs.CcStates.Typed.{place_in, cell_type, IsInMemory, MayLead}
+use Rattle.cc_state_values_sound.specs.CcSteps.Step.{cell_position}
+use Rattle.cc_state_values_sound.specs.CcSyntax.Programs.{place_type}
+use Rattle.cc_state_values_sound.specs.CcSyntax.Values.{ValueType, PlaceType, DevicePlace, ObjectPlace, FunctionPlace, read_from}
 
 -- ---- by forms
 

@@ -2,21 +2,21 @@
 use Rattle.std.proofs.Common.{◌≡◌, ℕ, ℤ, Bool, true, List, [], ◌∷◌, ◌++◌, Contains, Option, Some, None, refl, ap, sym, ◌∙◌, subst}
 use Rattle.std.specs.Prelude.{is_some, option_map, option_and_then}
 use Rattle.std.specs.List.{flat_map}
-use Rattle.cc_eval.proofs.Links.{place_type_linked}
-use Rattle.cc_eval.proofs.MeaningUses.{meaning_uses}
-use Rattle.cc_eval.proofs.Opened.{designation_at}
-use Rattle.cc_eval.proofs.Works.{works_known, works_bind}
-use Rattle.cc_eval.specs.Context.{Context, object_type, designated, element_in, element, member}
-use Rattle.cc_eval.specs.declared.action.Action.{Action}
-use Rattle.cc_eval.specs.declared.mark.Mark.{Mark}
-use Rattle.cc_eval.specs.declared.spots.Spot.{Spot}
-use Rattle.cc_eval.specs.declared.spots.Spot.TheVariants as spot
-use Rattle.cc_eval.specs.Eval.{Designation, meaning, designation, place_opened, place_and_value, element_at}
-use Rattle.cc_eval.specs.Marks.{AnswerSteps, Works}
-use Rattle.cc_eval.specs.Progress.{Get, known, bind}
-use Rattle.cc_places.specs.declared.abs.Abs.{Abs}
-use Rattle.cc_places.specs.declared.abs.Abs.TheVariants as abs
-use Rattle.cc_places.specs.declared.addrs.Addrs.{Addrs}
+use Rattle.cc_state_values_sound.proofs.CcEval.Links.{place_type_linked}
+use Rattle.cc_state_values_sound.proofs.CcEval.MeaningUses.{meaning_uses}
+use Rattle.cc_state_values_sound.proofs.CcEval.Opened.{designation_at}
+use Rattle.cc_state_values_sound.proofs.CcEval.Works.{works_known, works_bind}
+use Rattle.cc_state_values_sound.specs.CcEval.Context.{Context, object_type, designated, element_in, element, member}
+use Rattle.cc_state_values_sound.specs.CcEval.declared.action.Action.{Action}
+use Rattle.cc_state_values_sound.specs.CcEval.declared.mark.Mark.{Mark}
+use Rattle.cc_state_values_sound.specs.CcEval.declared.spots.Spot.{Spot}
+use Rattle.cc_state_values_sound.specs.CcEval.declared.spots.Spot.TheVariants as spot
+use Rattle.cc_state_values_sound.specs.CcEval.Eval.{Designation, meaning, designation, place_opened, place_and_value, element_at}
+use Rattle.cc_state_values_sound.specs.CcEval.Marks.{AnswerSteps, Works}
+use Rattle.cc_state_values_sound.specs.CcEval.Progress.{Get, known, bind}
+use Rattle.cc_state_values_sound.specs.CcPlaces.declared.abs.Abs.{Abs}
+use Rattle.cc_state_values_sound.specs.CcPlaces.declared.abs.Abs.TheVariants as abs
+use Rattle.cc_state_values_sound.specs.CcPlaces.declared.addrs.Addrs.{Addrs}
 use Rattle.cc_program.specs.declared.expr.Expr.{Expr}
 use Rattle.cc_program.specs.declared.expr.Expr.TheOpen as one
 use Rattle.cc_program.specs.declared.expr.Place.{Place as PlaceOf, out-Place, roll-Place, roll-out-Place}
@@ -36,31 +36,31 @@ use Rattle.cc_program.specs.declared.value.Value.TheVariants.{Int, Place}
 use Rattle.cc_proof_rules.proofs.Keys.{key_end, key_of_part, IsReal, target_classes, designated_class}
 use Rattle.cc_proof_rules.proofs.Lists.{in_first}
 use Rattle.cc_proof_rules.specs.Operands.{HasClass}
-use Rattle.cc_state_facts.specs.declared.facts.Key.{Key}
-use Rattle.cc_state_facts.specs.declared.facts.Key.TheVariants as key
-use Rattle.cc_state_keys.specs.Keys.{root_key, structure_shape, structure_of, cell_key}
-use Rattle.cc_state_keys.specs.Lists.{only}
-use Rattle.cc_state_operators.specs.Domains.{Domain}
-use Rattle.cc_state_reads.specs.Named.{target_class, member_class, AreClasses, OfLocal, OfStatic, OfDevice, OfElement, OfMember, OfTarget}
-use Rattle.cc_state_values.specs.Values.{IsVal}
+use Rattle.cc_rules.specs.CcStateFacts.declared.facts.Key.{Key}
+use Rattle.cc_rules.specs.CcStateFacts.declared.facts.Key.TheVariants as key
+use Rattle.cc_rules.specs.CcStateKeys.Keys.{root_key, structure_shape, structure_of, cell_key}
+use Rattle.cc_rules.specs.CcStateKeys.Lists.{only}
+use Rattle.cc_state_values_sound.specs.CcStateOperators.Domains.{Domain}
+use Rattle.cc_rules.specs.CcStateReads.Named.{target_class, member_class, AreClasses, OfLocal, OfStatic, OfDevice, OfElement, OfMember, OfTarget}
+use Rattle.cc_state_values_sound.specs.CcStateValues.Values.{IsVal}
 use Rattle.cc_state_values_sound.proofs.Choices.{GivesAll}
 use Rattle.cc_state_values_sound.proofs.InStates.{value_in_states}
 use Rattle.cc_state_values_sound.specs.Steps.{MayGive, IsOwnStep}
 use Rattle.cc_state_values_sound.specs.Typed.{IsTypedAnswer}
-use Rattle.cc_states.proofs.AddressLemmas.{place_parts_at, rolled_place_takes}
-use Rattle.cc_states.proofs.EvalTypes.{designation_typed, meaning_typed}
-use Rattle.cc_states.proofs.Options.{with_one, with_two, one_as_then}
-use Rattle.cc_states.proofs.PlaceLemmas.{real}
-use Rattle.cc_states.proofs.SpotLemmas.{designates}
-use Rattle.cc_states.specs.Answers.{IsActivation, IsMarkOf, IsStep, TakesAddressesOf, PlaceTakesAddressesOf}
-use Rattle.cc_states.specs.Typed.{place_in, IsAddress, HasType, MayHave, MayLead}
-use Rattle.cc_syntax.proofs.AlikeLemmas.{alike-struct}
-use Rattle.cc_syntax.specs.Effects.{Registers, also}
-use Rattle.cc_syntax.specs.Expressions.{of_two}
-use Rattle.cc_syntax.specs.Initial.{bound_of, place_at, names}
-use Rattle.cc_syntax.specs.Operators as rule
-use Rattle.cc_syntax.specs.Values.{ValueType, NoValue, Integer, ToObject, ToFunction, PlaceType, DevicePlace, ObjectPlace, FunctionPlace, member_shape, member_of, pointed_to}
-use Rattle.cc_values.specs.Values.{integer, index_in, address_in}
+use Rattle.cc_state_values_sound.proofs.CcStates.AddressLemmas.{place_parts_at, rolled_place_takes}
+use Rattle.cc_state_values_sound.proofs.CcStates.EvalTypes.{designation_typed, meaning_typed}
+use Rattle.cc_state_values_sound.proofs.CcStates.Options.{with_one, with_two, one_as_then}
+use Rattle.cc_state_values_sound.proofs.CcStates.PlaceLemmas.{real}
+use Rattle.cc_state_values_sound.proofs.CcStates.SpotLemmas.{designates}
+use Rattle.cc_state_values_sound.specs.CcStates.Answers.{IsActivation, IsMarkOf, IsStep, TakesAddressesOf, PlaceTakesAddressesOf}
+use Rattle.cc_state_values_sound.specs.CcStates.Typed.{place_in, IsAddress, HasType, MayHave, MayLead}
+use Rattle.cc_state_values_sound.proofs.CcSyntax.AlikeLemmas.{alike-struct}
+use Rattle.cc_state_values_sound.specs.CcSyntax.Effects.{Registers, also}
+use Rattle.cc_state_values_sound.specs.CcSyntax.Expressions.{of_two}
+use Rattle.cc_state_values_sound.specs.CcSyntax.Initial.{bound_of, place_at, names}
+use Rattle.cc_state_values_sound.specs.CcSyntax.Operators as rule
+use Rattle.cc_state_values_sound.specs.CcSyntax.Values.{ValueType, NoValue, Integer, ToObject, ToFunction, PlaceType, DevicePlace, ObjectPlace, FunctionPlace, member_shape, member_of, pointed_to}
+use Rattle.cc_state_values_sound.specs.CcValues.Values.{integer, index_in, address_in}
 
 -- ---- what is typed is there
 

@@ -1,10 +1,10 @@
 -- Facts of the shape of a program in normal form that solve its constraints say what is asked at each point, so they cover its runs.
 use Rattle.std.proofs.Common.{◌≡◌, ◌<◌, ◌≤◌, ◌^◌, ℕ, Some, arith, slice_get}
-use Rattle.cc_flow.specs.declared.next.Site.{Site}
-use Rattle.cc_flow.specs.declared.types.Point.{Point}
-use Rattle.cc_flow.specs.Points.{count_of, flow_of}
-use Rattle.cc_flow_sound.specs.Sites.{nexts}
-use Rattle.cc_flow_sound.specs.Statements.{statement_at}
+use Rattle.cc_rules.specs.CcFlow.declared.next.Site.{Site}
+use Rattle.cc_rules.specs.CcFlow.declared.types.Point.{Point}
+use Rattle.cc_rules.specs.CcFlow.Points.{count_of, flow_of}
+use Rattle.cc_rules.specs.CcFlowSound.Sites.{nexts}
+use Rattle.cc_rules.specs.CcFlowSound.Statements.{statement_at}
 use Rattle.cc_program.specs.declared.func.Func.{Func}
 use Rattle.cc_program.specs.declared.program.Program.{Program}
 use Rattle.cc_program.specs.declared.stmt.Stmt.{Stmt, out-Stmt}
@@ -26,10 +26,10 @@ use Rattle.cc_rules.specs.Rules.{IsSolution}
 use Rattle.cc_state.specs.Covered.{Covers}
 use Rattle.cc_state.specs.Shape.{HaveShape}
 use Rattle.cc_state.specs.View.{view}
-use Rattle.cc_state_facts.specs.declared.facts.Facts.{Facts}
-use Rattle.cc_state_operators.specs.Domains.{Domain}
+use Rattle.cc_rules.specs.CcStateFacts.declared.facts.Facts.{Facts}
+use Rattle.cc_state_values_sound.specs.CcStateOperators.Domains.{Domain}
 use Rattle.cc_state_values_sound.proofs.Choices.{GivesAll}
-use Rattle.cc_syntax.specs.Normal.{IsNormal}
+use Rattle.cc_state_values_sound.specs.CcSyntax.Normal.{IsNormal}
 
 module _ {I : Type 0} (d : Domain I) (all : GivesAll d) (keeps : KeepsMembers d) (p : Program) (normal : IsNormal p) (few : count_of p < 2 ^ 32) (facts : Facts I) (shape : HaveShape d p facts) (solution : IsSolution d p facts) where
   abbrev v : View

@@ -4,19 +4,19 @@ use Rattle.std.specs.Prelude.{is_some, if◌then◌else◌}
 use Rattle.std.specs.List.{list_all}
 use Rattle.std.proofs.lemmas.List.Elements.{Contains-append_left, Contains-append_right}
 use Rattle.std.proofs.lemmas.Option.{same_Some}
-use Rattle.cc_control.specs.declared.phase.Phase.{Phase}
-use Rattle.cc_control.specs.declared.phase.Phase.TheVariants.{First}
-use Rattle.cc_eval.proofs.Links.{pure_linked, register_linked}
-use Rattle.cc_eval.proofs.Opened.{meaning_at}
-use Rattle.cc_eval.specs.Context.{Context, reached}
-use Rattle.cc_eval.specs.declared.spots.Spot.{Spot}
-use Rattle.cc_eval.specs.Eval.{Meaning, opened}
-use Rattle.cc_flow.specs.declared.next.Site.{Site}
-use Rattle.cc_flow.specs.declared.types.Point.{Point}
-use Rattle.cc_flow.specs.Points.{count_of, flow_of}
-use Rattle.cc_flow_sound.proofs.Opened.{NormalAt}
-use Rattle.cc_flow_sound.specs.Sites.{nexts}
-use Rattle.cc_flow_sound.specs.Statements.{statement_at}
+use Rattle.cc_state_values_sound.specs.CcControl.declared.phase.Phase.{Phase}
+use Rattle.cc_state_values_sound.specs.CcControl.declared.phase.Phase.TheVariants.{First}
+use Rattle.cc_state_values_sound.proofs.CcEval.Links.{pure_linked, register_linked}
+use Rattle.cc_state_values_sound.proofs.CcEval.Opened.{meaning_at}
+use Rattle.cc_state_values_sound.specs.CcEval.Context.{Context, reached}
+use Rattle.cc_state_values_sound.specs.CcEval.declared.spots.Spot.{Spot}
+use Rattle.cc_state_values_sound.specs.CcEval.Eval.{Meaning, opened}
+use Rattle.cc_rules.specs.CcFlow.declared.next.Site.{Site}
+use Rattle.cc_rules.specs.CcFlow.declared.types.Point.{Point}
+use Rattle.cc_rules.specs.CcFlow.Points.{count_of, flow_of}
+use Rattle.cc_rules.proofs.CcFlowSound.Opened.{NormalAt}
+use Rattle.cc_rules.specs.CcFlowSound.Sites.{nexts}
+use Rattle.cc_rules.specs.CcFlowSound.Statements.{statement_at}
 use Rattle.cc_program.proofs.Each.{Each}
 use Rattle.cc_program.specs.declared.expr.Expr.TheOpen as one
 use Rattle.cc_program.specs.declared.expr.Expr.{Expr, out-Expr}
@@ -54,32 +54,32 @@ use Rattle.cc_proof_rules.proofs.Taken.{assigned_taken, loaded_taken, called_tak
 use Rattle.cc_proof_rules.proofs.PlaceWrites.{writes_flag, device_flows, static_flows, static_value, static_tracked, local_flows, local_other, local_value}
 use Rattle.cc_proof_rules.specs.Operands.{Holds, LeadsAt}
 use Rattle.cc_rules.specs.Rules.{act_at, IsSolution}
-use Rattle.cc_rules_flows.specs.Acts.{Act, act_of}
-use Rattle.cc_rules_flows.specs.Acts as act
+use Rattle.cc_rules.specs.CcRulesFlows.Acts.{Act, act_of}
+use Rattle.cc_rules.specs.CcRulesFlows.Acts as act
 use Rattle.cc_state.specs.Shape.{HaveShape}
 use Rattle.cc_state.specs.View.{view}
-use Rattle.cc_state_facts.specs.declared.facts.Facts.{Facts}
-use Rattle.cc_state_facts.specs.declared.facts.PointFact.{PointFact}
-use Rattle.cc_state_facts.specs.Facts.{fact_at}
-use Rattle.cc_state_facts.specs.declared.facts.Key.{Key}
-use Rattle.cc_state_keys.specs.Addressed.{in_place, taken_in, IsAddressed}
-use Rattle.cc_state_operators.specs.Domains.{Domain}
+use Rattle.cc_rules.specs.CcStateFacts.declared.facts.Facts.{Facts}
+use Rattle.cc_rules.specs.CcStateFacts.declared.facts.PointFact.{PointFact}
+use Rattle.cc_rules.specs.CcStateFacts.Facts.{fact_at}
+use Rattle.cc_rules.specs.CcStateFacts.declared.facts.Key.{Key}
+use Rattle.cc_rules.specs.CcStateKeys.Addressed.{in_place, taken_in, IsAddressed}
+use Rattle.cc_state_values_sound.specs.CcStateOperators.Domains.{Domain}
 use Rattle.cc_state_values_sound.proofs.Choices.{GivesAll}
-use Rattle.cc_states.proofs.GivenLemmas.{read_as_written}
-use Rattle.cc_states.proofs.Options.{either_true}
-use Rattle.cc_states.proofs.TurnLemmas.{order_of}
-use Rattle.cc_states.specs.Answers.{TakesAddressesOf, PlaceTakesAddressesOf}
-use Rattle.cc_steps.specs.State.{Active, Memory}
-use Rattle.cc_steps.specs.Step.{worked, is_return}
-use Rattle.cc_syntax.proofs.NameRules.{sound-typed}
-use Rattle.cc_syntax.proofs.Prefixes.{both_true}
-use Rattle.cc_syntax.specs.Effects.{no_one, is_soft, effects_of, place_effects_of}
-use Rattle.cc_syntax.specs.Folding.{is_folded, is_folded_place}
-use Rattle.cc_syntax.specs.Forms.{form_of, form_at}
-use Rattle.cc_syntax.specs.Normal.{IsNormal, is_operand, is_register_place, is_other_place, is_callee, is_call, is_place_read, is_expression_statement}
-use Rattle.cc_syntax.specs.Programs.{type_of, place_type}
-use Rattle.cc_syntax.specs.Types.{IsInOrder}
-use Rattle.cc_syntax.specs.Values.{ValueType, NoValue, PlaceType, read_from}
+use Rattle.cc_state_values_sound.proofs.CcStates.GivenLemmas.{read_as_written}
+use Rattle.cc_state_values_sound.proofs.CcStates.Options.{either_true}
+use Rattle.cc_state_values_sound.proofs.CcStates.TurnLemmas.{order_of}
+use Rattle.cc_state_values_sound.specs.CcStates.Answers.{TakesAddressesOf, PlaceTakesAddressesOf}
+use Rattle.cc_state_values_sound.specs.CcSteps.State.{Active, Memory}
+use Rattle.cc_state_values_sound.specs.CcSteps.Step.{worked, is_return}
+use Rattle.cc_state_values_sound.proofs.CcSyntax.NameRules.{sound-typed}
+use Rattle.cc_state_values_sound.proofs.CcSyntax.Prefixes.{both_true}
+use Rattle.cc_state_values_sound.specs.CcSyntax.Effects.{no_one, is_soft, effects_of, place_effects_of}
+use Rattle.cc_state_values_sound.specs.CcSyntax.Folding.{is_folded, is_folded_place}
+use Rattle.cc_state_values_sound.specs.CcSyntax.Forms.{form_of, form_at}
+use Rattle.cc_state_values_sound.specs.CcSyntax.Normal.{IsNormal, is_operand, is_register_place, is_other_place, is_callee, is_call, is_place_read, is_expression_statement}
+use Rattle.cc_state_values_sound.specs.CcSyntax.Programs.{type_of, place_type}
+use Rattle.cc_state_values_sound.specs.CcSyntax.Types.{IsInOrder}
+use Rattle.cc_state_values_sound.specs.CcSyntax.Values.{ValueType, NoValue, PlaceType, read_from}
 
 yes_no : {C : Type 0} (b : Bool) → b ≡ true → b ≡ false → C
 yes_no b h k = absurd (true≢false (sym h ∙ k))

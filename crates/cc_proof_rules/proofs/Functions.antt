@@ -3,23 +3,23 @@ use Rattle.std.proofs.Common.{arith, ◌≡◌, ◌⊎◌, inl, inr, ◌+◌, �
 use Rattle.std.proofs.lemmas.Bool.{cases_lt}
 use Rattle.std.proofs.lemmas.List.Elements.{All-contains}
 use Rattle.std.proofs.lemmas.Option.{same_Some, slice_get_within, slice_get_past}
-use Rattle.cc_flow.proofs.Inside.{body_inside}
-use Rattle.cc_flow.proofs.Paths.{body_counted, all_counted}
-use Rattle.cc_flow.specs.declared.types.Point.{Point}
-use Rattle.cc_flow.specs.Laws.{IsIn}
-use Rattle.cc_flow.specs.Points.{list_points, pieces, total_of, body_count, body_site, body_points, count_of, points_in, flow_of}
-use Rattle.cc_flow_sound.proofs.Numbered.{point_of}
-use Rattle.cc_flow_sound.specs.Moves.{entry}
-use Rattle.cc_flow_sound.specs.Statements.{statement_at}
+use Rattle.cc_rules.proofs.CcFlow.Inside.{body_inside}
+use Rattle.cc_rules.proofs.CcFlow.Paths.{body_counted, all_counted}
+use Rattle.cc_rules.specs.CcFlow.declared.types.Point.{Point}
+use Rattle.cc_rules.specs.CcFlow.Laws.{IsIn}
+use Rattle.cc_rules.specs.CcFlow.Points.{list_points, pieces, total_of, body_count, body_site, body_points, count_of, points_in, flow_of}
+use Rattle.cc_rules.proofs.CcFlowSound.Numbered.{point_of}
+use Rattle.cc_rules.specs.CcFlowSound.Moves.{entry}
+use Rattle.cc_rules.specs.CcFlowSound.Statements.{statement_at}
 use Rattle.cc_program.specs.declared.func.Func.{Func}
 use Rattle.cc_program.specs.declared.program.Program.{Program}
 use Rattle.cc_program.specs.declared.stmt.Stmt.{Stmt}
 use Rattle.cc_proof_rules.proofs.Lists.{contains_at}
-use Rattle.cc_rules_flows.specs.Nexts.{exit_of}
+use Rattle.cc_rules.specs.CcRulesFlows.Nexts.{exit_of}
 use Rattle.cc_state.specs.View.{IsFunctionAt}
-use Rattle.cc_state_facts.specs.declared.facts.Facts.{Facts}
-use Rattle.cc_state_operators.specs.Domains.{Domain}
-use Rattle.cc_states.proofs.ListLemmas.{get_before, get_after}
+use Rattle.cc_rules.specs.CcStateFacts.declared.facts.Facts.{Facts}
+use Rattle.cc_state_values_sound.specs.CcStateOperators.Domains.{Domain}
+use Rattle.cc_state_values_sound.proofs.CcStates.ListLemmas.{get_before, get_after}
 
 some_within : {A : Type 0} (xs : List A) (i : ℕ) → i < length xs → (x : A) × (slice_get xs i ≡ Some x)
 some_within [] i l = absurd (omega (arith, l))

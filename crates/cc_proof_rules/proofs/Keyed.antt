@@ -2,7 +2,7 @@
 use Rattle.std.proofs.Common.{arith, ◌≡◌, ◌+◌, ℕ, Bool, true, false, not, ◌&&◌, ◌||◌, List, [], ◌∷◌, ◌++◌, Option, Some, None, refl, ap, sym, ◌∙◌, subst, slice_get}
 use Rattle.std.specs.Prelude.{option_map, if◌then◌else◌}
 use Rattle.std.proofs.lemmas.Option.{none-some}
-use Rattle.cc_eval.specs.Context.{local_type}
+use Rattle.cc_state_values_sound.specs.CcEval.Context.{local_type}
 use Rattle.cc_program.specs.declared.func.Func.{Func}
 use Rattle.cc_program.specs.declared.object.Object.{Object}
 use Rattle.cc_program.specs.declared.program.Program.{Program}
@@ -17,16 +17,16 @@ use Rattle.cc_program.specs.declared.value.Root.TheVariants as root
 use Rattle.cc_program.specs.Qualifiers.{is_const, is_volatile}
 use Rattle.cc_proof_rules.proofs.Numbered.{key_numbered}
 use Rattle.cc_proof_rules.proofs.Positions.{IsIn, in_left, in_right, made_there, listed_there}
-use Rattle.cc_state_facts.specs.declared.facts.Key.{Key}
-use Rattle.cc_state_facts.specs.declared.facts.Key.TheVariants as key
-use Rattle.cc_state_keys.specs.Keys.{scalars_step, are_scalars, has_object_key, has_local_key, has_member_key, local_keys, member_keys, keys_of, key_number, structure_shape, key_of_member, key_along, cell_key}
-use Rattle.cc_state_keys.specs.Lists.{made_from, all_from}
-use Rattle.cc_state_keys.specs.Paths.{LeadsTo}
-use Rattle.cc_syntax.specs.Expressions.{of_one}
-use Rattle.cc_syntax.specs.Initial.{bound_shape, is_below, place_at}
-use Rattle.cc_syntax.specs.Registers.{is_register}
-use Rattle.cc_syntax.specs.Types.{Named}
-use Rattle.cc_syntax.specs.Values.{ValueType, PlaceType, ObjectPlace, object_place, scalar_shape, scalar_value, read_from, element_shape, member_at, member_in, member_shape}
+use Rattle.cc_rules.specs.CcStateFacts.declared.facts.Key.{Key}
+use Rattle.cc_rules.specs.CcStateFacts.declared.facts.Key.TheVariants as key
+use Rattle.cc_rules.specs.CcStateKeys.Keys.{scalars_step, are_scalars, has_object_key, has_local_key, has_member_key, local_keys, member_keys, keys_of, key_number, structure_shape, key_of_member, key_along, cell_key}
+use Rattle.cc_rules.specs.CcStateKeys.Lists.{made_from, all_from}
+use Rattle.cc_rules.specs.CcStateKeys.Paths.{LeadsTo}
+use Rattle.cc_state_values_sound.specs.CcSyntax.Expressions.{of_one}
+use Rattle.cc_state_values_sound.specs.CcSyntax.Initial.{bound_shape, is_below, place_at}
+use Rattle.cc_state_values_sound.specs.CcSyntax.Registers.{is_register}
+use Rattle.cc_state_values_sound.specs.CcSyntax.Types.{Named}
+use Rattle.cc_state_values_sound.specs.CcSyntax.Values.{ValueType, PlaceType, ObjectPlace, object_place, scalar_shape, scalar_value, read_from, element_shape, member_at, member_in, member_shape}
 
 -- ---- types of scalars
 

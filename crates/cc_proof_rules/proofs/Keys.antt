@@ -3,12 +3,12 @@ use Rattle.std.proofs.Common.{arith, ◌≡◌, ℕ, Bool, true, false, List, []
 use Rattle.std.specs.Prelude.{is_some, nat_lt, option_and_then, if◌then◌else◌}
 use Rattle.std.specs.List.{flat_map}
 use Rattle.std.proofs.lemmas.Option.{same_Some}
-use Rattle.cc_eval.specs.Context.{object_type, has_elements, path_to, named_by, designated}
-use Rattle.cc_eval.specs.declared.spots.Spot.{Spot}
-use Rattle.cc_eval.specs.declared.spots.Spot.TheVariants as spot
-use Rattle.cc_places.specs.declared.addrs.Addrs.{Addrs}
-use Rattle.cc_places.specs.Kept.{kept_root, starred_part, member_for}
-use Rattle.cc_places.specs.Sets.{HasAddress}
+use Rattle.cc_state_values_sound.specs.CcEval.Context.{object_type, has_elements, path_to, named_by, designated}
+use Rattle.cc_state_values_sound.specs.CcEval.declared.spots.Spot.{Spot}
+use Rattle.cc_state_values_sound.specs.CcEval.declared.spots.Spot.TheVariants as spot
+use Rattle.cc_state_values_sound.specs.CcPlaces.declared.addrs.Addrs.{Addrs}
+use Rattle.cc_state_values_sound.specs.CcPlaces.Kept.{kept_root, starred_part, member_for}
+use Rattle.cc_state_values_sound.specs.CcPlaces.Sets.{HasAddress}
 use Rattle.cc_program.specs.declared.program.Program.{Program}
 use Rattle.cc_program.specs.declared.types.Structure.{Structure}
 use Rattle.cc_program.specs.declared.value.Address.{Address}
@@ -19,13 +19,13 @@ use Rattle.cc_program.specs.declared.value.Root.{Root}
 use Rattle.cc_program.specs.declared.value.Root.TheVariants as root
 use Rattle.cc_proof_rules.proofs.Lists.{in_first, in_flat}
 use Rattle.cc_proof_rules.specs.Operands.{HasAddressClass, HasClass}
-use Rattle.cc_state_facts.specs.declared.facts.Key.{Key}
-use Rattle.cc_state_facts.specs.declared.facts.Key.TheVariants as key
-use Rattle.cc_state_keys.specs.Keys.{root_key, structure_of, key_of_member, key_of_step, key_along, cell_key}
-use Rattle.cc_state_reads.specs.Named.{target_class}
-use Rattle.cc_syntax.specs.Expressions.{of_one}
-use Rattle.cc_syntax.specs.Initial.{bound_of, is_below, step_into, place_at}
-use Rattle.cc_syntax.specs.Values.{PlaceType, element_of}
+use Rattle.cc_rules.specs.CcStateFacts.declared.facts.Key.{Key}
+use Rattle.cc_rules.specs.CcStateFacts.declared.facts.Key.TheVariants as key
+use Rattle.cc_rules.specs.CcStateKeys.Keys.{root_key, structure_of, key_of_member, key_of_step, key_along, cell_key}
+use Rattle.cc_rules.specs.CcStateReads.Named.{target_class}
+use Rattle.cc_state_values_sound.specs.CcSyntax.Expressions.{of_one}
+use Rattle.cc_state_values_sound.specs.CcSyntax.Initial.{bound_of, is_below, step_into, place_at}
+use Rattle.cc_state_values_sound.specs.CcSyntax.Values.{PlaceType, element_of}
 
 -- ---- along paths
 

@@ -1,19 +1,19 @@
 -- Where a place that is no register leads, at the point of the statement that accesses it.
 use Rattle.std.proofs.Common.{◌≡◌, ◌<◌, ◌^◌, ℕ, ℤ, Bool, true, false, List, [], ◌∷◌, ◌++◌, Option, Some, None, refl, ap, sym, ◌∙◌, subst, slice_get}
 use Rattle.std.specs.Prelude.{option_map, option_and_then, if◌then◌else◌}
-use Rattle.cc_eval.proofs.Links.{place_type_linked, register_linked, place_effects_linked}
-use Rattle.cc_eval.proofs.Opened.{designation_at}
-use Rattle.cc_eval.proofs.Works.{same_known, gives_made}
-use Rattle.cc_eval.specs.declared.action.Action.{Action}
-use Rattle.cc_eval.specs.Context.{Context, designated, element_in, element, member}
-use Rattle.cc_eval.specs.declared.mark.Mark.{Mark}
-use Rattle.cc_eval.specs.declared.spots.Spot.{Spot}
-use Rattle.cc_eval.specs.declared.spots.Spot.TheVariants as spot
-use Rattle.cc_eval.specs.Eval.{Designation, meaning, designation, place_opened, place_and_value, element_at}
-use Rattle.cc_eval.specs.Marks.{AnswerSteps, Works}
-use Rattle.cc_eval.specs.Progress.{Get, Known}
-use Rattle.cc_flow.specs.declared.types.Point.{Point}
-use Rattle.cc_flow.specs.Points.{count_of, flow_of}
+use Rattle.cc_state_values_sound.proofs.CcEval.Links.{place_type_linked, register_linked, place_effects_linked}
+use Rattle.cc_state_values_sound.proofs.CcEval.Opened.{designation_at}
+use Rattle.cc_state_values_sound.proofs.CcEval.Works.{same_known, gives_made}
+use Rattle.cc_state_values_sound.specs.CcEval.declared.action.Action.{Action}
+use Rattle.cc_state_values_sound.specs.CcEval.Context.{Context, designated, element_in, element, member}
+use Rattle.cc_state_values_sound.specs.CcEval.declared.mark.Mark.{Mark}
+use Rattle.cc_state_values_sound.specs.CcEval.declared.spots.Spot.{Spot}
+use Rattle.cc_state_values_sound.specs.CcEval.declared.spots.Spot.TheVariants as spot
+use Rattle.cc_state_values_sound.specs.CcEval.Eval.{Designation, meaning, designation, place_opened, place_and_value, element_at}
+use Rattle.cc_state_values_sound.specs.CcEval.Marks.{AnswerSteps, Works}
+use Rattle.cc_state_values_sound.specs.CcEval.Progress.{Get, Known}
+use Rattle.cc_rules.specs.CcFlow.declared.types.Point.{Point}
+use Rattle.cc_rules.specs.CcFlow.Points.{count_of, flow_of}
 use Rattle.cc_program.specs.declared.expr.Expr.{Expr}
 use Rattle.cc_program.specs.declared.expr.Expr.TheOpen as one
 use Rattle.cc_program.specs.declared.expr.Place.{Place, out-Place}
@@ -33,29 +33,29 @@ use Rattle.cc_proof_rules.proofs.Classes.{class_works}
 use Rattle.cc_proof_rules.proofs.Marks.{IsQuiet, opened, typed_answers}
 use Rattle.cc_proof_rules.proofs.Operands.{own_point}
 use Rattle.cc_proof_rules.specs.Operands.{spot_static, IsLed, LeadsAt}
-use Rattle.cc_rules_flows.specs.Nexts.{IsPoint}
+use Rattle.cc_rules.specs.CcRulesFlows.Nexts.{IsPoint}
 use Rattle.cc_state.specs.View.{IsFunctionAt, view}
-use Rattle.cc_state_facts.specs.declared.facts.Facts.{Facts}
-use Rattle.cc_state_facts.specs.declared.facts.Key.{Key}
-use Rattle.cc_state_keys.specs.Tracked.{tracked_number}
-use Rattle.cc_state_operators.specs.Domains.{Domain}
-use Rattle.cc_state_reads.specs.Named.{AreClasses}
-use Rattle.cc_state_reads.specs.Reads.{registers_at}
+use Rattle.cc_rules.specs.CcStateFacts.declared.facts.Facts.{Facts}
+use Rattle.cc_rules.specs.CcStateFacts.declared.facts.Key.{Key}
+use Rattle.cc_rules.specs.CcStateKeys.Tracked.{tracked_number}
+use Rattle.cc_state_values_sound.specs.CcStateOperators.Domains.{Domain}
+use Rattle.cc_rules.specs.CcStateReads.Named.{AreClasses}
+use Rattle.cc_rules.specs.CcStateReads.Reads.{registers_at}
 use Rattle.cc_state_values_sound.proofs.Choices.{GivesAll}
 use Rattle.cc_state_values_sound.specs.Typed.{IsTypedAnswer}
-use Rattle.cc_states.proofs.EvalTypes.{designation_typed, place_in_memory}
-use Rattle.cc_states.specs.Answers.{PlaceTakesAddressesOf}
-use Rattle.cc_states.specs.States.{context_in}
-use Rattle.cc_states.specs.Typed.{is_register_in, IsInMemory, MayLead}
-use Rattle.cc_steps.specs.State.{Active, Memory}
-use Rattle.cc_syntax.specs.Effects.{Registers, no_one, PlaceEffects, place_effects_of}
-use Rattle.cc_syntax.specs.Expressions.{of_two}
-use Rattle.cc_syntax.specs.Initial.{bound_of}
-use Rattle.cc_syntax.specs.Normal.{IsNormal}
-use Rattle.cc_syntax.specs.Programs.{place_type}
-use Rattle.cc_syntax.specs.Registers.{is_register}
-use Rattle.cc_syntax.specs.Values.{PlaceType}
-use Rattle.cc_values.specs.Values.{integer, address_in, element_at as address_of_element}
+use Rattle.cc_state_values_sound.proofs.CcStates.EvalTypes.{designation_typed, place_in_memory}
+use Rattle.cc_state_values_sound.specs.CcStates.Answers.{PlaceTakesAddressesOf}
+use Rattle.cc_state_values_sound.specs.CcStates.States.{context_in}
+use Rattle.cc_state_values_sound.specs.CcStates.Typed.{is_register_in, IsInMemory, MayLead}
+use Rattle.cc_state_values_sound.specs.CcSteps.State.{Active, Memory}
+use Rattle.cc_state_values_sound.specs.CcSyntax.Effects.{Registers, no_one, PlaceEffects, place_effects_of}
+use Rattle.cc_state_values_sound.specs.CcSyntax.Expressions.{of_two}
+use Rattle.cc_state_values_sound.specs.CcSyntax.Initial.{bound_of}
+use Rattle.cc_state_values_sound.specs.CcSyntax.Normal.{IsNormal}
+use Rattle.cc_state_values_sound.specs.CcSyntax.Programs.{place_type}
+use Rattle.cc_state_values_sound.specs.CcSyntax.Registers.{is_register}
+use Rattle.cc_state_values_sound.specs.CcSyntax.Values.{PlaceType}
+use Rattle.cc_state_values_sound.specs.CcValues.Values.{integer, address_in, element_at as address_of_element}
 
 -- ---- what leads to a device
 

@@ -5,8 +5,8 @@ use Rattle.std.specs.List.{list_all, list_any}
 use Rattle.std.specs.Str.{bytes_eq}
 use Rattle.cc_program.specs.declared.func.Func.{Func}
 use Rattle.cc_program.specs.declared.program.Program.{Program}
-use Rattle.cc_state_facts.specs.Levels.{has_level, only_level, all_levels, is_above_least, may_enter, one_may_enter}
-use Rattle.cc_steps.specs.Turn.{named_level, level_in, level_of}
+use Rattle.cc_rules.specs.CcStateFacts.Levels.{has_level, only_level, all_levels, is_above_least, may_enter, one_may_enter}
+use Rattle.cc_state_values_sound.specs.CcSteps.Turn.{named_level, level_in, level_of}
 
 -- ---- lists that have one that passes
 

@@ -8,7 +8,7 @@ use Rattle.std.proofs.lemmas.List.Elements.{Contains-append_left, Contains-appen
 use Rattle.std.proofs.lemmas.List.Quantifiers.{position-Some}
 use Rattle.std.proofs.lemmas.Map.Keys.{any_passes_from_place}
 use Rattle.std.proofs.lemmas.Option.{same_Some, slice_get-get_or, slice_get_within, get_or_from_slice_get}
-use Rattle.cc_rules_needs.specs.Flowing.{numbers, each_pair}
+use Rattle.cc_rules.specs.CcRulesNeeds.Flowing.{numbers, each_pair}
 
 -- ---- elements by their places
 

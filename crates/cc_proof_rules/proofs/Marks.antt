@@ -2,17 +2,17 @@
 use Rattle.std.proofs.Common.{◌≡◌, inl, inr, ℕ, Bool, true, not, List, [], ◌∷◌, ◌++◌, Option, Some, None, refl, ap, sym, ◌∙◌, subst, slice_get, append_assoc}
 use Rattle.std.specs.Prelude.{is_some, option_map, option_and_then}
 use Rattle.std.proofs.lemmas.Option.{same_Some}
-use Rattle.cc_cells.specs.Cells.{scalar_in}
-use Rattle.cc_eval.specs.Context.{Context, local_type}
-use Rattle.cc_eval.specs.declared.action.Action.TheVariants.{Read, Choose}
-use Rattle.cc_eval.specs.declared.action.Action.{Action}
-use Rattle.cc_eval.specs.declared.action.Manner.{Manner}
-use Rattle.cc_eval.specs.declared.mark.Mark.TheVariants.{Gave, Chose}
-use Rattle.cc_eval.specs.declared.mark.Mark.{Mark}
-use Rattle.cc_eval.specs.Marks.{AnswerSteps, Works}
-use Rattle.cc_eval.specs.Progress.{Get}
-use Rattle.cc_places.specs.Abstract.{HasValue}
-use Rattle.cc_places.specs.declared.abs.Abs.{Abs}
+use Rattle.cc_state_values_sound.specs.CcCells.Cells.{scalar_in}
+use Rattle.cc_state_values_sound.specs.CcEval.Context.{Context, local_type}
+use Rattle.cc_state_values_sound.specs.CcEval.declared.action.Action.TheVariants.{Read, Choose}
+use Rattle.cc_state_values_sound.specs.CcEval.declared.action.Action.{Action}
+use Rattle.cc_state_values_sound.specs.CcEval.declared.action.Manner.{Manner}
+use Rattle.cc_state_values_sound.specs.CcEval.declared.mark.Mark.TheVariants.{Gave, Chose}
+use Rattle.cc_state_values_sound.specs.CcEval.declared.mark.Mark.{Mark}
+use Rattle.cc_state_values_sound.specs.CcEval.Marks.{AnswerSteps, Works}
+use Rattle.cc_state_values_sound.specs.CcEval.Progress.{Get}
+use Rattle.cc_state_values_sound.specs.CcPlaces.Abstract.{HasValue}
+use Rattle.cc_state_values_sound.specs.CcPlaces.declared.abs.Abs.{Abs}
 use Rattle.cc_program.specs.declared.func.Func.{Func}
 use Rattle.cc_program.specs.declared.program.Program.{Program}
 use Rattle.cc_program.specs.declared.value.Cell.TheVariants as cell
@@ -24,26 +24,26 @@ use Rattle.cc_proof_covers.specs.Operands.{IsOperandStep}
 use Rattle.cc_proof_covers.specs.Rules.{IsHere}
 use Rattle.cc_proof_rules.proofs.Arrivals.{one_function}
 use Rattle.cc_state.specs.View.{IsFunctionAt, view}
-use Rattle.cc_state_facts.specs.declared.facts.Facts.{Facts}
-use Rattle.cc_state_facts.specs.declared.facts.PointFact.{PointFact}
-use Rattle.cc_state_facts.specs.Facts.{local_at, local_of}
-use Rattle.cc_state_keys.specs.Tracked.{register_number}
-use Rattle.cc_state_operators.specs.Domains.{Domain}
-use Rattle.cc_state_reads.specs.Reads.{registers_at}
+use Rattle.cc_rules.specs.CcStateFacts.declared.facts.Facts.{Facts}
+use Rattle.cc_rules.specs.CcStateFacts.declared.facts.PointFact.{PointFact}
+use Rattle.cc_rules.specs.CcStateFacts.Facts.{local_at, local_of}
+use Rattle.cc_rules.specs.CcStateKeys.Tracked.{register_number}
+use Rattle.cc_state_values_sound.specs.CcStateOperators.Domains.{Domain}
+use Rattle.cc_rules.specs.CcStateReads.Reads.{registers_at}
 use Rattle.cc_state_values_sound.proofs.Choices.{GivesAll}
 use Rattle.cc_state_values_sound.specs.Steps.{own_cell}
 use Rattle.cc_state_values_sound.specs.Typed.{IsTypedAnswer}
-use Rattle.cc_states.proofs.StateLemmas.{local_in}
-use Rattle.cc_states.specs.Answers.{IsActivation}
-use Rattle.cc_states.specs.States.{context_in}
-use Rattle.cc_states.specs.Typed.{MayHave, HasType, cell_type}
-use Rattle.cc_steps.specs.State.{Active, Memory}
-use Rattle.cc_syntax.proofs.Prefixes.{both_true}
-use Rattle.cc_syntax.specs.Expressions.{of_one}
-use Rattle.cc_syntax.specs.Initial.{place_at}
-use Rattle.cc_syntax.specs.Registers.{is_addressed, may_be_register, is_register}
-use Rattle.cc_syntax.specs.Types.{Named}
-use Rattle.cc_syntax.specs.Values.{ValueType, object_place, read_from, scalar_value}
+use Rattle.cc_state_values_sound.proofs.CcStates.StateLemmas.{local_in}
+use Rattle.cc_state_values_sound.specs.CcStates.Answers.{IsActivation}
+use Rattle.cc_state_values_sound.specs.CcStates.States.{context_in}
+use Rattle.cc_state_values_sound.specs.CcStates.Typed.{MayHave, HasType, cell_type}
+use Rattle.cc_state_values_sound.specs.CcSteps.State.{Active, Memory}
+use Rattle.cc_state_values_sound.proofs.CcSyntax.Prefixes.{both_true}
+use Rattle.cc_state_values_sound.specs.CcSyntax.Expressions.{of_one}
+use Rattle.cc_state_values_sound.specs.CcSyntax.Initial.{place_at}
+use Rattle.cc_state_values_sound.specs.CcSyntax.Registers.{is_addressed, may_be_register, is_register}
+use Rattle.cc_state_values_sound.specs.CcSyntax.Types.{Named}
+use Rattle.cc_state_values_sound.specs.CcSyntax.Values.{ValueType, object_place, read_from, scalar_value}
 
 -- ---- a register is a scalar
 

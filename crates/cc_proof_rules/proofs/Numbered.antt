@@ -6,13 +6,13 @@ use Rattle.cc_program.specs.declared.func.Func.{Func}
 use Rattle.cc_program.specs.declared.object.Object.{Object}
 use Rattle.cc_program.specs.declared.program.Program.{Program}
 use Rattle.cc_proof_rules.proofs.Positions.{IsIn, number_at, number_there, position_at, position_there, same_key, is_itself, made_there, made_of, get_taken}
-use Rattle.cc_state_facts.specs.declared.facts.Key.{Key}
-use Rattle.cc_state_keys.specs.Addressed.{taken_keys}
-use Rattle.cc_state_keys.specs.Keys.{is_key, keys_of, key_number}
-use Rattle.cc_state_keys.specs.Tracked.{numbers, registers, register_number, most_tracked, may_be_tracked, tracked, tracked_number}
-use Rattle.cc_syntax.specs.Registers.{is_register, may_be_register, is_addressed}
-use Rattle.cc_syntax.specs.Types.{Named}
-use Rattle.cc_syntax.specs.Values.{scalar_value}
+use Rattle.cc_rules.specs.CcStateFacts.declared.facts.Key.{Key}
+use Rattle.cc_rules.specs.CcStateKeys.Addressed.{taken_keys}
+use Rattle.cc_rules.specs.CcStateKeys.Keys.{is_key, keys_of, key_number}
+use Rattle.cc_rules.specs.CcStateKeys.Tracked.{numbers, registers, register_number, most_tracked, may_be_tracked, tracked, tracked_number}
+use Rattle.cc_state_values_sound.specs.CcSyntax.Registers.{is_register, may_be_register, is_addressed}
+use Rattle.cc_state_values_sound.specs.CcSyntax.Types.{Named}
+use Rattle.cc_state_values_sound.specs.CcSyntax.Values.{scalar_value}
 
 pub first_true : (a b : Bool) → (a && b) ≡ true → a ≡ true
 first_true true b h = refl

@@ -1,21 +1,21 @@
 -- Operands of the statement at a point ask for reads of registers and branch steps alone, and give values of each of their abstract values.
 use Rattle.std.proofs.Common.{◌≡◌, ◌<◌, ◌^◌, ℕ, true, List, [], ◌∷◌, Option, Some, None, refl, ap, sym, ◌∙◌, subst, slice_get}
 use Rattle.std.proofs.lemmas.Option.{same_Some}
-use Rattle.cc_control.specs.declared.phase.Phase.{Phase}
-use Rattle.cc_eval.proofs.Links.{pure_linked}
-use Rattle.cc_eval.specs.Context.{Context}
-use Rattle.cc_eval.specs.declared.mark.Mark.{Mark}
-use Rattle.cc_eval.specs.Eval.{meaning}
-use Rattle.cc_eval.specs.Marks.{AnswerSteps, Works}
-use Rattle.cc_eval.specs.Progress.{Get, Known}
-use Rattle.cc_flow.specs.declared.types.Point.{Point}
-use Rattle.cc_flow.specs.Points.{count_of, flow_of}
-use Rattle.cc_flow_sound.proofs.Numbered.{at_point}
-use Rattle.cc_flow_sound.proofs.Places.{end_at}
-use Rattle.cc_flow_sound.proofs.Reached.{active_statement}
-use Rattle.cc_flow_sound.specs.Sites.{base_of}
-use Rattle.cc_flow_sound.specs.Statements.{statement_at}
-use Rattle.cc_places.specs.declared.abs.Abs.{Abs}
+use Rattle.cc_state_values_sound.specs.CcControl.declared.phase.Phase.{Phase}
+use Rattle.cc_state_values_sound.proofs.CcEval.Links.{pure_linked}
+use Rattle.cc_state_values_sound.specs.CcEval.Context.{Context}
+use Rattle.cc_state_values_sound.specs.CcEval.declared.mark.Mark.{Mark}
+use Rattle.cc_state_values_sound.specs.CcEval.Eval.{meaning}
+use Rattle.cc_state_values_sound.specs.CcEval.Marks.{AnswerSteps, Works}
+use Rattle.cc_state_values_sound.specs.CcEval.Progress.{Get, Known}
+use Rattle.cc_rules.specs.CcFlow.declared.types.Point.{Point}
+use Rattle.cc_rules.specs.CcFlow.Points.{count_of, flow_of}
+use Rattle.cc_rules.proofs.CcFlowSound.Numbered.{at_point}
+use Rattle.cc_rules.proofs.CcFlowSound.Places.{end_at}
+use Rattle.cc_rules.proofs.CcFlowSound.Reached.{active_statement}
+use Rattle.cc_rules.specs.CcFlowSound.Sites.{base_of}
+use Rattle.cc_rules.specs.CcFlowSound.Statements.{statement_at}
+use Rattle.cc_state_values_sound.specs.CcPlaces.declared.abs.Abs.{Abs}
 use Rattle.cc_program.specs.declared.expr.Expr.{Expr}
 use Rattle.cc_program.specs.declared.func.Func.{Func}
 use Rattle.cc_program.specs.declared.program.Program.{Program}
@@ -30,22 +30,22 @@ use Rattle.cc_proof_forms.specs.Sets.{Good}
 use Rattle.cc_proof_rules.proofs.Functions.{exit_empty}
 use Rattle.cc_proof_rules.proofs.Marks.{IsQuiet, opened, typed_answers}
 use Rattle.cc_proof_rules.specs.Operands.{Holds}
-use Rattle.cc_rules_flows.specs.Nexts.{IsPoint}
+use Rattle.cc_rules.specs.CcRulesFlows.Nexts.{IsPoint}
 use Rattle.cc_state.specs.View.{IsFunctionAt, view}
-use Rattle.cc_state_facts.specs.declared.facts.Facts.{Facts}
-use Rattle.cc_state_operators.specs.Domains.{Domain}
-use Rattle.cc_state_reads.specs.Reads.{registers_at}
-use Rattle.cc_state_values.specs.Values.{IsVal}
+use Rattle.cc_rules.specs.CcStateFacts.declared.facts.Facts.{Facts}
+use Rattle.cc_state_values_sound.specs.CcStateOperators.Domains.{Domain}
+use Rattle.cc_rules.specs.CcStateReads.Reads.{registers_at}
+use Rattle.cc_state_values_sound.specs.CcStateValues.Values.{IsVal}
 use Rattle.cc_state_values_sound.proofs.Choices.{GivesAll}
 use Rattle.cc_state_values_sound.proofs.InStates.{value_in_states}
-use Rattle.cc_states.proofs.AddressLemmas.{expression_takes}
-use Rattle.cc_states.specs.Answers.{TakesAddressesOf}
-use Rattle.cc_states.specs.Inside.{AreInside}
-use Rattle.cc_states.specs.States.{worked_at, context_in}
-use Rattle.cc_steps.specs.State.{Active, Memory}
-use Rattle.cc_steps.specs.Step.{worked}
-use Rattle.cc_syntax.specs.Effects.{Registers, no_one, effects_of}
-use Rattle.cc_syntax.specs.Normal.{IsNormal}
+use Rattle.cc_state_values_sound.proofs.CcStates.AddressLemmas.{expression_takes}
+use Rattle.cc_state_values_sound.specs.CcStates.Answers.{TakesAddressesOf}
+use Rattle.cc_state_values_sound.specs.CcStates.Inside.{AreInside}
+use Rattle.cc_state_values_sound.specs.CcStates.States.{worked_at, context_in}
+use Rattle.cc_state_values_sound.specs.CcSteps.State.{Active, Memory}
+use Rattle.cc_state_values_sound.specs.CcSteps.Step.{worked}
+use Rattle.cc_state_values_sound.specs.CcSyntax.Effects.{Registers, no_one, effects_of}
+use Rattle.cc_state_values_sound.specs.CcSyntax.Normal.{IsNormal}
 
 module _ {I : Type 0} (d : Domain I) (all : GivesAll d) (p : Program) (normal : IsNormal p) (few : count_of p < 2 ^ 32) (facts : Facts I) (n : ℕ) (q : Point) (f : Func) (numbered : slice_get (flow_of p).points n ≡ Some q)
     (function : slice_get p.funcs q.func ≡ Some f) where

@@ -2,8 +2,8 @@
 use Rattle.std.proofs.Common.{◌≡◌, ◌+◌, ◌*◌, ℕ, Bool, ◌||◌, List, [], ◌∷◌, length, take, Option, Some, None, slice_get, refl, ap, sym, ◌∙◌, subst}
 use Rattle.std.specs.Prelude.{option_map}
 use Rattle.std.proofs.lemmas.Option.{same_Some}
-use Rattle.cc_cells.specs.Scalars.{zeros_over, member_zeros, structure_zeros, zeros, position}
-use Rattle.cc_eval.specs.Context.{local_type, object_type}
+use Rattle.cc_state_values_sound.specs.CcCells.Scalars.{zeros_over, member_zeros, structure_zeros, zeros, position}
+use Rattle.cc_state_values_sound.specs.CcEval.Context.{local_type, object_type}
 use Rattle.cc_program.specs.Qualifiers.{is_const, is_volatile}
 use Rattle.cc_program.specs.declared.func.Func.{Func}
 use Rattle.cc_program.specs.declared.object.Object.{Object}
@@ -17,14 +17,14 @@ use Rattle.cc_program.specs.declared.value.Part.{Part}
 use Rattle.cc_program.specs.declared.value.Part.TheVariants as part
 use Rattle.cc_program.specs.declared.value.Root.{Root}
 use Rattle.cc_program.specs.declared.value.Root.TheVariants as root
-use Rattle.cc_state_keys.specs.Paths.{LeadsTo}
-use Rattle.cc_states.proofs.ListLemmas.{row_same, member_same, same_struct}
-use Rattle.cc_states.proofs.PathLemmas.{element_step, member_step, element_position, member_position, element_scalar, member_scalar, within, no_path, stepped}
-use Rattle.cc_syntax.proofs.AlikeLemmas.{same_of}
-use Rattle.cc_syntax.specs.Expressions.{of_one}
-use Rattle.cc_syntax.specs.Initial.{step_into, place_at}
-use Rattle.cc_syntax.specs.Types.{Named, IsInOrder}
-use Rattle.cc_syntax.specs.Values.{ValueType, PlaceType, ObjectPlace, object_place, read_from}
+use Rattle.cc_rules.specs.CcStateKeys.Paths.{LeadsTo}
+use Rattle.cc_state_values_sound.proofs.CcStates.ListLemmas.{row_same, member_same, same_struct}
+use Rattle.cc_state_values_sound.proofs.CcStates.PathLemmas.{element_step, member_step, element_position, member_position, element_scalar, member_scalar, within, no_path, stepped}
+use Rattle.cc_state_values_sound.proofs.CcSyntax.AlikeLemmas.{same_of}
+use Rattle.cc_state_values_sound.specs.CcSyntax.Expressions.{of_one}
+use Rattle.cc_state_values_sound.specs.CcSyntax.Initial.{step_into, place_at}
+use Rattle.cc_state_values_sound.specs.CcSyntax.Types.{Named, IsInOrder}
+use Rattle.cc_state_values_sound.specs.CcSyntax.Values.{ValueType, PlaceType, ObjectPlace, object_place, read_from}
 
 module _ (p : Program) (order : IsInOrder p.structures) where
   abbrev structures : List Structure

@@ -3,16 +3,16 @@ use Rattle.std.proofs.Common.{◌≡◌, ℕ, true, false, true≢false, List, [
 use Rattle.std.specs.Prelude.{is_some, option_and_then}
 use Rattle.std.specs.List.{filter}
 use Rattle.std.proofs.lemmas.Option.{same_Some}
-use Rattle.cc_eval.specs.Context.{local_type, reached}
-use Rattle.cc_eval.specs.declared.spots.Spot.{Spot}
-use Rattle.cc_flow.specs.declared.types.Point.{Point}
-use Rattle.cc_flow.specs.Points.{flow_of}
-use Rattle.cc_flow_sound.specs.Statements.{statement_at}
-use Rattle.cc_num.proofs.Conversions.{converted-IsValueOf}
-use Rattle.cc_num.specs.Integers.{IsValueOf, converted}
-use Rattle.cc_places.specs.declared.abs.Abs.{Abs}
-use Rattle.cc_places.specs.declared.abs.Abs.TheVariants as abs
-use Rattle.cc_places.specs.Abstract.{HasValue}
+use Rattle.cc_state_values_sound.specs.CcEval.Context.{local_type, reached}
+use Rattle.cc_state_values_sound.specs.CcEval.declared.spots.Spot.{Spot}
+use Rattle.cc_rules.specs.CcFlow.declared.types.Point.{Point}
+use Rattle.cc_rules.specs.CcFlow.Points.{flow_of}
+use Rattle.cc_rules.specs.CcFlowSound.Statements.{statement_at}
+use Rattle.cc_program.proofs.CcNum.Conversions.{converted-IsValueOf}
+use Rattle.cc_program.specs.CcNum.Integers.{IsValueOf, converted}
+use Rattle.cc_state_values_sound.specs.CcPlaces.declared.abs.Abs.{Abs}
+use Rattle.cc_state_values_sound.specs.CcPlaces.declared.abs.Abs.TheVariants as abs
+use Rattle.cc_state_values_sound.specs.CcPlaces.Abstract.{HasValue}
 use Rattle.cc_program.specs.declared.expr.Place.{Place, out-Place}
 use Rattle.cc_program.specs.declared.func.Func.{Func}
 use Rattle.cc_program.specs.declared.object.Device.{Device}
@@ -36,28 +36,28 @@ use Rattle.cc_proof_rules.proofs.Statements.{known, here_flag, own_point, IsFlow
 use Rattle.cc_proof_rules.specs.Arrivals.{Arrives}
 use Rattle.cc_proof_rules.specs.Operands.{IsLed, LeadsAt}
 use Rattle.cc_rules.specs.Rules.{IsSolution}
-use Rattle.cc_rules_flows.specs.Acts.{Reads, act_of}
-use Rattle.cc_rules_needs.specs.Flowing.{Flowing, of_fact, with_local, with_pair}
+use Rattle.cc_rules.specs.CcRulesFlows.Acts.{Reads, act_of}
+use Rattle.cc_rules.specs.CcRulesNeeds.Flowing.{Flowing, of_fact, with_local, with_pair}
 use Rattle.cc_state.specs.Shape.{HaveShape}
 use Rattle.cc_state.specs.View.{InWhole, view}
-use Rattle.cc_state_facts.specs.declared.facts.Facts.{Facts}
-use Rattle.cc_state_facts.specs.declared.facts.Key.{Key}
-use Rattle.cc_state_facts.specs.declared.facts.PointFact.{PointFact}
-use Rattle.cc_state_facts.specs.Facts.{fact_at, cell_at, cell_of}
-use Rattle.cc_state_keys.specs.Keys.{keys_of, cell_key, is_key, key_number}
-use Rattle.cc_state_keys.specs.Paths.{LeadsTo}
-use Rattle.cc_state_keys.specs.Tracked.{tracked_number}
-use Rattle.cc_state_operators.specs.Domains.{Domain}
-use Rattle.cc_state_reads.specs.Named.{is_among}
-use Rattle.cc_state_reads.specs.Reads.{registers_at, whole_of, tracked_in, device_number, IsOfDevice, IsByKeys, IsRead, OfTracked, OfDevice, OfOther}
+use Rattle.cc_rules.specs.CcStateFacts.declared.facts.Facts.{Facts}
+use Rattle.cc_rules.specs.CcStateFacts.declared.facts.Key.{Key}
+use Rattle.cc_rules.specs.CcStateFacts.declared.facts.PointFact.{PointFact}
+use Rattle.cc_rules.specs.CcStateFacts.Facts.{fact_at, cell_at, cell_of}
+use Rattle.cc_rules.specs.CcStateKeys.Keys.{keys_of, cell_key, is_key, key_number}
+use Rattle.cc_rules.specs.CcStateKeys.Paths.{LeadsTo}
+use Rattle.cc_rules.specs.CcStateKeys.Tracked.{tracked_number}
+use Rattle.cc_state_values_sound.specs.CcStateOperators.Domains.{Domain}
+use Rattle.cc_rules.specs.CcStateReads.Named.{is_among}
+use Rattle.cc_rules.specs.CcStateReads.Reads.{registers_at, whole_of, tracked_in, device_number, IsOfDevice, IsByKeys, IsRead, OfTracked, OfDevice, OfOther}
 use Rattle.cc_state_values_sound.proofs.Choices.{GivesAll, below_gives}
-use Rattle.cc_states.specs.Typed.{is_register_in}
-use Rattle.cc_steps.specs.Step.{cell_position}
-use Rattle.cc_syntax.specs.Expressions.{of_one}
-use Rattle.cc_syntax.specs.Initial.{place_at}
-use Rattle.cc_syntax.specs.Programs.{place_type}
-use Rattle.cc_syntax.specs.Registers.{is_register}
-use Rattle.cc_syntax.specs.Values.{ValueType, PlaceType, read_from}
+use Rattle.cc_state_values_sound.specs.CcStates.Typed.{is_register_in}
+use Rattle.cc_state_values_sound.specs.CcSteps.Step.{cell_position}
+use Rattle.cc_state_values_sound.specs.CcSyntax.Expressions.{of_one}
+use Rattle.cc_state_values_sound.specs.CcSyntax.Initial.{place_at}
+use Rattle.cc_state_values_sound.specs.CcSyntax.Programs.{place_type}
+use Rattle.cc_state_values_sound.specs.CcSyntax.Registers.{is_register}
+use Rattle.cc_state_values_sound.specs.CcSyntax.Values.{ValueType, PlaceType, read_from}
 
 -- a key of the program has a number, so it stands among its keys
 module _ {I : Type 0} (p : Program) (facts : Facts I) where

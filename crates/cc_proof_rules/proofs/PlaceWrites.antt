@@ -3,13 +3,13 @@ use Rattle.std.proofs.Common.{◌≡◌, inl, inr, ℕ, Bool, true, false, List,
 use Rattle.std.specs.Prelude.{option_and_then, if◌then◌else◌}
 use Rattle.std.proofs.lemmas.List.Elements.{All-contains, Contains-append_right}
 use Rattle.std.proofs.lemmas.Option.{same_Some}
-use Rattle.cc_eval.specs.Context.{object_type, reached}
-use Rattle.cc_eval.specs.declared.spots.Spot.{Spot}
-use Rattle.cc_flow.specs.declared.types.Point.{Point}
-use Rattle.cc_flow.specs.Points.{flow_of}
-use Rattle.cc_flow_sound.specs.Statements.{statement_at}
-use Rattle.cc_places.specs.declared.abs.Abs.{Abs}
-use Rattle.cc_places.specs.Abstract.{HasValue}
+use Rattle.cc_state_values_sound.specs.CcEval.Context.{object_type, reached}
+use Rattle.cc_state_values_sound.specs.CcEval.declared.spots.Spot.{Spot}
+use Rattle.cc_rules.specs.CcFlow.declared.types.Point.{Point}
+use Rattle.cc_rules.specs.CcFlow.Points.{flow_of}
+use Rattle.cc_rules.specs.CcFlowSound.Statements.{statement_at}
+use Rattle.cc_state_values_sound.specs.CcPlaces.declared.abs.Abs.{Abs}
+use Rattle.cc_state_values_sound.specs.CcPlaces.Abstract.{HasValue}
 use Rattle.cc_program.specs.declared.expr.Expr.{Expr}
 use Rattle.cc_program.specs.declared.expr.Place.{Place, out-Place}
 use Rattle.cc_program.specs.declared.func.Func.{Func}
@@ -36,34 +36,34 @@ use Rattle.cc_proof_rules.proofs.Statements.{here_flag, own_point, the_act, held
 use Rattle.cc_proof_rules.specs.Arrivals.{Arrives, Keeps}
 use Rattle.cc_proof_rules.specs.Operands.{Holds, IsLed, LeadsAt}
 use Rattle.cc_rules.specs.Rules.{act_at, AreNumbers, AreKeys, writes, IsSolution}
-use Rattle.cc_rules_flows.specs.Acts.{Act, Writes, act_of}
-use Rattle.cc_rules_flows.specs.Nexts.{statement_of}
-use Rattle.cc_rules_needs.specs.Flowing.{Flowing, of_fact, with_cell}
-use Rattle.cc_rules_needs.specs.Needs.{Needs, Has as HasPart}
-use Rattle.cc_rules_needs.specs.declared.needs.Part.{Part as NeedPart}
-use Rattle.cc_rules_needs.specs.declared.needs.Part.TheVariants.{Mark, LevelSet, Values}
-use Rattle.cc_rules_needs.specs.declared.needs.Slot.{Slot}
-use Rattle.cc_rules_needs.specs.declared.needs.Slot.TheVariants.{Whole, HandlerWrites, WriteLevels}
+use Rattle.cc_rules.specs.CcRulesFlows.Acts.{Act, Writes, act_of}
+use Rattle.cc_rules.specs.CcRulesFlows.Nexts.{statement_of}
+use Rattle.cc_rules.specs.CcRulesNeeds.Flowing.{Flowing, of_fact, with_cell}
+use Rattle.cc_rules.specs.CcRulesNeeds.Needs.{Needs, Has as HasPart}
+use Rattle.cc_rules.specs.CcRulesNeeds.declared.needs.Part.{Part as NeedPart}
+use Rattle.cc_rules.specs.CcRulesNeeds.declared.needs.Part.TheVariants.{Mark, LevelSet, Values}
+use Rattle.cc_rules.specs.CcRulesNeeds.declared.needs.Slot.{Slot}
+use Rattle.cc_rules.specs.CcRulesNeeds.declared.needs.Slot.TheVariants.{Whole, HandlerWrites, WriteLevels}
 use Rattle.cc_state.specs.Shape.{HaveShape}
 use Rattle.cc_state.specs.View.{IsLevelIn, Has, InWhole, view}
-use Rattle.cc_state_facts.specs.declared.facts.Facts.{Facts}
-use Rattle.cc_state_facts.specs.declared.facts.Key.{Key}
-use Rattle.cc_state_facts.specs.declared.facts.Key.TheVariants as key
-use Rattle.cc_state_facts.specs.declared.facts.PointFact.{PointFact}
-use Rattle.cc_state_facts.specs.Facts.{fact_at, levels_of}
-use Rattle.cc_state_keys.specs.Keys.{keys_of, cell_key, key_number}
-use Rattle.cc_state_keys.specs.Paths.{LeadsTo}
-use Rattle.cc_state_keys.specs.Tracked.{tracked_number}
-use Rattle.cc_state_operators.specs.Domains.{Domain}
-use Rattle.cc_state_reads.specs.Named.{AreClasses}
-use Rattle.cc_state_reads.specs.Reads.{registers_at, tracked_in}
+use Rattle.cc_rules.specs.CcStateFacts.declared.facts.Facts.{Facts}
+use Rattle.cc_rules.specs.CcStateFacts.declared.facts.Key.{Key}
+use Rattle.cc_rules.specs.CcStateFacts.declared.facts.Key.TheVariants as key
+use Rattle.cc_rules.specs.CcStateFacts.declared.facts.PointFact.{PointFact}
+use Rattle.cc_rules.specs.CcStateFacts.Facts.{fact_at, levels_of}
+use Rattle.cc_rules.specs.CcStateKeys.Keys.{keys_of, cell_key, key_number}
+use Rattle.cc_rules.specs.CcStateKeys.Paths.{LeadsTo}
+use Rattle.cc_rules.specs.CcStateKeys.Tracked.{tracked_number}
+use Rattle.cc_state_values_sound.specs.CcStateOperators.Domains.{Domain}
+use Rattle.cc_rules.specs.CcStateReads.Named.{AreClasses}
+use Rattle.cc_rules.specs.CcStateReads.Reads.{registers_at, tracked_in}
 use Rattle.cc_state_values_sound.proofs.Choices.{GivesAll}
-use Rattle.cc_states.specs.Typed.{is_register_in}
-use Rattle.cc_steps.specs.Step.{cell_position}
-use Rattle.cc_syntax.specs.Programs.{place_type}
-use Rattle.cc_syntax.specs.Registers.{is_register}
-use Rattle.cc_syntax.specs.Types.{IsInOrder}
-use Rattle.cc_syntax.specs.Values.{ValueType, PlaceType, read_from}
+use Rattle.cc_state_values_sound.specs.CcStates.Typed.{is_register_in}
+use Rattle.cc_state_values_sound.specs.CcSteps.Step.{cell_position}
+use Rattle.cc_state_values_sound.specs.CcSyntax.Programs.{place_type}
+use Rattle.cc_state_values_sound.specs.CcSyntax.Registers.{is_register}
+use Rattle.cc_state_values_sound.specs.CcSyntax.Types.{IsInOrder}
+use Rattle.cc_state_values_sound.specs.CcSyntax.Values.{ValueType, PlaceType, read_from}
 
 none_other : {C : Type 0} (j : ℕ) → None ≡ Some j → C
 none_other j e = absurd (cc)

@@ -6,10 +6,10 @@ use Rattle.std.specs.List.{filter}
 use Rattle.std.proofs.lemmas.Bool.{eqb-true, eq-eqb}
 use Rattle.std.proofs.lemmas.List.Elements.{All-contains, All-head, All-tail, Contains-append_left, Contains-append_right}
 use Rattle.std.proofs.lemmas.Option.{same_Some, slice_get_within}
-use Rattle.cc_eval.specs.Context.{object_type}
-use Rattle.cc_flow.specs.declared.types.Point.{Point}
-use Rattle.cc_flow.specs.Points.{flow_of}
-use Rattle.cc_flow_sound.specs.Moves.{entry}
+use Rattle.cc_state_values_sound.specs.CcEval.Context.{object_type}
+use Rattle.cc_rules.specs.CcFlow.declared.types.Point.{Point}
+use Rattle.cc_rules.specs.CcFlow.Points.{flow_of}
+use Rattle.cc_rules.specs.CcFlowSound.Moves.{entry}
 use Rattle.cc_program.specs.declared.func.Func.{Func}
 use Rattle.cc_program.specs.declared.object.Object.{Object}
 use Rattle.cc_program.specs.declared.program.Program.{Program}
@@ -27,30 +27,30 @@ use Rattle.cc_proof_rules.proofs.Asks.{handler_met, stability_met, for_one, know
 use Rattle.cc_proof_rules.proofs.Numbered.{numbered_register, some_is, is_some_of, IsTrackedScalar, tracked_scalar}
 use Rattle.cc_proof_rules.specs.Arrivals.{flag_in, Arrives}
 use Rattle.cc_rules.specs.Rules.{handlers_from, handlers, NeedsAt, entry_levels, at_handler, interrupted, entering, whole_number, is_written, is_unstable, unstable_cell, unstable, HandlersAsk, IsSolution}
-use Rattle.cc_rules_needs.specs.Flowing.{Flowing, numbers, each_pair}
-use Rattle.cc_rules_needs.specs.Needs.{apart_in, AreValuesBelow, Has as HasPart, HasAll}
-use Rattle.cc_rules_needs.specs.declared.needs.Part.{Part}
-use Rattle.cc_rules_needs.specs.declared.needs.Part.TheVariants.{Mark, LevelSet}
-use Rattle.cc_rules_needs.specs.declared.needs.Slot.{Slot}
-use Rattle.cc_rules_needs.specs.declared.needs.Slot.TheVariants.{ByHandler, Levels, From, Apart}
+use Rattle.cc_rules.specs.CcRulesNeeds.Flowing.{Flowing, numbers, each_pair}
+use Rattle.cc_rules.specs.CcRulesNeeds.Needs.{apart_in, AreValuesBelow, Has as HasPart, HasAll}
+use Rattle.cc_rules.specs.CcRulesNeeds.declared.needs.Part.{Part}
+use Rattle.cc_rules.specs.CcRulesNeeds.declared.needs.Part.TheVariants.{Mark, LevelSet}
+use Rattle.cc_rules.specs.CcRulesNeeds.declared.needs.Slot.{Slot}
+use Rattle.cc_rules.specs.CcRulesNeeds.declared.needs.Slot.TheVariants.{ByHandler, Levels, From, Apart}
 use Rattle.cc_state.specs.View.{Has, IsFunctionAt, view}
-use Rattle.cc_state_facts.specs.declared.facts.Facts.{Facts}
-use Rattle.cc_state_facts.specs.declared.facts.Key.{Key}
-use Rattle.cc_state_facts.specs.declared.facts.Key.TheVariants as key
-use Rattle.cc_state_facts.specs.declared.facts.PointFact.{PointFact}
-use Rattle.cc_state_facts.specs.Facts.{fact_at, cell_at, cell_of, levels_of, has_pair}
-use Rattle.cc_state_facts.specs.Levels.{has_level, only_level, may_enter}
-use Rattle.cc_state_keys.specs.Keys.{key_number, cell_key, key_along}
-use Rattle.cc_state_keys.specs.Paths.{LeadsTo}
-use Rattle.cc_state_keys.specs.Tracked.{registers, register_number, tracked, tracked_number}
-use Rattle.cc_state_operators.specs.Domains.{Domain}
+use Rattle.cc_rules.specs.CcStateFacts.declared.facts.Facts.{Facts}
+use Rattle.cc_rules.specs.CcStateFacts.declared.facts.Key.{Key}
+use Rattle.cc_rules.specs.CcStateFacts.declared.facts.Key.TheVariants as key
+use Rattle.cc_rules.specs.CcStateFacts.declared.facts.PointFact.{PointFact}
+use Rattle.cc_rules.specs.CcStateFacts.Facts.{fact_at, cell_at, cell_of, levels_of, has_pair}
+use Rattle.cc_rules.specs.CcStateFacts.Levels.{has_level, only_level, may_enter}
+use Rattle.cc_rules.specs.CcStateKeys.Keys.{key_number, cell_key, key_along}
+use Rattle.cc_rules.specs.CcStateKeys.Paths.{LeadsTo}
+use Rattle.cc_rules.specs.CcStateKeys.Tracked.{registers, register_number, tracked, tracked_number}
+use Rattle.cc_state_values_sound.specs.CcStateOperators.Domains.{Domain}
 use Rattle.cc_state_values_sound.proofs.Choices.{GivesAll}
-use Rattle.cc_steps.specs.Turn.{level_of}
-use Rattle.cc_syntax.specs.Expressions.{of_one}
-use Rattle.cc_syntax.specs.Initial.{place_at}
-use Rattle.cc_syntax.specs.Operators.{is_handler}
-use Rattle.cc_syntax.specs.Registers.{is_register}
-use Rattle.cc_syntax.specs.Values.{PlaceType, object_place, read_from, scalar_value}
+use Rattle.cc_state_values_sound.specs.CcSteps.Turn.{level_of}
+use Rattle.cc_state_values_sound.specs.CcSyntax.Expressions.{of_one}
+use Rattle.cc_state_values_sound.specs.CcSyntax.Initial.{place_at}
+use Rattle.cc_state_values_sound.specs.CcSyntax.Operators.{is_handler}
+use Rattle.cc_state_values_sound.specs.CcSyntax.Registers.{is_register}
+use Rattle.cc_state_values_sound.specs.CcSyntax.Values.{PlaceType, object_place, read_from, scalar_value}
 
 -- the first three of some things, and the others
 pub first_three : {A : Type 0} (P : A → Type 0) (a b c : A) (rest : List A) → All P (a ∷ b ∷ c ∷ rest) → P a × P b × P c × All P rest

@@ -4,10 +4,10 @@ use Rattle.std.specs.Prelude.{◌==◌, position, if◌then◌else◌}
 use Rattle.std.specs.List.{Contains, filter, position_or_len}
 use Rattle.std.proofs.lemmas.List.Quantifiers.{position-Some}
 use Rattle.std.proofs.lemmas.Option.{same_Some, none-some, slice_get-get_or, slice_get_within, get_or_from_slice_get}
-use Rattle.cc_state_facts.specs.declared.facts.Key.{Key}
-use Rattle.cc_state_facts.specs.declared.facts.Key.TheVariants as key
-use Rattle.cc_state_keys.specs.Keys.{is_key}
-use Rattle.cc_state_keys.specs.Lists.{only_if, made_from, all_from}
+use Rattle.cc_rules.specs.CcStateFacts.declared.facts.Key.{Key}
+use Rattle.cc_rules.specs.CcStateFacts.declared.facts.Key.TheVariants as key
+use Rattle.cc_rules.specs.CcStateKeys.Keys.{is_key}
+use Rattle.cc_rules.specs.CcStateKeys.Lists.{only_if, made_from, all_from}
 
 -- a list has a thing
 abbrev pub IsIn : {A : Type 0} → List A → A → Type 0

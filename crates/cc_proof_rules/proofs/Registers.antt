@@ -6,10 +6,10 @@ use Rattle.std.proofs.lemmas.Bool.{eq-eqb}
 use Rattle.std.proofs.lemmas.Option.{same_Some, slice_get_within}
 use Rattle.cc_program.specs.declared.func.Func.{Func}
 use Rattle.cc_proof_rules.proofs.Arrivals.{register_there}
-use Rattle.cc_state_keys.specs.Lists.{only_if, made_from}
-use Rattle.cc_state_keys.specs.Tracked.{registers, register_number}
-use Rattle.cc_syntax.specs.Registers.{is_register}
-use Rattle.cc_syntax.specs.Types.{Named}
+use Rattle.cc_rules.specs.CcStateKeys.Lists.{only_if, made_from}
+use Rattle.cc_rules.specs.CcStateKeys.Tracked.{registers, register_number}
+use Rattle.cc_state_values_sound.specs.CcSyntax.Registers.{is_register}
+use Rattle.cc_state_values_sound.specs.CcSyntax.Types.{Named}
 
 -- ---- the numbers of things that pass
 

@@ -3,14 +3,14 @@ use Rattle.std.proofs.Common.{◌≡◌, ◌<◌, ◌^◌, ℕ, Bool, true, fals
 use Rattle.std.specs.Prelude.{is_some, option_map, option_and_then}
 use Rattle.std.proofs.lemmas.Bool.{or_left}
 use Rattle.std.proofs.lemmas.Option.{same_Some}
-use Rattle.cc_eval.proofs.Links.{place_type_linked, place_effects_linked}
-use Rattle.cc_eval.specs.Context.{Context, object_type}
-use Rattle.cc_flow.specs.declared.types.Point.{Point}
-use Rattle.cc_flow.specs.Points.{count_of, flow_of}
-use Rattle.cc_places.specs.declared.abs.Abs.{Abs}
-use Rattle.cc_places.specs.declared.abs.Abs.TheVariants as abs
-use Rattle.cc_places.specs.declared.addrs.Addrs.{Addrs}
-use Rattle.cc_places.specs.Kept.{starred_part, member_for}
+use Rattle.cc_state_values_sound.proofs.CcEval.Links.{place_type_linked, place_effects_linked}
+use Rattle.cc_state_values_sound.specs.CcEval.Context.{Context, object_type}
+use Rattle.cc_rules.specs.CcFlow.declared.types.Point.{Point}
+use Rattle.cc_rules.specs.CcFlow.Points.{count_of, flow_of}
+use Rattle.cc_state_values_sound.specs.CcPlaces.declared.abs.Abs.{Abs}
+use Rattle.cc_state_values_sound.specs.CcPlaces.declared.abs.Abs.TheVariants as abs
+use Rattle.cc_state_values_sound.specs.CcPlaces.declared.addrs.Addrs.{Addrs}
+use Rattle.cc_state_values_sound.specs.CcPlaces.Kept.{starred_part, member_for}
 use Rattle.cc_program.specs.declared.expr.Place.{Place as PlaceOf}
 use Rattle.cc_program.specs.declared.func.Func.{Func}
 use Rattle.cc_program.specs.declared.object.Object.{Object}
@@ -34,28 +34,28 @@ use Rattle.cc_proof_rules.proofs.TakenKeys.{untaken}
 use Rattle.cc_proof_rules.specs.Operands.{root_static}
 use Rattle.cc_state.specs.Shape.{object_ctype, is_scalar_type, IsSlot, MayPoint, HoldsPointers, IsSetIn, IsPointFact, HaveShape}
 use Rattle.cc_state.specs.View.{view}
-use Rattle.cc_state_facts.specs.declared.facts.Facts.{Facts}
-use Rattle.cc_state_facts.specs.declared.facts.Key.{Key}
-use Rattle.cc_state_facts.specs.declared.facts.Key.TheVariants as key
-use Rattle.cc_state_facts.specs.declared.facts.PointFact.{PointFact}
-use Rattle.cc_state_facts.specs.Facts.{fact_at, local_at, local_of}
-use Rattle.cc_state_keys.specs.Addressed.{in_place, IsAddressed}
-use Rattle.cc_state_keys.specs.Keys.{cell_key}
-use Rattle.cc_state_keys.specs.Tracked.{tracked_number}
-use Rattle.cc_state_operators.specs.Domains.{Domain}
-use Rattle.cc_state_reads.specs.Reads.{registers_at}
+use Rattle.cc_rules.specs.CcStateFacts.declared.facts.Facts.{Facts}
+use Rattle.cc_rules.specs.CcStateFacts.declared.facts.Key.{Key}
+use Rattle.cc_rules.specs.CcStateFacts.declared.facts.Key.TheVariants as key
+use Rattle.cc_rules.specs.CcStateFacts.declared.facts.PointFact.{PointFact}
+use Rattle.cc_rules.specs.CcStateFacts.Facts.{fact_at, local_at, local_of}
+use Rattle.cc_rules.specs.CcStateKeys.Addressed.{in_place, IsAddressed}
+use Rattle.cc_rules.specs.CcStateKeys.Keys.{cell_key}
+use Rattle.cc_rules.specs.CcStateKeys.Tracked.{tracked_number}
+use Rattle.cc_state_values_sound.specs.CcStateOperators.Domains.{Domain}
+use Rattle.cc_rules.specs.CcStateReads.Reads.{registers_at}
 use Rattle.cc_state_values_sound.proofs.Choices.{GivesAll}
 use Rattle.cc_state_values_sound.specs.Steps.{MayGive}
-use Rattle.cc_states.specs.Answers.{PlaceTakesAddressesOf}
-use Rattle.cc_states.specs.States.{context_in}
-use Rattle.cc_steps.proofs.ScalarPlaces.{scalar_flat}
-use Rattle.cc_steps.specs.State.{Active, Memory}
-use Rattle.cc_syntax.specs.Effects.{Registers, no_one, PlaceEffects, place_effects_of}
-use Rattle.cc_syntax.specs.Expressions.{of_one}
-use Rattle.cc_syntax.specs.Initial.{place_at, names}
-use Rattle.cc_syntax.specs.Normal.{IsNormal}
-use Rattle.cc_syntax.specs.Registers.{is_register}
-use Rattle.cc_syntax.specs.Values.{ValueType, NoValue, Integer, ToObject, ToFunction, PlaceType, object_place, scalar_value}
+use Rattle.cc_state_values_sound.specs.CcStates.Answers.{PlaceTakesAddressesOf}
+use Rattle.cc_state_values_sound.specs.CcStates.States.{context_in}
+use Rattle.cc_state_values_sound.proofs.CcSteps.ScalarPlaces.{scalar_flat}
+use Rattle.cc_state_values_sound.specs.CcSteps.State.{Active, Memory}
+use Rattle.cc_state_values_sound.specs.CcSyntax.Effects.{Registers, no_one, PlaceEffects, place_effects_of}
+use Rattle.cc_state_values_sound.specs.CcSyntax.Expressions.{of_one}
+use Rattle.cc_state_values_sound.specs.CcSyntax.Initial.{place_at, names}
+use Rattle.cc_state_values_sound.specs.CcSyntax.Normal.{IsNormal}
+use Rattle.cc_state_values_sound.specs.CcSyntax.Registers.{is_register}
+use Rattle.cc_state_values_sound.specs.CcSyntax.Values.{ValueType, NoValue, Integer, ToObject, ToFunction, PlaceType, object_place, scalar_value}
 
 -- ---- addresses that may stand in sets
 

@@ -8,24 +8,24 @@ use Rattle.std.proofs.lemmas.Bool.Decides.{Decides-int_eq}
 use Rattle.std.proofs.lemmas.List.Elements.{Contains-append_left, Contains-append_right, Contains-append_cases}
 use Rattle.std.proofs.lemmas.List.Sums.{sum_by-cons}
 use Rattle.std.proofs.lemmas.Option.{same_Some}
-use Rattle.cc_control.specs.Control.{bodies, from_label, is_label, is_default}
-use Rattle.cc_flow.proofs.Tests.{zero_of, some_of, le_of, above_of}
-use Rattle.cc_flow.specs.declared.next.Site.{Site}
-use Rattle.cc_flow.specs.Laws.{start, starts}
-use Rattle.cc_flow.specs.Next.{reached, head, heads, branches, is_zero, may_pass}
-use Rattle.cc_flow.specs.Points.{total_of}
-use Rattle.cc_flow.specs.View.{case_total, total_of_cases}
-use Rattle.cc_flow_sound.proofs.Opened.{total-append, total-bodies}
-use Rattle.cc_flow_sound.proofs.Places.{reached_some}
-use Rattle.cc_flow_sound.proofs.Starts.{first_arm, second_arm, labelled, undefaulted, start_goes, behind_goes}
-use Rattle.cc_flow_sound.specs.Sites.{arm_point, has_default}
+use Rattle.cc_state_values_sound.specs.CcControl.Control.{bodies, from_label, is_label, is_default}
+use Rattle.cc_rules.proofs.CcFlow.Tests.{zero_of, some_of, le_of, above_of}
+use Rattle.cc_rules.specs.CcFlow.declared.next.Site.{Site}
+use Rattle.cc_rules.specs.CcFlow.Laws.{start, starts}
+use Rattle.cc_rules.specs.CcFlow.Next.{reached, head, heads, branches, is_zero, may_pass}
+use Rattle.cc_rules.specs.CcFlow.Points.{total_of}
+use Rattle.cc_rules.specs.CcFlow.View.{case_total, total_of_cases}
+use Rattle.cc_rules.proofs.CcFlowSound.Opened.{total-append, total-bodies}
+use Rattle.cc_rules.proofs.CcFlowSound.Places.{reached_some}
+use Rattle.cc_rules.proofs.CcFlowSound.Starts.{first_arm, second_arm, labelled, undefaulted, start_goes, behind_goes}
+use Rattle.cc_rules.specs.CcFlowSound.Sites.{arm_point, has_default}
 use Rattle.cc_program.specs.declared.stmt.Case.{Case, out-Case}
 use Rattle.cc_program.specs.declared.stmt.Stmt.{Stmt}
 use Rattle.cc_proof_forms.specs.Branches.{case_point, switch_point}
 use Rattle.cc_proof_rules.proofs.Lists.{in_first, in_rest, no_member, first_or_rest}
 use Rattle.cc_proof_rules.specs.Outcomes.{test_of}
-use Rattle.cc_rules_flows.specs.Nexts.{behind_in, side, label_test, all_constants, case_tests, choices, sides}
-use Rattle.cc_rules_flows.specs.Tests.{Test, Is, Equals, Differs}
+use Rattle.cc_rules.specs.CcRulesFlows.Nexts.{behind_in, side, label_test, all_constants, case_tests, choices, sides}
+use Rattle.cc_rules.specs.CcRulesFlows.Tests.{Test, Is, Equals, Differs}
 
 -- ---- the one next point that is not inside
 

@@ -4,10 +4,10 @@ use Rattle.std.specs.Prelude.{option_and_then}
 use Rattle.std.specs.List.{filter}
 use Rattle.std.proofs.lemmas.List.Elements.{Contains-append_left, Contains-append_right}
 use Rattle.std.proofs.lemmas.Option.{same_Some, slice_get_within}
-use Rattle.cc_flow.specs.declared.types.Point.{Point}
-use Rattle.cc_flow.specs.Points.{flow_of}
-use Rattle.cc_places.specs.Abstract.{HasValue}
-use Rattle.cc_places.specs.declared.abs.Abs.{Abs}
+use Rattle.cc_rules.specs.CcFlow.declared.types.Point.{Point}
+use Rattle.cc_rules.specs.CcFlow.Points.{flow_of}
+use Rattle.cc_state_values_sound.specs.CcPlaces.Abstract.{HasValue}
+use Rattle.cc_state_values_sound.specs.CcPlaces.declared.abs.Abs.{Abs}
 use Rattle.cc_program.specs.declared.expr.Expr.{Expr}
 use Rattle.cc_program.specs.declared.func.Func.{Func}
 use Rattle.cc_program.specs.declared.program.Program.{Program}
@@ -21,21 +21,21 @@ use Rattle.cc_proof_rules.proofs.Registers.{register_at, register_is}
 use Rattle.cc_proof_rules.specs.Arrivals.{flag_in, HasFlag, IsKnown, Arrives}
 use Rattle.cc_proof_rules.specs.Outcomes.{IsTestAt, PassesAt, PassesWith}
 use Rattle.cc_rules.specs.Rules.{act_at, IsSolution}
-use Rattle.cc_rules_flows.specs.Acts.{Act}
-use Rattle.cc_rules_flows.specs.Flows.{tests_of, equals, equal_to, IsSide, IsTaken, Side, Taken, Barred, Untaken, AreSides, Flows, OfSets, OfReads, OfWrites, OfTurns, OfSaves, OfSavesAlone, OfRestores, OfTests, OfReturns, OfPasses, OfCalls}
-use Rattle.cc_rules_flows.specs.Nexts.{statement_of}
-use Rattle.cc_rules_flows.specs.Tests.{Test, MayPass, IsLeftAlike, Alike, Unlike, IsLeftBy}
-use Rattle.cc_rules_needs.specs.Flowing.{Flowing, of_fact}
+use Rattle.cc_rules.specs.CcRulesFlows.Acts.{Act}
+use Rattle.cc_rules.specs.CcRulesFlows.Flows.{tests_of, equals, equal_to, IsSide, IsTaken, Side, Taken, Barred, Untaken, AreSides, Flows, OfSets, OfReads, OfWrites, OfTurns, OfSaves, OfSavesAlone, OfRestores, OfTests, OfReturns, OfPasses, OfCalls}
+use Rattle.cc_rules.specs.CcRulesFlows.Nexts.{statement_of}
+use Rattle.cc_rules.specs.CcRulesFlows.Tests.{Test, MayPass, IsLeftAlike, Alike, Unlike, IsLeftBy}
+use Rattle.cc_rules.specs.CcRulesNeeds.Flowing.{Flowing, of_fact}
 use Rattle.cc_state.specs.Shape.{HaveShape, IsPointFact}
 use Rattle.cc_state.specs.View.{view}
-use Rattle.cc_state_facts.specs.declared.facts.Facts.{Facts}
-use Rattle.cc_state_facts.specs.declared.facts.PointFact.{PointFact}
-use Rattle.cc_state_facts.specs.Facts.{fact_at, local_of, has_pair}
-use Rattle.cc_state_keys.specs.Tracked.{registers, register_number}
-use Rattle.cc_state_operators.specs.Domains.{Domain}
-use Rattle.cc_state_reads.specs.Reads.{registers_at}
+use Rattle.cc_rules.specs.CcStateFacts.declared.facts.Facts.{Facts}
+use Rattle.cc_rules.specs.CcStateFacts.declared.facts.PointFact.{PointFact}
+use Rattle.cc_rules.specs.CcStateFacts.Facts.{fact_at, local_of, has_pair}
+use Rattle.cc_rules.specs.CcStateKeys.Tracked.{registers, register_number}
+use Rattle.cc_state_values_sound.specs.CcStateOperators.Domains.{Domain}
+use Rattle.cc_rules.specs.CcStateReads.Reads.{registers_at}
 use Rattle.cc_state_values_sound.proofs.Choices.{GivesAll}
-use Rattle.cc_syntax.specs.Registers.{is_register}
+use Rattle.cc_state_values_sound.specs.CcSyntax.Registers.{is_register}
 
 -- ---- what a filter keeps
 

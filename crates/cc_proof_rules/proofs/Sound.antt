@@ -3,15 +3,15 @@ use Rattle.std.proofs.Common.{◌≡◌, inl, inr, ℕ, zero, suc, Bool, true, f
 use Rattle.std.specs.Prelude.{is_some}
 use Rattle.std.specs.List.{flat_map, list_all}
 use Rattle.std.proofs.lemmas.Option.{same_Some}
-use Rattle.cc_control.specs.Control.{bodies}
-use Rattle.cc_eval.proofs.Links.{type_linked, place_type_linked}
-use Rattle.cc_eval.proofs.Opened.{meaning_at}
-use Rattle.cc_eval.specs.Context.{Context}
-use Rattle.cc_eval.specs.Eval.{Meaning, meaning, designation, opened}
-use Rattle.cc_flow_sound.proofs.Normal.{normal_body}
-use Rattle.cc_flow_sound.proofs.Opened.{normal, all_normal, NormalAt, normal_level, normal_join, normal_head, normal_lists}
-use Rattle.cc_flow_sound.specs.Statements.{inside, statement_at}
-use Rattle.cc_num.specs.declared.target.Target.{Target}
+use Rattle.cc_state_values_sound.specs.CcControl.Control.{bodies}
+use Rattle.cc_state_values_sound.proofs.CcEval.Links.{type_linked, place_type_linked}
+use Rattle.cc_state_values_sound.proofs.CcEval.Opened.{meaning_at}
+use Rattle.cc_state_values_sound.specs.CcEval.Context.{Context}
+use Rattle.cc_state_values_sound.specs.CcEval.Eval.{Meaning, meaning, designation, opened}
+use Rattle.cc_rules.proofs.CcFlowSound.Normal.{normal_body}
+use Rattle.cc_rules.proofs.CcFlowSound.Opened.{normal, all_normal, NormalAt, normal_level, normal_join, normal_head, normal_lists}
+use Rattle.cc_rules.specs.CcFlowSound.Statements.{inside, statement_at}
+use Rattle.cc_program.specs.CcNum.declared.target.Target.{Target}
 use Rattle.cc_program.specs.declared.expr.Expr.TheOpen as one
 use Rattle.cc_program.specs.declared.expr.Expr.{Expr, out-Expr}
 use Rattle.cc_program.specs.declared.expr.Intr.TheVariants as intr
@@ -22,20 +22,20 @@ use Rattle.cc_program.specs.declared.program.Program.{Program}
 use Rattle.cc_program.specs.declared.stmt.Case.{Case, out-Case, fold_out-Case}
 use Rattle.cc_program.specs.declared.stmt.Stmt.TheOpen as is
 use Rattle.cc_program.specs.declared.stmt.Stmt.{Stmt, out-Stmt}
-use Rattle.cc_states.proofs.ControlLemmas.{statement_sound}
-use Rattle.cc_states.proofs.SoundLemmas.{typed, labelled, parts}
-use Rattle.cc_states.proofs.TurnLemmas.{function_sound}
-use Rattle.cc_steps.specs.Step.{gives_nothing}
-use Rattle.cc_syntax.proofs.NameRules.{sound-typed}
-use Rattle.cc_syntax.proofs.Prefixes.{both_true}
-use Rattle.cc_syntax.specs.Expressions.{of_one, of_two}
-use Rattle.cc_syntax.specs.Normal.{IsNormal}
-use Rattle.cc_num.specs.declared.int_type.IntType.TheVariants as int
-use Rattle.cc_states.proofs.Options.{when_is}
-use Rattle.cc_syntax.specs.Operators.{assignment_type, intrinsic_type, is_of}
-use Rattle.cc_syntax.specs.Programs.{type_of, place_type, is_sound_stmt, sound_step, is_typed, is_optional_condition}
-use Rattle.cc_syntax.specs.Statements.{SoundWhere, Labelled, is_condition, sound_case, labels_fit, has_label, are_apart}
-use Rattle.cc_syntax.specs.Values.{ValueType, NoValue, Integer, ToObject, ToFunction, PlaceType, written_to, read_from}
+use Rattle.cc_state_values_sound.proofs.CcStates.ControlLemmas.{statement_sound}
+use Rattle.cc_state_values_sound.proofs.CcStates.SoundLemmas.{typed, labelled, parts}
+use Rattle.cc_state_values_sound.proofs.CcStates.TurnLemmas.{function_sound}
+use Rattle.cc_state_values_sound.specs.CcSteps.Step.{gives_nothing}
+use Rattle.cc_state_values_sound.proofs.CcSyntax.NameRules.{sound-typed}
+use Rattle.cc_state_values_sound.proofs.CcSyntax.Prefixes.{both_true}
+use Rattle.cc_state_values_sound.specs.CcSyntax.Expressions.{of_one, of_two}
+use Rattle.cc_state_values_sound.specs.CcSyntax.Normal.{IsNormal}
+use Rattle.cc_program.specs.CcNum.declared.int_type.IntType.TheVariants as int
+use Rattle.cc_state_values_sound.proofs.CcStates.Options.{when_is}
+use Rattle.cc_state_values_sound.specs.CcSyntax.Operators.{assignment_type, intrinsic_type, is_of}
+use Rattle.cc_state_values_sound.specs.CcSyntax.Programs.{type_of, place_type, is_sound_stmt, sound_step, is_typed, is_optional_condition}
+use Rattle.cc_state_values_sound.specs.CcSyntax.Statements.{SoundWhere, Labelled, is_condition, sound_case, labels_fit, has_label, are_apart}
+use Rattle.cc_state_values_sound.specs.CcSyntax.Values.{ValueType, NoValue, Integer, ToObject, ToFunction, PlaceType, written_to, read_from}
 
 -- ---- normal ones
 

@@ -3,13 +3,13 @@ use Rattle.std.proofs.Common.{◌≡◌, inl, inr, ℕ, Bool, true, false, not, 
 use Rattle.std.specs.Prelude.{if◌then◌else◌}
 use Rattle.std.proofs.lemmas.List.Elements.{All-contains}
 use Rattle.std.proofs.lemmas.Option.{same_Some}
-use Rattle.cc_flow.specs.declared.types.Point.{Point}
-use Rattle.cc_flow.specs.Points.{flow_of}
-use Rattle.cc_flow_sound.specs.Statements.{statement_at}
-use Rattle.cc_num.specs.Results.{one_if}
-use Rattle.cc_places.specs.declared.abs.Abs.{Abs}
-use Rattle.cc_places.specs.declared.abs.Abs.TheVariants as abs
-use Rattle.cc_places.specs.Abstract.{HasValue}
+use Rattle.cc_rules.specs.CcFlow.declared.types.Point.{Point}
+use Rattle.cc_rules.specs.CcFlow.Points.{flow_of}
+use Rattle.cc_rules.specs.CcFlowSound.Statements.{statement_at}
+use Rattle.cc_program.specs.CcNum.Results.{one_if}
+use Rattle.cc_state_values_sound.specs.CcPlaces.declared.abs.Abs.{Abs}
+use Rattle.cc_state_values_sound.specs.CcPlaces.declared.abs.Abs.TheVariants as abs
+use Rattle.cc_state_values_sound.specs.CcPlaces.Abstract.{HasValue}
 use Rattle.cc_program.specs.declared.expr.Expr.{Expr}
 use Rattle.cc_program.specs.declared.func.Func.{Func}
 use Rattle.cc_program.specs.declared.program.Program.{Program}
@@ -26,26 +26,26 @@ use Rattle.cc_proof_rules.proofs.Asks.{Comes, known_point, flow_met, return_met,
 use Rattle.cc_proof_rules.specs.Arrivals.{flag_in, HasFlag, IsKnown, IsPairIn, Arrives, Keeps, KeepsFlags}
 use Rattle.cc_proof_rules.specs.Operands.{Holds}
 use Rattle.cc_rules.specs.Rules.{act_at, IsSolution}
-use Rattle.cc_rules_flows.specs.Acts.{Act, Sets, Saves, Turns, Restores, Returns, Passes, act_of}
-use Rattle.cc_rules_flows.specs.Flows.{FlagValue}
-use Rattle.cc_rules_flows.specs.Nexts.{IsPoint, statement_of}
-use Rattle.cc_rules_needs.specs.Flowing.{Flowing, of_fact, with_local, with_flags}
-use Rattle.cc_rules_needs.specs.Needs.{Needs, Has as HasPart, HasAll}
-use Rattle.cc_rules_needs.specs.declared.needs.Part.{Part}
-use Rattle.cc_rules_needs.specs.declared.needs.Part.TheVariants.{Values}
-use Rattle.cc_rules_needs.specs.declared.needs.Slot.{Slot}
-use Rattle.cc_rules_needs.specs.declared.needs.Slot.TheVariants.{Result}
+use Rattle.cc_rules.specs.CcRulesFlows.Acts.{Act, Sets, Saves, Turns, Restores, Returns, Passes, act_of}
+use Rattle.cc_rules.specs.CcRulesFlows.Flows.{FlagValue}
+use Rattle.cc_rules.specs.CcRulesFlows.Nexts.{IsPoint, statement_of}
+use Rattle.cc_rules.specs.CcRulesNeeds.Flowing.{Flowing, of_fact, with_local, with_flags}
+use Rattle.cc_rules.specs.CcRulesNeeds.Needs.{Needs, Has as HasPart, HasAll}
+use Rattle.cc_rules.specs.CcRulesNeeds.declared.needs.Part.{Part}
+use Rattle.cc_rules.specs.CcRulesNeeds.declared.needs.Part.TheVariants.{Values}
+use Rattle.cc_rules.specs.CcRulesNeeds.declared.needs.Slot.{Slot}
+use Rattle.cc_rules.specs.CcRulesNeeds.declared.needs.Slot.TheVariants.{Result}
 use Rattle.cc_state.specs.Shape.{HaveShape}
 use Rattle.cc_state.specs.View.{view}
-use Rattle.cc_state_facts.specs.declared.facts.Facts.{Facts}
-use Rattle.cc_state_facts.specs.declared.facts.PointFact.{PointFact}
-use Rattle.cc_state_facts.specs.Facts.{fact_at}
-use Rattle.cc_state_keys.specs.Tracked.{register_number}
-use Rattle.cc_state_operators.specs.Domains.{Domain, MayBe}
-use Rattle.cc_state_reads.specs.Reads.{registers_at}
-use Rattle.cc_state_values.specs.Values.{IsVal}
+use Rattle.cc_rules.specs.CcStateFacts.declared.facts.Facts.{Facts}
+use Rattle.cc_rules.specs.CcStateFacts.declared.facts.PointFact.{PointFact}
+use Rattle.cc_rules.specs.CcStateFacts.Facts.{fact_at}
+use Rattle.cc_rules.specs.CcStateKeys.Tracked.{register_number}
+use Rattle.cc_state_values_sound.specs.CcStateOperators.Domains.{Domain, MayBe}
+use Rattle.cc_rules.specs.CcStateReads.Reads.{registers_at}
+use Rattle.cc_state_values_sound.specs.CcStateValues.Values.{IsVal}
 use Rattle.cc_state_values_sound.proofs.Choices.{GivesAll}
-use Rattle.cc_values.specs.Values.{is_true, truth}
+use Rattle.cc_state_values_sound.specs.CcValues.Values.{is_true, truth}
 
 -- a value that is known to be one of the two truths
 truth_is : (w : Value) (b : Bool) → truth (Some w) ≡ Some b → is_true w ≡ b

@@ -6,31 +6,31 @@ use Rattle.std.proofs.lemmas.Bool.Decides.{Decides-int_eq}
 use Rattle.std.proofs.lemmas.Int.{ints}
 use Rattle.std.proofs.lemmas.List.Elements.{Contains-append_right}
 use Rattle.std.proofs.lemmas.Option.{same_Some}
-use Rattle.cc_eval.proofs.Links.{register_linked}
-use Rattle.cc_eval.proofs.Opened.{meaning_at}
-use Rattle.cc_eval.proofs.Works.{works_known, works_trap, works_ask, works_bind}
-use Rattle.cc_eval.specs.Context.{Context, cell_at}
-use Rattle.cc_eval.specs.declared.action.Action.{Action}
-use Rattle.cc_eval.specs.declared.action.Action.TheVariants as action
-use Rattle.cc_eval.specs.declared.action.Manner.{Manner}
-use Rattle.cc_eval.specs.declared.mark.Mark.{Mark}
-use Rattle.cc_eval.specs.declared.spots.Spot.{Spot}
-use Rattle.cc_eval.specs.declared.spots.Spot.TheVariants as spot
-use Rattle.cc_eval.specs.Eval.{Meaning, meaning, designation, opened, manner, fetched, both_values, from_two}
-use Rattle.cc_eval.specs.Marks.{Works}
-use Rattle.cc_eval.specs.Progress.{Get, known, ask, bind, needs, given}
-use Rattle.cc_lattice.proofs.IntValues.{passing as comparison_is}
-use Rattle.cc_lattice.specs.Domains.{is_comparison, passes}
-use Rattle.cc_num.proofs.Conversions.{converted-same}
-use Rattle.cc_num.specs.declared.int_type.IntType.{IntType}
-use Rattle.cc_num.specs.declared.op.BinOp.{BinOp}
-use Rattle.cc_num.specs.declared.op.BinOp.TheVariants as op
-use Rattle.cc_num.specs.declared.target.Target.{Target}
-use Rattle.cc_num.specs.Integers.{IsValueOf, converted}
-use Rattle.cc_num.specs.Results.{one_if, result_of}
-use Rattle.cc_places.specs.Abstract.{HasValue}
-use Rattle.cc_places.specs.declared.abs.Abs.{Abs}
-use Rattle.cc_places.specs.declared.abs.Abs.TheVariants as abs
+use Rattle.cc_state_values_sound.proofs.CcEval.Links.{register_linked}
+use Rattle.cc_state_values_sound.proofs.CcEval.Opened.{meaning_at}
+use Rattle.cc_state_values_sound.proofs.CcEval.Works.{works_known, works_trap, works_ask, works_bind}
+use Rattle.cc_state_values_sound.specs.CcEval.Context.{Context, cell_at}
+use Rattle.cc_state_values_sound.specs.CcEval.declared.action.Action.{Action}
+use Rattle.cc_state_values_sound.specs.CcEval.declared.action.Action.TheVariants as action
+use Rattle.cc_state_values_sound.specs.CcEval.declared.action.Manner.{Manner}
+use Rattle.cc_state_values_sound.specs.CcEval.declared.mark.Mark.{Mark}
+use Rattle.cc_state_values_sound.specs.CcEval.declared.spots.Spot.{Spot}
+use Rattle.cc_state_values_sound.specs.CcEval.declared.spots.Spot.TheVariants as spot
+use Rattle.cc_state_values_sound.specs.CcEval.Eval.{Meaning, meaning, designation, opened, manner, fetched, both_values, from_two}
+use Rattle.cc_state_values_sound.specs.CcEval.Marks.{Works}
+use Rattle.cc_state_values_sound.specs.CcEval.Progress.{Get, known, ask, bind, needs, given}
+use Rattle.cc_state_values_sound.proofs.CcLattice.IntValues.{passing as comparison_is}
+use Rattle.cc_state_values_sound.specs.CcLattice.Domains.{is_comparison, passes}
+use Rattle.cc_program.proofs.CcNum.Conversions.{converted-same}
+use Rattle.cc_program.specs.CcNum.declared.int_type.IntType.{IntType}
+use Rattle.cc_program.specs.CcNum.declared.op.BinOp.{BinOp}
+use Rattle.cc_program.specs.CcNum.declared.op.BinOp.TheVariants as op
+use Rattle.cc_program.specs.CcNum.declared.target.Target.{Target}
+use Rattle.cc_program.specs.CcNum.Integers.{IsValueOf, converted}
+use Rattle.cc_program.specs.CcNum.Results.{one_if, result_of}
+use Rattle.cc_state_values_sound.specs.CcPlaces.Abstract.{HasValue}
+use Rattle.cc_state_values_sound.specs.CcPlaces.declared.abs.Abs.{Abs}
+use Rattle.cc_state_values_sound.specs.CcPlaces.declared.abs.Abs.TheVariants as abs
 use Rattle.cc_program.specs.declared.expr.Expr.{Expr, out-Expr}
 use Rattle.cc_program.specs.declared.expr.Expr.TheOpen as one
 use Rattle.cc_program.specs.declared.expr.Place.{Place as PlaceOf}
@@ -39,14 +39,14 @@ use Rattle.cc_program.specs.declared.value.Root.TheVariants as root
 use Rattle.cc_program.specs.declared.value.Value.{Value}
 use Rattle.cc_program.specs.declared.value.Value.TheVariants.{Int, Place}
 use Rattle.cc_proof_covers.proofs.Pure.{register_leads}
-use Rattle.cc_rules_flows.specs.Tests.{Test, Passes, turned, passing, with_member, IsCutAs, Cut, Uncut, IsCutBy, ByNone, ByFirst, IsCut, ByComparison, ByLabel, ByLabels, IsLeft, OfMembers, OfRange, OfOther, OfAddresses}
-use Rattle.cc_state_operators.specs.Domains.{Domain}
-use Rattle.cc_state_values.specs.Values.{IsVal}
+use Rattle.cc_rules.specs.CcRulesFlows.Tests.{Test, Passes, turned, passing, with_member, IsCutAs, Cut, Uncut, IsCutBy, ByNone, ByFirst, IsCut, ByComparison, ByLabel, ByLabels, IsLeft, OfMembers, OfRange, OfOther, OfAddresses}
+use Rattle.cc_state_values_sound.specs.CcStateOperators.Domains.{Domain}
+use Rattle.cc_state_values_sound.specs.CcStateValues.Values.{IsVal}
 use Rattle.cc_state_values_sound.specs.Steps.{MayGive, own_cell}
-use Rattle.cc_syntax.specs.Effects.{Registers, also, place_effects_of}
-use Rattle.cc_syntax.specs.Expressions.{of_two}
-use Rattle.cc_syntax.specs.Values.{PlaceType}
-use Rattle.cc_values.specs.Values.{takes_both, binary_result, binary, conversion, is_true}
+use Rattle.cc_state_values_sound.specs.CcSyntax.Effects.{Registers, also, place_effects_of}
+use Rattle.cc_state_values_sound.specs.CcSyntax.Expressions.{of_two}
+use Rattle.cc_state_values_sound.specs.CcSyntax.Values.{PlaceType}
+use Rattle.cc_state_values_sound.specs.CcValues.Values.{takes_both, binary_result, binary, conversion, is_true}
 
 -- what the laws of a domain say of what tests keep
 pub record KeepsMembers {I : Type 0} (d : Domain I) : Type 0 where

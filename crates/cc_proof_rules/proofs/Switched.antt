@@ -5,12 +5,12 @@ use Rattle.std.specs.List.{flat_map, list_all, list_any}
 use Rattle.std.specs.Ordering.{int_eq}
 use Rattle.std.proofs.lemmas.Bool.Decides.{Decides-int_eq}
 use Rattle.std.proofs.lemmas.List.Elements.{Contains-append_cases}
-use Rattle.cc_control.specs.Control.{is_label}
-use Rattle.cc_eval.proofs.Links.{type_linked}
-use Rattle.cc_eval.proofs.Works.{answers_of}
-use Rattle.cc_eval.specs.declared.mark.Mark.{Mark}
-use Rattle.cc_eval.specs.Eval.{next_of}
-use Rattle.cc_eval.specs.Progress.{Known}
+use Rattle.cc_state_values_sound.specs.CcControl.Control.{is_label}
+use Rattle.cc_state_values_sound.proofs.CcEval.Links.{type_linked}
+use Rattle.cc_state_values_sound.proofs.CcEval.Works.{answers_of}
+use Rattle.cc_state_values_sound.specs.CcEval.declared.mark.Mark.{Mark}
+use Rattle.cc_state_values_sound.specs.CcEval.Eval.{next_of}
+use Rattle.cc_state_values_sound.specs.CcEval.Progress.{Known}
 use Rattle.cc_program.specs.declared.expr.Expr.{Expr}
 use Rattle.cc_program.specs.declared.func.Func.{Func}
 use Rattle.cc_program.specs.declared.program.Program.{Program}
@@ -21,23 +21,23 @@ use Rattle.cc_program.specs.declared.value.Value.{Value}
 use Rattle.cc_program.specs.declared.value.Value.TheVariants.{Int}
 use Rattle.cc_proof_rules.proofs.Lists.{no_member, first_or_rest}
 use Rattle.cc_proof_rules.specs.Outcomes.{has_label as is_labelled, test_of}
-use Rattle.cc_rules_flows.specs.Nexts.{constants, all_constants}
-use Rattle.cc_rules_flows.specs.Tests.{Equals, Differs, Passes}
-use Rattle.cc_states.proofs.AddressLemmas.{expression_takes}
-use Rattle.cc_states.proofs.ControlLemmas.{statement_sound}
-use Rattle.cc_states.proofs.EvalTypes.{meaning_typed}
-use Rattle.cc_states.proofs.SoundLemmas.{typed, parts, labelled}
-use Rattle.cc_states.proofs.TakenLemmas.{integer_value}
-use Rattle.cc_states.specs.Answers.{IsMarkOf}
-use Rattle.cc_states.specs.States.{may_break, may_continue, expression_of, worked_at, context_in, AreMarks, IsActive}
-use Rattle.cc_states.specs.Typed.{HasType}
-use Rattle.cc_steps.specs.State.{Active}
-use Rattle.cc_steps.specs.Step.{worked, progress_in, progress_of}
-use Rattle.cc_syntax.proofs.Prefixes.{both_true}
-use Rattle.cc_syntax.specs.Effects.{no_one}
-use Rattle.cc_syntax.specs.Programs.{type_of, is_sound_stmt, sound_step}
-use Rattle.cc_syntax.specs.Statements.{Labelled, labels_fit, are_apart, has_label}
-use Rattle.cc_syntax.specs.Values.{ValueType, NoValue, Integer, ToObject, ToFunction}
+use Rattle.cc_rules.specs.CcRulesFlows.Nexts.{constants, all_constants}
+use Rattle.cc_rules.specs.CcRulesFlows.Tests.{Equals, Differs, Passes}
+use Rattle.cc_state_values_sound.proofs.CcStates.AddressLemmas.{expression_takes}
+use Rattle.cc_state_values_sound.proofs.CcStates.ControlLemmas.{statement_sound}
+use Rattle.cc_state_values_sound.proofs.CcStates.EvalTypes.{meaning_typed}
+use Rattle.cc_state_values_sound.proofs.CcStates.SoundLemmas.{typed, parts, labelled}
+use Rattle.cc_state_values_sound.proofs.CcStates.TakenLemmas.{integer_value}
+use Rattle.cc_state_values_sound.specs.CcStates.Answers.{IsMarkOf}
+use Rattle.cc_state_values_sound.specs.CcStates.States.{may_break, may_continue, expression_of, worked_at, context_in, AreMarks, IsActive}
+use Rattle.cc_state_values_sound.specs.CcStates.Typed.{HasType}
+use Rattle.cc_state_values_sound.specs.CcSteps.State.{Active}
+use Rattle.cc_state_values_sound.specs.CcSteps.Step.{worked, progress_in, progress_of}
+use Rattle.cc_state_values_sound.proofs.CcSyntax.Prefixes.{both_true}
+use Rattle.cc_state_values_sound.specs.CcSyntax.Effects.{no_one}
+use Rattle.cc_state_values_sound.specs.CcSyntax.Programs.{type_of, is_sound_stmt, sound_step}
+use Rattle.cc_state_values_sound.specs.CcSyntax.Statements.{Labelled, labels_fit, are_apart, has_label}
+use Rattle.cc_state_values_sound.specs.CcSyntax.Values.{ValueType, NoValue, Integer, ToObject, ToFunction}
 
 module _ (p : Program) (openings : List ℕ) (a : Active) (act : IsActive p openings a) (s : Stmt) (rest : List Stmt) (here : a.here.rest ≡ s ∷ rest) where
   abbrev fn : Func

@@ -7,8 +7,8 @@ use Rattle.cc_program.specs.declared.expr.Expr.{Expr, out-Expr, roll-Expr, roll-
 use Rattle.cc_program.specs.declared.expr.Intr.{Intr}
 use Rattle.cc_program.specs.declared.expr.Place.{Place}
 use Rattle.cc_program.specs.declared.func.Func.{Func}
-use Rattle.cc_states.proofs.AddressLemmas.{IfTaken, PlaceIfTaken, parts_at, rolled_takes}
-use Rattle.cc_states.specs.Answers.{TakesAddressesOf, PlaceTakesAddressesOf}
+use Rattle.cc_state_values_sound.proofs.CcStates.AddressLemmas.{IfTaken, PlaceIfTaken, parts_at, rolled_takes}
+use Rattle.cc_state_values_sound.specs.CcStates.Answers.{TakesAddressesOf, PlaceTakesAddressesOf}
 
 module _ (f : Func) where
   abbrev Taken : Expr → Type 0

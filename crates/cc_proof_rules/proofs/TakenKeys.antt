@@ -4,8 +4,8 @@ use Rattle.std.specs.Prelude.{is_some, nat_eq}
 use Rattle.std.specs.List.{flat_map}
 use Rattle.std.proofs.lemmas.List.Elements.{Contains-append_left, Contains-append_right, Contains-append_cases}
 use Rattle.std.proofs.lemmas.Option.{same_Some}
-use Rattle.cc_control.specs.Control.{bodies}
-use Rattle.cc_flow_sound.specs.Statements.{inside, statement_at}
+use Rattle.cc_state_values_sound.specs.CcControl.Control.{bodies}
+use Rattle.cc_rules.specs.CcFlowSound.Statements.{inside, statement_at}
 use Rattle.cc_program.specs.declared.expr.Expr.{Expr}
 use Rattle.cc_program.specs.declared.func.Func.{Func}
 use Rattle.cc_program.specs.declared.program.Program.{Program}
@@ -16,16 +16,16 @@ use Rattle.cc_program.specs.Qualifiers.{is_const, is_volatile}
 use Rattle.cc_proof_rules.proofs.Lists.{contains_at, in_map, in_flat, any_of}
 use Rattle.cc_proof_rules.proofs.Numbered.{tracked_at}
 use Rattle.cc_proof_rules.proofs.Positions.{is_in_contains, contains_is_in, listed_there, made_of, get_taken}
-use Rattle.cc_state_facts.specs.declared.facts.Key.{Key}
-use Rattle.cc_state_facts.specs.declared.facts.Key.TheVariants as key
-use Rattle.cc_state_keys.specs.Addressed.{all_taken, taken_in, taken_in_optional, stmt_taken_step, taken_in_stmt, taken_in_func, taken_in_object, taken_keys, IsAddressed, is_object_key, is_object_among}
-use Rattle.cc_state_keys.specs.Lists.{all_from}
-use Rattle.cc_state_keys.specs.Tracked.{most_tracked, numbers, may_be_tracked, tracked_number}
-use Rattle.cc_steps.specs.Step.{worked}
-use Rattle.cc_control.specs.declared.phase.Phase.TheVariants.{First}
-use Rattle.cc_syntax.proofs.Prefixes.{both_true}
-use Rattle.cc_syntax.specs.Expressions.{of_one}
-use Rattle.cc_syntax.specs.Values.{scalar_value}
+use Rattle.cc_rules.specs.CcStateFacts.declared.facts.Key.{Key}
+use Rattle.cc_rules.specs.CcStateFacts.declared.facts.Key.TheVariants as key
+use Rattle.cc_rules.specs.CcStateKeys.Addressed.{all_taken, taken_in, taken_in_optional, stmt_taken_step, taken_in_stmt, taken_in_func, taken_in_object, taken_keys, IsAddressed, is_object_key, is_object_among}
+use Rattle.cc_rules.specs.CcStateKeys.Lists.{all_from}
+use Rattle.cc_rules.specs.CcStateKeys.Tracked.{most_tracked, numbers, may_be_tracked, tracked_number}
+use Rattle.cc_state_values_sound.specs.CcSteps.Step.{worked}
+use Rattle.cc_state_values_sound.specs.CcControl.declared.phase.Phase.TheVariants.{First}
+use Rattle.cc_state_values_sound.proofs.CcSyntax.Prefixes.{both_true}
+use Rattle.cc_state_values_sound.specs.CcSyntax.Expressions.{of_one}
+use Rattle.cc_state_values_sound.specs.CcSyntax.Values.{scalar_value}
 
 -- ---- tracked objects
 

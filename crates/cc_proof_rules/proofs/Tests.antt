@@ -4,28 +4,28 @@ use Rattle.std.proofs.Common.{◌≡◌, ◌⊎◌, inl, inr, ℕ, ℤ, Bool, tr
 use Rattle.std.specs.Prelude.{◌==◌, option_and_then, if◌then◌else◌}
 use Rattle.std.proofs.lemmas.Bool.{eqb-true, eq-eqb}
 use Rattle.std.proofs.lemmas.Option.{same_Some}
-use Rattle.cc_cells.specs.Cells.{scalar_in}
-use Rattle.cc_eval.proofs.Works.{answers_of}
-use Rattle.cc_eval.specs.Context.{Context}
-use Rattle.cc_eval.specs.declared.action.Action.{Action}
-use Rattle.cc_eval.specs.declared.action.Action.TheVariants as action
-use Rattle.cc_eval.specs.declared.action.Manner.{Manner}
-use Rattle.cc_eval.specs.declared.mark.Mark.{Mark}
-use Rattle.cc_eval.specs.declared.spots.Spot.{Spot}
-use Rattle.cc_eval.specs.Eval.{meaning, next_of}
-use Rattle.cc_eval.specs.Marks.{AnswerSteps, Works}
-use Rattle.cc_eval.specs.Progress.{Known, given}
-use Rattle.cc_flow.specs.declared.next.Site.{Site}
-use Rattle.cc_flow.specs.declared.types.Point.{Point}
-use Rattle.cc_flow.specs.Points.{flow_of, size_of}
-use Rattle.cc_flow_sound.proofs.Opened.{form_size, size_at}
-use Rattle.cc_flow_sound.specs.Sites.{arm_point, nexts}
-use Rattle.cc_num.specs.declared.op.BinOp.{BinOp}
-use Rattle.cc_num.specs.declared.int_type.IntType.{IntType}
-use Rattle.cc_num.specs.Results.{one_if}
-use Rattle.cc_places.specs.Abstract.{HasValue}
-use Rattle.cc_places.specs.declared.abs.Abs.{Abs}
-use Rattle.cc_places.specs.declared.abs.Abs.TheVariants as abs
+use Rattle.cc_state_values_sound.specs.CcCells.Cells.{scalar_in}
+use Rattle.cc_state_values_sound.proofs.CcEval.Works.{answers_of}
+use Rattle.cc_state_values_sound.specs.CcEval.Context.{Context}
+use Rattle.cc_state_values_sound.specs.CcEval.declared.action.Action.{Action}
+use Rattle.cc_state_values_sound.specs.CcEval.declared.action.Action.TheVariants as action
+use Rattle.cc_state_values_sound.specs.CcEval.declared.action.Manner.{Manner}
+use Rattle.cc_state_values_sound.specs.CcEval.declared.mark.Mark.{Mark}
+use Rattle.cc_state_values_sound.specs.CcEval.declared.spots.Spot.{Spot}
+use Rattle.cc_state_values_sound.specs.CcEval.Eval.{meaning, next_of}
+use Rattle.cc_state_values_sound.specs.CcEval.Marks.{AnswerSteps, Works}
+use Rattle.cc_state_values_sound.specs.CcEval.Progress.{Known, given}
+use Rattle.cc_rules.specs.CcFlow.declared.next.Site.{Site}
+use Rattle.cc_rules.specs.CcFlow.declared.types.Point.{Point}
+use Rattle.cc_rules.specs.CcFlow.Points.{flow_of, size_of}
+use Rattle.cc_rules.proofs.CcFlowSound.Opened.{form_size, size_at}
+use Rattle.cc_rules.specs.CcFlowSound.Sites.{arm_point, nexts}
+use Rattle.cc_program.specs.CcNum.declared.op.BinOp.{BinOp}
+use Rattle.cc_program.specs.CcNum.declared.int_type.IntType.{IntType}
+use Rattle.cc_program.specs.CcNum.Results.{one_if}
+use Rattle.cc_state_values_sound.specs.CcPlaces.Abstract.{HasValue}
+use Rattle.cc_state_values_sound.specs.CcPlaces.declared.abs.Abs.{Abs}
+use Rattle.cc_state_values_sound.specs.CcPlaces.declared.abs.Abs.TheVariants as abs
 use Rattle.cc_program.specs.declared.expr.Expr.{Expr, out-Expr, roll-Expr, roll-out-Expr}
 use Rattle.cc_program.specs.declared.expr.Expr.TheOpen as one
 use Rattle.cc_program.specs.declared.expr.Place.{Place as PlaceOf}
@@ -52,32 +52,32 @@ use Rattle.cc_proof_rules.proofs.Switched.{chosen_integer, number_passes}
 use Rattle.cc_proof_rules.specs.Arrivals.{IsKnown}
 use Rattle.cc_proof_rules.specs.Outcomes.{test_of, IsTestIn, IsTestAt, PassesAt, PassesWith}
 use Rattle.cc_rules.specs.Rules.{act_at, IsSolution}
-use Rattle.cc_rules_flows.specs.Acts.{acts}
-use Rattle.cc_rules_flows.specs.Flows.{tests_of}
-use Rattle.cc_rules_flows.specs.Nexts.{statement_of, sides, choices}
-use Rattle.cc_rules_flows.specs.Tests.{Test, Is, Passes, MayPass, with_member, IsLeft}
+use Rattle.cc_rules.specs.CcRulesFlows.Acts.{acts}
+use Rattle.cc_rules.specs.CcRulesFlows.Flows.{tests_of}
+use Rattle.cc_rules.specs.CcRulesFlows.Nexts.{statement_of, sides, choices}
+use Rattle.cc_rules.specs.CcRulesFlows.Tests.{Test, Is, Passes, MayPass, with_member, IsLeft}
 use Rattle.cc_state.specs.Shape.{HaveShape}
 use Rattle.cc_state.specs.View.{view}
-use Rattle.cc_state_facts.specs.declared.facts.Facts.{Facts}
-use Rattle.cc_state_facts.specs.declared.facts.PointFact.{PointFact}
-use Rattle.cc_state_facts.specs.Facts.{fact_at, local_at, local_of}
-use Rattle.cc_state_keys.specs.Tracked.{register_number}
-use Rattle.cc_state_operators.specs.Domains.{Domain}
-use Rattle.cc_state_reads.specs.Reads.{registers_at}
-use Rattle.cc_state_values.specs.Values.{IsVal}
+use Rattle.cc_rules.specs.CcStateFacts.declared.facts.Facts.{Facts}
+use Rattle.cc_rules.specs.CcStateFacts.declared.facts.PointFact.{PointFact}
+use Rattle.cc_rules.specs.CcStateFacts.Facts.{fact_at, local_at, local_of}
+use Rattle.cc_rules.specs.CcStateKeys.Tracked.{register_number}
+use Rattle.cc_state_values_sound.specs.CcStateOperators.Domains.{Domain}
+use Rattle.cc_rules.specs.CcStateReads.Reads.{registers_at}
+use Rattle.cc_state_values_sound.specs.CcStateValues.Values.{IsVal}
 use Rattle.cc_state_values_sound.proofs.Choices.{GivesAll}
 use Rattle.cc_state_values_sound.proofs.InStates.{value_in_states}
 use Rattle.cc_state_values_sound.specs.Steps.{MayGive, own_cell}
 use Rattle.cc_state_values_sound.specs.Typed.{IsTypedAnswer}
-use Rattle.cc_states.proofs.AddressLemmas.{expression_takes, parts_at, rolled_takes}
-use Rattle.cc_states.specs.Answers.{IsActivation, IsMarkOf, AreItsMarks, TakesAddressesOf, PlaceTakesAddressesOf}
-use Rattle.cc_states.specs.Inside.{AreInside}
-use Rattle.cc_states.specs.States.{expression_of, worked_at, context_in, AreMarks}
-use Rattle.cc_steps.specs.State.{Active, Memory}
-use Rattle.cc_steps.specs.Step.{worked, progress_at, progress_in, progress_of, number_in}
-use Rattle.cc_syntax.specs.Effects.{Registers, no_one}
-use Rattle.cc_syntax.specs.Registers.{is_register}
-use Rattle.cc_values.specs.Values.{is_true}
+use Rattle.cc_state_values_sound.proofs.CcStates.AddressLemmas.{expression_takes, parts_at, rolled_takes}
+use Rattle.cc_state_values_sound.specs.CcStates.Answers.{IsActivation, IsMarkOf, AreItsMarks, TakesAddressesOf, PlaceTakesAddressesOf}
+use Rattle.cc_state_values_sound.specs.CcStates.Inside.{AreInside}
+use Rattle.cc_state_values_sound.specs.CcStates.States.{expression_of, worked_at, context_in, AreMarks}
+use Rattle.cc_state_values_sound.specs.CcSteps.State.{Active, Memory}
+use Rattle.cc_state_values_sound.specs.CcSteps.Step.{worked, progress_at, progress_in, progress_of, number_in}
+use Rattle.cc_state_values_sound.specs.CcSyntax.Effects.{Registers, no_one}
+use Rattle.cc_state_values_sound.specs.CcSyntax.Registers.{is_register}
+use Rattle.cc_state_values_sound.specs.CcValues.Values.{is_true}
 
 -- ---- addresses that operands take
 

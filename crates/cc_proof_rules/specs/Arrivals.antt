@@ -3,13 +3,13 @@ use Rattle.std.specs.Prelude.{◌≡◌, ◌⊎◌, ℕ, Bool, true, false, Opti
 use Rattle.cc_program.specs.declared.func.Func.{Func}
 use Rattle.cc_program.specs.declared.program.Program.{Program}
 use Rattle.cc_program.specs.declared.value.Value.{Value}
-use Rattle.cc_rules_needs.specs.Flowing.{Flowing}
+use Rattle.cc_rules.specs.CcRulesNeeds.Flowing.{Flowing}
 use Rattle.cc_state.specs.View.{Has, IsFunctionAt, IsReachedAt, MayBeAt, LocalAt, CellAt, SameAt}
-use Rattle.cc_state_facts.specs.declared.facts.Facts.{Facts}
-use Rattle.cc_state_facts.specs.declared.facts.PointFact.{PointFact}
-use Rattle.cc_state_facts.specs.Facts.{fact_at, cell_of, local_of, has_pair}
-use Rattle.cc_state_keys.specs.Tracked.{register_number, tracked_number}
-use Rattle.cc_state_operators.specs.Domains.{Domain}
+use Rattle.cc_rules.specs.CcStateFacts.declared.facts.Facts.{Facts}
+use Rattle.cc_rules.specs.CcStateFacts.declared.facts.PointFact.{PointFact}
+use Rattle.cc_rules.specs.CcStateFacts.Facts.{fact_at, cell_of, local_of, has_pair}
+use Rattle.cc_rules.specs.CcStateKeys.Tracked.{register_number, tracked_number}
+use Rattle.cc_state_values_sound.specs.CcStateOperators.Domains.{Domain}
 
 abbrev pub flag_in : {I : Type 0} → Flowing I → Bool → Bool
 flag_in flow true = flow.on

@@ -1,11 +1,11 @@
 -- What operands may be at points, by facts: the values that are in each of their abstract values, and where places lead.
 use Rattle.std.specs.Prelude.{◌≡◌, [], ℕ, List, Option, Some, None}
 use Rattle.std.specs.List.{Contains}
-use Rattle.cc_eval.specs.declared.spots.Spot.{Spot}
-use Rattle.cc_eval.specs.declared.spots.Spot.TheVariants as spot
-use Rattle.cc_flow.specs.declared.types.Point.{Point}
-use Rattle.cc_places.specs.declared.abs.Abs.{Abs}
-use Rattle.cc_places.specs.Abstract.{HasValue}
+use Rattle.cc_state_values_sound.specs.CcEval.declared.spots.Spot.{Spot}
+use Rattle.cc_state_values_sound.specs.CcEval.declared.spots.Spot.TheVariants as spot
+use Rattle.cc_rules.specs.CcFlow.declared.types.Point.{Point}
+use Rattle.cc_state_values_sound.specs.CcPlaces.declared.abs.Abs.{Abs}
+use Rattle.cc_state_values_sound.specs.CcPlaces.Abstract.{HasValue}
 use Rattle.cc_program.specs.declared.expr.Expr.{Expr}
 use Rattle.cc_program.specs.declared.expr.Expr.TheOpen as one
 use Rattle.cc_program.specs.declared.expr.Place.{Place, out-Place}
@@ -16,18 +16,18 @@ use Rattle.cc_program.specs.declared.value.Address.TheVariants as address
 use Rattle.cc_program.specs.declared.value.Root.{Root}
 use Rattle.cc_program.specs.declared.value.Root.TheVariants as root
 use Rattle.cc_program.specs.declared.value.Value.{Value}
-use Rattle.cc_rules_flows.specs.Nexts.{IsPoint}
-use Rattle.cc_state_facts.specs.declared.facts.Facts.{Facts}
-use Rattle.cc_state_facts.specs.declared.facts.Key.{Key}
-use Rattle.cc_state_keys.specs.Keys.{cell_key}
-use Rattle.cc_state_keys.specs.Tracked.{tracked_number}
-use Rattle.cc_state_operators.specs.Domains.{Domain}
-use Rattle.cc_state_reads.specs.Named.{AreClasses}
-use Rattle.cc_state_reads.specs.Reads.{registers_at}
-use Rattle.cc_state_values.specs.Values.{IsVal}
-use Rattle.cc_states.specs.Typed.{IsInMemory, MayLead}
-use Rattle.cc_syntax.specs.Programs.{place_type}
-use Rattle.cc_syntax.specs.Values.{PlaceType}
+use Rattle.cc_rules.specs.CcRulesFlows.Nexts.{IsPoint}
+use Rattle.cc_rules.specs.CcStateFacts.declared.facts.Facts.{Facts}
+use Rattle.cc_rules.specs.CcStateFacts.declared.facts.Key.{Key}
+use Rattle.cc_rules.specs.CcStateKeys.Keys.{cell_key}
+use Rattle.cc_rules.specs.CcStateKeys.Tracked.{tracked_number}
+use Rattle.cc_state_values_sound.specs.CcStateOperators.Domains.{Domain}
+use Rattle.cc_rules.specs.CcStateReads.Named.{AreClasses}
+use Rattle.cc_rules.specs.CcStateReads.Reads.{registers_at}
+use Rattle.cc_state_values_sound.specs.CcStateValues.Values.{IsVal}
+use Rattle.cc_state_values_sound.specs.CcStates.Typed.{IsInMemory, MayLead}
+use Rattle.cc_state_values_sound.specs.CcSyntax.Programs.{place_type}
+use Rattle.cc_state_values_sound.specs.CcSyntax.Values.{PlaceType}
 
 -- the class of the object to which a place leads is among some classes
 abbrev pub HasAddressClass : Program → List Key → Address → Type 0

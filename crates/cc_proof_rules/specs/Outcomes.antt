@@ -1,11 +1,11 @@
 -- What outcomes the test of a point may have, by facts: with what is in the sets of registers there, and with one of them at a member.
 use Rattle.std.specs.Prelude.{◌≡◌, ℕ, ℤ, Bool, true, List, Some, if◌then◌else◌}
 use Rattle.std.specs.List.{list_any}
-use Rattle.cc_control.specs.Control.{is_label}
-use Rattle.cc_flow.specs.declared.types.Point.{Point}
-use Rattle.cc_num.specs.Results.{one_if}
-use Rattle.cc_places.specs.Abstract.{HasValue}
-use Rattle.cc_places.specs.declared.abs.Abs.{Abs}
+use Rattle.cc_state_values_sound.specs.CcControl.Control.{is_label}
+use Rattle.cc_rules.specs.CcFlow.declared.types.Point.{Point}
+use Rattle.cc_program.specs.CcNum.Results.{one_if}
+use Rattle.cc_state_values_sound.specs.CcPlaces.Abstract.{HasValue}
+use Rattle.cc_state_values_sound.specs.CcPlaces.declared.abs.Abs.{Abs}
 use Rattle.cc_program.specs.declared.expr.Expr.{Expr}
 use Rattle.cc_program.specs.declared.func.Func.{Func}
 use Rattle.cc_program.specs.declared.program.Program.{Program}
@@ -13,12 +13,12 @@ use Rattle.cc_program.specs.declared.stmt.Case.{Case}
 use Rattle.cc_program.specs.declared.stmt.Stmt.TheOpen as is
 use Rattle.cc_program.specs.declared.stmt.Stmt.{Stmt, out-Stmt}
 use Rattle.cc_program.specs.declared.value.Value.{Value}
-use Rattle.cc_rules_flows.specs.Nexts.{IsPoint, statement_of, all_constants}
-use Rattle.cc_rules_flows.specs.Tests.{Test, Is, Equals, Differs, MayPass, IsLeft}
-use Rattle.cc_state_facts.specs.declared.facts.Facts.{Facts}
-use Rattle.cc_state_operators.specs.Domains.{Domain}
-use Rattle.cc_state_reads.specs.Reads.{registers_at}
-use Rattle.cc_syntax.specs.Registers.{is_register}
+use Rattle.cc_rules.specs.CcRulesFlows.Nexts.{IsPoint, statement_of, all_constants}
+use Rattle.cc_rules.specs.CcRulesFlows.Tests.{Test, Is, Equals, Differs, MayPass, IsLeft}
+use Rattle.cc_rules.specs.CcStateFacts.declared.facts.Facts.{Facts}
+use Rattle.cc_state_values_sound.specs.CcStateOperators.Domains.{Domain}
+use Rattle.cc_rules.specs.CcStateReads.Reads.{registers_at}
+use Rattle.cc_state_values_sound.specs.CcSyntax.Registers.{is_register}
 
 -- a case has this label
 abbrev pub has_label : ℤ → List Case → Bool

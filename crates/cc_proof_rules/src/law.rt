@@ -1,14 +1,14 @@
 ghost use Rattle.std.specs.Prelude.{◌≤◌, ℕ};
-ghost use Rattle.cc_flow.specs.Points.{count_of};
+ghost use Rattle.cc_rules.specs.CcFlow.Points.{count_of};
 ghost use Rattle.cc_program.specs.declared.program.Program.{Program};
 ghost use Rattle.cc_rules.specs.Rules.{IsSolution};
 ghost use Rattle.cc_state.specs.Covered.{Covers};
 ghost use Rattle.cc_state.specs.Shape.{HaveShape};
-ghost use Rattle.cc_state_facts.specs.declared.facts.Facts.{Facts};
-ghost use Rattle.cc_state_operators.specs.Domains.{domain};
-ghost use Rattle.cc_syntax.specs.Normal.{IsNormal};
+ghost use Rattle.cc_rules.specs.CcStateFacts.declared.facts.Facts.{Facts};
+ghost use Rattle.cc_state_values_sound.specs.CcStateOperators.Domains.{domain};
+ghost use Rattle.cc_state_values_sound.specs.CcSyntax.Normal.{IsNormal};
 
-use cc_lattice::IntDomain;
+use cc_state_values_sound::lattice::IntDomain;
 
 /// What facts say of the runs of their program. The call does nothing.
 pub fn solutions<I: IntDomain>()

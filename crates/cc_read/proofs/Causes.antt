@@ -1,13 +1,13 @@
 -- One text: it has at most one typed unit, at most one cause why it has none, and not both.
 use Rattle.std.proofs.Common.{◌≡◌, ◌∙◌, ◌≤◌, ◌<◌, ◌^◌, ℕ, List, [], ◌∷◌, Option, Some, None, refl, ap, sym, subst}
 use Rattle.std.specs.Prelude.{◌≢◌}
-use Rattle.cc_lex.proofs.Whole.{one-list, one-fault, not-both}
-use Rattle.cc_lex.specs.Faults.{HasFault as HasLexFault}
-use Rattle.cc_lex.specs.Tokens.{Tokens}
-use Rattle.cc_lex.specs.declared.fault.LexFault.{LexFault}
-use Rattle.cc_lex.specs.declared.fault.LexFault.TheVariants as lex
-use Rattle.cc_lex.specs.declared.token.Token.{Token}
-use Rattle.cc_num.specs.declared.target.Target.{Target}
+use Rattle.cc_type.proofs.CcLex.Whole.{one-list, one-fault, not-both}
+use Rattle.cc_type.specs.CcLex.Faults.{HasFault as HasLexFault}
+use Rattle.cc_type.specs.CcLex.Tokens.{Tokens}
+use Rattle.cc_type.specs.CcLex.declared.fault.LexFault.{LexFault}
+use Rattle.cc_type.specs.CcLex.declared.fault.LexFault.TheVariants as lex
+use Rattle.cc_type.specs.CcLex.declared.token.Token.{Token}
+use Rattle.cc_program.specs.CcNum.declared.target.Target.{Target}
 use Rattle.cc_program.specs.declared.program.Roles.{Roles}
 use Rattle.cc_read.specs.Faults.{for_lex, for_gram, for_types}
 use Rattle.cc_read.specs.Refusals.{HasCause, HasNoTokens, IsNoSentence, BreaksRule, IsTooHigh}
@@ -28,7 +28,7 @@ use Rattle.cc_type.proofs.Laws as types
 use Rattle.cc_type.specs.Typed.{IsTyped, Refuses}
 use Rattle.cc_type.specs.declared.fault.TypeFault.{TypeFault}
 use Rattle.cc_type.specs.declared.fault.TypeFault.TheVariants as type_fault
-use Rattle.cc_unit.specs.declared.unit.TypedUnit.{TypedUnit}
+use Rattle.cc_type.specs.CcUnit.declared.unit.TypedUnit.{TypedUnit}
 
 -- ---- the typed unit of a text is one
 

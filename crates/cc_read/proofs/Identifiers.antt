@@ -3,7 +3,7 @@ use Rattle.std.proofs.Common.{◌≡◌, ◌∙◌, ◌<◌, ◌+◌, ℕ, List,
 use Rattle.std.specs.Prelude.{filter_map, option_to_list}
 use Rattle.std.proofs.lemmas.List.{take_more}
 use Rattle.std.proofs.lemmas.List.Elements.{filter_map-append}
-use Rattle.cc_lex.specs.declared.token.Token.{Token}
+use Rattle.cc_type.specs.CcLex.declared.token.Token.{Token}
 use Rattle.cc_read.specs.Texts.{identifier_in, identifiers_of}
 
 alone : (o : Option (List ℕ)) → filter_map (λ (x : Option (List ℕ)). x) (o ∷ []) ≡ option_to_list o

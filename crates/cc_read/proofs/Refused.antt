@@ -9,7 +9,7 @@ use Rattle.cc_link.specs.Linked.{Links, Breaks}
 use Rattle.cc_link.specs.Tells.{Tells}
 use Rattle.cc_link.specs.declared.fault.LinkEnd.{LinkEnd}
 use Rattle.cc_link.specs.declared.fault.LinkEnd.TheVariants as end
-use Rattle.cc_num.specs.declared.target.Target.{Target}
+use Rattle.cc_program.specs.CcNum.declared.target.Target.{Target}
 use Rattle.cc_program.specs.declared.program.Program.{Program}
 use Rattle.cc_program.specs.declared.program.Roles.{Roles}
 use Rattle.cc_read.proofs.Causes.{one_typed_text, no_cause, only_high, same_cause}

@@ -1,7 +1,7 @@
 -- The refusal for each fault of the parts. Want of memory is always a refusal of its own.
 use Rattle.std.specs.Prelude.{ℕ}
-use Rattle.cc_lex.specs.declared.fault.LexFault.{LexFault}
-use Rattle.cc_lex.specs.declared.fault.LexFault.TheVariants as lex
+use Rattle.cc_type.specs.CcLex.declared.fault.LexFault.{LexFault}
+use Rattle.cc_type.specs.CcLex.declared.fault.LexFault.TheVariants as lex
 use Rattle.cc_link.specs.declared.fault.LinkEnd.{LinkEnd}
 use Rattle.cc_link.specs.declared.fault.LinkEnd.TheVariants as end
 use Rattle.cc_read.specs.declared.refusal.ReadRefusal.{ReadRefusal}

@@ -2,12 +2,12 @@
 use Rattle.std.specs.Prelude.{ℕ, ◌+◌, ⊤, List, ◌∷◌}
 use Rattle.std.specs.List.{All, AllZip}
 use Rattle.cc_causes.specs.declared.fault.LinkFault.{LinkFault}
-use Rattle.cc_lex.specs.Faults.{HasFault as HasLexFault}
-use Rattle.cc_lex.specs.Tokens.{Tokens}
-use Rattle.cc_lex.specs.declared.fault.LexFault.{LexFault}
-use Rattle.cc_lex.specs.declared.token.Token.{Token}
+use Rattle.cc_type.specs.CcLex.Faults.{HasFault as HasLexFault}
+use Rattle.cc_type.specs.CcLex.Tokens.{Tokens}
+use Rattle.cc_type.specs.CcLex.declared.fault.LexFault.{LexFault}
+use Rattle.cc_type.specs.CcLex.declared.token.Token.{Token}
 use Rattle.cc_link.specs.Linked.{Breaks}
-use Rattle.cc_num.specs.declared.target.Target.{Target}
+use Rattle.cc_program.specs.CcNum.declared.target.Target.{Target}
 use Rattle.cc_program.specs.declared.program.Roles.{Roles}
 use Rattle.cc_read.specs.Texts.{IsTypedText, IsLow}
 use Rattle.cc_read.specs.declared.refusal.ReadRefusal.{ReadRefusal}

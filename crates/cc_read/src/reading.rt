@@ -14,7 +14,7 @@ use crate::refusal::{ReadRefusal, Refusal};
 use crate::text::put_typed;
 use cc_discard::discard_texts;
 use cc_link::link;
-use cc_num::Target;
+use cc_program::num::Target;
 use cc_program::{Program, Roles};
 use cc_things::Text;
 use std::alloc::Global;

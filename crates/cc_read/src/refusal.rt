@@ -5,10 +5,10 @@ ghost use Rattle.cc_read.specs.Faults.{for_lex, for_gram, for_types, for_link};
 ghost use Rattle.cc_read.specs.declared.refusal.ReadRefusal.TheVariants.{NoMemory as NoRoom};
 
 use cc_gram::GramFault;
-use cc_lex::LexFault;
 use cc_link::{LinkEnd, LinkFault};
-use cc_num::NoMemory;
+use cc_program::num::NoMemory;
 use cc_type::TypeFault;
+use cc_type::lex::LexFault;
 
 /// Why a text, or texts together, are no program. Want of memory is told by a variant of its own, wherever memory ran out.
 #[derive(Debug, Drop)]

@@ -2,7 +2,7 @@
 
 ghost use Rattle.std.specs.Prelude.{◌≡◌, ◌≢◌, ◌<◌, ◌^◌, ◌++◌, ℕ, List as ListOf, length, IfOk, IfErr, OnOk};
 ghost use Rattle.std.specs.Prelude.{option_to_list};
-ghost use Rattle.cc_lex.specs.Tokens.{Tokens};
+ghost use Rattle.cc_type.specs.CcLex.Tokens.{Tokens};
 ghost use Rattle.cc_read.specs.Refusals.{HasCause};
 ghost use Rattle.cc_read.specs.Texts.{identifier_in, identifiers_of, IsTypedText, IsTypedNext, IsLow, IsTypedSentence};
 ghost use Rattle.cc_read.specs.declared.refusal.ReadRefusal.TheVariants.{NoMemory as NoRoom};
@@ -10,12 +10,12 @@ ghost use Rattle.cc_read.specs.declared.refusal.ReadRefusal.TheVariants.{NoMemor
 use crate::refusal::ReadRefusal;
 use cc_discard::put_text;
 use cc_gram::{discard_unit, parse};
-use cc_lex::{Kind, Token, lex};
-use cc_num::{List, Name, NoMemory, Target};
+use cc_program::num::{List, Name, NoMemory, Target};
 use cc_program::{Roles, copy_list};
 use cc_things::Text;
 use cc_type::elaborate;
-use cc_unit::TypedUnit;
+use cc_type::lex::{Kind, Token, lex};
+use cc_type::unit::TypedUnit;
 use std::alloc::Global;
 
 /// Puts the identifier that a token is behind others.

@@ -8,10 +8,10 @@ use Rattle.cc_program.specs.declared.func.Entry.{Entry}
 use Rattle.cc_program.specs.declared.func.Func.{Func}
 use Rattle.cc_program.specs.declared.types.CType.{CType}
 use Rattle.cc_read_accessed.proofs.Keeping.{AreOnce, Keeps}
-use Rattle.cc_scopes.specs.Definitions.{defined_at}
-use Rattle.cc_scopes.specs.State.{State, change_at, change_name}
-use Rattle.cc_scopes.specs.declared.unit.Declared.{Declared}
-use Rattle.cc_unit.specs.declared.unit.UnitKind.TheVariants as kind
+use Rattle.cc_type.specs.CcScopes.Definitions.{defined_at}
+use Rattle.cc_type.specs.CcScopes.State.{State, change_at, change_name}
+use Rattle.cc_type.specs.CcScopes.declared.unit.Declared.{Declared}
+use Rattle.cc_type.specs.CcUnit.declared.unit.UnitKind.TheVariants as kind
 
 -- a function that has a body, which reads or writes the device of that number
 pub record IsAccessedAt (s : State) (i : ℕ) : Type 0 where

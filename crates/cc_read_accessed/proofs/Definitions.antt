@@ -7,8 +7,8 @@ use Rattle.cc_accessed_operands.specs.Accessed.{list_accesses}
 use Rattle.cc_accessed_terms.proofs.Accounts.{more_declared}
 use Rattle.cc_accessed_terms.proofs.Terms.{declr_declares, specifiers_declare}
 use Rattle.cc_accessed_terms.specs.Accounted.{is_numbered_at, is_numbered_kind}
-use Rattle.cc_linkage.specs.Linkage.{declared, declared_by, new_declared}
-use Rattle.cc_linkage.specs.declared.linkage.DeclaredAs.{DeclaredAs}
+use Rattle.cc_type.specs.CcLinkage.Linkage.{declared, declared_by, new_declared}
+use Rattle.cc_type.specs.CcLinkage.declared.linkage.DeclaredAs.{DeclaredAs}
 use Rattle.cc_program.specs.declared.func.Entry.{Entry}
 use Rattle.cc_program.specs.declared.func.Func.{Func}
 use Rattle.cc_program.specs.declared.program.Roles.{Roles}
@@ -24,20 +24,20 @@ use Rattle.cc_read_sound.proofs.Parts.{IsFound, IsNamed, named_is}
 use Rattle.cc_read_sound.specs.Definitions.{AreApart}
 use Rattle.cc_read_sound.specs.External.{AreEntries}
 use Rattle.cc_read_sound.specs.Ranges.{item_fits}
-use Rattle.cc_scopes.specs.Definitions.{defined_at, entry_added, with_entry}
-use Rattle.cc_scopes.specs.Linked.{linked_name}
-use Rattle.cc_scopes.specs.State.{State, Name, change_name, entered, left, with_locals}
-use Rattle.cc_scopes.specs.Verdicts.{Checked, checked}
-use Rattle.cc_scopes.specs.declared.unit.Declared.{Declared}
+use Rattle.cc_type.specs.CcScopes.Definitions.{defined_at, entry_added, with_entry}
+use Rattle.cc_type.specs.CcScopes.Linked.{linked_name}
+use Rattle.cc_type.specs.CcScopes.State.{State, Name, change_name, entered, left, with_locals}
+use Rattle.cc_type.specs.CcScopes.Verdicts.{Checked, checked}
+use Rattle.cc_type.specs.CcScopes.declared.unit.Declared.{Declared}
 use Rattle.cc_sound_terms.proofs.Founds.{answer_is}
 use Rattle.cc_sound_terms.proofs.Growth.{changed_there, get_last}
 use Rattle.cc_sound_terms.specs.Ordered.{IsOrdered}
-use Rattle.cc_specifiers.specs.Attributes.{entry_by}
-use Rattle.cc_specifiers.specs.Derivations.{in_definition}
-use Rattle.cc_specifiers.specs.Storage.{setting}
-use Rattle.cc_specifiers.specs.declared.attribute.Entity.TheVariants as entity
-use Rattle.cc_specifiers.specs.declared.storage.Where.TheVariants as stands
-use Rattle.cc_syntax.specs.Views.{View}
+use Rattle.cc_type.specs.CcSpecifiers.Attributes.{entry_by}
+use Rattle.cc_type.specs.CcSpecifiers.Derivations.{in_definition}
+use Rattle.cc_type.specs.CcSpecifiers.Storage.{setting}
+use Rattle.cc_type.specs.CcSpecifiers.declared.attribute.Entity.TheVariants as entity
+use Rattle.cc_type.specs.CcSpecifiers.declared.storage.Where.TheVariants as stands
+use Rattle.cc_type.specs.CcSyntax.Views.{View}
 use Rattle.cc_tree.specs.declared.at.At.{At}
 use Rattle.cc_tree.specs.declared.tree.Attr.{Attr}
 use Rattle.cc_tree.specs.declared.tree.Declr.{Declr}
@@ -45,9 +45,9 @@ use Rattle.cc_tree.specs.declared.tree.Spec.{Spec}
 use Rattle.cc_tree.specs.declared.unit.Item.TheVariants as item
 use Rattle.cc_tree.specs.declared.unit.Line.{Line}
 use Rattle.cc_type.specs.Functions.{asked_by, entered_function, entry_at, function_of, locals_of, named_function, signature_of}
-use Rattle.cc_typed_statements.specs.Jumps.{no_jumps}
-use Rattle.cc_unit.specs.declared.unit.UnitKind.{UnitKind}
-use Rattle.cc_unit.specs.declared.unit.UnitKind.TheVariants as kind
+use Rattle.cc_type.specs.CcTypedStatements.Jumps.{no_jumps}
+use Rattle.cc_type.specs.CcUnit.declared.unit.UnitKind.{UnitKind}
+use Rattle.cc_type.specs.CcUnit.declared.unit.UnitKind.TheVariants as kind
 
 -- where nothing is accessed
 first_of : {A : Type 0} → A ⊎ (false ≡ true) → A

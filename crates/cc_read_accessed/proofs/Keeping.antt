@@ -2,24 +2,24 @@
 -- An entry without a name is defined no more than once.
 use Rattle.std.proofs.Common.{◌≡◌, ◌⊎◌, inl, inr, ℕ, zero, suc, Bool, true, false, List, [], ◌∷◌, ◌++◌, length, Option, Some, None, refl, ap, sym, ◌∙◌, subst}
 use Rattle.std.specs.Prelude.{is_some, nat_lt, slice_get}
-use Rattle.cc_linkage.specs.Linkage.{declared_by, new_declared}
-use Rattle.cc_linkage.specs.declared.linkage.DeclaredAs.{DeclaredAs}
-use Rattle.cc_numbering.specs.Names.{count_of}
+use Rattle.cc_type.specs.CcLinkage.Linkage.{declared_by, new_declared}
+use Rattle.cc_type.specs.CcLinkage.declared.linkage.DeclaredAs.{DeclaredAs}
+use Rattle.cc_type.specs.CcNumbering.Names.{count_of}
 use Rattle.cc_program.specs.declared.func.Entry.{Entry}
 use Rattle.cc_program.specs.declared.func.Func.{Func}
 use Rattle.cc_program.specs.declared.types.CType.{CType}
 use Rattle.cc_program.specs.declared.value.Leaf.{Leaf}
-use Rattle.cc_scopes.specs.Definitions.{entry_added, tentative_at, with_entry}
-use Rattle.cc_scopes.specs.State.{State, Name, bind, change_at, change_name, with_declared}
-use Rattle.cc_scopes.specs.declared.designated.Designated.TheVariants as means
-use Rattle.cc_scopes.specs.declared.unit.Declared.{Declared}
+use Rattle.cc_type.specs.CcScopes.Definitions.{entry_added, tentative_at, with_entry}
+use Rattle.cc_type.specs.CcScopes.State.{State, Name, bind, change_at, change_name, with_declared}
+use Rattle.cc_type.specs.CcScopes.declared.designated.Designated.TheVariants as means
+use Rattle.cc_type.specs.CcScopes.declared.unit.Declared.{Declared}
 use Rattle.cc_sound_terms.proofs.Behind.{last_or_front}
 use Rattle.cc_sound_terms.proofs.Growth.{get_front}
 use Rattle.cc_sound_terms.specs.Behind.{Extends, HasEntry, IsUnnamed, OfString, OfDevice, SameKind, Objects, Devices, Functions}
-use Rattle.cc_syntax.specs.Views.{View}
-use Rattle.cc_unit.specs.Entries.{both_entries}
-use Rattle.cc_unit.specs.declared.unit.UnitKind.{UnitKind}
-use Rattle.cc_unit.specs.declared.unit.UnitKind.TheVariants as kind
+use Rattle.cc_type.specs.CcSyntax.Views.{View}
+use Rattle.cc_type.specs.CcUnit.Entries.{both_entries}
+use Rattle.cc_type.specs.CcUnit.declared.unit.UnitKind.{UnitKind}
+use Rattle.cc_type.specs.CcUnit.declared.unit.UnitKind.TheVariants as kind
 
 pub some_is : {A : Type 0} (a b : A) → Some a ≡ Some b → a ≡ b
 some_is a b h = cc

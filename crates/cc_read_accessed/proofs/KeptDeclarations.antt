@@ -3,19 +3,19 @@ use Rattle.std.proofs.Common.{◌≡◌, ℕ, Bool, true, false, ◌&&◌, List,
 use Rattle.std.specs.Prelude.{slice_get, if◌then◌else◌}
 use Rattle.std.specs.List.{list_all, list_any}
 use Rattle.std.specs.Str.{bytes_eq}
-use Rattle.cc_initialisers.specs.Scalars.{scalars_from}
-use Rattle.cc_linkage.specs.Linkage.{declared, declared_by, new_declared}
-use Rattle.cc_linkage.specs.declared.linkage.DeclaredAs.{DeclaredAs}
-use Rattle.cc_linkage.specs.declared.linkage.DeclaredAs.TheVariants.{AsStatic, AsObject, AsExtern}
-use Rattle.cc_objects.specs.Categories.{entity_of, is_given, setting_of}
-use Rattle.cc_objects.specs.Linked.{object_kind, static_object, with_automatic, with_static}
-use Rattle.cc_objects.specs.Names.{name_judged}
-use Rattle.cc_objects.specs.Tags.{aliased, aliased_at, defines_untagged, first_name, in_front, is_typedef_word, sole_declared, sole_spec, sole_tag, tag_declared}
-use Rattle.cc_objects.specs.Types.{composite, composite_by, contents_in, given_incomplete, type_given}
-use Rattle.cc_objects.specs.Values.{assignments, expr_given, leaf_given, no_expr, no_leaf}
-use Rattle.cc_objects.specs.declared.category.Category.{Category}
-use Rattle.cc_objects.specs.declared.category.Category.TheVariants as declares
-use Rattle.cc_operands.specs.Qualified.{is_function_type, without_const}
+use Rattle.cc_type.specs.CcInitialisers.Scalars.{scalars_from}
+use Rattle.cc_type.specs.CcLinkage.Linkage.{declared, declared_by, new_declared}
+use Rattle.cc_type.specs.CcLinkage.declared.linkage.DeclaredAs.{DeclaredAs}
+use Rattle.cc_type.specs.CcLinkage.declared.linkage.DeclaredAs.TheVariants.{AsStatic, AsObject, AsExtern}
+use Rattle.cc_type.specs.CcObjects.Categories.{entity_of, is_given, setting_of}
+use Rattle.cc_type.specs.CcObjects.Linked.{object_kind, static_object, with_automatic, with_static}
+use Rattle.cc_type.specs.CcObjects.Names.{name_judged}
+use Rattle.cc_type.specs.CcObjects.Tags.{aliased, aliased_at, defines_untagged, first_name, in_front, is_typedef_word, sole_declared, sole_spec, sole_tag, tag_declared}
+use Rattle.cc_type.specs.CcObjects.Types.{composite, composite_by, contents_in, given_incomplete, type_given}
+use Rattle.cc_type.specs.CcObjects.Values.{assignments, expr_given, leaf_given, no_expr, no_leaf}
+use Rattle.cc_type.specs.CcObjects.declared.category.Category.{Category}
+use Rattle.cc_type.specs.CcObjects.declared.category.Category.TheVariants as declares
+use Rattle.cc_type.specs.CcOperands.Qualified.{is_function_type, without_const}
 use Rattle.cc_program.proofs.Each.{Each}
 use Rattle.cc_program.specs.declared.expr.Expr.{Expr}
 use Rattle.cc_program.specs.declared.expr.Place.{Place, Local, Static}
@@ -35,15 +35,15 @@ use Rattle.cc_read_sound.proofs.Linked.{external_definition, known_by, type_by}
 use Rattle.cc_read_sound.proofs.Lists.{linked_there}
 use Rattle.cc_read_sound.proofs.StorageClasses.{storage_is}
 use Rattle.cc_read_sound.specs.External.{AreAmong, AreEntries}
-use Rattle.cc_scopes.specs.Definitions.{defined_at, tentative_at, with_entry, with_values}
-use Rattle.cc_scopes.specs.Linked.{linked_name}
-use Rattle.cc_scopes.specs.Standings.{is_none}
-use Rattle.cc_scopes.specs.State.{State, Name, bind, change_name, layouts_of, structures_of, tagged_here, with_declared, with_unfinished}
-use Rattle.cc_scopes.specs.Structures.{tag_by}
-use Rattle.cc_scopes.specs.Verdicts.{and_then, whole}
-use Rattle.cc_scopes.specs.declared.designated.Designated.TheVariants as means
-use Rattle.cc_scopes.specs.declared.designated.Tagged.{Tagged}
-use Rattle.cc_scopes.specs.declared.unit.Declared.{Declared}
+use Rattle.cc_type.specs.CcScopes.Definitions.{defined_at, tentative_at, with_entry, with_values}
+use Rattle.cc_type.specs.CcScopes.Linked.{linked_name}
+use Rattle.cc_type.specs.CcScopes.Standings.{is_none}
+use Rattle.cc_type.specs.CcScopes.State.{State, Name, bind, change_name, layouts_of, structures_of, tagged_here, with_declared, with_unfinished}
+use Rattle.cc_type.specs.CcScopes.Structures.{tag_by}
+use Rattle.cc_type.specs.CcScopes.Verdicts.{and_then, whole}
+use Rattle.cc_type.specs.CcScopes.declared.designated.Designated.TheVariants as means
+use Rattle.cc_type.specs.CcScopes.declared.designated.Tagged.{Tagged}
+use Rattle.cc_type.specs.CcScopes.declared.unit.Declared.{Declared}
 use Rattle.cc_sound_declarations.proofs.Blocks.{Category_of, alias_if, front_if}
 use Rattle.cc_sound_declarations.proofs.Declaring.{of_extends}
 use Rattle.cc_sound_declarations.proofs.Given.{goes_as}
@@ -58,18 +58,18 @@ use Rattle.cc_sound_terms.proofs.Growth.{changed_there, get_last}
 use Rattle.cc_sound_terms.proofs.Laws.{specifiers_stand}
 use Rattle.cc_sound_terms.specs.Knowing.{Stands}
 use Rattle.cc_sound_terms.specs.Ranges.{all_fit, declr_in_range, spec_in_range}
-use Rattle.cc_specifiers.specs.Attributes.{attributes, entry_by, is_function}
-use Rattle.cc_specifiers.specs.Declarators.{declares_function, is_unbounded, type_found}
-use Rattle.cc_specifiers.specs.Modes.{modes_judged}
-use Rattle.cc_specifiers.specs.declared.attribute.Attribute.{Attribute}
-use Rattle.cc_specifiers.specs.declared.specifier.Specified.{Specified}
-use Rattle.cc_specifiers.specs.declared.storage.Where.{Where}
-use Rattle.cc_specifiers.specs.declared.storage.Where.TheVariants as place
-use Rattle.cc_syntax.proofs.Prefixes.{both_true}
-use Rattle.cc_syntax.specs.Views.{View}
-use Rattle.cc_terms.specs.InTurn.{in_turn}
-use Rattle.cc_terms.specs.Specifiers.{specified_found}
-use Rattle.cc_terms.specs.Terms.{declr_of, spec_here}
+use Rattle.cc_type.specs.CcSpecifiers.Attributes.{attributes, entry_by, is_function}
+use Rattle.cc_type.specs.CcSpecifiers.Declarators.{declares_function, is_unbounded, type_found}
+use Rattle.cc_type.specs.CcSpecifiers.Modes.{modes_judged}
+use Rattle.cc_type.specs.CcSpecifiers.declared.attribute.Attribute.{Attribute}
+use Rattle.cc_type.specs.CcSpecifiers.declared.specifier.Specified.{Specified}
+use Rattle.cc_type.specs.CcSpecifiers.declared.storage.Where.{Where}
+use Rattle.cc_type.specs.CcSpecifiers.declared.storage.Where.TheVariants as place
+use Rattle.cc_type.proofs.CcSyntax.Prefixes.{both_true}
+use Rattle.cc_type.specs.CcSyntax.Views.{View}
+use Rattle.cc_type.specs.CcTerms.InTurn.{in_turn}
+use Rattle.cc_type.specs.CcTerms.Specifiers.{specified_found}
+use Rattle.cc_type.specs.CcTerms.Terms.{declr_of, spec_here}
 use Rattle.cc_tree.specs.Scopes.{name_of}
 use Rattle.cc_tree.specs.declared.at.At.{At}
 use Rattle.cc_tree.specs.declared.tree.Spec.{Spec, out-Spec}
@@ -78,16 +78,16 @@ use Rattle.cc_tree.specs.declared.unit.Given.{Given}
 use Rattle.cc_tree.specs.declared.unit.Init.{Init}
 use Rattle.cc_tree.specs.declared.unit.Item.TheVariants as item
 use Rattle.cc_type.specs.Defined.{defined_by, defined_with}
-use Rattle.cc_typed_bodies.specs.Declarations.{declaration, declared_left, declared_with, init_allowed, init_found, init_next, inits_found, marked, named_found}
-use Rattle.cc_typed_bodies.specs.Functions.{function_refused, typedef_left, with_function}
-use Rattle.cc_typed_bodies.specs.Objects.{automatic_left, exprs_found, leaves_found, linked_defined, linked_given, static_left}
-use Rattle.cc_typed_terms.specs.Declarators.{derived_type}
-use Rattle.cc_typed_terms.specs.Located.{located}
-use Rattle.cc_typed_terms.specs.Primary.{is_intrinsic, leaves_or_none}
-use Rattle.cc_unit.specs.declared.unit.UnitKind.{UnitKind}
-use Rattle.cc_unit.specs.declared.unit.UnitKind.TheVariants as kind
-use Rattle.cc_words.specs.declared.word.Word.{Word}
-use Rattle.cc_words.specs.declared.word.Word.TheVariants as w
+use Rattle.cc_type.specs.CcTypedBodies.Declarations.{declaration, declared_left, declared_with, init_allowed, init_found, init_next, inits_found, marked, named_found}
+use Rattle.cc_type.specs.CcTypedBodies.Functions.{function_refused, typedef_left, with_function}
+use Rattle.cc_type.specs.CcTypedBodies.Objects.{automatic_left, exprs_found, leaves_found, linked_defined, linked_given, static_left}
+use Rattle.cc_type.specs.CcTypedTerms.Declarators.{derived_type}
+use Rattle.cc_type.specs.CcTypedTerms.Located.{located}
+use Rattle.cc_type.specs.CcTypedTerms.Primary.{is_intrinsic, leaves_or_none}
+use Rattle.cc_type.specs.CcUnit.declared.unit.UnitKind.{UnitKind}
+use Rattle.cc_type.specs.CcUnit.declared.unit.UnitKind.TheVariants as kind
+use Rattle.cc_program.specs.CcWords.declared.word.Word.{Word}
+use Rattle.cc_program.specs.CcWords.declared.word.Word.TheVariants as w
 
 some_none : {A : Type 0} (x : A) (o : Option A) → o ≡ None → o ≡ Some x → ⊥
 some_none x o e f = let c : None ≡ Some x = sym e ∙ f in absurd (cc)

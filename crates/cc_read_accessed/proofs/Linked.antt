@@ -22,7 +22,7 @@ use Rattle.cc_linked_programs.proofs.Shapes.{register_kept}
 use Rattle.cc_linked_programs.proofs.ThingSources.{in_mentions, in_thing, is_mention, its_id, its_thing, number_of, number_within}
 use Rattle.cc_linked_programs.proofs.ViewNumbers.{device-id, devices-in, function-id}
 use Rattle.cc_linked_programs.specs.NamedThings.{mention_of}
-use Rattle.cc_num.specs.declared.target.Target.{Target}
+use Rattle.cc_program.specs.CcNum.declared.target.Target.{Target}
 use Rattle.cc_program.specs.declared.func.Entry.{Entry}
 use Rattle.cc_program.specs.declared.func.Func.{Func}
 use Rattle.cc_program.specs.declared.object.Device.{Device}
@@ -35,18 +35,18 @@ use Rattle.cc_relocated_units.specs.Units.{is_register_type}
 use Rattle.cc_relocation.specs.Relocated.{device_with, func_with}
 use Rattle.cc_structures.proofs.Elements.{In, any-in, in-any}
 use Rattle.cc_structures.specs.Structures.{Known, Numbering, numbers_of, type_in}
-use Rattle.cc_syntax.specs.Names.{intrinsic_names}
-use Rattle.cc_syntax.specs.Normal.{has_name}
+use Rattle.cc_type.specs.CcSyntax.Names.{intrinsic_names}
+use Rattle.cc_type.specs.CcSyntax.Normal.{has_name}
 use Rattle.cc_things.specs.Mentions.{Mention, mentions}
 use Rattle.cc_things.specs.Things.{Identity, External, Numbered, Single, Thing, identity_of, is_defined, is_definition, is_device, is_device_kind, is_func_kind, name_of as mention_name, own_name, thing_of, things}
 use Rattle.cc_things.specs.declared.text.Text.{Text}
-use Rattle.cc_unit.specs.Renumbered.{stmt_renumbered}
-use Rattle.cc_unit.specs.declared.ids.Id.{Id}
-use Rattle.cc_unit.specs.declared.ids.Id.TheVariants as id
-use Rattle.cc_unit.specs.declared.ids.Ids.{Ids}
-use Rattle.cc_unit.specs.declared.unit.UnitKind.{UnitKind}
-use Rattle.cc_unit.specs.declared.unit.UnitKind.TheVariants as kind
-use Rattle.cc_unit.specs.declared.unit.UnitName.{UnitName}
+use Rattle.cc_type.specs.CcUnit.Renumbered.{stmt_renumbered}
+use Rattle.cc_type.specs.CcUnit.declared.ids.Id.{Id}
+use Rattle.cc_type.specs.CcUnit.declared.ids.Id.TheVariants as id
+use Rattle.cc_type.specs.CcUnit.declared.ids.Ids.{Ids}
+use Rattle.cc_type.specs.CcUnit.declared.unit.UnitKind.{UnitKind}
+use Rattle.cc_type.specs.CcUnit.declared.unit.UnitKind.TheVariants as kind
+use Rattle.cc_type.specs.CcUnit.declared.unit.UnitName.{UnitName}
 
 one_is : {A : Type 0} (a b : A) → Some a ≡ Some b → a ≡ b
 one_is a b h = cc

@@ -18,10 +18,10 @@ use Rattle.cc_structures.specs.Structures.{Numbering}
 use Rattle.cc_things.specs.Mentions.{Mention, mentions, mentions_from, mentions_in, mentions_of}
 use Rattle.cc_things.specs.Things.{Identity, External, Numbered, Single, Thing, identity_of, is_definition, is_device_kind, is_of, own_name, thing_of, things}
 use Rattle.cc_things.specs.declared.text.Text.{Text}
-use Rattle.cc_unit.specs.Mentioned.{mentioned}
-use Rattle.cc_unit.specs.declared.unit.UnitKind.{UnitKind}
-use Rattle.cc_unit.specs.declared.unit.UnitKind.TheVariants as kind
-use Rattle.cc_unit.specs.declared.unit.UnitName.{UnitName}
+use Rattle.cc_type.specs.CcUnit.Mentioned.{mentioned}
+use Rattle.cc_type.specs.CcUnit.declared.unit.UnitKind.{UnitKind}
+use Rattle.cc_type.specs.CcUnit.declared.unit.UnitKind.TheVariants as kind
+use Rattle.cc_type.specs.CcUnit.declared.unit.UnitName.{UnitName}
 
 -- ---- no two mentions stand at one place
 

@@ -17,10 +17,10 @@ use Rattle.cc_program.specs.declared.stmt.Case.{Case, roll-Case, fold-roll-Case}
 use Rattle.cc_program.specs.declared.stmt.Stmt.{Stmt, Do, If, While, DoWhile, For, Switch, Return, Block, roll-Stmt, map-Stmt, fold-roll-Stmt}
 use Rattle.cc_program.specs.declared.stmt.Stmt.TheOpen as is
 use Rattle.cc_program.specs.declared.stmt.Stmt.TheVariants as stmt_rolls
-use Rattle.cc_unit.specs.Renumbered.{type_renumbered, device_by, expr_step, place_step, place_renumbered, expr_renumbered, stmt_step, case_step, stmt_renumbered, case_renumbered}
-use Rattle.cc_unit.specs.declared.ids.Id.{Id}
-use Rattle.cc_unit.specs.declared.ids.Id.TheVariants as id
-use Rattle.cc_unit.specs.declared.ids.Ids.{Ids}
+use Rattle.cc_type.specs.CcUnit.Renumbered.{type_renumbered, device_by, expr_step, place_step, place_renumbered, expr_renumbered, stmt_step, case_step, stmt_renumbered, case_renumbered}
+use Rattle.cc_type.specs.CcUnit.declared.ids.Id.{Id}
+use Rattle.cc_type.specs.CcUnit.declared.ids.Id.TheVariants as id
+use Rattle.cc_type.specs.CcUnit.declared.ids.Ids.{Ids}
 
 -- the device i has the number j there
 module _ (ids : Ids) (i j : ℕ) (numbered : slice_get ids.names i ≡ Some (id.Device j)) where

@@ -7,10 +7,10 @@ use Rattle.cc_program.specs.declared.func.Func.{Func}
 use Rattle.cc_program.specs.declared.object.Device.{Device}
 use Rattle.cc_relocated_units.specs.Units.{is_register_type}
 use Rattle.cc_things.specs.Things.{is_device_kind, is_external_linkage}
-use Rattle.cc_unit.specs.declared.unit.TypedUnit.{TypedUnit}
-use Rattle.cc_unit.specs.declared.unit.UnitKind.{UnitKind}
-use Rattle.cc_unit.specs.declared.unit.UnitKind.TheVariants as kind
-use Rattle.cc_unit.specs.declared.unit.UnitName.{UnitName}
+use Rattle.cc_type.specs.CcUnit.declared.unit.TypedUnit.{TypedUnit}
+use Rattle.cc_type.specs.CcUnit.declared.unit.UnitKind.{UnitKind}
+use Rattle.cc_type.specs.CcUnit.declared.unit.UnitKind.TheVariants as kind
+use Rattle.cc_type.specs.CcUnit.declared.unit.UnitName.{UnitName}
 
 -- a function of the unit that has a body, which reads or writes the device of that number
 pub record IsAccessedIn (names : List UnitName) (i : ℕ) : Type 0 where

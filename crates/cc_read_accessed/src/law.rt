@@ -1,9 +1,9 @@
 ghost use Rattle.std.specs.Prelude.{◌≡◌, ℕ, List, Some, slice_get};
 ghost use Rattle.cc_accessed_operands.specs.Accessed.{AreDevicesAccessed};
-ghost use Rattle.cc_lex.specs.Tokens.{Tokens};
-ghost use Rattle.cc_lex.specs.declared.token.Token.{Token};
+ghost use Rattle.cc_type.specs.CcLex.Tokens.{Tokens};
+ghost use Rattle.cc_type.specs.CcLex.declared.token.Token.{Token};
 ghost use Rattle.cc_link.specs.Linked.{Links};
-ghost use Rattle.cc_num.specs.declared.target.Target.{Target};
+ghost use Rattle.cc_program.specs.CcNum.declared.target.Target.{Target};
 ghost use Rattle.cc_program.specs.declared.program.Program.{Program};
 ghost use Rattle.cc_program.specs.declared.program.Roles.{Roles};
 ghost use Rattle.cc_read.specs.Texts.{Reads};
@@ -12,7 +12,7 @@ ghost use Rattle.cc_things.specs.declared.text.Text.{Text};
 ghost use Rattle.cc_tree.specs.Sentences.{IsSentence};
 ghost use Rattle.cc_tree.specs.declared.unit.Unit.{Unit as UnitTree};
 ghost use Rattle.cc_type.specs.Typed.{IsTyped};
-ghost use Rattle.cc_unit.specs.declared.unit.TypedUnit.{TypedUnit};
+ghost use Rattle.cc_type.specs.CcUnit.declared.unit.TypedUnit.{TypedUnit};
 
 /// A device without a name is there because an expression of a function's body accesses it. The call does nothing.
 pub fn read_laws()

@@ -11,7 +11,7 @@ use Rattle.cc_linked_programs.proofs.NameLists.{in-filter_map}
 use Rattle.cc_linked_programs.proofs.ThingLists.{found-in}
 use Rattle.cc_linked_programs.proofs.ThingSources.{is_mention}
 use Rattle.cc_lower_sound.specs.Folded.{are_folded, has_folded_expressions}
-use Rattle.cc_num.specs.declared.target.Target.{Target}
+use Rattle.cc_program.specs.CcNum.declared.target.Target.{Target}
 use Rattle.cc_program.specs.declared.func.Entry.{Entry}
 use Rattle.cc_program.specs.declared.func.Func.{Func}
 use Rattle.cc_program.specs.declared.program.Program.{Program}
@@ -25,9 +25,9 @@ use Rattle.cc_structures.specs.Structures.{Known, Numbering}
 use Rattle.cc_things.specs.Mentions.{Mention, mentions}
 use Rattle.cc_things.specs.Things.{Identity, is_definition, is_of, thing_of, identities, things_in, things}
 use Rattle.cc_things.specs.declared.text.Text.{Text}
-use Rattle.cc_unit.specs.declared.ids.Ids.{Ids}
-use Rattle.cc_unit.specs.declared.unit.UnitKind.{UnitKind}
-use Rattle.cc_unit.specs.declared.unit.UnitKind.TheVariants as kind
+use Rattle.cc_type.specs.CcUnit.declared.ids.Ids.{Ids}
+use Rattle.cc_type.specs.CcUnit.declared.unit.UnitKind.{UnitKind}
+use Rattle.cc_type.specs.CcUnit.declared.unit.UnitKind.TheVariants as kind
 
 one_is : {A : Type 0} (a b : A) → Some a ≡ Some b → a ≡ b
 one_is a b h = cc

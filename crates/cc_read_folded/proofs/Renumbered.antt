@@ -5,7 +5,7 @@ use Rattle.std.specs.List.{list_all}
 use Rattle.cc_folded_bodies.proofs.Statements.{folded_case, folded_at, folded-stmt-roll, folded-case-roll}
 use Rattle.cc_folded_operands.proofs.Opened.{folding_at, place_folding_at, folding_is, place_folding_is, static_folded, device_folded}
 use Rattle.cc_lower_sound.specs.Folded.{is_optional_folded, is_folded_stmt, are_folded}
-use Rattle.cc_num.specs.declared.target.Target.{Target}
+use Rattle.cc_program.specs.CcNum.declared.target.Target.{Target}
 use Rattle.cc_program.proofs.Each.{Each}
 use Rattle.cc_program.proofs.ExprInduction.{Parts, PlaceParts, by_expr}
 use Rattle.cc_program.proofs.StmtInduction.{StmtParts, CaseParts, by_stmts}
@@ -18,11 +18,11 @@ use Rattle.cc_program.specs.declared.stmt.Case.{Case, roll-Case, fold-roll-Case}
 use Rattle.cc_program.specs.declared.stmt.Stmt.{Stmt, Do, If, While, DoWhile, For, Switch, Break, Continue, Return, Empty, Block, roll-Stmt, map-Stmt, fold-roll-Stmt}
 use Rattle.cc_program.specs.declared.stmt.Stmt.TheOpen as is
 use Rattle.cc_program.specs.declared.stmt.Stmt.TheVariants as stmt_rolls
-use Rattle.cc_syntax.specs.Folding.{Constant, Folding, operation, variable, unary_constant, binary_constant, converted_constant, both_constant, either_constant, chosen_constant, folding_of, is_folded, is_folded_place}
-use Rattle.cc_unit.specs.Renumbered.{type_renumbered, func_by, object_by, device_by, expr_step, place_step, place_renumbered, expr_renumbered, stmt_step, case_step, stmt_renumbered, case_renumbered}
-use Rattle.cc_unit.specs.declared.ids.Id.{Id}
-use Rattle.cc_unit.specs.declared.ids.Id.TheVariants as id
-use Rattle.cc_unit.specs.declared.ids.Ids.{Ids}
+use Rattle.cc_eval.specs.CcSyntax.Folding.{Constant, Folding, operation, variable, unary_constant, binary_constant, converted_constant, both_constant, either_constant, chosen_constant, folding_of, is_folded, is_folded_place}
+use Rattle.cc_type.specs.CcUnit.Renumbered.{type_renumbered, func_by, object_by, device_by, expr_step, place_step, place_renumbered, expr_renumbered, stmt_step, case_step, stmt_renumbered, case_renumbered}
+use Rattle.cc_type.specs.CcUnit.declared.ids.Id.{Id}
+use Rattle.cc_type.specs.CcUnit.declared.ids.Id.TheVariants as id
+use Rattle.cc_type.specs.CcUnit.declared.ids.Ids.{Ids}
 
 both_same : (a b c d : Bool) → a ≡ c → b ≡ d → a && b ≡ (c && d)
 both_same a b c d h k = ap (λ (z : Bool). z && b) h ∙ ap (λ (z : Bool). c && z) k

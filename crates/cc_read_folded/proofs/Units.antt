@@ -1,12 +1,12 @@
 -- The unit of a text's tree has folded expressions.
 use Rattle.std.proofs.Common.{◌≡◌, ℕ, zero, suc, true, List, [], ◌∷◌, map, Option, Some, None, refl, ap, ◌∙◌, subst}
 use Rattle.std.specs.Prelude.{slice_get}
-use Rattle.cc_lex.specs.Tokens.{Tokens}
-use Rattle.cc_lex.specs.declared.token.Token.{Token}
+use Rattle.cc_type.specs.CcLex.Tokens.{Tokens}
+use Rattle.cc_type.specs.CcLex.declared.token.Token.{Token}
 use Rattle.cc_lower_sound.specs.Folded.{are_folded}
-use Rattle.cc_num.specs.declared.target.Target.{Target}
-use Rattle.cc_numbering.specs.Names.{function_in, kind_in, name_in}
-use Rattle.cc_numbering.specs.Units.{ids_of, unit_left}
+use Rattle.cc_program.specs.CcNum.declared.target.Target.{Target}
+use Rattle.cc_type.specs.CcNumbering.Names.{function_in, kind_in, name_in}
+use Rattle.cc_type.specs.CcNumbering.Units.{ids_of, unit_left}
 use Rattle.cc_program.specs.declared.func.Entry.{Entry}
 use Rattle.cc_program.specs.declared.func.Func.{Func}
 use Rattle.cc_program.specs.declared.program.Roles.{Roles}
@@ -17,17 +17,17 @@ use Rattle.cc_read_sound.proofs.Statements.{sentence_fits}
 use Rattle.cc_read_sound.proofs.Texts.{text_fits}
 use Rattle.cc_read_sound.proofs.Units.{typed_is}
 use Rattle.cc_read_sound.specs.Entries.{AreWell, IsWellKind}
-use Rattle.cc_scopes.specs.State.{State, Name}
-use Rattle.cc_scopes.specs.declared.unit.Declared.{Declared}
+use Rattle.cc_type.specs.CcScopes.State.{State, Name}
+use Rattle.cc_type.specs.CcScopes.declared.unit.Declared.{Declared}
 use Rattle.cc_tree.specs.Sentences.{IsSentence}
 use Rattle.cc_tree.specs.declared.unit.Unit.{Unit as UnitTree}
 use Rattle.cc_type.specs.Defined.{defined_names}
 use Rattle.cc_type.specs.Typed.{IsTyped}
-use Rattle.cc_unit.specs.declared.ids.Ids.{Ids}
-use Rattle.cc_unit.specs.declared.unit.TypedUnit.{TypedUnit}
-use Rattle.cc_unit.specs.declared.unit.UnitKind.{UnitKind}
-use Rattle.cc_unit.specs.declared.unit.UnitKind.TheVariants as kind
-use Rattle.cc_unit.specs.declared.unit.UnitName.{UnitName}
+use Rattle.cc_type.specs.CcUnit.declared.ids.Ids.{Ids}
+use Rattle.cc_type.specs.CcUnit.declared.unit.TypedUnit.{TypedUnit}
+use Rattle.cc_type.specs.CcUnit.declared.unit.UnitKind.{UnitKind}
+use Rattle.cc_type.specs.CcUnit.declared.unit.UnitKind.TheVariants as kind
+use Rattle.cc_type.specs.CcUnit.declared.unit.UnitName.{UnitName}
 
 record Mapped {A B : Type 0} (f : A → B) (xs : List A) (i : ℕ) (y : B) : Type 0 where
   from : A

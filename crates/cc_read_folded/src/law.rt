@@ -1,9 +1,9 @@
 ghost use Rattle.std.specs.Prelude.{◌≡◌, ℕ, true, List, Some, map, slice_get};
-ghost use Rattle.cc_lex.specs.Tokens.{Tokens};
-ghost use Rattle.cc_lex.specs.declared.token.Token.{Token};
+ghost use Rattle.cc_type.specs.CcLex.Tokens.{Tokens};
+ghost use Rattle.cc_type.specs.CcLex.declared.token.Token.{Token};
 ghost use Rattle.cc_link.specs.Linked.{Links};
 ghost use Rattle.cc_lower_sound.specs.Folded.{are_folded, has_folded_expressions};
-ghost use Rattle.cc_num.specs.declared.target.Target.{Target};
+ghost use Rattle.cc_program.specs.CcNum.declared.target.Target.{Target};
 ghost use Rattle.cc_program.specs.declared.program.Program.{Program};
 ghost use Rattle.cc_program.specs.declared.program.Roles.{Roles};
 ghost use Rattle.cc_program.specs.declared.stmt.Stmt.{Stmt};
@@ -13,9 +13,9 @@ ghost use Rattle.cc_things.specs.declared.text.Text.{Text};
 ghost use Rattle.cc_tree.specs.Sentences.{IsSentence};
 ghost use Rattle.cc_tree.specs.declared.unit.Unit.{Unit as UnitTree};
 ghost use Rattle.cc_type.specs.Typed.{IsTyped};
-ghost use Rattle.cc_unit.specs.Renumbered.{stmt_renumbered};
-ghost use Rattle.cc_unit.specs.declared.ids.Ids.{Ids};
-ghost use Rattle.cc_unit.specs.declared.unit.TypedUnit.{TypedUnit};
+ghost use Rattle.cc_type.specs.CcUnit.Renumbered.{stmt_renumbered};
+ghost use Rattle.cc_type.specs.CcUnit.declared.ids.Ids.{Ids};
+ghost use Rattle.cc_type.specs.CcUnit.declared.unit.TypedUnit.{TypedUnit};
 
 /// Reading folds each operator whose operands are all constants, where its value does not trap (C99 6.6). The call does nothing.
 pub fn read_laws()

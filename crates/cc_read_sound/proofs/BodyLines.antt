@@ -2,8 +2,8 @@
 use Rattle.std.proofs.Common.{◌≡◌, ℕ, true, List, [], map, Some, Ok, refl, ap, sym, ◌∙◌, subst}
 use Rattle.std.specs.Prelude.{is_some}
 use Rattle.std.specs.List.{list_all}
-use Rattle.cc_syntax.specs.Views.{View}
-use Rattle.cc_syntax.specs.Expressions.{type_of}
+use Rattle.cc_type.specs.CcSyntax.Views.{View}
+use Rattle.cc_type.specs.CcSyntax.Expressions.{type_of}
 use Rattle.cc_program.specs.declared.expr.Expr.{Expr}
 use Rattle.cc_program.specs.declared.program.Roles.{Roles}
 use Rattle.cc_program.specs.declared.stmt.Stmt.{Stmt}
@@ -11,7 +11,7 @@ use Rattle.cc_program.specs.declared.types.CType.{CType}
 use Rattle.cc_read_sound.specs.Ranges.{each_fits, line_in_range}
 use Rattle.cc_sound_declarations.specs.Ranges.{decl_fits}
 use Rattle.cc_operand_types.proofs.Typed.{reduced_typed}
-use Rattle.cc_scopes.specs.State.{State, Name}
+use Rattle.cc_type.specs.CcScopes.State.{State, Name}
 use Rattle.cc_sound_declarations.proofs.Declarations.{declaration_reaches}
 use Rattle.cc_sound_declarations.proofs.Has.{given_on}
 use Rattle.cc_sound_declarations.proofs.Unconst.{lowered_reduced}
@@ -26,19 +26,19 @@ use Rattle.cc_sound_terms.proofs.Trees.{value_holds}
 use Rattle.cc_sound_terms.specs.Ranges.{fits}
 use Rattle.cc_sound_terms.specs.Typing.{Knows}
 use Rattle.cc_operand_types.specs.Reduced.{ReducedLocals}
-use Rattle.cc_specifiers.specs.declared.storage.Where.{Where}
-use Rattle.cc_specifiers.specs.declared.storage.Where.TheVariants as place
-use Rattle.cc_syntax.specs.Types.{Named}
-use Rattle.cc_terms.specs.Terms.{here}
+use Rattle.cc_type.specs.CcSpecifiers.declared.storage.Where.{Where}
+use Rattle.cc_type.specs.CcSpecifiers.declared.storage.Where.TheVariants as place
+use Rattle.cc_type.specs.CcSyntax.Types.{Named}
+use Rattle.cc_type.specs.CcTerms.Terms.{here}
 use Rattle.cc_tree.specs.declared.at.At.{At}
 use Rattle.cc_tree.specs.declared.tree.Tree.{Tree}
 use Rattle.cc_tree.specs.declared.unit.Decl.{Decl}
 use Rattle.cc_tree.specs.declared.unit.Line.{Line}
-use Rattle.cc_typed_bodies.specs.Lines.{line_here}
-use Rattle.cc_typed_bodies.specs.Meanings.{lines_found}
-use Rattle.cc_typed_bodies.specs.Parts.{value_here}
-use Rattle.cc_typed_bodies.specs.Declarations.{declaration}
-use Rattle.cc_typed_statements.specs.declared.jumps.Jumps.{Jumps}
+use Rattle.cc_type.specs.CcTypedBodies.Lines.{line_here}
+use Rattle.cc_type.specs.CcTypedBodies.Meanings.{lines_found}
+use Rattle.cc_type.specs.CcTypedBodies.Parts.{value_here}
+use Rattle.cc_type.specs.CcTypedBodies.Declarations.{declaration}
+use Rattle.cc_type.specs.CcTypedStatements.declared.jumps.Jumps.{Jumps}
 use Rattle.cc_read_sound.specs.Bodies.{ResultStands, StatementsSound}
 use Rattle.cc_read_sound.proofs.Constructs.{EachTyped, ValueHolds, DeclHolds}
 use Rattle.cc_read_sound.proofs.Induction.{body_sound}

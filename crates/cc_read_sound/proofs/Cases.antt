@@ -4,10 +4,10 @@ use Rattle.std.specs.Prelude.{if◌then◌else◌}
 use Rattle.std.specs.List.{list_all, list_any}
 use Rattle.std.proofs.lemmas.List.{append-nil}
 use Rattle.std.proofs.lemmas.List.Folds.{list_all-append}
-use Rattle.cc_num.specs.declared.int_type.IntType.{IntType}
-use Rattle.cc_num.specs.declared.target.Target.{Target}
-use Rattle.cc_operands.specs.Operands.{Operand, constancy}
-use Rattle.cc_operands.specs.declared.rule.Rule.TheVariants as rule
+use Rattle.cc_program.specs.CcNum.declared.int_type.IntType.{IntType}
+use Rattle.cc_program.specs.CcNum.declared.target.Target.{Target}
+use Rattle.cc_type.specs.CcOperands.Operands.{Operand, constancy}
+use Rattle.cc_type.specs.CcOperands.declared.rule.Rule.TheVariants as rule
 use Rattle.cc_operand_types.proofs.Constants.{converted_fits}
 use Rattle.cc_operand_types.proofs.Operands.{ok_is, must_ok}
 use Rattle.cc_operand_types.proofs.Stores.{then_ok}
@@ -15,14 +15,14 @@ use Rattle.cc_program.specs.declared.expr.Expr.{Expr}
 use Rattle.cc_program.specs.declared.stmt.Case.{Case, out-Case, out-roll-Case}
 use Rattle.cc_program.specs.declared.stmt.Stmt.{Stmt}
 use Rattle.cc_program.specs.declared.types.CType.{CType}
-use Rattle.cc_syntax.proofs.Prefixes.{both_true}
-use Rattle.cc_syntax.proofs.SameLemmas.{and_true}
-use Rattle.cc_syntax.specs.Folding.{Constant, NoConstant, Value, Traps}
-use Rattle.cc_syntax.specs.Statements.{are_apart, labels_of, label_fits, has_label}
-use Rattle.cc_syntax.specs.Values.{ValueType}
-use Rattle.cc_typed_statements.specs.Labels.{no_case, at_last, with_label, new_case, labelled, with_statements, behind, behind_empty, label_in, once, case_label, default_label}
-use Rattle.cc_typed_statements.specs.Labels.{has_label as has_this_label}
-use Rattle.cc_typed_statements.specs.declared.cases.Cases.{Cases}
+use Rattle.cc_type.proofs.CcSyntax.Prefixes.{both_true}
+use Rattle.cc_type.proofs.CcSyntax.SameLemmas.{and_true}
+use Rattle.cc_type.specs.CcSyntax.Folding.{Constant, NoConstant, Value, Traps}
+use Rattle.cc_type.specs.CcSyntax.Statements.{are_apart, labels_of, label_fits, has_label}
+use Rattle.cc_type.specs.CcSyntax.Values.{ValueType}
+use Rattle.cc_type.specs.CcTypedStatements.Labels.{no_case, at_last, with_label, new_case, labelled, with_statements, behind, behind_empty, label_in, once, case_label, default_label}
+use Rattle.cc_type.specs.CcTypedStatements.Labels.{has_label as has_this_label}
+use Rattle.cc_type.specs.CcTypedStatements.declared.cases.Cases.{Cases}
 use Rattle.cc_read_sound.specs.Sound.{AreCases, sound_list}
 use Rattle.cc_read_sound.proofs.Labels.{apart_end, any_label}
 use Rattle.cc_read_sound.proofs.Opened.{append_sound}

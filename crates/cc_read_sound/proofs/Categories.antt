@@ -3,25 +3,25 @@ use Rattle.std.proofs.Common.{◌≡◌, ◌⊎◌, inl, inr, ℕ, Bool, true, f
 use Rattle.std.specs.Prelude.{is_some, slice_get, if◌then◌else◌}
 use Rattle.std.specs.List.{list_any}
 use Rattle.std.specs.Str.{bytes_eq}
-use Rattle.cc_typed_terms.specs.Names.{new_name}
+use Rattle.cc_type.specs.CcTypedTerms.Names.{new_name}
 use Rattle.cc_read_sound.proofs.Linked.{IsDefinition, external_definition}
 use Rattle.cc_read_sound.specs.External.{AreEntries}
-use Rattle.cc_initialisers.specs.Initialisers.{here as given_here}
-use Rattle.cc_linkage.specs.Linkage.{declared, is_free_for, may_be_declared, may_be_main, repeats}
-use Rattle.cc_linkage.specs.declared.linkage.DeclaredAs.{DeclaredAs}
-use Rattle.cc_linkage.specs.declared.linkage.DeclaredAs.TheVariants.{AsStatic, AsObject, AsExtern}
-use Rattle.cc_objects.specs.Linked.{is_extern, object_declared, object_kind, static_object, with_static, with_automatic}
-use Rattle.cc_objects.specs.Names.{function_judged, is_prototype, linked_judged, local_judged, name_judged, object_judged, prototype_judged, typedef_judged}
-use Rattle.cc_objects.specs.Types.{composite, composite_by, contents_in, is_complete_or_unbounded, type_given}
-use Rattle.cc_objects.specs.Values.{assignments, expr_given, leaf_given, no_expr, no_leaf}
-use Rattle.cc_objects.specs.declared.category.Category.{Category}
-use Rattle.cc_objects.specs.declared.category.Category.TheVariants as declares
-use Rattle.cc_initialisers.specs.Scalars.{scalars_from}
+use Rattle.cc_type.specs.CcInitialisers.Initialisers.{here as given_here}
+use Rattle.cc_type.specs.CcLinkage.Linkage.{declared, is_free_for, may_be_declared, may_be_main, repeats}
+use Rattle.cc_type.specs.CcLinkage.declared.linkage.DeclaredAs.{DeclaredAs}
+use Rattle.cc_type.specs.CcLinkage.declared.linkage.DeclaredAs.TheVariants.{AsStatic, AsObject, AsExtern}
+use Rattle.cc_type.specs.CcObjects.Linked.{is_extern, object_declared, object_kind, static_object, with_static, with_automatic}
+use Rattle.cc_type.specs.CcObjects.Names.{function_judged, is_prototype, linked_judged, local_judged, name_judged, object_judged, prototype_judged, typedef_judged}
+use Rattle.cc_type.specs.CcObjects.Types.{composite, composite_by, contents_in, is_complete_or_unbounded, type_given}
+use Rattle.cc_type.specs.CcObjects.Values.{assignments, expr_given, leaf_given, no_expr, no_leaf}
+use Rattle.cc_type.specs.CcObjects.declared.category.Category.{Category}
+use Rattle.cc_type.specs.CcObjects.declared.category.Category.TheVariants as declares
+use Rattle.cc_type.specs.CcInitialisers.Scalars.{scalars_from}
 use Rattle.cc_operand_types.proofs.Operands.{must_ok, ok_is}
-use Rattle.cc_operands.specs.Qualified.{is_function_type, without_const}
-use Rattle.cc_operands.specs.Verdicts.{judge_then, must}
-use Rattle.cc_operands.specs.declared.rule.Rule.TheVariants as rule
-use Rattle.cc_typed_terms.specs.Primary.{intrinsic_named, is_intrinsic, leaves_or_none}
+use Rattle.cc_type.specs.CcOperands.Qualified.{is_function_type, without_const}
+use Rattle.cc_type.specs.CcOperands.Verdicts.{judge_then, must}
+use Rattle.cc_type.specs.CcOperands.declared.rule.Rule.TheVariants as rule
+use Rattle.cc_type.specs.CcTypedTerms.Primary.{intrinsic_named, is_intrinsic, leaves_or_none}
 use Rattle.cc_program.specs.declared.expr.Expr.{Expr}
 use Rattle.cc_program.specs.declared.expr.Place.{Place, Local, Static}
 use Rattle.cc_program.specs.declared.func.Entry.{Entry}
@@ -29,12 +29,12 @@ use Rattle.cc_program.specs.declared.func.Func.{Func}
 use Rattle.cc_program.specs.declared.program.Roles.{Roles}
 use Rattle.cc_program.specs.declared.types.CType.{CType}
 use Rattle.cc_program.specs.declared.value.Leaf.{Leaf}
-use Rattle.cc_scopes.specs.Definitions.{defined_at, tentative_at, with_values}
-use Rattle.cc_scopes.specs.Linked.{linked_name}
-use Rattle.cc_scopes.specs.State.{State, Name, bind, change_name, named_here}
-use Rattle.cc_scopes.specs.Verdicts.{whole, and_then}
-use Rattle.cc_scopes.specs.declared.designated.Designated.TheVariants as means
-use Rattle.cc_scopes.specs.declared.unit.Declared.{Declared}
+use Rattle.cc_type.specs.CcScopes.Definitions.{defined_at, tentative_at, with_values}
+use Rattle.cc_type.specs.CcScopes.Linked.{linked_name}
+use Rattle.cc_type.specs.CcScopes.State.{State, Name, bind, change_name, named_here}
+use Rattle.cc_type.specs.CcScopes.Verdicts.{whole, and_then}
+use Rattle.cc_type.specs.CcScopes.declared.designated.Designated.TheVariants as means
+use Rattle.cc_type.specs.CcScopes.declared.unit.Declared.{Declared}
 use Rattle.cc_sound_declarations.proofs.Initialised.{broken_last}
 use Rattle.cc_sound_declarations.proofs.Left.{IsInitialised, initial_is, initialised_goes, object_stays}
 use Rattle.cc_sound_declarations.proofs.Lists.{initialised_fits}
@@ -50,18 +50,18 @@ use Rattle.cc_read_sound.specs.Entries.{AreWell, IsDone, IsSettled, is_function_
 use Rattle.cc_sound_terms.proofs.Founds.{answer_is, then_found, whole_found, then_judged}
 use Rattle.cc_sound_terms.proofs.Growth.{changed_there, get_last}
 use Rattle.cc_sound_terms.specs.Behind.{SameKind}
-use Rattle.cc_specifiers.specs.Attributes.{entry_by}
-use Rattle.cc_specifiers.specs.Modes.{modes_judged}
-use Rattle.cc_specifiers.specs.declared.attribute.Attribute.{Attribute}
-use Rattle.cc_syntax.proofs.Prefixes.{both_true}
-use Rattle.cc_syntax.specs.Views.{View}
+use Rattle.cc_type.specs.CcSpecifiers.Attributes.{entry_by}
+use Rattle.cc_type.specs.CcSpecifiers.Modes.{modes_judged}
+use Rattle.cc_type.specs.CcSpecifiers.declared.attribute.Attribute.{Attribute}
+use Rattle.cc_type.proofs.CcSyntax.Prefixes.{both_true}
+use Rattle.cc_type.specs.CcSyntax.Views.{View}
 use Rattle.cc_tree.specs.declared.at.At.{At}
 use Rattle.cc_tree.specs.declared.unit.Given.{Given}
-use Rattle.cc_typed_bodies.specs.Declarations.{declared_left, declared_with}
-use Rattle.cc_typed_bodies.specs.Functions.{function_left, function_refused, typedef_left, with_function}
-use Rattle.cc_typed_bodies.specs.Objects.{automatic_left, exprs_found, leaves_found, linked_given, linked_left, static_left}
-use Rattle.cc_unit.specs.declared.unit.UnitKind.{UnitKind}
-use Rattle.cc_unit.specs.declared.unit.UnitKind.TheVariants as kind
+use Rattle.cc_type.specs.CcTypedBodies.Declarations.{declared_left, declared_with}
+use Rattle.cc_type.specs.CcTypedBodies.Functions.{function_left, function_refused, typedef_left, with_function}
+use Rattle.cc_type.specs.CcTypedBodies.Objects.{automatic_left, exprs_found, leaves_found, linked_given, linked_left, static_left}
+use Rattle.cc_type.specs.CcUnit.declared.unit.UnitKind.{UnitKind}
+use Rattle.cc_type.specs.CcUnit.declared.unit.UnitKind.TheVariants as kind
 
 module _ (v : View) (roles : Roles) (defined : List Name) (P : CType → Func → Type 0) where
   abbrev All : List Name → State → Type 0

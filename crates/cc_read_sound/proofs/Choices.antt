@@ -2,28 +2,28 @@
 use Rattle.std.proofs.Common.{◌≡◌, Bool, true, false, List, [], ◌∷◌, Option, Some, None, Ok, Err, refl, ap, ◌∙◌, subst}
 use Rattle.std.specs.Prelude.{is_some, if◌then◌else◌}
 use Rattle.std.specs.List.{list_all}
-use Rattle.cc_num.specs.declared.target.Target.{Target}
-use Rattle.cc_operands.specs.Assignments.{assigned}
-use Rattle.cc_operands.specs.Operands.{Operand}
-use Rattle.cc_operands.specs.Verdicts.{must}
-use Rattle.cc_operands.specs.declared.rule.Rule.TheVariants as rule
+use Rattle.cc_program.specs.CcNum.declared.target.Target.{Target}
+use Rattle.cc_type.specs.CcOperands.Assignments.{assigned}
+use Rattle.cc_type.specs.CcOperands.Operands.{Operand}
+use Rattle.cc_type.specs.CcOperands.Verdicts.{must}
+use Rattle.cc_type.specs.CcOperands.declared.rule.Rule.TheVariants as rule
 use Rattle.cc_operand_types.proofs.Operands.{ok_is, must_ok, value_ok, structure_ok, any_type}
 use Rattle.cc_operand_types.proofs.Rolls.{type-Seq}
 use Rattle.cc_operand_types.proofs.Stores.{then_ok, assigned_typed}
 use Rattle.cc_operand_types.specs.Typed.{IsTypedOperand, IsAssigned, stands}
-use Rattle.cc_syntax.specs.Views.{View}
-use Rattle.cc_syntax.specs.Expressions.{type_of}
+use Rattle.cc_type.specs.CcSyntax.Views.{View}
+use Rattle.cc_type.specs.CcSyntax.Expressions.{type_of}
 use Rattle.cc_program.specs.declared.expr.Expr.{Expr, Seq}
 use Rattle.cc_program.specs.declared.stmt.Stmt.{Stmt, If, While, DoWhile, For, Break, Continue, Return}
 use Rattle.cc_program.specs.declared.types.CType.{CType}
-use Rattle.cc_syntax.proofs.Prefixes.{both_true}
-use Rattle.cc_syntax.specs.Statements.{is_condition, is_typed, is_optional_condition}
-use Rattle.cc_syntax.specs.Types.{Named}
-use Rattle.cc_syntax.specs.Values.{ValueType, is_scalar, is_void, scalar_value, is_assignable, is_assignable_some}
-use Rattle.cc_typed_statements.specs.Conditions.{condition as condition_of, maybe_condition, effect, joined, joined_to, then_one}
-use Rattle.cc_typed_statements.specs.Jumps.{break_of, continue_of, returned, returned_by}
-use Rattle.cc_typed_statements.specs.Statements.{if_of, while_of, do_of, for_of}
-use Rattle.cc_typed_statements.specs.declared.jumps.Jumps.{Jumps}
+use Rattle.cc_type.proofs.CcSyntax.Prefixes.{both_true}
+use Rattle.cc_type.specs.CcSyntax.Statements.{is_condition, is_typed, is_optional_condition}
+use Rattle.cc_type.specs.CcSyntax.Types.{Named}
+use Rattle.cc_type.specs.CcSyntax.Values.{ValueType, is_scalar, is_void, scalar_value, is_assignable, is_assignable_some}
+use Rattle.cc_type.specs.CcTypedStatements.Conditions.{condition as condition_of, maybe_condition, effect, joined, joined_to, then_one}
+use Rattle.cc_type.specs.CcTypedStatements.Jumps.{break_of, continue_of, returned, returned_by}
+use Rattle.cc_type.specs.CcTypedStatements.Statements.{if_of, while_of, do_of, for_of}
+use Rattle.cc_type.specs.CcTypedStatements.declared.jumps.Jumps.{Jumps}
 use Rattle.cc_read_sound.specs.Sound.{Keeps, AreSound, sound_list}
 use Rattle.cc_read_sound.proofs.KeptStatements.{condition_kept, reduced_assigned}
 use Rattle.cc_read_sound.proofs.Opened.{if_sound, while_sound, do_while_sound, for_sound, break_sound, continue_sound, return_sound}

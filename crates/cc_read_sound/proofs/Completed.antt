@@ -1,17 +1,17 @@
 -- The type of an object is complete where its initialiser begins, or its element's is, where that gives the bound (C99 6.7.5.2, 1; 6.7.8, 3 and 22).
 use Rattle.std.proofs.Common.{◌≡◌, ℕ, zero, suc, Bool, true, false, not, ◌&&◌, ◌||◌, List, [], ◌∷◌, map, Option, Some, None, Ok, Err, refl, ap, sym, ◌∙◌, subst, arith, leb-true, lt-ltb}
 use Rattle.std.specs.Prelude.{nat_le, nat_lt, slice_get, if◌then◌else◌}
-use Rattle.cc_initialisers.specs.Initialisers.{bound_given}
-use Rattle.cc_linkage.specs.Linkage.{is_visible, agrees, same_element, may_be_by, may_be, agrees_with, repeats, is_free_for, may_be_declared, may_be_main}
-use Rattle.cc_linkage.specs.declared.linkage.DeclaredAs.{DeclaredAs}
-use Rattle.cc_num.specs.declared.target.Target.{Target}
-use Rattle.cc_objects.specs.Names.{object_judged, linked_judged}
-use Rattle.cc_objects.specs.Types.{element_or, element_type, with_bound, contents_in, type_given, is_object_in, is_complete_or_unbounded, composite_of, composite_by, composite}
+use Rattle.cc_type.specs.CcInitialisers.Initialisers.{bound_given}
+use Rattle.cc_type.specs.CcLinkage.Linkage.{is_visible, agrees, same_element, may_be_by, may_be, agrees_with, repeats, is_free_for, may_be_declared, may_be_main}
+use Rattle.cc_type.specs.CcLinkage.declared.linkage.DeclaredAs.{DeclaredAs}
+use Rattle.cc_program.specs.CcNum.declared.target.Target.{Target}
+use Rattle.cc_type.specs.CcObjects.Names.{object_judged, linked_judged}
+use Rattle.cc_type.specs.CcObjects.Types.{element_or, element_type, with_bound, contents_in, type_given, is_object_in, is_complete_or_unbounded, composite_of, composite_by, composite}
 use Rattle.cc_operand_types.proofs.Operands.{must_ok}
-use Rattle.cc_operands.specs.Qualified.{plain, unqualified}
-use Rattle.cc_operands.specs.Verdicts.{must}
-use Rattle.cc_operands.specs.declared.rule.Rule.{Rule}
-use Rattle.cc_operands.specs.declared.rule.Rule.TheVariants as rule
+use Rattle.cc_type.specs.CcOperands.Qualified.{plain, unqualified}
+use Rattle.cc_type.specs.CcOperands.Verdicts.{must}
+use Rattle.cc_type.specs.CcOperands.declared.rule.Rule.{Rule}
+use Rattle.cc_type.specs.CcOperands.declared.rule.Rule.TheVariants as rule
 use Rattle.cc_program.specs.declared.program.Roles.{Roles}
 use Rattle.cc_program.specs.declared.types.CType.{CType}
 use Rattle.cc_program.specs.declared.types.Shape.{Shape, Pointer, Array, out-Shape}
@@ -19,27 +19,27 @@ use Rattle.cc_program.specs.declared.types.Shape.TheOpen as shape
 use Rattle.cc_program.specs.declared.types.Shape.TheVariants.{outs-Array, outs-Pointer, outs-Func}
 use Rattle.cc_program.specs.declared.types.Sig.{Sig, roll-Sig}
 use Rattle.cc_program.specs.declared.types.Structure.{Structure}
-use Rattle.cc_scopes.specs.Linked.{linked_name}
-use Rattle.cc_scopes.specs.State.{State, Name, Scope, structures_of, layouts_of, named_here}
-use Rattle.cc_scopes.specs.declared.unit.Declared.{Declared}
+use Rattle.cc_type.specs.CcScopes.Linked.{linked_name}
+use Rattle.cc_type.specs.CcScopes.State.{State, Name, Scope, structures_of, layouts_of, named_here}
+use Rattle.cc_type.specs.CcScopes.declared.unit.Declared.{Declared}
 use Rattle.cc_sound_declarations.proofs.Names.{object_is}
 use Rattle.cc_sound_terms.proofs.Founds.{then_judged}
-use Rattle.cc_specifiers.specs.Bounds.{is_bound}
-use Rattle.cc_specifiers.specs.Declarators.{function_to, bound_or_none, derive_one, derive, broken_unless, breach, fault_or, derived_further, derived, type_found, is_unbounded_shape, is_unbounded}
-use Rattle.cc_specifiers.specs.Objects.{is_object, size_of}
-use Rattle.cc_specifiers.specs.Places.{JudgedAt}
-use Rattle.cc_specifiers.specs.declared.derivation.Allowed.{Allowed}
-use Rattle.cc_specifiers.specs.declared.derivation.Derivation.{Derivation}
-use Rattle.cc_specifiers.specs.declared.derivation.Derivation.TheVariants as to
-use Rattle.cc_specifiers.specs.declared.derivation.Parameter.{Parameter}
-use Rattle.cc_syntax.proofs.Prefixes.{both_true}
-use Rattle.cc_syntax.proofs.SameLemmas.{compared}
-use Rattle.cc_syntax.proofs.TypeLayouts.{parts_complete, complete-opens}
-use Rattle.cc_syntax.specs.Initial.{bound_shape}
-use Rattle.cc_syntax.specs.Kinds.{is_small}
-use Rattle.cc_syntax.specs.SameTypes.{same_type}
-use Rattle.cc_syntax.specs.Types.{complete_shape, is_complete}
-use Rattle.cc_syntax.specs.declared.sizes.Layout.{Layout}
+use Rattle.cc_type.specs.CcSpecifiers.Bounds.{is_bound}
+use Rattle.cc_type.specs.CcSpecifiers.Declarators.{function_to, bound_or_none, derive_one, derive, broken_unless, breach, fault_or, derived_further, derived, type_found, is_unbounded_shape, is_unbounded}
+use Rattle.cc_type.specs.CcSpecifiers.Objects.{is_object, size_of}
+use Rattle.cc_type.specs.CcSpecifiers.Places.{JudgedAt}
+use Rattle.cc_type.specs.CcSpecifiers.declared.derivation.Allowed.{Allowed}
+use Rattle.cc_type.specs.CcSpecifiers.declared.derivation.Derivation.{Derivation}
+use Rattle.cc_type.specs.CcSpecifiers.declared.derivation.Derivation.TheVariants as to
+use Rattle.cc_type.specs.CcSpecifiers.declared.derivation.Parameter.{Parameter}
+use Rattle.cc_type.proofs.CcSyntax.Prefixes.{both_true}
+use Rattle.cc_type.proofs.CcSyntax.SameLemmas.{compared}
+use Rattle.cc_type.proofs.CcSyntax.TypeLayouts.{parts_complete, complete-opens}
+use Rattle.cc_type.specs.CcSyntax.Initial.{bound_shape}
+use Rattle.cc_type.specs.CcSyntax.Kinds.{is_small}
+use Rattle.cc_type.specs.CcSyntax.SameTypes.{same_type}
+use Rattle.cc_type.specs.CcSyntax.Types.{complete_shape, is_complete}
+use Rattle.cc_type.specs.CcSyntax.declared.sizes.Layout.{Layout}
 use Rattle.cc_tree.specs.declared.at.At.{At}
 use Rattle.cc_tree.specs.declared.unit.Given.{Given}
 

@@ -2,47 +2,47 @@
 use Rattle.std.proofs.Common.{◌≡◌, ℕ, ℤ, Bool, true, false, List, [], ◌∷◌, ◌++◌, map, Option, Some, None, Ok, Err, refl, sym, ◌∙◌, subst}
 use Rattle.std.specs.Prelude.{is_some, if◌then◌else◌}
 use Rattle.std.specs.List.{list_all}
-use Rattle.cc_num.specs.declared.int_type.IntType.{IntType}
-use Rattle.cc_operands.specs.Operands.{Operand}
-use Rattle.cc_operands.specs.Verdicts.{Judged}
-use Rattle.cc_operands.specs.declared.rule.Rule.{Rule}
-use Rattle.cc_operands.specs.declared.rule.Rule.TheVariants as rule
+use Rattle.cc_program.specs.CcNum.declared.int_type.IntType.{IntType}
+use Rattle.cc_type.specs.CcOperands.Operands.{Operand}
+use Rattle.cc_type.specs.CcOperands.Verdicts.{Judged}
+use Rattle.cc_type.specs.CcOperands.declared.rule.Rule.{Rule}
+use Rattle.cc_type.specs.CcOperands.declared.rule.Rule.TheVariants as rule
 use Rattle.cc_operand_types.specs.Typed.{IsTypedOperand, stands}
-use Rattle.cc_syntax.specs.Views.{View}
-use Rattle.cc_syntax.specs.Expressions.{type_of}
+use Rattle.cc_type.specs.CcSyntax.Views.{View}
+use Rattle.cc_type.specs.CcSyntax.Expressions.{type_of}
 use Rattle.cc_program.proofs.Each.{Each}
 use Rattle.cc_program.specs.declared.expr.Expr.{Expr}
 use Rattle.cc_program.specs.declared.program.Roles.{Roles}
 use Rattle.cc_program.specs.declared.stmt.Stmt.{Stmt, Do, Empty, Block}
 use Rattle.cc_program.specs.declared.types.CType.{CType}
-use Rattle.cc_scopes.specs.State.{State, Name, empty, entered}
-use Rattle.cc_scopes.specs.Verdicts.{Found, Meaning, whole, and_then, maybe_found}
+use Rattle.cc_type.specs.CcScopes.State.{State, Name, empty, entered}
+use Rattle.cc_type.specs.CcScopes.Verdicts.{Found, Meaning, whole, and_then, maybe_found}
 use Rattle.cc_read_sound.specs.Sound.{Keeps, AreSound, AreCases}
 use Rattle.cc_read_sound.proofs.Choices.{effect_sound, chosen_sound, repeated_sound, done_sound, counted_sound, broken_by, continued_by, returned_sound, joined_sound, sequences}
 use Rattle.cc_read_sound.proofs.Cases.{none_sound, case_sound, default_sound, behind_sound, behind_empty_sound}
 use Rattle.cc_read_sound.proofs.KeptStatements.{has_type}
 use Rattle.cc_read_sound.proofs.Opened.{all_do_sound, append_sound, do_sound, empty_sound, block_sound, body_sound}
 use Rattle.cc_read_sound.proofs.Switches.{switched_sound}
-use Rattle.cc_syntax.specs.Statements.{is_typed}
-use Rattle.cc_specifiers.specs.declared.storage.Where.TheVariants as place
-use Rattle.cc_syntax.specs.Types.{Named}
-use Rattle.cc_syntax.specs.Values.{ValueType, scalar_value}
+use Rattle.cc_type.specs.CcSyntax.Statements.{is_typed}
+use Rattle.cc_type.specs.CcSpecifiers.declared.storage.Where.TheVariants as place
+use Rattle.cc_type.specs.CcSyntax.Types.{Named}
+use Rattle.cc_type.specs.CcSyntax.Values.{ValueType, scalar_value}
 use Rattle.cc_tree.specs.declared.at.At.{At}
 use Rattle.cc_tree.specs.declared.tree.Tree.{Tree}
 use Rattle.cc_tree.specs.declared.unit.Decl.{Decl}
 use Rattle.cc_tree.specs.declared.unit.First.{First}
 use Rattle.cc_tree.specs.declared.unit.First.TheVariants as first
-use Rattle.cc_typed_bodies.specs.Lines.{misplaced, label_found, misplaced_case, case_found, if_found, while_found, do_found, switch_found, for_found}
-use Rattle.cc_typed_bodies.specs.Meanings.{LineMeaning, done, scoped, line_found, lines_found, block_found, body_inside, body_found, maybe_body, item_found, items_found, cases_inside, not_switched, switch_body, empty_item, unlabelled}
-use Rattle.cc_typed_bodies.specs.Parts.{value_here, effect_found, expression_found, return_found, declared_found, first_found}
-use Rattle.cc_typed_bodies.specs.Declarations.{declaration}
-use Rattle.cc_typed_statements.specs.Conditions.{body_of, effect, joined}
-use Rattle.cc_typed_statements.specs.Jumps.{in_loop, in_switch, break_of, continue_of, returned}
-use Rattle.cc_typed_statements.specs.Labels.{no_case, behind, behind_empty, labelled, case_label, default_label, label_done}
-use Rattle.cc_typed_statements.specs.Statements.{if_of, while_of, do_of, for_of}
-use Rattle.cc_typed_statements.specs.Switch.{switch_type, switch_of}
-use Rattle.cc_typed_statements.specs.declared.cases.Cases.{Cases}
-use Rattle.cc_typed_statements.specs.declared.jumps.Jumps.{Jumps}
+use Rattle.cc_type.specs.CcTypedBodies.Lines.{misplaced, label_found, misplaced_case, case_found, if_found, while_found, do_found, switch_found, for_found}
+use Rattle.cc_type.specs.CcTypedBodies.Meanings.{LineMeaning, done, scoped, line_found, lines_found, block_found, body_inside, body_found, maybe_body, item_found, items_found, cases_inside, not_switched, switch_body, empty_item, unlabelled}
+use Rattle.cc_type.specs.CcTypedBodies.Parts.{value_here, effect_found, expression_found, return_found, declared_found, first_found}
+use Rattle.cc_type.specs.CcTypedBodies.Declarations.{declaration}
+use Rattle.cc_type.specs.CcTypedStatements.Conditions.{body_of, effect, joined}
+use Rattle.cc_type.specs.CcTypedStatements.Jumps.{in_loop, in_switch, break_of, continue_of, returned}
+use Rattle.cc_type.specs.CcTypedStatements.Labels.{no_case, behind, behind_empty, labelled, case_label, default_label, label_done}
+use Rattle.cc_type.specs.CcTypedStatements.Statements.{if_of, while_of, do_of, for_of}
+use Rattle.cc_type.specs.CcTypedStatements.Switch.{switch_type, switch_of}
+use Rattle.cc_type.specs.CcTypedStatements.declared.cases.Cases.{Cases}
+use Rattle.cc_type.specs.CcTypedStatements.declared.jumps.Jumps.{Jumps}
 use Rattle.cc_sound_declarations.specs.Reached.{GoesOn, Reached}
 use Rattle.cc_read_sound.proofs.Scopes.{scoped_reached}
 use Rattle.cc_sound_declarations.proofs.Reaching.{as_well, chained, answered, judged, in_turn_reached, maybe_reached}

@@ -1,7 +1,7 @@
 -- A type without the const of its objects is not const, where it may stand.
 use Rattle.std.proofs.Common.{◌≡◌, ℕ, Bool, true, false, ◌||◌, List, [], ◌∷◌, map, Option, Some, None, refl, ap, sym, ◌∙◌}
 use Rattle.cc_operand_types.proofs.Requalified.{IsElement, arrayed, element_kind, kind_at, opens_as}
-use Rattle.cc_operands.specs.Qualified.{at_element, no_const, without_const}
+use Rattle.cc_type.specs.CcOperands.Qualified.{at_element, no_const, without_const}
 use Rattle.cc_program.proofs.QualifierLemmas.{const-opens, parts_const}
 use Rattle.cc_program.proofs.TypeInduction.{with_shape, TypeParts, by_type}
 use Rattle.cc_program.specs.Qualifiers.{is_const, of_element}
@@ -10,8 +10,8 @@ use Rattle.cc_program.specs.declared.types.Shape.{Shape, Array, out-Shape, roll-
 use Rattle.cc_program.specs.declared.types.Shape.TheOpen as shape
 use Rattle.cc_program.specs.declared.types.Shape.TheVariants.{outs-Array}
 use Rattle.cc_program.specs.declared.types.Sig.{Sig}
-use Rattle.cc_syntax.specs.Kinds.{Kind, is_object_type, qualified_kind}
-use Rattle.cc_syntax.specs.Views.{View, kind_in}
+use Rattle.cc_type.specs.CcSyntax.Kinds.{Kind, is_object_type, qualified_kind}
+use Rattle.cc_type.specs.CcSyntax.Views.{View, kind_in}
 
 const_at : (t : CType) (x : shape.Shape-F Shape CType Sig) → out-Shape t.shape ≡ x → is_const t ≡ (t.constant || of_element (parts_const x))
 const_at t x e = const-opens t ∙ ap (λ y. t.constant || of_element (parts_const y)) e

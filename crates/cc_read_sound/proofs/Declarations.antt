@@ -3,17 +3,17 @@ use Rattle.std.proofs.Common.{◌≡◌, ◌⊎◌, inl, inr, ℕ, Bool, true, f
 use Rattle.std.specs.Prelude.{flat_map, is_some, if◌then◌else◌}
 use Rattle.std.specs.List.{list_all, list_any}
 use Rattle.std.specs.Str.{bytes_eq}
-use Rattle.cc_typed_terms.specs.Declarators.{derived_type}
-use Rattle.cc_typed_terms.specs.Located.{located}
+use Rattle.cc_type.specs.CcTypedTerms.Declarators.{derived_type}
+use Rattle.cc_type.specs.CcTypedTerms.Located.{located}
 use Rattle.cc_read_sound.proofs.DeclaratorNames.{declarator_name}
-use Rattle.cc_linkage.specs.declared.linkage.DeclaredAs.{DeclaredAs}
-use Rattle.cc_objects.specs.Categories.{category_by, entity_of, setting_of}
-use Rattle.cc_objects.specs.Linked.{is_extern}
-use Rattle.cc_objects.specs.Names.{name_judged}
-use Rattle.cc_objects.specs.Tags.{aliased, aliased_at, defines_untagged, first_name, in_front, is_typedef_word, sole_declared, sole_spec, sole_tag, tag_declared}
-use Rattle.cc_objects.specs.declared.category.Category.{Category}
-use Rattle.cc_objects.specs.declared.category.Category.TheVariants as declares
-use Rattle.cc_operands.specs.Qualified.{is_function_type}
+use Rattle.cc_type.specs.CcLinkage.declared.linkage.DeclaredAs.{DeclaredAs}
+use Rattle.cc_type.specs.CcObjects.Categories.{category_by, entity_of, setting_of}
+use Rattle.cc_type.specs.CcObjects.Linked.{is_extern}
+use Rattle.cc_type.specs.CcObjects.Names.{name_judged}
+use Rattle.cc_type.specs.CcObjects.Tags.{aliased, aliased_at, defines_untagged, first_name, in_front, is_typedef_word, sole_declared, sole_spec, sole_tag, tag_declared}
+use Rattle.cc_type.specs.CcObjects.declared.category.Category.{Category}
+use Rattle.cc_type.specs.CcObjects.declared.category.Category.TheVariants as declares
+use Rattle.cc_type.specs.CcOperands.Qualified.{is_function_type}
 use Rattle.cc_program.proofs.Each.{Each}
 use Rattle.cc_program.specs.declared.expr.Expr.{Expr}
 use Rattle.cc_program.specs.declared.func.Func.{Func}
@@ -22,12 +22,12 @@ use Rattle.cc_program.specs.declared.types.CType.{CType}
 use Rattle.cc_program.specs.declared.types.Shape.{Shape, out-Shape}
 use Rattle.cc_program.specs.declared.types.Shape.TheOpen as shape
 use Rattle.cc_program.specs.declared.types.Sig.{Sig}
-use Rattle.cc_scopes.specs.Standings.{is_none}
-use Rattle.cc_scopes.specs.State.{State, Name, structures_of, layouts_of}
-use Rattle.cc_scopes.specs.State as states
-use Rattle.cc_scopes.specs.Structures.{tag_by}
-use Rattle.cc_scopes.specs.Verdicts.{whole, and_then}
-use Rattle.cc_scopes.specs.declared.designated.Tagged.{Tagged}
+use Rattle.cc_type.specs.CcScopes.Standings.{is_none}
+use Rattle.cc_type.specs.CcScopes.State.{State, Name, structures_of, layouts_of}
+use Rattle.cc_type.specs.CcScopes.State as states
+use Rattle.cc_type.specs.CcScopes.Structures.{tag_by}
+use Rattle.cc_type.specs.CcScopes.Verdicts.{whole, and_then}
+use Rattle.cc_type.specs.CcScopes.declared.designated.Tagged.{Tagged}
 use Rattle.cc_sound_declarations.proofs.Forms.{form_is, function_derived}
 use Rattle.cc_sound_declarations.proofs.Names.{name_is}
 use Rattle.cc_sound_declarations.specs.Ranges.{decl_fits, init_fits, value_fits}
@@ -39,24 +39,24 @@ use Rattle.cc_sound_terms.proofs.Founds.{answer_is, then_found, whole_found, loc
 use Rattle.cc_sound_terms.proofs.Laws.{specifiers_stand}
 use Rattle.cc_sound_terms.proofs.Types.{derived_holds}
 use Rattle.cc_sound_terms.specs.Ranges.{all_fit, declr_in_range, spec_in_range}
-use Rattle.cc_specifiers.specs.Attributes.{attributes, entry_by}
-use Rattle.cc_specifiers.specs.Declarators.{declares_function, form_of, type_found}
-use Rattle.cc_specifiers.specs.declared.attribute.Attribute.{Attribute}
-use Rattle.cc_specifiers.specs.declared.specifier.Specified.{Specified}
-use Rattle.cc_specifiers.specs.declared.storage.Where.{Where}
-use Rattle.cc_syntax.proofs.Prefixes.{both_true}
-use Rattle.cc_syntax.specs.Views.{View}
-use Rattle.cc_terms.specs.InTurn.{in_turn}
-use Rattle.cc_terms.specs.Specifiers.{specified_found}
-use Rattle.cc_terms.specs.Terms.{spec_here, declr_of}
+use Rattle.cc_type.specs.CcSpecifiers.Attributes.{attributes, entry_by}
+use Rattle.cc_type.specs.CcSpecifiers.Declarators.{declares_function, form_of, type_found}
+use Rattle.cc_type.specs.CcSpecifiers.declared.attribute.Attribute.{Attribute}
+use Rattle.cc_type.specs.CcSpecifiers.declared.specifier.Specified.{Specified}
+use Rattle.cc_type.specs.CcSpecifiers.declared.storage.Where.{Where}
+use Rattle.cc_type.proofs.CcSyntax.Prefixes.{both_true}
+use Rattle.cc_type.specs.CcSyntax.Views.{View}
+use Rattle.cc_type.specs.CcTerms.InTurn.{in_turn}
+use Rattle.cc_type.specs.CcTerms.Specifiers.{specified_found}
+use Rattle.cc_type.specs.CcTerms.Terms.{spec_here, declr_of}
 use Rattle.cc_tree.specs.Scopes.{name_of}
 use Rattle.cc_tree.specs.declared.at.At.{At}
 use Rattle.cc_tree.specs.declared.tree.Spec.{Spec, out-Spec}
 use Rattle.cc_tree.specs.declared.unit.Decl.{Decl}
 use Rattle.cc_tree.specs.declared.unit.Given.{Given}
 use Rattle.cc_tree.specs.declared.unit.Init.{Init}
-use Rattle.cc_typed_bodies.specs.Declarations.{marked, init_allowed, declared_left, declared_with, named_found, init_found, init_next, inits_found, declaration}
-use Rattle.cc_words.specs.declared.word.Word.{Word}
+use Rattle.cc_type.specs.CcTypedBodies.Declarations.{marked, init_allowed, declared_left, declared_with, named_found, init_found, init_next, inits_found, declaration}
+use Rattle.cc_program.specs.CcWords.declared.word.Word.{Word}
 
 pub append_nothing : {A : Type 0} (xs : List A) → xs ++ [] ≡ xs
 append_nothing [] = refl

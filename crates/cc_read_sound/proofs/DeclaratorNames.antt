@@ -1,26 +1,26 @@
 -- The name that a declarator gives is that of its tree, by induction over declarators.
 use Rattle.std.proofs.Common.{◌≡◌, ℕ, true, false, not, ◌||◌, [], List, Option, Some, None, Ok, ap, sym, ◌∙◌, subst}
-use Rattle.cc_typed_terms.specs.Located.{located}
-use Rattle.cc_num.specs.declared.target.Target.{Target}
-use Rattle.cc_operands.specs.Operands.{Operand}
-use Rattle.cc_typed_terms.specs.Values.{value_found}
+use Rattle.cc_type.specs.CcTypedTerms.Located.{located}
+use Rattle.cc_program.specs.CcNum.declared.target.Target.{Target}
+use Rattle.cc_type.specs.CcOperands.Operands.{Operand}
+use Rattle.cc_type.specs.CcTypedTerms.Values.{value_found}
 use Rattle.cc_program.specs.declared.program.Roles.{Roles}
-use Rattle.cc_scopes.specs.State.{State, Scope}
-use Rattle.cc_scopes.specs.Verdicts.{whole, and_then}
+use Rattle.cc_type.specs.CcScopes.State.{State, Scope}
+use Rattle.cc_type.specs.CcScopes.Verdicts.{whole, and_then}
 use Rattle.cc_sound_declarations.proofs.Forms.{unbounded_is, bounded_is}
 use Rattle.cc_sound_terms.proofs.Founds.{answer_is, then_found, whole_found}
 use Rattle.cc_sound_terms.proofs.TreeInduction.{bare_declr, by_declr}
-use Rattle.cc_specifiers.specs.Derivations.{with_derivation, is_next_to_name, suffix_found, pointer_derivation}
-use Rattle.cc_specifiers.specs.declared.derivation.Allowed.{Allowed}
-use Rattle.cc_specifiers.specs.declared.derivation.Declarator.{Declarator}
-use Rattle.cc_specifiers.specs.declared.derivation.Derivation.TheVariants as to
-use Rattle.cc_terms.specs.Constants.{enumr_step}
-use Rattle.cc_terms.specs.Declarators.{without_bound, with_bound, bounded, declr_step, params_step, param_step, type_name_step}
-use Rattle.cc_terms.specs.Expressions.{tree_step}
-use Rattle.cc_terms.specs.Meanings.{TreeMeaning, DeclrMeaning, ParamsMeaning, ParamMeaning, SpecMeaning, MembersMeaning, EnumrMeaning, TypeNameMeaning}
-use Rattle.cc_terms.specs.Members.{members_step}
-use Rattle.cc_terms.specs.Specifiers.{spec_step}
-use Rattle.cc_terms.specs.Terms.{tree_of, declr_of, params_of, param_of, spec_of, members_of, enumr_of, type_name_of}
+use Rattle.cc_type.specs.CcSpecifiers.Derivations.{with_derivation, is_next_to_name, suffix_found, pointer_derivation}
+use Rattle.cc_type.specs.CcSpecifiers.declared.derivation.Allowed.{Allowed}
+use Rattle.cc_type.specs.CcSpecifiers.declared.derivation.Declarator.{Declarator}
+use Rattle.cc_type.specs.CcSpecifiers.declared.derivation.Derivation.TheVariants as to
+use Rattle.cc_type.specs.CcTerms.Constants.{enumr_step}
+use Rattle.cc_type.specs.CcTerms.Declarators.{without_bound, with_bound, bounded, declr_step, params_step, param_step, type_name_step}
+use Rattle.cc_type.specs.CcTerms.Expressions.{tree_step}
+use Rattle.cc_type.specs.CcTerms.Meanings.{TreeMeaning, DeclrMeaning, ParamsMeaning, ParamMeaning, SpecMeaning, MembersMeaning, EnumrMeaning, TypeNameMeaning}
+use Rattle.cc_type.specs.CcTerms.Members.{members_step}
+use Rattle.cc_type.specs.CcTerms.Specifiers.{spec_step}
+use Rattle.cc_type.specs.CcTerms.Terms.{tree_of, declr_of, params_of, param_of, spec_of, members_of, enumr_of, type_name_of}
 use Rattle.cc_tree.specs.Scopes.{declr_name, name_of}
 use Rattle.cc_tree.specs.declared.at.At.{At}
 use Rattle.cc_tree.specs.declared.tree.Declr.{Declr, roll-Declr, map-Declr, fold-roll-Declr}
@@ -32,7 +32,7 @@ use Rattle.cc_tree.specs.declared.tree.Params.{Params}
 use Rattle.cc_tree.specs.declared.tree.Spec.{Spec}
 use Rattle.cc_tree.specs.declared.tree.Tree.{Tree}
 use Rattle.cc_tree.specs.declared.tree.TypeName.{TypeName}
-use Rattle.cc_words.specs.declared.word.Word.{Word}
+use Rattle.cc_program.specs.CcWords.declared.word.Word.{Word}
 
 abbrev NameIs : Option (List ℕ) → DeclrMeaning → Type 0
 NameIs x m = (allowed : Allowed) (at : ℕ) (s : State) (r : Declarator Scope × State) → m allowed at s ≡ Ok r → r.0.name ≡ x

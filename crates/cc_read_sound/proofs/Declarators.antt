@@ -3,8 +3,8 @@ use Rattle.std.proofs.Common.{◌≡◌, ℕ, Bool, true, false, not, ◌&&◌, 
 use Rattle.std.specs.Prelude.{is_some, slice_get, if◌then◌else◌}
 use Rattle.std.specs.List.{list_any}
 use Rattle.std.specs.Str.{bytes_eq}
-use Rattle.cc_typed_terms.specs.Declarators.{derived_type}
-use Rattle.cc_typed_terms.specs.Located.{located}
+use Rattle.cc_type.specs.CcTypedTerms.Declarators.{derived_type}
+use Rattle.cc_type.specs.CcTypedTerms.Located.{located}
 use Rattle.cc_read_sound.proofs.DeclaratorNames.{declarator_name}
 use Rattle.cc_read_sound.proofs.ExternalEntries.{entries_stay}
 use Rattle.cc_read_sound.proofs.Linked.{IsDefinition, type_by, known_by, external_definition}
@@ -16,21 +16,21 @@ use Rattle.cc_read_sound.proofs.InitialisedNames.{one_more, one_changed, one_tol
 use Rattle.cc_read_sound.proofs.Strings.{expression_initial}
 use Rattle.cc_read_sound.proofs.Through.{contents_back, knows_over, knows_behind, knows_until}
 use Rattle.cc_read_sound.specs.Initialises.{Initialises}
-use Rattle.cc_initialisers.specs.Contents.{Contents}
-use Rattle.cc_initialisers.specs.Initialisers.{here as given_here, initialised}
-use Rattle.cc_initialisers.specs.Scalars.{scalars_from}
-use Rattle.cc_linkage.specs.Linkage.{new_declared, declared_by, declared}
-use Rattle.cc_linkage.specs.declared.linkage.DeclaredAs.{DeclaredAs}
-use Rattle.cc_linkage.specs.declared.linkage.DeclaredAs.TheVariants.{AsStatic, AsObject, AsExtern}
-use Rattle.cc_objects.specs.Categories.{entity_of}
-use Rattle.cc_objects.specs.Linked.{is_extern, object_kind, static_object, with_static, with_automatic}
-use Rattle.cc_objects.specs.Names.{linked_judged, name_judged}
-use Rattle.cc_objects.specs.Types.{contents_in, type_given, given_incomplete, is_complete_or_unbounded, composite_by, composite}
-use Rattle.cc_objects.specs.Values.{leaf_given, expr_given, no_leaf, no_expr, assignments}
-use Rattle.cc_objects.specs.declared.category.Category.{Category}
-use Rattle.cc_objects.specs.declared.category.Category.TheVariants as declares
-use Rattle.cc_operands.specs.Qualified.{is_function_type, without_const}
-use Rattle.cc_typed_terms.specs.Primary.{is_intrinsic, leaves_or_none}
+use Rattle.cc_type.specs.CcInitialisers.Contents.{Contents}
+use Rattle.cc_type.specs.CcInitialisers.Initialisers.{here as given_here, initialised}
+use Rattle.cc_type.specs.CcInitialisers.Scalars.{scalars_from}
+use Rattle.cc_type.specs.CcLinkage.Linkage.{new_declared, declared_by, declared}
+use Rattle.cc_type.specs.CcLinkage.declared.linkage.DeclaredAs.{DeclaredAs}
+use Rattle.cc_type.specs.CcLinkage.declared.linkage.DeclaredAs.TheVariants.{AsStatic, AsObject, AsExtern}
+use Rattle.cc_type.specs.CcObjects.Categories.{entity_of}
+use Rattle.cc_type.specs.CcObjects.Linked.{is_extern, object_kind, static_object, with_static, with_automatic}
+use Rattle.cc_type.specs.CcObjects.Names.{linked_judged, name_judged}
+use Rattle.cc_type.specs.CcObjects.Types.{contents_in, type_given, given_incomplete, is_complete_or_unbounded, composite_by, composite}
+use Rattle.cc_type.specs.CcObjects.Values.{leaf_given, expr_given, no_leaf, no_expr, assignments}
+use Rattle.cc_type.specs.CcObjects.declared.category.Category.{Category}
+use Rattle.cc_type.specs.CcObjects.declared.category.Category.TheVariants as declares
+use Rattle.cc_type.specs.CcOperands.Qualified.{is_function_type, without_const}
+use Rattle.cc_type.specs.CcTypedTerms.Primary.{is_intrinsic, leaves_or_none}
 use Rattle.cc_program.proofs.Each.{Each}
 use Rattle.cc_program.specs.declared.expr.Expr.{Expr}
 use Rattle.cc_program.specs.declared.expr.Place.{Place, Local, Static}
@@ -39,12 +39,12 @@ use Rattle.cc_program.specs.declared.program.Roles.{Roles}
 use Rattle.cc_program.specs.declared.types.CType.{CType}
 use Rattle.cc_program.specs.declared.types.Shape.{out-Shape}
 use Rattle.cc_program.specs.declared.value.Leaf.{Leaf}
-use Rattle.cc_scopes.specs.Definitions.{tentative_at, defined_at, with_entry, with_values}
-use Rattle.cc_scopes.specs.Linked.{linked_name}
-use Rattle.cc_scopes.specs.State.{State, Name, Scope, KnownStructure, structures_of, layouts_of, bind, with_declared, with_unfinished, change_at, change_name}
-use Rattle.cc_scopes.specs.Verdicts.{whole, and_then}
-use Rattle.cc_scopes.specs.declared.designated.Designated.TheVariants as means
-use Rattle.cc_scopes.specs.declared.unit.Declared.{Declared}
+use Rattle.cc_type.specs.CcScopes.Definitions.{tentative_at, defined_at, with_entry, with_values}
+use Rattle.cc_type.specs.CcScopes.Linked.{linked_name}
+use Rattle.cc_type.specs.CcScopes.State.{State, Name, Scope, KnownStructure, structures_of, layouts_of, bind, with_declared, with_unfinished, change_at, change_name}
+use Rattle.cc_type.specs.CcScopes.Verdicts.{whole, and_then}
+use Rattle.cc_type.specs.CcScopes.declared.designated.Designated.TheVariants as means
+use Rattle.cc_type.specs.CcScopes.declared.unit.Declared.{Declared}
 use Rattle.cc_operand_types.specs.Typed.{is_pointed_kind}
 use Rattle.cc_sound_declarations.proofs.Blocks.{Category_of}
 use Rattle.cc_sound_declarations.proofs.Given.{goes_as}
@@ -66,27 +66,27 @@ use Rattle.cc_sound_terms.specs.Knowing.{Stands, KnowsAs}
 use Rattle.cc_sound_terms.specs.Ordered.{IsOrdered}
 use Rattle.cc_sound_terms.specs.Ranges.{declr_in_range}
 use Rattle.cc_sound_terms.specs.Typing.{Knows}
-use Rattle.cc_specifiers.specs.Attributes.{attributes, entry_by}
-use Rattle.cc_specifiers.specs.Declarators.{is_unbounded, type_found}
-use Rattle.cc_specifiers.specs.Modes.{modes_judged}
-use Rattle.cc_specifiers.specs.declared.attribute.Attribute.{Attribute}
-use Rattle.cc_specifiers.specs.declared.specifier.Specified.{Specified}
-use Rattle.cc_specifiers.specs.declared.storage.Where.{Where}
-use Rattle.cc_syntax.proofs.Prefixes.{both_true}
-use Rattle.cc_syntax.specs.Initial.{IsInitial}
-use Rattle.cc_syntax.specs.Types.{Named, is_complete}
-use Rattle.cc_syntax.specs.Values.{object_place}
-use Rattle.cc_syntax.specs.Views.{View, kind_in}
-use Rattle.cc_terms.specs.Terms.{declr_of}
+use Rattle.cc_type.specs.CcSpecifiers.Attributes.{attributes, entry_by}
+use Rattle.cc_type.specs.CcSpecifiers.Declarators.{is_unbounded, type_found}
+use Rattle.cc_type.specs.CcSpecifiers.Modes.{modes_judged}
+use Rattle.cc_type.specs.CcSpecifiers.declared.attribute.Attribute.{Attribute}
+use Rattle.cc_type.specs.CcSpecifiers.declared.specifier.Specified.{Specified}
+use Rattle.cc_type.specs.CcSpecifiers.declared.storage.Where.{Where}
+use Rattle.cc_type.proofs.CcSyntax.Prefixes.{both_true}
+use Rattle.cc_type.specs.CcSyntax.Initial.{IsInitial}
+use Rattle.cc_type.specs.CcSyntax.Types.{Named, is_complete}
+use Rattle.cc_type.specs.CcSyntax.Values.{object_place}
+use Rattle.cc_type.specs.CcSyntax.Views.{View, kind_in}
+use Rattle.cc_type.specs.CcTerms.Terms.{declr_of}
 use Rattle.cc_tree.specs.Scopes.{name_of}
 use Rattle.cc_tree.specs.declared.at.At.{At}
 use Rattle.cc_tree.specs.declared.unit.Given.{Given}
 use Rattle.cc_tree.specs.declared.unit.Init.{Init}
-use Rattle.cc_typed_bodies.specs.Declarations.{marked, init_allowed, declared_left, declared_with, named_found, init_found}
-use Rattle.cc_typed_bodies.specs.Functions.{typedef_left, with_function, function_refused, function_left}
-use Rattle.cc_typed_bodies.specs.Objects.{leaves_found, exprs_found, linked_defined, linked_given, linked_left, static_left, automatic_left}
-use Rattle.cc_unit.specs.declared.unit.UnitKind.{UnitKind}
-use Rattle.cc_unit.specs.declared.unit.UnitKind.TheVariants as kind
+use Rattle.cc_type.specs.CcTypedBodies.Declarations.{marked, init_allowed, declared_left, declared_with, named_found, init_found}
+use Rattle.cc_type.specs.CcTypedBodies.Functions.{typedef_left, with_function, function_refused, function_left}
+use Rattle.cc_type.specs.CcTypedBodies.Objects.{leaves_found, exprs_found, linked_defined, linked_given, linked_left, static_left, automatic_left}
+use Rattle.cc_type.specs.CcUnit.declared.unit.UnitKind.{UnitKind}
+use Rattle.cc_type.specs.CcUnit.declared.unit.UnitKind.TheVariants as kind
 
 some_is : {A : Type 0} (a b : A) → Some a ≡ Some b → a ≡ b
 some_is a b h = cc

@@ -4,12 +4,12 @@ use Rattle.std.specs.Prelude.{is_some, nat_lt, slice_get, if◌then◌else◌}
 use Rattle.std.specs.List.{list_any}
 use Rattle.std.specs.Str.{bytes_eq}
 use Rattle.cc_read_sound.specs.External.{AreEntries}
-use Rattle.cc_linkage.specs.Linkage.{agrees, agrees_with, declared, declared_by, is_free_for, is_main_shape, is_visible, linkage_of, may_be, may_be_by, may_be_declared, may_be_main, new_declared, repeats}
-use Rattle.cc_linkage.specs.declared.linkage.DeclaredAs.{DeclaredAs}
-use Rattle.cc_linkage.specs.declared.linkage.DeclaredAs.TheVariants.{AsStatic, AsObject, AsExtern}
-use Rattle.cc_objects.specs.Linked.{device_by, is_extern, object_kind, static_object}
-use Rattle.cc_operands.specs.Qualified.{is_function_type}
-use Rattle.cc_typed_terms.specs.Primary.{is_intrinsic}
+use Rattle.cc_type.specs.CcLinkage.Linkage.{agrees, agrees_with, declared, declared_by, is_free_for, is_main_shape, is_visible, linkage_of, may_be, may_be_by, may_be_declared, may_be_main, new_declared, repeats}
+use Rattle.cc_type.specs.CcLinkage.declared.linkage.DeclaredAs.{DeclaredAs}
+use Rattle.cc_type.specs.CcLinkage.declared.linkage.DeclaredAs.TheVariants.{AsStatic, AsObject, AsExtern}
+use Rattle.cc_type.specs.CcObjects.Linked.{device_by, is_extern, object_kind, static_object}
+use Rattle.cc_type.specs.CcOperands.Qualified.{is_function_type}
+use Rattle.cc_type.specs.CcTypedTerms.Primary.{is_intrinsic}
 use Rattle.cc_program.specs.declared.func.Entry.{Entry}
 use Rattle.cc_program.specs.declared.func.Entry.TheVariants as entry
 use Rattle.cc_program.specs.declared.func.Func.{Func}
@@ -19,11 +19,11 @@ use Rattle.cc_program.specs.declared.types.Shape.{Shape, out-Shape}
 use Rattle.cc_program.specs.declared.types.Shape.TheOpen as shape
 use Rattle.cc_program.specs.declared.types.Sig.{Sig}
 use Rattle.cc_program.specs.declared.value.Leaf.{Leaf}
-use Rattle.cc_scopes.specs.Definitions.{defined_at, entry_added, tentative_at, with_entry, with_values}
-use Rattle.cc_scopes.specs.Linked.{is_linked, linked_name}
-use Rattle.cc_scopes.specs.State.{State, Name, bind, change_name, named_here, with_declared}
-use Rattle.cc_scopes.specs.declared.designated.Designated.TheVariants as means
-use Rattle.cc_scopes.specs.declared.unit.Declared.{Declared}
+use Rattle.cc_type.specs.CcScopes.Definitions.{defined_at, entry_added, tentative_at, with_entry, with_values}
+use Rattle.cc_type.specs.CcScopes.Linked.{is_linked, linked_name}
+use Rattle.cc_type.specs.CcScopes.State.{State, Name, bind, change_name, named_here, with_declared}
+use Rattle.cc_type.specs.CcScopes.declared.designated.Designated.TheVariants as means
+use Rattle.cc_type.specs.CcScopes.declared.unit.Declared.{Declared}
 use Rattle.cc_read_sound.proofs.Entries.{IsFunctionAt, entered_is}
 use Rattle.cc_read_sound.specs.Definitions.{AreApart}
 use Rattle.cc_read_sound.proofs.Kept.{MayTell, Settles, changed_well, more_well, same_well}
@@ -31,18 +31,18 @@ use Rattle.cc_read_sound.proofs.Lists.{IsLinkedAt, KeepsName, has_own_name, link
 use Rattle.cc_read_sound.specs.Entries.{AreWell, IsAwaited, IsDone, IsSettled, IsWell, IsWellFunction, IsWellKind, IsWellObject, is_counted, is_function_kind}
 use Rattle.cc_relocated_units.specs.Units.{is_attributed, is_integer_shape, is_main_name, is_register_type}
 use Rattle.cc_sound_declarations.specs.Entries.{IsEntryOf}
-use Rattle.cc_specifiers.specs.Attributes.{entry_by, is_interrupt, is_said, is_signal}
-use Rattle.cc_specifiers.specs.declared.attribute.Attribute.{Attribute}
-use Rattle.cc_syntax.proofs.Prefixes.{both_true}
-use Rattle.cc_syntax.specs.Views.{View}
+use Rattle.cc_type.specs.CcSpecifiers.Attributes.{entry_by, is_interrupt, is_said, is_signal}
+use Rattle.cc_type.specs.CcSpecifiers.declared.attribute.Attribute.{Attribute}
+use Rattle.cc_type.proofs.CcSyntax.Prefixes.{both_true}
+use Rattle.cc_type.specs.CcSyntax.Views.{View}
 use Rattle.cc_things.specs.Things.{is_external_linkage}
 use Rattle.cc_tree.specs.declared.at.At.{At}
 use Rattle.cc_type.specs.Functions.{entered_function}
-use Rattle.cc_typed_bodies.specs.Functions.{with_function}
-use Rattle.cc_unit.specs.Entries.{both_entries}
-use Rattle.cc_unit.specs.declared.unit.Linkage.{Linkage}
-use Rattle.cc_unit.specs.declared.unit.UnitKind.{UnitKind}
-use Rattle.cc_unit.specs.declared.unit.UnitKind.TheVariants as kind
+use Rattle.cc_type.specs.CcTypedBodies.Functions.{with_function}
+use Rattle.cc_type.specs.CcUnit.Entries.{both_entries}
+use Rattle.cc_type.specs.CcUnit.declared.unit.Linkage.{Linkage}
+use Rattle.cc_type.specs.CcUnit.declared.unit.UnitKind.{UnitKind}
+use Rattle.cc_type.specs.CcUnit.declared.unit.UnitKind.TheVariants as kind
 
 some_none : {A : Type 0} (x : A) → Some x ≡ None → ⊥
 some_none x h = cc

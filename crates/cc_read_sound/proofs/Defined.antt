@@ -3,7 +3,7 @@ use Rattle.std.proofs.Common.{◌≡◌, ◌⊎◌, inl, inr, ℕ, zero, suc, Bo
 use Rattle.std.specs.Prelude.{drop, nat_eq, slice_get}
 use Rattle.std.specs.List.{list_all}
 use Rattle.cc_operand_types.specs.Typed.{MembersStand}
-use Rattle.cc_operands.specs.Qualified.{unqualified}
+use Rattle.cc_type.specs.CcOperands.Qualified.{unqualified}
 use Rattle.cc_program.proofs.Each.{Each}
 use Rattle.cc_program.specs.declared.func.Entry.{Entry}
 use Rattle.cc_program.specs.declared.func.Func.{Func}
@@ -14,9 +14,9 @@ use Rattle.cc_program.specs.declared.types.Shape.{out-Shape}
 use Rattle.cc_program.specs.declared.types.Shape.TheOpen as shape
 use Rattle.cc_program.specs.declared.types.Sig.{Sig, out-Sig}
 use Rattle.cc_read_sound.specs.Ranges.{each_fits, line_in_range}
-use Rattle.cc_scopes.specs.Definitions.{defined_at}
-use Rattle.cc_scopes.specs.State.{State, Name, Scope, change_name, designated, entered, left, outer_scopes, tagged, with_locals}
-use Rattle.cc_scopes.specs.declared.unit.Declared.{Declared}
+use Rattle.cc_type.specs.CcScopes.Definitions.{defined_at}
+use Rattle.cc_type.specs.CcScopes.State.{State, Name, Scope, change_name, designated, entered, left, outer_scopes, tagged, with_locals}
+use Rattle.cc_type.specs.CcScopes.declared.unit.Declared.{Declared}
 use Rattle.cc_read_sound.proofs.Entries.{IsFunctionAt, functions_stay}
 use Rattle.cc_read_sound.proofs.Locals.{parameters_first, parameters_lowered, parameters_behind, lowered_locals, plain_automatic, objects_behind}
 use Rattle.cc_read_sound.proofs.Signatures.{function_params, parameter_kinds, result_kind, result_may_stand, signature_is}
@@ -36,20 +36,20 @@ use Rattle.cc_sound_terms.specs.Knowing.{KnowsNames, ObjectsStand}
 use Rattle.cc_sound_terms.specs.Ordered.{IsOrdered}
 use Rattle.cc_sound_terms.specs.Standing.{ParameterStands}
 use Rattle.cc_sound_terms.specs.Typing.{Knows, KnowsTypes}
-use Rattle.cc_specifiers.specs.Declarators.{function_to}
-use Rattle.cc_specifiers.specs.declared.derivation.Parameter.{Parameter}
-use Rattle.cc_syntax.specs.Kinds.{is_object_type, is_sig}
-use Rattle.cc_syntax.specs.Sound.{are_parameters, is_automatic}
-use Rattle.cc_syntax.specs.Types.{Named}
-use Rattle.cc_syntax.specs.Views.{View, kind_in}
+use Rattle.cc_type.specs.CcSpecifiers.Declarators.{function_to}
+use Rattle.cc_type.specs.CcSpecifiers.declared.derivation.Parameter.{Parameter}
+use Rattle.cc_type.specs.CcSyntax.Kinds.{is_object_type, is_sig}
+use Rattle.cc_type.specs.CcSyntax.Sound.{are_parameters, is_automatic}
+use Rattle.cc_type.specs.CcSyntax.Types.{Named}
+use Rattle.cc_type.specs.CcSyntax.Views.{View, kind_in}
 use Rattle.cc_tree.specs.declared.at.At.{At}
 use Rattle.cc_tree.specs.declared.unit.Line.{Line}
 use Rattle.cc_type.specs.Functions.{defined_as, entry_at, function_defined, function_of, locals_of, signature_of}
-use Rattle.cc_typed_bodies.specs.Lines.{line_here}
-use Rattle.cc_typed_bodies.specs.Meanings.{lines_found}
-use Rattle.cc_typed_statements.specs.Jumps.{no_jumps}
-use Rattle.cc_unit.specs.declared.unit.UnitKind.{UnitKind}
-use Rattle.cc_unit.specs.declared.unit.UnitKind.TheVariants as kind
+use Rattle.cc_type.specs.CcTypedBodies.Lines.{line_here}
+use Rattle.cc_type.specs.CcTypedBodies.Meanings.{lines_found}
+use Rattle.cc_type.specs.CcTypedStatements.Jumps.{no_jumps}
+use Rattle.cc_type.specs.CcUnit.declared.unit.UnitKind.{UnitKind}
+use Rattle.cc_type.specs.CcUnit.declared.unit.UnitKind.TheVariants as kind
 
 some_is : {A : Type 0} (a b : A) → Some a ≡ Some b → a ≡ b
 some_is a b h = cc

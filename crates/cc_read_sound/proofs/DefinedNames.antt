@@ -5,9 +5,9 @@ use Rattle.std.specs.Prelude.{is_some, option_to_list, if◌then◌else◌}
 use Rattle.std.specs.List.{list_any, flat_map}
 use Rattle.std.specs.Str.{bytes_eq}
 use Rattle.cc_read_sound.specs.External.{AreAmong}
-use Rattle.cc_objects.specs.Categories.{is_given}
+use Rattle.cc_type.specs.CcObjects.Categories.{is_given}
 use Rattle.cc_program.proofs.Each.{Each}
-use Rattle.cc_scopes.specs.State.{Name}
+use Rattle.cc_type.specs.CcScopes.State.{Name}
 use Rattle.cc_sound_declarations.proofs.Storage.{none_given}
 use Rattle.cc_tree.specs.Scopes.{name_of}
 use Rattle.cc_tree.specs.declared.at.At.{At}
@@ -16,8 +16,8 @@ use Rattle.cc_tree.specs.declared.unit.Init.{Init}
 use Rattle.cc_tree.specs.declared.unit.Item.{Item}
 use Rattle.cc_tree.specs.declared.unit.Unit.{Unit as UnitTree}
 use Rattle.cc_type.specs.Defined.{name_in, given_in, defined_with, defined_by, defined_names}
-use Rattle.cc_words.specs.declared.word.Word.{Word}
-use Rattle.cc_words.specs.declared.word.Word.TheVariants as w
+use Rattle.cc_program.specs.CcWords.declared.word.Word.{Word}
+use Rattle.cc_program.specs.CcWords.declared.word.Word.TheVariants as w
 
 -- ---- names among others
 

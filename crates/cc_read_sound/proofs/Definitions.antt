@@ -2,9 +2,9 @@
 use Rattle.std.proofs.Common.{◌≡◌, ◌⊎◌, inl, inr, ℕ, Bool, true, false, ◌&&◌, List, [], ◌∷◌, length, Option, Some, None, Ok, refl, ap, sym, ◌∙◌, subst}
 use Rattle.std.specs.Prelude.{is_some, slice_get}
 use Rattle.cc_read_sound.specs.External.{AreEntries}
-use Rattle.cc_linkage.specs.Linkage.{declared, is_main_shape}
-use Rattle.cc_linkage.specs.declared.linkage.DeclaredAs.{DeclaredAs}
-use Rattle.cc_operands.specs.Qualified.{is_function_type}
+use Rattle.cc_type.specs.CcLinkage.Linkage.{declared, is_main_shape}
+use Rattle.cc_type.specs.CcLinkage.declared.linkage.DeclaredAs.{DeclaredAs}
+use Rattle.cc_type.specs.CcOperands.Qualified.{is_function_type}
 use Rattle.cc_program.specs.declared.func.Entry.{Entry}
 use Rattle.cc_program.specs.declared.func.Func.{Func}
 use Rattle.cc_program.specs.declared.program.Roles.{Roles}
@@ -12,10 +12,10 @@ use Rattle.cc_program.specs.declared.types.CType.{CType}
 use Rattle.cc_program.specs.declared.types.Shape.{out-Shape}
 use Rattle.cc_program.specs.declared.types.Sig.{out-Sig}
 use Rattle.cc_read_sound.specs.Ranges.{item_fits}
-use Rattle.cc_scopes.specs.Definitions.{defined_at, entry_in}
-use Rattle.cc_scopes.specs.State.{State, Name, change_name, entered, left, with_locals}
-use Rattle.cc_scopes.specs.Verdicts.{Checked, checked}
-use Rattle.cc_scopes.specs.declared.unit.Declared.{Declared}
+use Rattle.cc_type.specs.CcScopes.Definitions.{defined_at, entry_in}
+use Rattle.cc_type.specs.CcScopes.State.{State, Name, change_name, entered, left, with_locals}
+use Rattle.cc_type.specs.CcScopes.Verdicts.{Checked, checked}
+use Rattle.cc_type.specs.CcScopes.declared.unit.Declared.{Declared}
 use Rattle.cc_read_sound.proofs.Functions.{declared_in, definition_told, derived_in, inner_fits, is_function_here, specified}
 use Rattle.cc_read_sound.specs.Definitions.{AreApart}
 use Rattle.cc_read_sound.proofs.Parts.{IsFound, IsNamed, named_is}
@@ -28,8 +28,8 @@ use Rattle.cc_relocated_units.specs.Units.{is_attributed, is_main_name}
 use Rattle.cc_sound_terms.proofs.Founds.{answer_is}
 use Rattle.cc_sound_terms.specs.Behind.{EntryKept, SameKind, Objects, Devices, Functions}
 use Rattle.cc_sound_terms.specs.Ordered.{IsOrdered}
-use Rattle.cc_specifiers.specs.Attributes.{entry_by}
-use Rattle.cc_syntax.specs.Views.{View}
+use Rattle.cc_type.specs.CcSpecifiers.Attributes.{entry_by}
+use Rattle.cc_type.specs.CcSyntax.Views.{View}
 use Rattle.cc_tree.specs.declared.at.At.{At}
 use Rattle.cc_tree.specs.declared.tree.Attr.{Attr}
 use Rattle.cc_tree.specs.declared.tree.Declr.{Declr}
@@ -37,9 +37,9 @@ use Rattle.cc_tree.specs.declared.tree.Spec.{Spec}
 use Rattle.cc_tree.specs.declared.unit.Item.TheVariants as item
 use Rattle.cc_tree.specs.declared.unit.Line.{Line}
 use Rattle.cc_type.specs.Functions.{asked_by, defined_as, entered_function, entry_at, entry_of, function_defined, function_of, locals_of, named_function, signature_of}
-use Rattle.cc_typed_statements.specs.Jumps.{no_jumps}
-use Rattle.cc_unit.specs.declared.unit.UnitKind.{UnitKind}
-use Rattle.cc_unit.specs.declared.unit.UnitKind.TheVariants as kind
+use Rattle.cc_type.specs.CcTypedStatements.Jumps.{no_jumps}
+use Rattle.cc_type.specs.CcUnit.declared.unit.UnitKind.{UnitKind}
+use Rattle.cc_type.specs.CcUnit.declared.unit.UnitKind.TheVariants as kind
 
 was_function : (k : UnitKind) (by : Option Entry) (f : Option Func) → SameKind k (kind.Func by f) → (by' : Option Entry) × (f' : Option Func) × (k ≡ kind.Func by' f')
 was_function _ by f h = by_same _ (kind.Func by f) h refl

@@ -1,10 +1,10 @@
 -- The entry of a function that is defined: new, or of a function that was declared with this type (C99 6.2.7, 2; 6.9.1).
 use Rattle.std.proofs.Common.{◌≡◌, ℕ, zero, suc, Bool, true, false, not, ◌&&◌, ◌||◌, List, [], ◌∷◌, ◌++◌, length, Option, Some, None, refl, ap, sym, ◌∙◌, subst}
 use Rattle.std.specs.Prelude.{slice_get}
-use Rattle.cc_linkage.specs.Linkage.{agrees, agrees_with, declared, declared_by, is_free_for, is_visible, may_be, may_be_by, may_be_declared, new_declared, repeats}
-use Rattle.cc_linkage.specs.declared.linkage.DeclaredAs.{DeclaredAs}
-use Rattle.cc_num.specs.declared.target.Target.{Target}
-use Rattle.cc_operands.specs.Qualified.{is_function_type}
+use Rattle.cc_type.specs.CcLinkage.Linkage.{agrees, agrees_with, declared, declared_by, is_free_for, is_visible, may_be, may_be_by, may_be_declared, new_declared, repeats}
+use Rattle.cc_type.specs.CcLinkage.declared.linkage.DeclaredAs.{DeclaredAs}
+use Rattle.cc_program.specs.CcNum.declared.target.Target.{Target}
+use Rattle.cc_type.specs.CcOperands.Qualified.{is_function_type}
 use Rattle.cc_program.specs.declared.func.Entry.{Entry}
 use Rattle.cc_program.specs.declared.func.Func.{Func}
 use Rattle.cc_program.specs.declared.types.CType.{CType}
@@ -12,22 +12,22 @@ use Rattle.cc_program.specs.declared.types.Shape.{Shape, out-Shape}
 use Rattle.cc_program.specs.declared.types.Shape.TheOpen as shape
 use Rattle.cc_program.specs.declared.types.Sig.{Sig}
 use Rattle.cc_program.specs.declared.value.Leaf.{Leaf}
-use Rattle.cc_scopes.specs.Definitions.{entry_added, with_entry}
-use Rattle.cc_scopes.specs.Linked.{linked_name}
-use Rattle.cc_scopes.specs.State.{State, Name, change_at, named_here}
-use Rattle.cc_scopes.specs.declared.unit.Declared.{Declared}
+use Rattle.cc_type.specs.CcScopes.Definitions.{entry_added, with_entry}
+use Rattle.cc_type.specs.CcScopes.Linked.{linked_name}
+use Rattle.cc_type.specs.CcScopes.State.{State, Name, change_at, named_here}
+use Rattle.cc_type.specs.CcScopes.declared.unit.Declared.{Declared}
 use Rattle.cc_read_sound.specs.External.{AreEntries}
 use Rattle.cc_read_sound.specs.Definitions.{AreApart}
 use Rattle.cc_sound_declarations.specs.Entries.{IsEntryOf}
 use Rattle.cc_sound_terms.proofs.Growth.{changed_there, get_last}
 use Rattle.cc_sound_terms.specs.Behind.{SameKind, Objects, Devices, Functions}
-use Rattle.cc_syntax.proofs.Prefixes.{both_true}
-use Rattle.cc_syntax.proofs.SameLemmas.{compared}
-use Rattle.cc_syntax.specs.SameTypes.{is_func_shape, same_type}
+use Rattle.cc_type.proofs.CcSyntax.Prefixes.{both_true}
+use Rattle.cc_type.proofs.CcSyntax.SameLemmas.{compared}
+use Rattle.cc_type.specs.CcSyntax.SameTypes.{is_func_shape, same_type}
 use Rattle.cc_type.specs.Functions.{entered_function}
-use Rattle.cc_unit.specs.Entries.{both_entries}
-use Rattle.cc_unit.specs.declared.unit.UnitKind.{UnitKind}
-use Rattle.cc_unit.specs.declared.unit.UnitKind.TheVariants as kind
+use Rattle.cc_type.specs.CcUnit.Entries.{both_entries}
+use Rattle.cc_type.specs.CcUnit.declared.unit.UnitKind.{UnitKind}
+use Rattle.cc_type.specs.CcUnit.declared.unit.UnitKind.TheVariants as kind
 
 -- an entry of a function with this type
 pub record IsFunctionAt (names : List Declared) (i : ℕ) (t : CType) : Type 0 where

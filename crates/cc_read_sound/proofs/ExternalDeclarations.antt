@@ -3,30 +3,30 @@ use Rattle.std.proofs.Common.{◌≡◌, ℕ, Bool, true, false, ◌&&◌, List,
 use Rattle.std.specs.Prelude.{is_some}
 use Rattle.std.specs.List.{list_all, list_any}
 use Rattle.std.specs.Str.{bytes_eq}
-use Rattle.cc_typed_terms.specs.Declarators.{derived_type}
-use Rattle.cc_typed_terms.specs.Located.{located}
+use Rattle.cc_type.specs.CcTypedTerms.Declarators.{derived_type}
+use Rattle.cc_type.specs.CcTypedTerms.Located.{located}
 use Rattle.cc_read_sound.proofs.DeclaratorNames.{declarator_name}
 use Rattle.cc_read_sound.proofs.DefinedNames.{IsExternal, all_external}
 use Rattle.cc_read_sound.proofs.ExternalEntries.{entries_stay}
 use Rattle.cc_read_sound.proofs.Linked.{external_some}
 use Rattle.cc_read_sound.proofs.StorageClasses.{storage_is}
 use Rattle.cc_read_sound.specs.External.{AreAmong, AreEntries}
-use Rattle.cc_linkage.specs.declared.linkage.DeclaredAs.{DeclaredAs}
-use Rattle.cc_objects.specs.Categories.{function_category, file_category, category_by, entity_of, is_given, setting_of, storage_in}
-use Rattle.cc_objects.specs.Names.{name_judged}
-use Rattle.cc_objects.specs.Tags.{defines_untagged, is_typedef_word, aliased, in_front}
-use Rattle.cc_objects.specs.Types.{is_complete_or_unbounded, composite}
-use Rattle.cc_objects.specs.declared.category.Category.{Category}
-use Rattle.cc_objects.specs.declared.category.Category.TheVariants as declares
-use Rattle.cc_operands.specs.Qualified.{is_function_type}
+use Rattle.cc_type.specs.CcLinkage.declared.linkage.DeclaredAs.{DeclaredAs}
+use Rattle.cc_type.specs.CcObjects.Categories.{function_category, file_category, category_by, entity_of, is_given, setting_of, storage_in}
+use Rattle.cc_type.specs.CcObjects.Names.{name_judged}
+use Rattle.cc_type.specs.CcObjects.Tags.{defines_untagged, is_typedef_word, aliased, in_front}
+use Rattle.cc_type.specs.CcObjects.Types.{is_complete_or_unbounded, composite}
+use Rattle.cc_type.specs.CcObjects.declared.category.Category.{Category}
+use Rattle.cc_type.specs.CcObjects.declared.category.Category.TheVariants as declares
+use Rattle.cc_type.specs.CcOperands.Qualified.{is_function_type}
 use Rattle.cc_program.proofs.Each.{Each}
 use Rattle.cc_program.specs.declared.expr.Expr.{Expr}
 use Rattle.cc_program.specs.declared.program.Roles.{Roles}
 use Rattle.cc_program.specs.declared.types.CType.{CType}
-use Rattle.cc_scopes.specs.Linked.{linked_name}
-use Rattle.cc_scopes.specs.Standings.{is_none}
-use Rattle.cc_scopes.specs.State.{State, Name, Scope, structures_of, layouts_of}
-use Rattle.cc_scopes.specs.Verdicts.{whole, and_then}
+use Rattle.cc_type.specs.CcScopes.Linked.{linked_name}
+use Rattle.cc_type.specs.CcScopes.Standings.{is_none}
+use Rattle.cc_type.specs.CcScopes.State.{State, Name, Scope, structures_of, layouts_of}
+use Rattle.cc_type.specs.CcScopes.Verdicts.{whole, and_then}
 use Rattle.cc_sound_declarations.proofs.Blocks.{Derived, Category_of, sig_derived, front_if, alias_if}
 use Rattle.cc_sound_declarations.proofs.Forms.{form_is, function_derived}
 use Rattle.cc_sound_declarations.proofs.Given.{Finds, goes_as, behind_goes}
@@ -45,18 +45,18 @@ use Rattle.cc_sound_terms.proofs.Types.{derived_holds}
 use Rattle.cc_sound_terms.specs.Knowing.{Stands}
 use Rattle.cc_sound_terms.specs.Ranges.{all_fit, declr_in_range, spec_in_range}
 use Rattle.cc_sound_terms.specs.Standing.{IsDerived, DerivationsStand}
-use Rattle.cc_specifiers.specs.Attributes.{attributes, entry_by, is_function}
-use Rattle.cc_specifiers.specs.Declarators.{declares_function, form_of, type_found}
-use Rattle.cc_specifiers.specs.declared.attribute.Attribute.{Attribute}
-use Rattle.cc_specifiers.specs.declared.derivation.Declarator.{Declarator}
-use Rattle.cc_specifiers.specs.declared.specifier.Specified.{Specified}
-use Rattle.cc_specifiers.specs.declared.storage.Where.TheVariants as place
-use Rattle.cc_syntax.proofs.Prefixes.{both_true}
-use Rattle.cc_syntax.specs.Types.{Named}
-use Rattle.cc_syntax.specs.Views.{View}
-use Rattle.cc_terms.specs.InTurn.{in_turn}
-use Rattle.cc_terms.specs.Specifiers.{specified_found}
-use Rattle.cc_terms.specs.Terms.{spec_here, declr_of}
+use Rattle.cc_type.specs.CcSpecifiers.Attributes.{attributes, entry_by, is_function}
+use Rattle.cc_type.specs.CcSpecifiers.Declarators.{declares_function, form_of, type_found}
+use Rattle.cc_type.specs.CcSpecifiers.declared.attribute.Attribute.{Attribute}
+use Rattle.cc_type.specs.CcSpecifiers.declared.derivation.Declarator.{Declarator}
+use Rattle.cc_type.specs.CcSpecifiers.declared.specifier.Specified.{Specified}
+use Rattle.cc_type.specs.CcSpecifiers.declared.storage.Where.TheVariants as place
+use Rattle.cc_type.proofs.CcSyntax.Prefixes.{both_true}
+use Rattle.cc_type.specs.CcSyntax.Types.{Named}
+use Rattle.cc_type.specs.CcSyntax.Views.{View}
+use Rattle.cc_type.specs.CcTerms.InTurn.{in_turn}
+use Rattle.cc_type.specs.CcTerms.Specifiers.{specified_found}
+use Rattle.cc_type.specs.CcTerms.Terms.{spec_here, declr_of}
 use Rattle.cc_tree.specs.Scopes.{name_of}
 use Rattle.cc_tree.specs.declared.at.At.{At}
 use Rattle.cc_tree.specs.declared.tree.Spec.{Spec}
@@ -65,9 +65,9 @@ use Rattle.cc_tree.specs.declared.unit.Given.{Given}
 use Rattle.cc_tree.specs.declared.unit.Init.{Init}
 use Rattle.cc_tree.specs.declared.unit.Item.TheVariants as item
 use Rattle.cc_type.specs.Defined.{defined_with, defined_by}
-use Rattle.cc_typed_bodies.specs.Declarations.{marked, init_allowed, declared_left, declared_with, named_found, init_found, init_next, inits_found, declaration}
-use Rattle.cc_words.specs.declared.word.Word.{Word}
-use Rattle.cc_words.specs.declared.word.Word.TheVariants as w
+use Rattle.cc_type.specs.CcTypedBodies.Declarations.{marked, init_allowed, declared_left, declared_with, named_found, init_found, init_next, inits_found, declaration}
+use Rattle.cc_program.specs.CcWords.declared.word.Word.{Word}
+use Rattle.cc_program.specs.CcWords.declared.word.Word.TheVariants as w
 
 -- ---- what declarators declare at file scope
 

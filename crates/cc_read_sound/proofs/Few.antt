@@ -5,21 +5,21 @@ use Rattle.std.specs.List.{AllZip}
 use Rattle.std.proofs.lemmas.Bool.{lt-ltb}
 use Rattle.std.proofs.lemmas.List.Sums.{sum_by-cons}
 use Rattle.cc_named_units.proofs.CountedTexts.{text_spelled}
-use Rattle.cc_lex.specs.declared.token.Token.{Token}
+use Rattle.cc_type.specs.CcLex.declared.token.Token.{Token}
 use Rattle.cc_named_units.proofs.Texts.{few_there}
-use Rattle.cc_num.specs.declared.target.Target.{Target}
+use Rattle.cc_program.specs.CcNum.declared.target.Target.{Target}
 use Rattle.cc_program.specs.declared.program.Roles.{Roles}
 use Rattle.cc_linked_programs.specs.Few.{FewTexts}
 use Rattle.cc_linked_programs.proofs.NameNumbers.{length-filter_map}
 use Rattle.cc_read.specs.Texts.{IsTypedText, identifier_in}
 use Rattle.cc_structures.specs.Structures.{known_in, known_from, structures}
 use Rattle.cc_structures.specs.View.{units_of}
-use Rattle.cc_syntax.specs.Sound.{have_ids}
+use Rattle.cc_type.specs.CcSyntax.Sound.{have_ids}
 use Rattle.cc_things.specs.Mentions.{mentions_in, mentions_of, mentions_from, mentions}
 use Rattle.cc_things.specs.declared.text.Text.{Text}
-use Rattle.cc_unit.specs.Mentioned.{mentioned}
-use Rattle.cc_unit.specs.declared.unit.UnitName.{UnitName}
-use Rattle.cc_unit.specs.declared.unit.UnitStructure.{UnitStructure}
+use Rattle.cc_type.specs.CcUnit.Mentioned.{mentioned}
+use Rattle.cc_type.specs.CcUnit.declared.unit.UnitName.{UnitName}
+use Rattle.cc_type.specs.CcUnit.declared.unit.UnitStructure.{UnitStructure}
 
 abbrev bytes : List (List ℕ) → ℕ
 bytes texts = sum (map length texts)

@@ -8,14 +8,14 @@ use Rattle.cc_sound_declarations.specs.Scalars.{OneScalar, scalars_of}
 use Rattle.cc_sound_declarations.specs.Values.{MayStand}
 use Rattle.cc_read_sound.proofs.Strings.{expression_initial}
 use Rattle.cc_read_sound.proofs.Through.{knows_begun, knows_finished}
-use Rattle.cc_initialisers.specs.Contents.{contents}
-use Rattle.cc_initialisers.specs.Initialisers.{here as given_here, initialised}
-use Rattle.cc_initialisers.specs.Scalars.{scalars_from}
-use Rattle.cc_objects.specs.Types.{contents_in, given_incomplete, completed_type}
-use Rattle.cc_objects.specs.Values.{leaf_given, no_leaf}
+use Rattle.cc_type.specs.CcInitialisers.Contents.{contents}
+use Rattle.cc_type.specs.CcInitialisers.Initialisers.{here as given_here, initialised}
+use Rattle.cc_type.specs.CcInitialisers.Scalars.{scalars_from}
+use Rattle.cc_type.specs.CcObjects.Types.{contents_in, given_incomplete, completed_type}
+use Rattle.cc_type.specs.CcObjects.Values.{leaf_given, no_leaf}
 use Rattle.cc_operand_types.proofs.Rolls.{place-roll}
 use Rattle.cc_operand_types.specs.Typed.{is_pointed_kind}
-use Rattle.cc_typed_terms.specs.Primary.{leaves_or_none}
+use Rattle.cc_type.specs.CcTypedTerms.Primary.{leaves_or_none}
 use Rattle.cc_program.proofs.Each.{Each}
 use Rattle.cc_program.specs.Qualifiers.{is_const, is_volatile}
 use Rattle.cc_program.specs.declared.expr.Expr.TheOpen as one
@@ -29,9 +29,9 @@ use Rattle.cc_program.specs.declared.types.Sig.{Sig}
 use Rattle.cc_program.specs.declared.value.Leaf.{Leaf}
 use Rattle.cc_sound_declarations.proofs.Places.{scalars_placed}
 use Rattle.cc_sound_declarations.specs.Places.{ArePlaces}
-use Rattle.cc_scopes.specs.State.{State, KnownStructure, structures_of, with_unfinished}
-use Rattle.cc_scopes.specs.Verdicts.{whole, and_then}
-use Rattle.cc_scopes.specs.declared.unit.Declared.{Declared}
+use Rattle.cc_type.specs.CcScopes.State.{State, KnownStructure, structures_of, with_unfinished}
+use Rattle.cc_type.specs.CcScopes.Verdicts.{whole, and_then}
+use Rattle.cc_type.specs.CcScopes.declared.unit.Declared.{Declared}
 use Rattle.cc_sound_declarations.proofs.Types.{completed_is}
 use Rattle.cc_sound_declarations.specs.Ranges.{given_in_range}
 use Rattle.cc_sound_terms.proofs.Founds.{answer_is, then_found, whole_found}
@@ -40,17 +40,17 @@ use Rattle.cc_sound_terms.proofs.Known.{within_known}
 use Rattle.cc_sound_terms.specs.Growing.{StructuresKept}
 use Rattle.cc_sound_terms.specs.Ordered.{IsOrdered}
 use Rattle.cc_sound_terms.specs.Typing.{Knows}
-use Rattle.cc_specifiers.specs.Bounds.{is_bound}
-use Rattle.cc_specifiers.specs.Declarators.{is_unbounded, bound_or_none}
-use Rattle.cc_syntax.specs.Expressions.{place_type}
-use Rattle.cc_syntax.specs.Initial.{bound_shape, IsInitial}
-use Rattle.cc_syntax.specs.Types.{Named, is_complete}
-use Rattle.cc_syntax.specs.Values.{ValueType, Integer, pointer_shape, scalar_shape, scalar_value, is_scalar, object_place}
-use Rattle.cc_syntax.specs.Views.{View, kind_in}
+use Rattle.cc_type.specs.CcSpecifiers.Bounds.{is_bound}
+use Rattle.cc_type.specs.CcSpecifiers.Declarators.{is_unbounded, bound_or_none}
+use Rattle.cc_type.specs.CcSyntax.Expressions.{place_type}
+use Rattle.cc_type.specs.CcSyntax.Initial.{bound_shape, IsInitial}
+use Rattle.cc_type.specs.CcSyntax.Types.{Named, is_complete}
+use Rattle.cc_type.specs.CcSyntax.Values.{ValueType, Integer, pointer_shape, scalar_shape, scalar_value, is_scalar, object_place}
+use Rattle.cc_type.specs.CcSyntax.Views.{View, kind_in}
 use Rattle.cc_tree.specs.declared.at.At.{At}
 use Rattle.cc_tree.specs.declared.unit.Given.{Given}
-use Rattle.cc_typed_bodies.specs.Objects.{leaves_found}
-use Rattle.cc_typed_bodies.specs.Plans.{steps_done}
+use Rattle.cc_type.specs.CcTypedBodies.Objects.{leaves_found}
+use Rattle.cc_type.specs.CcTypedBodies.Plans.{steps_done}
 
 -- ---- scalars may stand
 

@@ -3,7 +3,7 @@
 use Rattle.std.proofs.Common.{◌≡◌, ℕ, ℤ, pos, negsuc, Bool, true, false, ◌&&◌, List, [], ◌∷◌, ◌++◌, length, Option, Some, None, refl, ap, sym, ◌∙◌, subst, arith, lt-ltb}
 use Rattle.std.specs.Prelude.{◌+ℤ◌, ◌-ℤ◌, nat_le, nat_lt, slice_get, if◌then◌else◌}
 use Rattle.std.proofs.lemmas.Option.{same_Some}
-use Rattle.cc_initial.specs.Addresses.{Spot, Located, NotConstant, Trapping, AtNull, AtFunction, AtSpot, ConstantExpression, path_into, into, element_found, element_spot, element_in, element_by, element_at, member_spot, member_at, index_in, moved_index, moved_by, moved_to, moved_address, whole_object, expr_step, place_step, constant_expression, place_located}
+use Rattle.cc_type.specs.CcInitial.Addresses.{Spot, Located, NotConstant, Trapping, AtNull, AtFunction, AtSpot, ConstantExpression, path_into, into, element_found, element_spot, element_in, element_by, element_at, member_spot, member_at, index_in, moved_index, moved_by, moved_to, moved_address, whole_object, expr_step, place_step, constant_expression, place_located}
 use Rattle.cc_operand_types.proofs.Rolls.{expr-roll, place-roll}
 use Rattle.cc_program.proofs.ExprInduction.{Parts, PlaceParts, by_expr, by_place}
 use Rattle.cc_program.specs.declared.expr.Expr.{Expr, roll-Expr, map-Expr, fold-roll-Expr}
@@ -20,18 +20,18 @@ use Rattle.cc_operand_types.proofs.ReducedPlaces.{place_itself, address_reduced,
 use Rattle.cc_operand_types.proofs.Values.{reduced_itself, assigned_reduced}
 use Rattle.cc_sound_terms.proofs.Within.{AreWithin}
 use Rattle.cc_operand_types.specs.Reduced.{Reduced, Integers, Pointers, Functions, ReducedPlace}
-use Rattle.cc_syntax.proofs.AlikeLemmas.{alike_mirrored}
-use Rattle.cc_syntax.proofs.Prefixes.{both_true}
-use Rattle.cc_syntax.proofs.SameLemmas.{int_same, sig_compared}
-use Rattle.cc_syntax.specs.Expressions.{of_one, of_two, type_of, place_type, pointer_type, qualified_type}
-use Rattle.cc_syntax.specs.Expressions as types
-use Rattle.cc_syntax.specs.Initial.{bound_of, is_below, step_into, place_at, leads_to_element}
-use Rattle.cc_syntax.specs.Operators.{when, when_assignable, points_to_object, is_integer, moved_type, subscript_type}
-use Rattle.cc_syntax.specs.SameTypes.{alike}
-use Rattle.cc_syntax.specs.Types.{Named}
-use Rattle.cc_syntax.specs.Values.{ValueType, NoValue, Integer, ToObject, ToFunction, PlaceType, DevicePlace, ObjectPlace, FunctionPlace, is_void, implies, is_assignable, object_place, address_of, pointed_to, element_of, member_of, member_shape, member_in}
-use Rattle.cc_syntax.specs.Values as values
-use Rattle.cc_syntax.specs.Views.{View}
+use Rattle.cc_type.proofs.CcSyntax.AlikeLemmas.{alike_mirrored}
+use Rattle.cc_type.proofs.CcSyntax.Prefixes.{both_true}
+use Rattle.cc_type.proofs.CcSyntax.SameLemmas.{int_same, sig_compared}
+use Rattle.cc_type.specs.CcSyntax.Expressions.{of_one, of_two, type_of, place_type, pointer_type, qualified_type}
+use Rattle.cc_type.specs.CcSyntax.Expressions as types
+use Rattle.cc_type.specs.CcSyntax.Initial.{bound_of, is_below, step_into, place_at, leads_to_element}
+use Rattle.cc_type.specs.CcSyntax.Operators.{when, when_assignable, points_to_object, is_integer, moved_type, subscript_type}
+use Rattle.cc_type.specs.CcSyntax.SameTypes.{alike}
+use Rattle.cc_type.specs.CcSyntax.Types.{Named}
+use Rattle.cc_type.specs.CcSyntax.Values.{ValueType, NoValue, Integer, ToObject, ToFunction, PlaceType, DevicePlace, ObjectPlace, FunctionPlace, is_void, implies, is_assignable, object_place, address_of, pointed_to, element_of, member_of, member_shape, member_in}
+use Rattle.cc_type.specs.CcSyntax.Values as values
+use Rattle.cc_type.specs.CcSyntax.Views.{View}
 
 -- ---- what there is
 

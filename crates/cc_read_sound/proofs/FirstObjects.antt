@@ -4,10 +4,10 @@ use Rattle.std.specs.Prelude.{ℤ, ◌||◌, nat_lt, slice_get, if◌then◌else
 use Rattle.std.specs.List.{list_all}
 use Rattle.cc_read_sound.specs.Values.{IsFirst, AreFirst, HasContent, HasContents}
 use Rattle.cc_sound_declarations.specs.Scalars.{OneScalar, times, scalars_of}
-use Rattle.cc_initialisers.specs.Contents.{Contents, contents_over, of_members, members_at, structure_inside, contents}
-use Rattle.cc_num.specs.Integers.{is_value_of}
-use Rattle.cc_num.specs.declared.int_type.IntType.{IntType}
-use Rattle.cc_typed_terms.specs.Primary.{leaves_or_none}
+use Rattle.cc_type.specs.CcInitialisers.Contents.{Contents, contents_over, of_members, members_at, structure_inside, contents}
+use Rattle.cc_program.specs.CcNum.Integers.{is_value_of}
+use Rattle.cc_program.specs.CcNum.declared.int_type.IntType.{IntType}
+use Rattle.cc_type.specs.CcTypedTerms.Primary.{leaves_or_none}
 use Rattle.cc_program.proofs.Each.{Each}
 use Rattle.cc_program.specs.Qualifiers.{is_const, is_volatile}
 use Rattle.cc_program.proofs.TypeInduction.{with_shape, TypeParts, by_type}
@@ -20,15 +20,15 @@ use Rattle.cc_program.specs.declared.value.Address.{Address}
 use Rattle.cc_program.specs.declared.value.Leaf.{Leaf}
 use Rattle.cc_program.specs.declared.value.Leaf.TheVariants as leaf
 use Rattle.cc_sound_declarations.proofs.Places.{opened, contents-opens}
-use Rattle.cc_scopes.specs.State.{State, KnownStructure, as_structure, structures_of}
+use Rattle.cc_type.specs.CcScopes.State.{State, KnownStructure, as_structure, structures_of}
 use Rattle.cc_sound_terms.proofs.Completeness.{content_at, members_listed}
 use Rattle.cc_sound_terms.specs.Ordered.{is_among, complete_over, is_complete_over, AreOrdered, IsOrdered}
 use Rattle.cc_sound_declarations.proofs.Contents.{among_parts, free, all_free, few_listed, parts_over, over-roll, map_length, members_found}
-use Rattle.cc_syntax.proofs.Prefixes.{both_true}
-use Rattle.cc_syntax.specs.Initial.{is_zero, is_address, AreLeaves, OfInteger, OfPointer, OfArray, OfStructure, AreElements, NoElement, Element, AreMembers, NoMember, Member, IsInitial}
-use Rattle.cc_syntax.specs.Types.{Named, is_complete}
-use Rattle.cc_syntax.specs.Values.{ValueType, Integer, ToObject, ToFunction, pointer_shape, pointer_to}
-use Rattle.cc_syntax.specs.Views.{View}
+use Rattle.cc_type.proofs.CcSyntax.Prefixes.{both_true}
+use Rattle.cc_type.specs.CcSyntax.Initial.{is_zero, is_address, AreLeaves, OfInteger, OfPointer, OfArray, OfStructure, AreElements, NoElement, Element, AreMembers, NoMember, Member, IsInitial}
+use Rattle.cc_type.specs.CcSyntax.Types.{Named, is_complete}
+use Rattle.cc_type.specs.CcSyntax.Values.{ValueType, Integer, ToObject, ToFunction, pointer_shape, pointer_to}
+use Rattle.cc_type.specs.CcSyntax.Views.{View}
 
 append_nothing : {A : Type 0} (xs : List A) → xs ++ [] ≡ xs
 append_nothing [] = refl

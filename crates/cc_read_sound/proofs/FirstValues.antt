@@ -7,26 +7,26 @@ use Rattle.cc_read_sound.specs.Values.{IsFirst, AreFirst}
 use Rattle.cc_sound_declarations.proofs.Ordered.{initialised_gives}
 use Rattle.cc_sound_declarations.specs.Scalars.{OneScalar, scalars_of, step_gives, steps_give, IsUnbroken, AreUnbroken}
 use Rattle.cc_sound_declarations.specs.Values.{MayStand}
-use Rattle.cc_initial.specs.Addresses.{Spot, Located, NotConstant, Trapping, AtNull, AtFunction, AtSpot, located, spot_address, address_leaf, integer_leaf, leaf_by, leaf_of}
-use Rattle.cc_initialisers.specs.Contents.{Contents}
-use Rattle.cc_initialisers.specs.Initialisers.{Step, Give, Character, Zero, Visit, Break, here as given_here, initialised}
-use Rattle.cc_num.specs.declared.int_type.IntType.{IntType}
-use Rattle.cc_num.specs.declared.int_type.IntType.TheVariants as int
-use Rattle.cc_num.specs.declared.target.Target.{Target}
-use Rattle.cc_num.specs.Integers.{is_value_of}
-use Rattle.cc_objects.specs.Values.{zero_leaf, no_leaf, leaf_given, object_by, object_of, objects_in}
+use Rattle.cc_type.specs.CcInitial.Addresses.{Spot, Located, NotConstant, Trapping, AtNull, AtFunction, AtSpot, located, spot_address, address_leaf, integer_leaf, leaf_by, leaf_of}
+use Rattle.cc_type.specs.CcInitialisers.Contents.{Contents}
+use Rattle.cc_type.specs.CcInitialisers.Initialisers.{Step, Give, Character, Zero, Visit, Break, here as given_here, initialised}
+use Rattle.cc_program.specs.CcNum.declared.int_type.IntType.{IntType}
+use Rattle.cc_program.specs.CcNum.declared.int_type.IntType.TheVariants as int
+use Rattle.cc_program.specs.CcNum.declared.target.Target.{Target}
+use Rattle.cc_program.specs.CcNum.Integers.{is_value_of}
+use Rattle.cc_type.specs.CcObjects.Values.{zero_leaf, no_leaf, leaf_given, object_by, object_of, objects_in}
 use Rattle.cc_operand_types.proofs.Constants.{Fits, truth_fits}
 use Rattle.cc_operand_types.proofs.Literals.{character_fits}
 use Rattle.cc_operand_types.proofs.Operands.{ok_is, must_ok, value_ok, structure_ok, folded_type, as_constant, constancy_fits}
 use Rattle.cc_operand_types.proofs.Stores.{assigned_typed}
 use Rattle.cc_operand_types.specs.Typed.{IsTypedOperand, IsAssigned, stands}
-use Rattle.cc_num.specs.declared.op.BinOp.TheVariants as op
-use Rattle.cc_operands.specs.Arithmetic.{truth}
-use Rattle.cc_operands.specs.Assignments.{assigned_pointer, truth_of_pointer, assigned_integer, assigned_by, assigned}
-use Rattle.cc_operands.specs.Operands.{Operand, operand, integer, constancy, cast_to, converted_by, converted_to, character_value, is_null_constant, null_of, against_null}
-use Rattle.cc_operands.specs.Verdicts.{Judged, must}
-use Rattle.cc_operands.specs.declared.rule.Rule.TheVariants as rule
-use Rattle.cc_typed_terms.specs.Values.{value_found}
+use Rattle.cc_program.specs.CcNum.declared.op.BinOp.TheVariants as op
+use Rattle.cc_type.specs.CcOperands.Arithmetic.{truth}
+use Rattle.cc_type.specs.CcOperands.Assignments.{assigned_pointer, truth_of_pointer, assigned_integer, assigned_by, assigned}
+use Rattle.cc_type.specs.CcOperands.Operands.{Operand, operand, integer, constancy, cast_to, converted_by, converted_to, character_value, is_null_constant, null_of, against_null}
+use Rattle.cc_type.specs.CcOperands.Verdicts.{Judged, must}
+use Rattle.cc_type.specs.CcOperands.declared.rule.Rule.TheVariants as rule
+use Rattle.cc_type.specs.CcTypedTerms.Values.{value_found}
 use Rattle.cc_program.proofs.Each.{Each}
 use Rattle.cc_program.specs.declared.expr.Expr.{Conv}
 use Rattle.cc_program.specs.declared.program.Roles.{Roles}
@@ -37,9 +37,9 @@ use Rattle.cc_program.specs.declared.value.Leaf.{Leaf}
 use Rattle.cc_program.specs.declared.value.Leaf.TheVariants as leaf
 use Rattle.cc_program.specs.declared.value.Part.{Part}
 use Rattle.cc_operand_types.proofs.Values.{assigned_reduced}
-use Rattle.cc_scopes.specs.State.{State, structures_of}
-use Rattle.cc_scopes.specs.Verdicts.{Found, whole}
-use Rattle.cc_scopes.specs.declared.unit.Declared.{Declared}
+use Rattle.cc_type.specs.CcScopes.State.{State, structures_of}
+use Rattle.cc_type.specs.CcScopes.Verdicts.{Found, whole}
+use Rattle.cc_type.specs.CcScopes.declared.unit.Declared.{Declared}
 use Rattle.cc_sound_declarations.proofs.Initialised.{StepFits}
 use Rattle.cc_sound_declarations.proofs.Lists.{initialised_fits}
 use Rattle.cc_sound_declarations.specs.Ranges.{given_in_range}
@@ -53,22 +53,22 @@ use Rattle.cc_sound_terms.specs.Behind.{Extends}
 use Rattle.cc_sound_terms.specs.Growing.{IsConstant}
 use Rattle.cc_sound_terms.specs.Knowing.{KnowsAs, KnowsNames, KnowsStructures}
 use Rattle.cc_sound_terms.specs.Typing.{Knows}
-use Rattle.cc_syntax.proofs.SameLemmas.{int_same}
-use Rattle.cc_syntax.specs.Expressions.{of_one}
-use Rattle.cc_syntax.specs.Folding.{Constant, NoConstant, Value, Traps, converted_constant}
-use Rattle.cc_syntax.specs.Initial.{bound_of, leads_to_element, names_element, names_whole, names, is_address}
-use Rattle.cc_syntax.specs.Lists.{is_count}
-use Rattle.cc_syntax.specs.SameTypes.{same_int}
-use Rattle.cc_syntax.specs.Types.{Named}
-use Rattle.cc_syntax.specs.Values.{ValueType, NoValue, Integer, ToObject, ToFunction, PlaceType, is_scalar, is_assignable, is_assignable_some, object_place, address_of, element_of}
-use Rattle.cc_syntax.specs.Views.{View}
-use Rattle.cc_terms.specs.InTurn.{in_turn}
-use Rattle.cc_terms.specs.Terms.{here}
+use Rattle.cc_type.proofs.CcSyntax.SameLemmas.{int_same}
+use Rattle.cc_type.specs.CcSyntax.Expressions.{of_one}
+use Rattle.cc_type.specs.CcSyntax.Folding.{Constant, NoConstant, Value, Traps, converted_constant}
+use Rattle.cc_type.specs.CcSyntax.Initial.{bound_of, leads_to_element, names_element, names_whole, names, is_address}
+use Rattle.cc_type.specs.CcSyntax.Lists.{is_count}
+use Rattle.cc_type.specs.CcSyntax.SameTypes.{same_int}
+use Rattle.cc_type.specs.CcSyntax.Types.{Named}
+use Rattle.cc_type.specs.CcSyntax.Values.{ValueType, NoValue, Integer, ToObject, ToFunction, PlaceType, is_scalar, is_assignable, is_assignable_some, object_place, address_of, element_of}
+use Rattle.cc_type.specs.CcSyntax.Views.{View}
+use Rattle.cc_type.specs.CcTerms.InTurn.{in_turn}
+use Rattle.cc_type.specs.CcTerms.Terms.{here}
 use Rattle.cc_tree.specs.declared.at.At.{At}
 use Rattle.cc_tree.specs.declared.unit.Given.{Given}
-use Rattle.cc_typed_bodies.specs.Plans.{as_given, step_found, step_done, steps_done}
-use Rattle.cc_unit.specs.declared.unit.UnitKind.{UnitKind}
-use Rattle.cc_unit.specs.declared.unit.UnitKind.TheVariants as kind
+use Rattle.cc_type.specs.CcTypedBodies.Plans.{as_given, step_found, step_done, steps_done}
+use Rattle.cc_type.specs.CcUnit.declared.unit.UnitKind.{UnitKind}
+use Rattle.cc_type.specs.CcUnit.declared.unit.UnitKind.TheVariants as kind
 
 append_nothing : {A : Type 0} (xs : List A) → xs ++ [] ≡ xs
 append_nothing [] = refl

@@ -2,18 +2,18 @@
 use Rattle.std.proofs.Common.{arith, ◌≡◌, ℕ, zero, suc, true, false, List, [], ◌∷◌, map, length, Option, Some, None, Ok, refl, ap, sym, ◌∙◌, subst}
 use Rattle.std.specs.Prelude.{slice_get}
 use Rattle.cc_operand_types.specs.Typed.{MembersStand, is_pointed_kind}
-use Rattle.cc_syntax.specs.Views.{View, kind_in}
-use Rattle.cc_syntax.specs.Expressions.{type_of}
+use Rattle.cc_type.specs.CcSyntax.Views.{View, kind_in}
+use Rattle.cc_type.specs.CcSyntax.Expressions.{type_of}
 use Rattle.cc_program.proofs.Each.{Each}
 use Rattle.cc_program.specs.declared.program.Roles.{Roles}
 use Rattle.cc_program.specs.declared.stmt.Stmt.{Stmt}
 use Rattle.cc_program.specs.declared.types.CType.{CType}
 use Rattle.cc_read_sound.specs.Ranges.{each_fits, line_in_range}
-use Rattle.cc_scopes.specs.State.{State, Name, Scope, find_name, or_else, designated, tagged, entered, with_locals}
-use Rattle.cc_scopes.specs.declared.designated.Designated.{Designated}
-use Rattle.cc_scopes.specs.declared.designated.Designated.TheVariants as means
-use Rattle.cc_scopes.specs.declared.designated.Tagged.{Tagged}
-use Rattle.cc_scopes.specs.declared.designated.Tagged.TheVariants as tag
+use Rattle.cc_type.specs.CcScopes.State.{State, Name, Scope, find_name, or_else, designated, tagged, entered, with_locals}
+use Rattle.cc_type.specs.CcScopes.declared.designated.Designated.{Designated}
+use Rattle.cc_type.specs.CcScopes.declared.designated.Designated.TheVariants as means
+use Rattle.cc_type.specs.CcScopes.declared.designated.Tagged.{Tagged}
+use Rattle.cc_type.specs.CcScopes.declared.designated.Tagged.TheVariants as tag
 use Rattle.cc_read_sound.proofs.BodyLines.{body_holds}
 use Rattle.cc_read_sound.specs.FunctionBodies.{IsFunctionBody}
 use Rattle.cc_read_sound.proofs.ParameterTypes.{parameter_complete}
@@ -25,15 +25,15 @@ use Rattle.cc_sound_terms.specs.Knowing.{Stands, KnowsNames, IsObject, IsThere, 
 use Rattle.cc_sound_terms.specs.Ordered.{IsOrdered}
 use Rattle.cc_sound_terms.specs.Standing.{ParameterStands}
 use Rattle.cc_sound_terms.specs.Typing.{KnowsTypes, Knows}
-use Rattle.cc_syntax.specs.Statements.{is_sound_body}
-use Rattle.cc_specifiers.specs.declared.derivation.Parameter.{Parameter}
-use Rattle.cc_syntax.specs.Types.{Named}
+use Rattle.cc_type.specs.CcSyntax.Statements.{is_sound_body}
+use Rattle.cc_type.specs.CcSpecifiers.declared.derivation.Parameter.{Parameter}
+use Rattle.cc_type.specs.CcSyntax.Types.{Named}
 use Rattle.cc_tree.specs.declared.at.At.{At}
 use Rattle.cc_tree.specs.declared.unit.Line.{Line}
 use Rattle.cc_type.specs.Functions.{local_of, locals_of}
-use Rattle.cc_typed_bodies.specs.Lines.{line_here}
-use Rattle.cc_typed_bodies.specs.Meanings.{lines_found}
-use Rattle.cc_typed_statements.specs.Jumps.{no_jumps}
+use Rattle.cc_type.specs.CcTypedBodies.Lines.{line_here}
+use Rattle.cc_type.specs.CcTypedBodies.Meanings.{lines_found}
+use Rattle.cc_type.specs.CcTypedStatements.Jumps.{no_jumps}
 
 -- ---- parameters as locals
 

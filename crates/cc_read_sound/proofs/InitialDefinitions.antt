@@ -6,19 +6,19 @@ use Rattle.cc_read_sound.proofs.InitialisedBodies.{body_initialises}
 use Rattle.cc_read_sound.proofs.InitialisedNames.{entry_initial, one_more, one_told}
 use Rattle.cc_read_sound.proofs.Strings.{expression_initial}
 use Rattle.cc_read_sound.specs.Initialises.{Initialises}
-use Rattle.cc_linkage.specs.Linkage.{declared, declared_by, new_declared}
-use Rattle.cc_linkage.specs.declared.linkage.DeclaredAs.{DeclaredAs}
+use Rattle.cc_type.specs.CcLinkage.Linkage.{declared, declared_by, new_declared}
+use Rattle.cc_type.specs.CcLinkage.declared.linkage.DeclaredAs.{DeclaredAs}
 use Rattle.cc_program.specs.declared.func.Entry.{Entry}
 use Rattle.cc_program.specs.declared.func.Func.{Func}
 use Rattle.cc_program.specs.declared.program.Roles.{Roles}
 use Rattle.cc_program.specs.declared.types.CType.{CType}
 use Rattle.cc_program.specs.declared.types.Sig.{out-Sig}
 use Rattle.cc_read_sound.specs.Ranges.{item_fits}
-use Rattle.cc_scopes.specs.Definitions.{defined_at, with_entry}
-use Rattle.cc_scopes.specs.Linked.{linked_name}
-use Rattle.cc_scopes.specs.State.{State, Name, with_locals}
-use Rattle.cc_scopes.specs.Verdicts.{Checked, checked}
-use Rattle.cc_scopes.specs.declared.unit.Declared.{Declared}
+use Rattle.cc_type.specs.CcScopes.Definitions.{defined_at, with_entry}
+use Rattle.cc_type.specs.CcScopes.Linked.{linked_name}
+use Rattle.cc_type.specs.CcScopes.State.{State, Name, with_locals}
+use Rattle.cc_type.specs.CcScopes.Verdicts.{Checked, checked}
+use Rattle.cc_type.specs.CcScopes.declared.unit.Declared.{Declared}
 use Rattle.cc_read_sound.proofs.Functions.{declared_in, definition_begins, definition_knows, derived_in, inner_fits, specified}
 use Rattle.cc_read_sound.proofs.Parts.{IsFound, IsNamed, named_is}
 use Rattle.cc_read_sound.specs.Definitions.{AreApart}
@@ -27,8 +27,8 @@ use Rattle.cc_read_sound.specs.FunctionBodies.{begun}
 use Rattle.cc_sound_terms.proofs.Founds.{answer_is}
 use Rattle.cc_sound_terms.specs.Ordered.{IsOrdered}
 use Rattle.cc_sound_terms.specs.Typing.{Knows}
-use Rattle.cc_specifiers.specs.Attributes.{entry_by}
-use Rattle.cc_syntax.specs.Views.{View}
+use Rattle.cc_type.specs.CcSpecifiers.Attributes.{entry_by}
+use Rattle.cc_type.specs.CcSyntax.Views.{View}
 use Rattle.cc_tree.specs.declared.at.At.{At}
 use Rattle.cc_tree.specs.declared.tree.Attr.{Attr}
 use Rattle.cc_tree.specs.declared.tree.Declr.{Declr}
@@ -36,8 +36,8 @@ use Rattle.cc_tree.specs.declared.tree.Spec.{Spec}
 use Rattle.cc_tree.specs.declared.unit.Item.TheVariants as item
 use Rattle.cc_tree.specs.declared.unit.Line.{Line}
 use Rattle.cc_type.specs.Functions.{asked_by, entered_function, entry_at, function_of, locals_of, named_function, signature_of}
-use Rattle.cc_typed_statements.specs.Jumps.{no_jumps}
-use Rattle.cc_unit.specs.declared.unit.UnitKind.TheVariants as kind
+use Rattle.cc_type.specs.CcTypedStatements.Jumps.{no_jumps}
+use Rattle.cc_type.specs.CcUnit.declared.unit.UnitKind.TheVariants as kind
 
 module _ (v : View) (roles : Roles) (defined : List Name) where
   abbrev Initial : State → Type 0

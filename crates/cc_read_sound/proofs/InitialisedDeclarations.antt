@@ -13,9 +13,9 @@ use Rattle.cc_read_sound.proofs.Declarators.{Keeps, init_keeps}
 use Rattle.cc_read_sound.proofs.Strings.{expression_initial}
 use Rattle.cc_read_sound.proofs.Through.{initialises_given, knows_over, knows_behind}
 use Rattle.cc_read_sound.specs.Initialises.{Initialises}
-use Rattle.cc_objects.specs.Categories.{is_given, setting_of}
-use Rattle.cc_objects.specs.Tags.{defines_untagged, aliased_at, first_name, is_typedef_word, aliased, sole_tag, tag_declared, sole_spec, sole_declared, in_front}
-use Rattle.cc_operands.specs.Qualified.{is_function_type}
+use Rattle.cc_type.specs.CcObjects.Categories.{is_given, setting_of}
+use Rattle.cc_type.specs.CcObjects.Tags.{defines_untagged, aliased_at, first_name, is_typedef_word, aliased, sole_tag, tag_declared, sole_spec, sole_declared, in_front}
+use Rattle.cc_type.specs.CcOperands.Qualified.{is_function_type}
 use Rattle.cc_program.proofs.Each.{Each}
 use Rattle.cc_program.specs.declared.expr.Expr.{Expr}
 use Rattle.cc_program.specs.declared.program.Roles.{Roles}
@@ -23,10 +23,10 @@ use Rattle.cc_program.specs.declared.types.CType.{CType}
 use Rattle.cc_program.specs.declared.types.Shape.{Shape, out-Shape}
 use Rattle.cc_program.specs.declared.types.Shape.TheOpen as shape
 use Rattle.cc_program.specs.declared.types.Sig.{Sig}
-use Rattle.cc_scopes.specs.Standings.{is_none}
-use Rattle.cc_scopes.specs.State.{State, Name, tagged_here}
-use Rattle.cc_scopes.specs.Structures.{tag_by}
-use Rattle.cc_scopes.specs.declared.designated.Tagged.{Tagged}
+use Rattle.cc_type.specs.CcScopes.Standings.{is_none}
+use Rattle.cc_type.specs.CcScopes.State.{State, Name, tagged_here}
+use Rattle.cc_type.specs.CcScopes.Structures.{tag_by}
+use Rattle.cc_type.specs.CcScopes.declared.designated.Tagged.{Tagged}
 use Rattle.cc_sound_declarations.proofs.Blocks.{front_if, alias_if, init_leaves}
 use Rattle.cc_sound_declarations.proofs.Given.{goes_as, left_as, Leaves, same_declared}
 use Rattle.cc_sound_declarations.proofs.Storage.{IsInside, IsPlain, plain_inside, specified_fit, typedef_plain}
@@ -40,17 +40,17 @@ use Rattle.cc_sound_terms.proofs.Laws.{specifiers_stand}
 use Rattle.cc_sound_terms.specs.Growing.{StructuresKept}
 use Rattle.cc_sound_terms.specs.Knowing.{Stands}
 use Rattle.cc_sound_terms.specs.Ranges.{all_fit, spec_in_range}
-use Rattle.cc_specifiers.specs.Attributes.{is_function}
-use Rattle.cc_specifiers.specs.Declarators.{declares_function}
-use Rattle.cc_specifiers.specs.declared.specifier.Specified.{Specified}
-use Rattle.cc_specifiers.specs.declared.storage.Where.{Where}
-use Rattle.cc_specifiers.specs.declared.storage.Where.TheVariants as place
-use Rattle.cc_syntax.proofs.Prefixes.{both_true}
-use Rattle.cc_syntax.specs.Types.{Named}
-use Rattle.cc_syntax.specs.Views.{View}
-use Rattle.cc_terms.specs.InTurn.{in_turn}
-use Rattle.cc_terms.specs.Specifiers.{specified_found}
-use Rattle.cc_terms.specs.Terms.{spec_here}
+use Rattle.cc_type.specs.CcSpecifiers.Attributes.{is_function}
+use Rattle.cc_type.specs.CcSpecifiers.Declarators.{declares_function}
+use Rattle.cc_type.specs.CcSpecifiers.declared.specifier.Specified.{Specified}
+use Rattle.cc_type.specs.CcSpecifiers.declared.storage.Where.{Where}
+use Rattle.cc_type.specs.CcSpecifiers.declared.storage.Where.TheVariants as place
+use Rattle.cc_type.proofs.CcSyntax.Prefixes.{both_true}
+use Rattle.cc_type.specs.CcSyntax.Types.{Named}
+use Rattle.cc_type.specs.CcSyntax.Views.{View}
+use Rattle.cc_type.specs.CcTerms.InTurn.{in_turn}
+use Rattle.cc_type.specs.CcTerms.Specifiers.{specified_found}
+use Rattle.cc_type.specs.CcTerms.Terms.{spec_here}
 use Rattle.cc_tree.specs.declared.at.At.{At}
 use Rattle.cc_tree.specs.declared.tree.Spec.{Spec, out-Spec}
 use Rattle.cc_tree.specs.declared.unit.Decl.{Decl}
@@ -58,9 +58,9 @@ use Rattle.cc_tree.specs.declared.unit.Given.{Given}
 use Rattle.cc_tree.specs.declared.unit.Init.{Init}
 use Rattle.cc_tree.specs.declared.unit.Item.TheVariants as item
 use Rattle.cc_type.specs.Defined.{defined_with, defined_by}
-use Rattle.cc_typed_bodies.specs.Declarations.{init_found, init_next, inits_found, declaration}
-use Rattle.cc_words.specs.declared.word.Word.{Word}
-use Rattle.cc_words.specs.declared.word.Word.TheVariants as w
+use Rattle.cc_type.specs.CcTypedBodies.Declarations.{init_found, init_next, inits_found, declaration}
+use Rattle.cc_program.specs.CcWords.declared.word.Word.{Word}
+use Rattle.cc_program.specs.CcWords.declared.word.Word.TheVariants as w
 
 some_none : {A : Type 0} (x : A) (o : Option A) → o ≡ None → o ≡ Some x → ⊥
 some_none x o e f = let c : None ≡ Some x = sym e ∙ f in absurd (cc)

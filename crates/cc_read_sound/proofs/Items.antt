@@ -5,7 +5,7 @@ use Rattle.std.specs.List.{list_all}
 use Rattle.cc_read_sound.proofs.ExternalDeclarations.{external_declares}
 use Rattle.cc_read_sound.proofs.DefinedNames.{defined_among}
 use Rattle.cc_read_sound.specs.External.{AreAmong}
-use Rattle.cc_num.specs.declared.target.Target.{Target}
+use Rattle.cc_program.specs.CcNum.declared.target.Target.{Target}
 use Rattle.cc_standing_units.proofs.OwnViews.{all_is_known, first_ordered}
 use Rattle.cc_standing_units.specs.Views.{view_of}
 use Rattle.cc_program.proofs.Each.{Each}
@@ -14,8 +14,8 @@ use Rattle.cc_program.specs.declared.func.Func.{Func}
 use Rattle.cc_program.specs.declared.program.Roles.{Roles}
 use Rattle.cc_program.specs.declared.types.CType.{CType}
 use Rattle.cc_read_sound.specs.Ranges.{item_fits, unit_fits}
-use Rattle.cc_scopes.specs.State.{State, Name, at_first}
-use Rattle.cc_scopes.specs.Verdicts.{Checked, checked}
+use Rattle.cc_type.specs.CcScopes.State.{State, Name, at_first}
+use Rattle.cc_type.specs.CcScopes.Verdicts.{Checked, checked}
 use Rattle.cc_read_sound.proofs.Functions.{definition_goes, definition_sound}
 use Rattle.cc_read_sound.proofs.Parts.{found_is}
 use Rattle.cc_read_sound.specs.Definitions.{IsSoundAt}
@@ -31,17 +31,17 @@ use Rattle.cc_sound_terms.proofs.Founds.{answer_is, then_found}
 use Rattle.cc_sound_terms.specs.Closings.{Closings}
 use Rattle.cc_sound_terms.specs.Ordered.{IsOrdered}
 use Rattle.cc_sound_terms.specs.Typing.{Knows}
-use Rattle.cc_specifiers.specs.declared.storage.Where.TheVariants as stands
-use Rattle.cc_syntax.proofs.Prefixes.{both_true}
-use Rattle.cc_syntax.specs.Views.{View}
-use Rattle.cc_terms.specs.InTurn.{in_turn}
+use Rattle.cc_type.specs.CcSpecifiers.declared.storage.Where.TheVariants as stands
+use Rattle.cc_type.proofs.CcSyntax.Prefixes.{both_true}
+use Rattle.cc_type.specs.CcSyntax.Views.{View}
+use Rattle.cc_type.specs.CcTerms.InTurn.{in_turn}
 use Rattle.cc_tree.specs.declared.at.At.{At}
 use Rattle.cc_tree.specs.declared.unit.Item.{Item}
 use Rattle.cc_tree.specs.declared.unit.Item.TheVariants as item
 use Rattle.cc_tree.specs.declared.unit.Unit.{Unit as UnitTree}
 use Rattle.cc_type.specs.Defined.{defined_by, defined_names}
 use Rattle.cc_type.specs.Units.{item_found, item_next, items_found}
-use Rattle.cc_typed_bodies.specs.Declarations.{declaration}
+use Rattle.cc_type.specs.CcTypedBodies.Declarations.{declaration}
 
 append_nothing : {A : Type 0} (xs : List A) → xs ++ [] ≡ xs
 append_nothing [] = refl

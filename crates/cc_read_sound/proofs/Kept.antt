@@ -1,26 +1,26 @@
 -- What is so of entries stays so: where names stay, where more is declared, and where an entry is told more of.
 use Rattle.std.proofs.Common.{arith, ◌≡◌, ◌⊎◌, inl, inr, ◌+◌, ℕ, zero, suc, Bool, true, false, List, [], ◌∷◌, ◌++◌, length, Option, Some, None, refl, ap, sym, ◌∙◌, subst}
 use Rattle.std.specs.Prelude.{is_some, slice_get}
-use Rattle.cc_operands.specs.Qualified.{is_function_type}
-use Rattle.cc_typed_terms.specs.Primary.{char_type, chars_type, is_intrinsic}
+use Rattle.cc_type.specs.CcOperands.Qualified.{is_function_type}
+use Rattle.cc_type.specs.CcTypedTerms.Primary.{char_type, chars_type, is_intrinsic}
 use Rattle.cc_program.proofs.Each.{Each}
 use Rattle.cc_program.specs.declared.func.Func.{Func}
 use Rattle.cc_program.specs.declared.program.Roles.{Roles}
 use Rattle.cc_program.specs.declared.types.CType.{CType}
 use Rattle.cc_program.specs.declared.types.Shape.TheVariants.{outs-Array}
-use Rattle.cc_scopes.specs.Linked.{is_linked, linked_from, linked_name}
-use Rattle.cc_scopes.specs.State.{State, Name, change_at, change_name, with_declared}
-use Rattle.cc_scopes.specs.declared.unit.Declared.{Declared}
+use Rattle.cc_type.specs.CcScopes.Linked.{is_linked, linked_from, linked_name}
+use Rattle.cc_type.specs.CcScopes.State.{State, Name, change_at, change_name, with_declared}
+use Rattle.cc_type.specs.CcScopes.declared.unit.Declared.{Declared}
 use Rattle.cc_read_sound.proofs.Lists.{KeepsName, has_own_name, linked_changed, linked_front, linked_last, same_some}
 use Rattle.cc_read_sound.specs.External.{AreEntries}
 use Rattle.cc_read_sound.specs.Definitions.{AreApart}
 use Rattle.cc_read_sound.specs.Entries.{AreWell, IsDone, IsSettled, IsWell, IsWellKind, is_counted, is_function_kind}
-use Rattle.cc_typed_terms.specs.Devices.{declared_device, device_of}
+use Rattle.cc_type.specs.CcTypedTerms.Devices.{declared_device, device_of}
 use Rattle.cc_sound_declarations.proofs.Entries.{unnamed_entry}
 use Rattle.cc_sound_terms.proofs.Growth.{get_front}
 use Rattle.cc_sound_terms.specs.Behind.{Extends, HasEntry, IsUnnamed, OfString, OfDevice}
-use Rattle.cc_syntax.specs.SameTypes.{is_func_shape}
-use Rattle.cc_syntax.specs.Views.{View}
+use Rattle.cc_type.specs.CcSyntax.SameTypes.{is_func_shape}
+use Rattle.cc_type.specs.CcSyntax.Views.{View}
 
 omega_zero : (n : ℕ) → 0 + n ≡ n
 omega_zero n = omega arith

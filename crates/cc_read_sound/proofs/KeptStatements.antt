@@ -1,22 +1,22 @@
 -- What a type that lacks qualifiers serves for: a condition, an integer, and what is assigned.
 use Rattle.std.proofs.Common.{◌≡◌, Bool, true, false, ◌&&◌, List, Option, Some, refl, ap, ◌∙◌}
 use Rattle.std.specs.Prelude.{is_some}
-use Rattle.cc_num.specs.declared.int_type.IntType.{IntType}
-use Rattle.cc_operands.specs.Operands.{Operand}
+use Rattle.cc_program.specs.CcNum.declared.int_type.IntType.{IntType}
+use Rattle.cc_type.specs.CcOperands.Operands.{Operand}
 use Rattle.cc_operand_types.specs.Typed.{IsTypedOperand}
-use Rattle.cc_syntax.specs.Views.{View}
-use Rattle.cc_syntax.specs.Expressions.{type_of}
+use Rattle.cc_type.specs.CcSyntax.Views.{View}
+use Rattle.cc_type.specs.CcSyntax.Expressions.{type_of}
 use Rattle.cc_operand_types.proofs.Choices.{condition}
 use Rattle.cc_program.specs.declared.expr.Expr.{Expr}
 use Rattle.cc_program.specs.declared.types.CType.{CType}
 use Rattle.cc_operand_types.specs.Reduced.{Reduced, Unused, Integers, Pointers, Functions}
-use Rattle.cc_syntax.proofs.AlikeLemmas.{alike_mirrored, alike_joined}
-use Rattle.cc_syntax.proofs.Prefixes.{both_true}
-use Rattle.cc_syntax.proofs.SameLemmas.{and_true}
-use Rattle.cc_syntax.specs.SameTypes.{alike}
-use Rattle.cc_syntax.specs.Statements.{is_condition}
-use Rattle.cc_syntax.specs.Types.{Named}
-use Rattle.cc_syntax.specs.Values.{ValueType, NoValue, Integer, ToObject, ToFunction, is_scalar, is_assignable, implies}
+use Rattle.cc_type.proofs.CcSyntax.AlikeLemmas.{alike_mirrored, alike_joined}
+use Rattle.cc_type.proofs.CcSyntax.Prefixes.{both_true}
+use Rattle.cc_type.proofs.CcSyntax.SameLemmas.{and_true}
+use Rattle.cc_type.specs.CcSyntax.SameTypes.{alike}
+use Rattle.cc_type.specs.CcSyntax.Statements.{is_condition}
+use Rattle.cc_type.specs.CcSyntax.Types.{Named}
+use Rattle.cc_type.specs.CcSyntax.Values.{ValueType, NoValue, Integer, ToObject, ToFunction, is_scalar, is_assignable, implies}
 use Rattle.cc_read_sound.specs.Sound.{Keeps}
 
 pub reduced_scalar : (u t : ValueType) → Reduced u t → is_scalar t ≡ true → is_scalar u ≡ true

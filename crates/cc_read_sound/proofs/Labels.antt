@@ -4,10 +4,10 @@ use Rattle.std.specs.List.{list_any}
 use Rattle.std.proofs.lemmas.Cmp.{int_eq_equiv}
 use Rattle.std.proofs.lemmas.List.Folds.{list_any-append}
 use Rattle.cc_program.specs.declared.stmt.Case.{Case, out-Case}
-use Rattle.cc_syntax.proofs.Prefixes.{both_true}
-use Rattle.cc_syntax.proofs.SameLemmas.{and_true}
-use Rattle.cc_syntax.specs.Statements.{same_label, are_apart, labels_of}
-use Rattle.cc_typed_statements.specs.Labels.{has_label}
+use Rattle.cc_type.proofs.CcSyntax.Prefixes.{both_true}
+use Rattle.cc_type.proofs.CcSyntax.SameLemmas.{and_true}
+use Rattle.cc_type.specs.CcSyntax.Statements.{same_label, are_apart, labels_of}
+use Rattle.cc_type.specs.CcTypedStatements.Labels.{has_label}
 
 mirrored : (l m : Option ℤ) → same_label l m ≡ same_label m l
 mirrored None None = refl

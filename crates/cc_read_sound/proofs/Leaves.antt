@@ -4,10 +4,10 @@ use Rattle.std.specs.Prelude.{option_and_then}
 use Rattle.std.specs.List.{flat_map}
 use Rattle.cc_standing_units.proofs.LeftViews.{id-at, left_renumbered}
 use Rattle.cc_standing_units.specs.Laid.{AreLaid}
-use Rattle.cc_num.specs.declared.target.Target.{Target}
-use Rattle.cc_numbering.specs.Names.{own_id}
-use Rattle.cc_numbering.specs.Numbers.{numbers_of}
-use Rattle.cc_numbering.specs.Units.{ids_of, unit_left}
+use Rattle.cc_program.specs.CcNum.declared.target.Target.{Target}
+use Rattle.cc_type.specs.CcNumbering.Names.{own_id}
+use Rattle.cc_type.specs.CcNumbering.Numbers.{numbers_of}
+use Rattle.cc_type.specs.CcNumbering.Units.{ids_of, unit_left}
 use Rattle.cc_standing_units.specs.Views.{view_of}
 use Rattle.cc_program.proofs.Each.{Each}
 use Rattle.cc_program.specs.declared.types.CType.{CType}
@@ -17,20 +17,20 @@ use Rattle.cc_program.specs.declared.value.Leaf.{Leaf}
 use Rattle.cc_program.specs.declared.value.Leaf.TheVariants as leaf
 use Rattle.cc_program.specs.declared.value.Root.TheVariants as root
 use Rattle.cc_relocated_units.proofs.Leaves.{initial_numbered}
-use Rattle.cc_scopes.specs.State.{State}
-use Rattle.cc_scopes.specs.declared.unit.Declared.{Declared}
+use Rattle.cc_type.specs.CcScopes.State.{State}
+use Rattle.cc_type.specs.CcScopes.declared.unit.Declared.{Declared}
 use Rattle.cc_relocated_units.specs.Units.{function_as, static_as, unit_view}
 use Rattle.cc_sound_terms.specs.Ordered.{IsOrdered}
-use Rattle.cc_syntax.specs.Expressions.{of_one}
-use Rattle.cc_syntax.specs.Initial.{AreElements, AreLeaves, AreMembers, Element, IsInitial, Member, NoElement, NoMember, OfArray, OfInteger, OfPointer, OfStructure, is_address, names, place_at}
-use Rattle.cc_syntax.specs.Types.{Named}
-use Rattle.cc_syntax.specs.Values.{PlaceType, ValueType, is_assignable_some, pointer_to}
-use Rattle.cc_syntax.specs.Views.{View}
-use Rattle.cc_unit.specs.Mentioned.{in_leaf}
-use Rattle.cc_unit.specs.Renumbered.{address_renumbered, func_by, leaf_renumbered, object_by, type_renumbered}
-use Rattle.cc_unit.specs.declared.ids.Ids.{Ids}
-use Rattle.cc_unit.specs.declared.unit.UnitKind.{UnitKind}
-use Rattle.cc_unit.specs.declared.unit.UnitKind.TheVariants as kind
+use Rattle.cc_type.specs.CcSyntax.Expressions.{of_one}
+use Rattle.cc_type.specs.CcSyntax.Initial.{AreElements, AreLeaves, AreMembers, Element, IsInitial, Member, NoElement, NoMember, OfArray, OfInteger, OfPointer, OfStructure, is_address, names, place_at}
+use Rattle.cc_type.specs.CcSyntax.Types.{Named}
+use Rattle.cc_type.specs.CcSyntax.Values.{PlaceType, ValueType, is_assignable_some, pointer_to}
+use Rattle.cc_type.specs.CcSyntax.Views.{View}
+use Rattle.cc_type.specs.CcUnit.Mentioned.{in_leaf}
+use Rattle.cc_type.specs.CcUnit.Renumbered.{address_renumbered, func_by, leaf_renumbered, object_by, type_renumbered}
+use Rattle.cc_type.specs.CcUnit.declared.ids.Ids.{Ids}
+use Rattle.cc_type.specs.CcUnit.declared.unit.UnitKind.{UnitKind}
+use Rattle.cc_type.specs.CcUnit.declared.unit.UnitKind.TheVariants as kind
 
 module _ (target : Target) (s : State) (ordered : IsOrdered s) (laid : AreLaid target s) where
   abbrev v : View

@@ -4,27 +4,27 @@ use Rattle.cc_read_sound.specs.Values.{AreInitial, HasInitial}
 use Rattle.cc_read_sound.proofs.LeftFunctions.{function_left, test_left}
 use Rattle.cc_read_sound.proofs.Leaves.{values_left}
 use Rattle.cc_relocated_units.specs.Linked.{AreStanding}
-use Rattle.cc_num.specs.declared.target.Target.{Target}
-use Rattle.cc_numbering.specs.Names.{function_in}
-use Rattle.cc_numbering.specs.Numbers.{numbers_of}
-use Rattle.cc_numbering.specs.Units.{ids_of, unit_left}
+use Rattle.cc_program.specs.CcNum.declared.target.Target.{Target}
+use Rattle.cc_type.specs.CcNumbering.Names.{function_in}
+use Rattle.cc_type.specs.CcNumbering.Numbers.{numbers_of}
+use Rattle.cc_type.specs.CcNumbering.Units.{ids_of, unit_left}
 use Rattle.cc_standing_units.specs.Views.{view_of}
 use Rattle.cc_program.specs.declared.func.Entry.{Entry}
 use Rattle.cc_program.specs.declared.func.Func.{Func}
 use Rattle.cc_program.specs.declared.types.CType.{CType}
 use Rattle.cc_program.specs.declared.types.Sig.{Sig}
 use Rattle.cc_program.specs.declared.value.Leaf.{Leaf}
-use Rattle.cc_scopes.specs.State.{State}
-use Rattle.cc_scopes.specs.declared.unit.Declared.{Declared}
+use Rattle.cc_type.specs.CcScopes.State.{State}
+use Rattle.cc_type.specs.CcScopes.declared.unit.Declared.{Declared}
 use Rattle.cc_relocated_units.specs.Units.{IsOfText, IsSoundFunction, unit_view}
 use Rattle.cc_sound_terms.specs.Ordered.{IsOrdered}
 use Rattle.cc_standing_units.proofs.Standing.{left_standing}
 use Rattle.cc_standing_units.specs.Closed.{AreClosed}
-use Rattle.cc_syntax.specs.Initial.{IsInitial}
-use Rattle.cc_syntax.specs.Kinds.{Kind}
-use Rattle.cc_syntax.specs.Views.{kind_in}
-use Rattle.cc_unit.specs.Renumbered.{sig_renumbered, type_renumbered}
-use Rattle.cc_unit.specs.declared.unit.UnitKind.TheVariants as kind
+use Rattle.cc_type.specs.CcSyntax.Initial.{IsInitial}
+use Rattle.cc_type.specs.CcSyntax.Kinds.{Kind}
+use Rattle.cc_type.specs.CcSyntax.Views.{kind_in}
+use Rattle.cc_type.specs.CcUnit.Renumbered.{sig_renumbered, type_renumbered}
+use Rattle.cc_type.specs.CcUnit.declared.unit.UnitKind.TheVariants as kind
 
 pub record IsLeft (target : Target) (s : State) : Type 0 where
   -- a test of kinds that no missing one passes

@@ -5,11 +5,11 @@ use Rattle.std.proofs.lemmas.List.{length-map}
 use Rattle.cc_standing_units.proofs.LeftViews.{left_renumbered}
 use Rattle.cc_standing_units.specs.Laid.{AreLaid}
 use Rattle.cc_linked_programs.proofs.Relocated.{function_relocated, test_stays}
-use Rattle.cc_num.specs.declared.target.Target.{Target}
-use Rattle.cc_numbering.specs.Names.{function_in}
-use Rattle.cc_numbering.specs.Numbers.{numbers_of}
-use Rattle.cc_numbering.specs.Structures.{all_named_in}
-use Rattle.cc_numbering.specs.Units.{ids_of, unit_left}
+use Rattle.cc_program.specs.CcNum.declared.target.Target.{Target}
+use Rattle.cc_type.specs.CcNumbering.Names.{function_in}
+use Rattle.cc_type.specs.CcNumbering.Numbers.{numbers_of}
+use Rattle.cc_type.specs.CcNumbering.Structures.{all_named_in}
+use Rattle.cc_type.specs.CcNumbering.Units.{ids_of, unit_left}
 use Rattle.cc_standing_units.specs.Views.{view_of}
 use Rattle.cc_program.proofs.Each.{Each}
 use Rattle.cc_program.specs.declared.func.Entry.{Entry}
@@ -17,15 +17,15 @@ use Rattle.cc_program.specs.declared.func.Func.{Func}
 use Rattle.cc_program.specs.declared.types.CType.{CType}
 use Rattle.cc_program.specs.declared.types.Sig.{Sig}
 use Rattle.cc_relocation.specs.Relocated.{func_with, local_with}
-use Rattle.cc_scopes.specs.State.{State}
+use Rattle.cc_type.specs.CcScopes.State.{State}
 use Rattle.cc_relocated_units.specs.Units.{IsSoundFunction, unit_view}
 use Rattle.cc_sound_terms.specs.Ordered.{IsOrdered}
-use Rattle.cc_syntax.specs.Kinds.{Kind}
-use Rattle.cc_syntax.specs.Names.{local_names}
-use Rattle.cc_syntax.specs.Types.{Named}
-use Rattle.cc_syntax.specs.Views.{kind_in}
-use Rattle.cc_unit.specs.Mentioned.{all_of, in_stmt}
-use Rattle.cc_unit.specs.Renumbered.{sig_renumbered, stmt_renumbered, type_renumbered}
+use Rattle.cc_type.specs.CcSyntax.Kinds.{Kind}
+use Rattle.cc_type.specs.CcSyntax.Names.{local_names}
+use Rattle.cc_type.specs.CcSyntax.Types.{Named}
+use Rattle.cc_type.specs.CcSyntax.Views.{kind_in}
+use Rattle.cc_type.specs.CcUnit.Mentioned.{all_of, in_stmt}
+use Rattle.cc_type.specs.CcUnit.Renumbered.{sig_renumbered, stmt_renumbered, type_renumbered}
 
 own_names : (ns : List ℕ) (ls : List Named) → map (local_with ns) (zip (local_names ls) ls) ≡ all_named_in ns ls
 own_names ns [] = refl

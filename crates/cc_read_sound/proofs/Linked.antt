@@ -5,17 +5,17 @@ use Rattle.std.specs.Prelude.{slice_get, if◌then◌else◌}
 use Rattle.std.specs.List.{list_any}
 use Rattle.std.specs.Str.{bytes_eq}
 use Rattle.cc_read_sound.specs.External.{AreEntries}
-use Rattle.cc_initialisers.specs.Contents.{Contents}
-use Rattle.cc_initialisers.specs.Initialisers.{here as given_here, initialised}
-use Rattle.cc_linkage.specs.Linkage.{new_declared, declared_by}
-use Rattle.cc_linkage.specs.declared.linkage.DeclaredAs.{DeclaredAs}
-use Rattle.cc_objects.specs.Linked.{is_extern, device_by, object_kind}
-use Rattle.cc_objects.specs.Types.{contents_in, type_given, type_agrees, composite_by, is_object_in}
-use Rattle.cc_objects.specs.Values.{leaf_given, no_leaf}
+use Rattle.cc_type.specs.CcInitialisers.Contents.{Contents}
+use Rattle.cc_type.specs.CcInitialisers.Initialisers.{here as given_here, initialised}
+use Rattle.cc_type.specs.CcLinkage.Linkage.{new_declared, declared_by}
+use Rattle.cc_type.specs.CcLinkage.declared.linkage.DeclaredAs.{DeclaredAs}
+use Rattle.cc_type.specs.CcObjects.Linked.{is_extern, device_by, object_kind}
+use Rattle.cc_type.specs.CcObjects.Types.{contents_in, type_given, type_agrees, composite_by, is_object_in}
+use Rattle.cc_type.specs.CcObjects.Values.{leaf_given, no_leaf}
 use Rattle.cc_operand_types.proofs.Operands.{given, ok_is, must_ok}
-use Rattle.cc_operands.specs.Qualified.{is_function_type}
-use Rattle.cc_operands.specs.declared.rule.Rule.TheVariants as rule
-use Rattle.cc_typed_terms.specs.Primary.{leaves_or_none}
+use Rattle.cc_type.specs.CcOperands.Qualified.{is_function_type}
+use Rattle.cc_type.specs.CcOperands.declared.rule.Rule.TheVariants as rule
+use Rattle.cc_type.specs.CcTypedTerms.Primary.{leaves_or_none}
 use Rattle.cc_program.proofs.Each.{Each}
 use Rattle.cc_program.specs.declared.expr.Expr.{Expr}
 use Rattle.cc_program.specs.declared.expr.Place.{Static}
@@ -26,11 +26,11 @@ use Rattle.cc_program.specs.declared.types.Shape.TheOpen as shape
 use Rattle.cc_program.specs.declared.types.Sig.{Sig}
 use Rattle.cc_program.specs.declared.types.Structure.{Structure}
 use Rattle.cc_program.specs.declared.value.Leaf.{Leaf}
-use Rattle.cc_scopes.specs.Definitions.{defined_at}
-use Rattle.cc_scopes.specs.Linked.{is_linked, has_name, linked_from, linked_name}
-use Rattle.cc_scopes.specs.State.{State, Name, structures_of, layouts_of, bind, with_declared, change_name}
-use Rattle.cc_scopes.specs.Verdicts.{whole, and_then}
-use Rattle.cc_scopes.specs.declared.unit.Declared.{Declared}
+use Rattle.cc_type.specs.CcScopes.Definitions.{defined_at}
+use Rattle.cc_type.specs.CcScopes.Linked.{is_linked, has_name, linked_from, linked_name}
+use Rattle.cc_type.specs.CcScopes.State.{State, Name, structures_of, layouts_of, bind, with_declared, change_name}
+use Rattle.cc_type.specs.CcScopes.Verdicts.{whole, and_then}
+use Rattle.cc_type.specs.CcScopes.declared.unit.Declared.{Declared}
 use Rattle.cc_sound_declarations.proofs.Braces.{behind_entry}
 use Rattle.cc_sound_declarations.proofs.Given.{goes_as}
 use Rattle.cc_sound_declarations.proofs.Initialised.{StepFits}
@@ -45,19 +45,19 @@ use Rattle.cc_sound_terms.proofs.Growth.{get_last}
 use Rattle.cc_sound_terms.specs.Behind.{SameKind, EntryKept}
 use Rattle.cc_sound_terms.specs.Knowing.{KnowsStructures}
 use Rattle.cc_sound_terms.specs.Standing.{IsDerived}
-use Rattle.cc_syntax.proofs.Prefixes.{both_true}
-use Rattle.cc_syntax.proofs.SameLemmas.{compared}
-use Rattle.cc_syntax.proofs.TypeLayouts.{parts_complete, complete-opens}
-use Rattle.cc_specifiers.specs.Objects.{size_of}
-use Rattle.cc_syntax.specs.Kinds.{is_object_type, is_small}
-use Rattle.cc_syntax.specs.SameTypes.{same_type, is_func_shape}
-use Rattle.cc_syntax.specs.Types.{Named, complete_shape, is_complete}
-use Rattle.cc_syntax.specs.Views.{View, kind_in}
+use Rattle.cc_type.proofs.CcSyntax.Prefixes.{both_true}
+use Rattle.cc_type.proofs.CcSyntax.SameLemmas.{compared}
+use Rattle.cc_type.proofs.CcSyntax.TypeLayouts.{parts_complete, complete-opens}
+use Rattle.cc_type.specs.CcSpecifiers.Objects.{size_of}
+use Rattle.cc_type.specs.CcSyntax.Kinds.{is_object_type, is_small}
+use Rattle.cc_type.specs.CcSyntax.SameTypes.{same_type, is_func_shape}
+use Rattle.cc_type.specs.CcSyntax.Types.{Named, complete_shape, is_complete}
+use Rattle.cc_type.specs.CcSyntax.Views.{View, kind_in}
 use Rattle.cc_tree.specs.declared.at.At.{At}
 use Rattle.cc_tree.specs.declared.unit.Given.{Given}
-use Rattle.cc_typed_bodies.specs.Objects.{leaves_found, linked_defined}
-use Rattle.cc_unit.specs.declared.unit.UnitKind.{UnitKind}
-use Rattle.cc_unit.specs.declared.unit.UnitKind.TheVariants as kind
+use Rattle.cc_type.specs.CcTypedBodies.Objects.{leaves_found, linked_defined}
+use Rattle.cc_type.specs.CcUnit.declared.unit.UnitKind.{UnitKind}
+use Rattle.cc_type.specs.CcUnit.declared.unit.UnitKind.TheVariants as kind
 
 some_is : {A : Type 0} (a b : A) → Some a ≡ Some b → a ≡ b
 some_is a b h = cc

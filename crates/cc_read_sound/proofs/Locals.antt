@@ -2,7 +2,7 @@
 use Rattle.std.proofs.Common.{◌≡◌, ℕ, zero, suc, Bool, true, false, not, ◌&&◌, List, [], ◌∷◌, ◌++◌, length, map, refl, ap, sym, ◌∙◌, subst}
 use Rattle.std.specs.Prelude.{drop}
 use Rattle.std.specs.List.{list_all}
-use Rattle.cc_operands.specs.Qualified.{unqualified}
+use Rattle.cc_type.specs.CcOperands.Qualified.{unqualified}
 use Rattle.cc_program.proofs.Each.{Each}
 use Rattle.cc_program.specs.declared.types.CType.{CType, fold_out-CType}
 use Rattle.cc_program.specs.declared.types.Shape.{Shape}
@@ -10,14 +10,14 @@ use Rattle.cc_program.specs.declared.types.Sig.{Sig}
 use Rattle.cc_sound_declarations.proofs.Unconst.{object_stays}
 use Rattle.cc_read_sound.proofs.Consts.{object_unconst}
 use Rattle.cc_sound_declarations.specs.Declaring.{AreObjects, lowered, unconst}
-use Rattle.cc_specifiers.specs.declared.derivation.Parameter.{Parameter}
-use Rattle.cc_syntax.proofs.Prefixes.{both_true}
-use Rattle.cc_syntax.proofs.SameLemmas.{compared}
-use Rattle.cc_syntax.specs.Kinds.{is_object_type}
-use Rattle.cc_syntax.specs.SameTypes.{Comparison, comparison_of, compare_shape, compare_sig, compare_type, same_flag, same_shape, same_sig, shape_comparison}
-use Rattle.cc_syntax.specs.Sound.{are_parameters, is_automatic}
-use Rattle.cc_syntax.specs.Types.{Named}
-use Rattle.cc_syntax.specs.Views.{View, kind_in}
+use Rattle.cc_type.specs.CcSpecifiers.declared.derivation.Parameter.{Parameter}
+use Rattle.cc_type.proofs.CcSyntax.Prefixes.{both_true}
+use Rattle.cc_type.proofs.CcSyntax.SameLemmas.{compared}
+use Rattle.cc_type.specs.CcSyntax.Kinds.{is_object_type}
+use Rattle.cc_type.specs.CcSyntax.SameTypes.{Comparison, comparison_of, compare_shape, compare_sig, compare_type, same_flag, same_shape, same_sig, shape_comparison}
+use Rattle.cc_type.specs.CcSyntax.Sound.{are_parameters, is_automatic}
+use Rattle.cc_type.specs.CcSyntax.Types.{Named}
+use Rattle.cc_type.specs.CcSyntax.Views.{View, kind_in}
 use Rattle.cc_type.specs.Functions.{local_of, locals_of}
 
 and_true : (a b : Bool) → a ≡ true → b ≡ true → a && b ≡ true

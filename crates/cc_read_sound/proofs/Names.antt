@@ -5,16 +5,16 @@ use Rattle.std.specs.List.{All, list_any}
 use Rattle.std.proofs.lemmas.List.Elements.{All-nil, All-cons}
 use Rattle.std.specs.Str.{bytes_eq}
 use Rattle.std.proofs.lemmas.Slice.Eq.{bytes_eq-Decides}
-use Rattle.cc_linkage.specs.Linkage.{is_main_result, is_main_shape, no_types}
+use Rattle.cc_type.specs.CcLinkage.Linkage.{is_main_result, is_main_shape, no_types}
 use Rattle.cc_linked_programs.proofs.Forms.{main_sig_kept}
 use Rattle.cc_linked_programs.proofs.Shapes.{register_kept}
-use Rattle.cc_num.specs.declared.target.Target.{Target}
-use Rattle.cc_numbering.specs.Names.{count_of, function_in, kind_in, name_in}
-use Rattle.cc_numbering.specs.Numbers.{numbers_of}
-use Rattle.cc_numbering.specs.Units.{ids_of, unit_left}
-use Rattle.cc_operands.specs.Qualified.{is_function_type}
+use Rattle.cc_program.specs.CcNum.declared.target.Target.{Target}
+use Rattle.cc_type.specs.CcNumbering.Names.{count_of, function_in, kind_in, name_in}
+use Rattle.cc_type.specs.CcNumbering.Numbers.{numbers_of}
+use Rattle.cc_type.specs.CcNumbering.Units.{ids_of, unit_left}
+use Rattle.cc_type.specs.CcOperands.Qualified.{is_function_type}
 use Rattle.cc_standing_units.specs.Views.{view_of}
-use Rattle.cc_typed_terms.specs.Primary.{is_intrinsic}
+use Rattle.cc_type.specs.CcTypedTerms.Primary.{is_intrinsic}
 use Rattle.cc_program.proofs.Each.{Each}
 use Rattle.cc_program.specs.declared.func.Entry.{Entry}
 use Rattle.cc_program.specs.declared.func.Func.{Func}
@@ -25,9 +25,9 @@ use Rattle.cc_program.specs.declared.types.Shape.{Shape, out-Shape}
 use Rattle.cc_program.specs.declared.types.Shape.TheOpen as shape
 use Rattle.cc_program.specs.declared.types.Sig.{Sig, out-Sig}
 use Rattle.cc_program.specs.declared.value.Leaf.{Leaf}
-use Rattle.cc_scopes.specs.Linked.{is_linked, linked_name}
-use Rattle.cc_scopes.specs.State.{State, Name, at_first}
-use Rattle.cc_scopes.specs.declared.unit.Declared.{Declared}
+use Rattle.cc_type.specs.CcScopes.Linked.{is_linked, linked_name}
+use Rattle.cc_type.specs.CcScopes.State.{State, Name, at_first}
+use Rattle.cc_type.specs.CcScopes.declared.unit.Declared.{Declared}
 use Rattle.cc_read_sound.specs.Definitions.{IsSoundAt}
 use Rattle.cc_read_sound.specs.Entries.{AreWell, IsAwaited, IsDone, IsSettled, IsWell, IsWellFunction, IsWellKind, IsWellObject, is_counted, is_function_kind}
 use Rattle.cc_read_sound.specs.Items.{IsSoundState}
@@ -36,16 +36,16 @@ use Rattle.cc_sound_declarations.specs.Entries.{IsDeviceEntry, IsEntryOf}
 use Rattle.cc_sound_terms.specs.Behind.{HasEntry, KindStands, NameStands}
 use Rattle.cc_read_sound.proofs.Left.{IsLeft}
 use Rattle.cc_structures.proofs.WordLaws.{constant-kept, level-renumbered, renumbered_level, volatile-kept}
-use Rattle.cc_syntax.proofs.Prefixes.{both_true}
-use Rattle.cc_syntax.specs.Kinds.{is_object_type}
-use Rattle.cc_syntax.specs.SameTypes.{is_func_shape}
-use Rattle.cc_syntax.specs.Sound.{is_plain_int, is_plain_void}
-use Rattle.cc_syntax.specs.Views.{View}
+use Rattle.cc_type.proofs.CcSyntax.Prefixes.{both_true}
+use Rattle.cc_type.specs.CcSyntax.Kinds.{is_object_type}
+use Rattle.cc_type.specs.CcSyntax.SameTypes.{is_func_shape}
+use Rattle.cc_type.specs.CcSyntax.Sound.{is_plain_int, is_plain_void}
+use Rattle.cc_type.specs.CcSyntax.Views.{View}
 use Rattle.cc_things.specs.Things.{is_device_kind, is_external_linkage}
-use Rattle.cc_unit.specs.Renumbered.{sig_renumbered, type_renumbered}
-use Rattle.cc_unit.specs.declared.unit.UnitKind.{UnitKind}
-use Rattle.cc_unit.specs.declared.unit.UnitKind.TheVariants as kind
-use Rattle.cc_unit.specs.declared.unit.UnitName.{UnitName}
+use Rattle.cc_type.specs.CcUnit.Renumbered.{sig_renumbered, type_renumbered}
+use Rattle.cc_type.specs.CcUnit.declared.unit.UnitKind.{UnitKind}
+use Rattle.cc_type.specs.CcUnit.declared.unit.UnitKind.TheVariants as kind
+use Rattle.cc_type.specs.CcUnit.declared.unit.UnitName.{UnitName}
 
 same_some : {A : Type 0} (a b : A) → Some a ≡ Some b → a ≡ b
 same_some a b h = cc

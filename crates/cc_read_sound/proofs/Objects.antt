@@ -4,15 +4,15 @@ use Rattle.std.specs.Prelude.{is_some, nat_lt, slice_get, if◌then◌else◌}
 use Rattle.std.specs.List.{list_any}
 use Rattle.std.specs.Str.{bytes_eq}
 use Rattle.cc_read_sound.specs.External.{AreEntries}
-use Rattle.cc_linkage.specs.Linkage.{agrees, agrees_with, declared_by, is_free_for, is_visible, linkage_of, may_be, may_be_by, may_be_declared, new_declared, repeats, same_element}
-use Rattle.cc_linkage.specs.declared.linkage.DeclaredAs.{DeclaredAs}
-use Rattle.cc_linkage.specs.declared.linkage.DeclaredAs.TheVariants.{AsStatic, AsObject, AsExtern}
-use Rattle.cc_num.specs.declared.target.Target.{Target}
-use Rattle.cc_numbering.specs.Names.{count_of}
-use Rattle.cc_objects.specs.Linked.{device_by, is_extern, object_kind, static_object, with_static}
-use Rattle.cc_objects.specs.Types.{element_type, given_incomplete, is_complete_or_unbounded, is_object_in, type_given, with_bound}
-use Rattle.cc_operands.specs.Qualified.{is_function_type}
-use Rattle.cc_typed_terms.specs.Primary.{is_intrinsic}
+use Rattle.cc_type.specs.CcLinkage.Linkage.{agrees, agrees_with, declared_by, is_free_for, is_visible, linkage_of, may_be, may_be_by, may_be_declared, new_declared, repeats, same_element}
+use Rattle.cc_type.specs.CcLinkage.declared.linkage.DeclaredAs.{DeclaredAs}
+use Rattle.cc_type.specs.CcLinkage.declared.linkage.DeclaredAs.TheVariants.{AsStatic, AsObject, AsExtern}
+use Rattle.cc_program.specs.CcNum.declared.target.Target.{Target}
+use Rattle.cc_type.specs.CcNumbering.Names.{count_of}
+use Rattle.cc_type.specs.CcObjects.Linked.{device_by, is_extern, object_kind, static_object, with_static}
+use Rattle.cc_type.specs.CcObjects.Types.{element_type, given_incomplete, is_complete_or_unbounded, is_object_in, type_given, with_bound}
+use Rattle.cc_type.specs.CcOperands.Qualified.{is_function_type}
+use Rattle.cc_type.specs.CcTypedTerms.Primary.{is_intrinsic}
 use Rattle.cc_program.specs.declared.expr.Place.{Place}
 use Rattle.cc_program.specs.declared.func.Entry.{Entry}
 use Rattle.cc_program.specs.declared.func.Func.{Func}
@@ -24,11 +24,11 @@ use Rattle.cc_program.specs.declared.types.Shape.TheVariants.{outs-Array}
 use Rattle.cc_program.specs.declared.types.Sig.{Sig}
 use Rattle.cc_program.specs.declared.types.Structure.{Structure}
 use Rattle.cc_program.specs.declared.value.Leaf.{Leaf}
-use Rattle.cc_scopes.specs.Definitions.{defined_at, tentative_at, with_values}
-use Rattle.cc_scopes.specs.Linked.{is_linked, linked_from, linked_name}
-use Rattle.cc_scopes.specs.State.{State, Name, bind, change_name, named_here, structures_of, layouts_of, with_declared, with_unfinished}
-use Rattle.cc_scopes.specs.declared.designated.Designated.TheVariants as means
-use Rattle.cc_scopes.specs.declared.unit.Declared.{Declared}
+use Rattle.cc_type.specs.CcScopes.Definitions.{defined_at, tentative_at, with_values}
+use Rattle.cc_type.specs.CcScopes.Linked.{is_linked, linked_from, linked_name}
+use Rattle.cc_type.specs.CcScopes.State.{State, Name, bind, change_name, named_here, structures_of, layouts_of, with_declared, with_unfinished}
+use Rattle.cc_type.specs.CcScopes.declared.designated.Designated.TheVariants as means
+use Rattle.cc_type.specs.CcScopes.declared.unit.Declared.{Declared}
 use Rattle.cc_sound_declarations.proofs.Left.{IsInitialised, object_entry}
 use Rattle.cc_read_sound.proofs.Declared.{asked_linked, declared_linked}
 use Rattle.cc_read_sound.proofs.Kept.{MayTell, Settles, changed_well, extends_well, more_well, same_well}
@@ -37,19 +37,19 @@ use Rattle.cc_read_sound.specs.Entries.{AreWell, IsAwaited, IsDone, IsSettled, I
 use Rattle.cc_relocated_units.specs.Units.{is_integer_shape, is_register_type}
 use Rattle.cc_sound_declarations.specs.Entries.{IsEntryOf}
 use Rattle.cc_sound_terms.proofs.Growth.{get_last}
-use Rattle.cc_specifiers.specs.Declarators.{is_unbounded, is_unbounded_shape}
-use Rattle.cc_specifiers.specs.Objects.{size_of}
-use Rattle.cc_syntax.proofs.Prefixes.{both_true}
-use Rattle.cc_syntax.proofs.SameLemmas.{compared}
-use Rattle.cc_syntax.proofs.TypeLayouts.{complete-opens, parts_complete}
-use Rattle.cc_syntax.specs.Kinds.{is_small}
-use Rattle.cc_syntax.specs.SameTypes.{is_func_shape, same_type}
-use Rattle.cc_syntax.specs.Types.{complete_shape, is_complete}
-use Rattle.cc_syntax.specs.Views.{View}
+use Rattle.cc_type.specs.CcSpecifiers.Declarators.{is_unbounded, is_unbounded_shape}
+use Rattle.cc_type.specs.CcSpecifiers.Objects.{size_of}
+use Rattle.cc_type.proofs.CcSyntax.Prefixes.{both_true}
+use Rattle.cc_type.proofs.CcSyntax.SameLemmas.{compared}
+use Rattle.cc_type.proofs.CcSyntax.TypeLayouts.{complete-opens, parts_complete}
+use Rattle.cc_type.specs.CcSyntax.Kinds.{is_small}
+use Rattle.cc_type.specs.CcSyntax.SameTypes.{is_func_shape, same_type}
+use Rattle.cc_type.specs.CcSyntax.Types.{complete_shape, is_complete}
+use Rattle.cc_type.specs.CcSyntax.Views.{View}
 use Rattle.cc_tree.specs.declared.at.At.{At}
 use Rattle.cc_tree.specs.declared.unit.Given.{Given}
-use Rattle.cc_unit.specs.declared.unit.UnitKind.{UnitKind}
-use Rattle.cc_unit.specs.declared.unit.UnitKind.TheVariants as kind
+use Rattle.cc_type.specs.CcUnit.declared.unit.UnitKind.{UnitKind}
+use Rattle.cc_type.specs.CcUnit.declared.unit.UnitKind.TheVariants as kind
 
 -- ---- an object's type is no function's
 

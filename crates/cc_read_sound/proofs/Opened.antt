@@ -4,17 +4,17 @@ use Rattle.std.specs.Prelude.{is_some}
 use Rattle.std.specs.List.{list_all, flat_map}
 use Rattle.std.proofs.lemmas.List.{map-append}
 use Rattle.std.proofs.lemmas.List.Folds.{list_all-append}
-use Rattle.cc_num.specs.declared.target.Target.{Target}
+use Rattle.cc_program.specs.CcNum.declared.target.Target.{Target}
 use Rattle.cc_program.specs.declared.expr.Expr.{Expr}
 use Rattle.cc_program.specs.declared.stmt.Case.{Case, out-Case, fold-Case, fold_out-Case}
 use Rattle.cc_program.specs.declared.stmt.Stmt.{Stmt, Do, If, While, DoWhile, For, Switch, Break, Continue, Return, Empty, Block, out-Stmt, map-Stmt, fold-roll-Stmt, fold_out-Stmt}
 use Rattle.cc_program.specs.declared.stmt.Stmt.TheVariants.{rolls-Do, rolls-If, rolls-While, rolls-DoWhile, rolls-For, rolls-Switch, rolls-Break, rolls-Continue, rolls-Return, rolls-Empty, rolls-Block}
 use Rattle.cc_program.specs.declared.stmt.Stmt.TheOpen as is
 use Rattle.cc_program.specs.declared.types.CType.{CType}
-use Rattle.cc_syntax.proofs.SameLemmas.{and_true}
-use Rattle.cc_syntax.specs.Statements.{SoundWhere, Labelled, sound_case, labels_of, labels_fit, are_apart, has_label, is_condition, is_sound_stmt, sound_step, is_typed, is_optional_condition, returns}
-use Rattle.cc_syntax.specs.Values.{ValueType}
-use Rattle.cc_typed_statements.specs.Conditions.{body_of, inside_block}
+use Rattle.cc_type.proofs.CcSyntax.SameLemmas.{and_true}
+use Rattle.cc_type.specs.CcSyntax.Statements.{SoundWhere, Labelled, sound_case, labels_of, labels_fit, are_apart, has_label, is_condition, is_sound_stmt, sound_step, is_typed, is_optional_condition, returns}
+use Rattle.cc_type.specs.CcSyntax.Values.{ValueType}
+use Rattle.cc_type.specs.CcTypedStatements.Conditions.{body_of, inside_block}
 use Rattle.cc_read_sound.specs.Sound.{sound_list}
 
 module _ (target : Target) (typed : Expr → Option ValueType) (result : CType) where

@@ -1,15 +1,15 @@
 -- The parameters next to a declared name: what their scope designates. By induction over declarators.
 use Rattle.std.proofs.Common.{◌≡◌, ℕ, Bool, true, false, ◌&&◌, ◌||◌, not, List, [], ◌∷◌, ◌++◌, Option, Some, None, Ok, refl, ap, sym, ◌∙◌, subst}
-use Rattle.cc_typed_terms.specs.Located.{located}
+use Rattle.cc_type.specs.CcTypedTerms.Located.{located}
 use Rattle.cc_operand_types.proofs.Operands.{must_ok, ok_is}
-use Rattle.cc_syntax.specs.Views.{View}
-use Rattle.cc_operands.specs.Operands.{Operand}
-use Rattle.cc_operands.specs.declared.rule.Rule.TheVariants as rule
-use Rattle.cc_typed_terms.specs.Values.{value_found}
+use Rattle.cc_type.specs.CcSyntax.Views.{View}
+use Rattle.cc_type.specs.CcOperands.Operands.{Operand}
+use Rattle.cc_type.specs.CcOperands.declared.rule.Rule.TheVariants as rule
+use Rattle.cc_type.specs.CcTypedTerms.Values.{value_found}
 use Rattle.cc_program.specs.declared.program.Roles.{Roles}
 use Rattle.cc_read_sound.proofs.Rolled as rolled
-use Rattle.cc_scopes.specs.State.{State, Scope}
-use Rattle.cc_scopes.specs.Verdicts.{whole, and_then}
+use Rattle.cc_type.specs.CcScopes.State.{State, Scope}
+use Rattle.cc_type.specs.CcScopes.Verdicts.{whole, and_then}
 use Rattle.cc_sound_terms.proofs.Cycle.{params_hold, tree_holds}
 use Rattle.cc_sound_terms.proofs.Founds.{answer, answer_is, then_found, whole_found, located_found, then_judged}
 use Rattle.cc_sound_terms.proofs.Growth.{tag_through}
@@ -17,21 +17,21 @@ use Rattle.cc_sound_terms.proofs.Meant.{value_grows}
 use Rattle.cc_sound_terms.proofs.TreeInduction.{by_declr}
 use Rattle.cc_sound_terms.specs.Growing.{StructuresKept}
 use Rattle.cc_sound_terms.specs.Ranges.{declr_fits, params_fit, spec_fits, tree_fits, enumr_fits, members_fit, param_fits, type_name_fits, fits, declr_in_range, params_in_range, spec_in_range, enumr_in_range, members_in_range, param_in_range, type_name_in_range}
-use Rattle.cc_specifiers.specs.Bounds.{bound_judged}
-use Rattle.cc_specifiers.specs.Derivations.{with_derivation, is_next_to_name, suffix_found, pointer_derivation}
-use Rattle.cc_specifiers.specs.declared.derivation.Allowed.{Allowed}
-use Rattle.cc_specifiers.specs.declared.derivation.Declarator.{Declarator}
-use Rattle.cc_specifiers.specs.declared.derivation.Derivation.{Derivation}
-use Rattle.cc_specifiers.specs.declared.derivation.Derivation.TheVariants as to
-use Rattle.cc_specifiers.specs.declared.derivation.Parameter.{Parameter}
-use Rattle.cc_syntax.proofs.Prefixes.{both_true}
-use Rattle.cc_terms.specs.Constants.{enumr_step}
-use Rattle.cc_terms.specs.Declarators.{declarator, declr_step, params_step, param_step, type_name_step, without_bound, with_bound, bounded}
-use Rattle.cc_terms.specs.Expressions.{tree_step}
-use Rattle.cc_terms.specs.Meanings.{TreeMeaning, DeclrMeaning, ParamsMeaning, ParamMeaning, SpecMeaning, MembersMeaning, EnumrMeaning, TypeNameMeaning}
-use Rattle.cc_terms.specs.Members.{members_step}
-use Rattle.cc_terms.specs.Specifiers.{spec_step}
-use Rattle.cc_terms.specs.Terms.{tree_of, declr_of, params_of, param_of, spec_of, members_of, enumr_of, type_name_of, here}
+use Rattle.cc_type.specs.CcSpecifiers.Bounds.{bound_judged}
+use Rattle.cc_type.specs.CcSpecifiers.Derivations.{with_derivation, is_next_to_name, suffix_found, pointer_derivation}
+use Rattle.cc_type.specs.CcSpecifiers.declared.derivation.Allowed.{Allowed}
+use Rattle.cc_type.specs.CcSpecifiers.declared.derivation.Declarator.{Declarator}
+use Rattle.cc_type.specs.CcSpecifiers.declared.derivation.Derivation.{Derivation}
+use Rattle.cc_type.specs.CcSpecifiers.declared.derivation.Derivation.TheVariants as to
+use Rattle.cc_type.specs.CcSpecifiers.declared.derivation.Parameter.{Parameter}
+use Rattle.cc_type.proofs.CcSyntax.Prefixes.{both_true}
+use Rattle.cc_type.specs.CcTerms.Constants.{enumr_step}
+use Rattle.cc_type.specs.CcTerms.Declarators.{declarator, declr_step, params_step, param_step, type_name_step, without_bound, with_bound, bounded}
+use Rattle.cc_type.specs.CcTerms.Expressions.{tree_step}
+use Rattle.cc_type.specs.CcTerms.Meanings.{TreeMeaning, DeclrMeaning, ParamsMeaning, ParamMeaning, SpecMeaning, MembersMeaning, EnumrMeaning, TypeNameMeaning}
+use Rattle.cc_type.specs.CcTerms.Members.{members_step}
+use Rattle.cc_type.specs.CcTerms.Specifiers.{spec_step}
+use Rattle.cc_type.specs.CcTerms.Terms.{tree_of, declr_of, params_of, param_of, spec_of, members_of, enumr_of, type_name_of, here}
 use Rattle.cc_tree.specs.declared.at.At.{At}
 use Rattle.cc_tree.specs.declared.tree.Declr.TheOpen as one
 use Rattle.cc_tree.specs.declared.tree.Declr.{Declr, roll-Declr, map-Declr, fold-roll-Declr}
@@ -42,7 +42,7 @@ use Rattle.cc_tree.specs.declared.tree.Enumr.{Enumr}
 use Rattle.cc_tree.specs.declared.tree.MemberDecl.{MemberDecl}
 use Rattle.cc_tree.specs.declared.tree.Param.{Param}
 use Rattle.cc_tree.specs.declared.tree.TypeName.{TypeName}
-use Rattle.cc_words.specs.declared.word.Word.{Word}
+use Rattle.cc_program.specs.CcWords.declared.word.Word.{Word}
 use Rattle.cc_read_sound.specs.Scopes.{have_names, IsParameterScope}
 use Rattle.cc_read_sound.proofs.Parameters.{Listed, listed, unlisted}
 

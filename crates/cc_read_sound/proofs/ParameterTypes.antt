@@ -1,20 +1,20 @@
 -- The type of a parameter is that of an object: a scalar, of at most eight bytes.
 use Rattle.std.proofs.Common.{◌≡◌, ℕ, Bool, true, false, ◌&&◌, ◌||◌, Option, Some, None, refl, ap, sym, ◌∙◌, eqb-true}
 use Rattle.std.specs.Prelude.{◌*◌, nat_eq, nat_le, if◌then◌else◌}
-use Rattle.cc_num.specs.Integers.{bytes_of}
-use Rattle.cc_num.specs.declared.int_type.IntType.{IntType}
-use Rattle.cc_num.specs.declared.int_type.IntType.TheVariants as int
-use Rattle.cc_num.specs.declared.target.Target.{Target}
+use Rattle.cc_program.specs.CcNum.Integers.{bytes_of}
+use Rattle.cc_program.specs.CcNum.declared.int_type.IntType.{IntType}
+use Rattle.cc_program.specs.CcNum.declared.int_type.IntType.TheVariants as int
+use Rattle.cc_program.specs.CcNum.declared.target.Target.{Target}
 use Rattle.cc_operand_types.proofs.Requalified.{arrayed, kind_at, shaped}
-use Rattle.cc_operands.specs.Qualified.{unqualified}
+use Rattle.cc_type.specs.CcOperands.Qualified.{unqualified}
 use Rattle.cc_program.specs.declared.types.CType.{CType}
 use Rattle.cc_program.specs.declared.types.Shape.{Shape, out-Shape}
 use Rattle.cc_program.specs.declared.types.Shape.TheOpen as shape
 use Rattle.cc_program.specs.declared.types.Sig.{Sig}
 use Rattle.cc_sound_terms.specs.Standing.{ParameterStands}
-use Rattle.cc_specifiers.specs.declared.derivation.Parameter.{Parameter}
-use Rattle.cc_syntax.specs.Kinds.{Kind, IsVoid, IsScalar, IsStructure, IsArray, IsIncomplete, IsFunction, array_kind, bytes_in, extent_kind, is_object_type, is_plain_scalar, is_sig, is_small, pointer_kind, qualified_kind, shape_kind}
-use Rattle.cc_syntax.specs.Views.{View, kind_in}
+use Rattle.cc_type.specs.CcSpecifiers.declared.derivation.Parameter.{Parameter}
+use Rattle.cc_type.specs.CcSyntax.Kinds.{Kind, IsVoid, IsScalar, IsStructure, IsArray, IsIncomplete, IsFunction, array_kind, bytes_in, extent_kind, is_object_type, is_plain_scalar, is_sig, is_small, pointer_kind, qualified_kind, shape_kind}
+use Rattle.cc_type.specs.CcSyntax.Views.{View, kind_in}
 
 -- ---- widths
 

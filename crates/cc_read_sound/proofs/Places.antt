@@ -6,31 +6,31 @@ use Rattle.std.specs.Str.{bytes_eq}
 use Rattle.cc_read_sound.proofs.ExternalDeclarations.{external_function}
 use Rattle.cc_read_sound.proofs.StorageClasses.{storage_is}
 use Rattle.cc_read_sound.specs.External.{AreAmong}
-use Rattle.cc_linkage.specs.declared.linkage.DeclaredAs.{DeclaredAs}
-use Rattle.cc_linkage.specs.declared.linkage.DeclaredAs.TheVariants.{AsStatic, AsObject, AsExtern}
-use Rattle.cc_objects.specs.Categories.{block_category, category_by, file_category, function_category, is_given, setting_of, storage_in}
-use Rattle.cc_objects.specs.Linked.{is_extern}
-use Rattle.cc_objects.specs.Tags.{in_front}
-use Rattle.cc_objects.specs.declared.category.Category.{Category}
-use Rattle.cc_objects.specs.declared.category.Category.TheVariants as declares
+use Rattle.cc_type.specs.CcLinkage.declared.linkage.DeclaredAs.{DeclaredAs}
+use Rattle.cc_type.specs.CcLinkage.declared.linkage.DeclaredAs.TheVariants.{AsStatic, AsObject, AsExtern}
+use Rattle.cc_type.specs.CcObjects.Categories.{block_category, category_by, file_category, function_category, is_given, setting_of, storage_in}
+use Rattle.cc_type.specs.CcObjects.Linked.{is_extern}
+use Rattle.cc_type.specs.CcObjects.Tags.{in_front}
+use Rattle.cc_type.specs.CcObjects.declared.category.Category.{Category}
+use Rattle.cc_type.specs.CcObjects.declared.category.Category.TheVariants as declares
 use Rattle.cc_program.proofs.Each.{Each}
 use Rattle.cc_program.specs.declared.expr.Expr.{Expr}
 use Rattle.cc_program.specs.declared.func.Func.{Func}
 use Rattle.cc_program.specs.declared.program.Roles.{Roles}
 use Rattle.cc_program.specs.declared.types.CType.{CType}
-use Rattle.cc_scopes.specs.State.{State, Name}
+use Rattle.cc_type.specs.CcScopes.State.{State, Name}
 use Rattle.cc_sound_declarations.proofs.Blocks.{function_is}
 use Rattle.cc_sound_declarations.proofs.Storage.{IsInside, Block, For, IsPlain, plain_inside, specified_fit}
 use Rattle.cc_sound_declarations.specs.Ranges.{decl_fits}
 use Rattle.cc_read_sound.proofs.Categories.{Defines}
 use Rattle.cc_read_sound.proofs.Declarations.{IsInit, append_nothing, declaration_keeps}
 use Rattle.cc_read_sound.specs.Entries.{AreWell}
-use Rattle.cc_specifiers.specs.declared.specifier.Specified.{Specified}
-use Rattle.cc_specifiers.specs.declared.storage.Where.{Where}
-use Rattle.cc_specifiers.specs.declared.storage.Where.TheVariants as place
-use Rattle.cc_syntax.specs.Views.{View}
-use Rattle.cc_terms.specs.Specifiers.{specified_found}
-use Rattle.cc_terms.specs.Terms.{spec_here}
+use Rattle.cc_type.specs.CcSpecifiers.declared.specifier.Specified.{Specified}
+use Rattle.cc_type.specs.CcSpecifiers.declared.storage.Where.{Where}
+use Rattle.cc_type.specs.CcSpecifiers.declared.storage.Where.TheVariants as place
+use Rattle.cc_type.specs.CcSyntax.Views.{View}
+use Rattle.cc_type.specs.CcTerms.Specifiers.{specified_found}
+use Rattle.cc_type.specs.CcTerms.Terms.{spec_here}
 use Rattle.cc_tree.specs.Scopes.{name_of}
 use Rattle.cc_tree.specs.declared.at.At.{At}
 use Rattle.cc_tree.specs.declared.unit.Decl.{Decl}
@@ -38,9 +38,9 @@ use Rattle.cc_tree.specs.declared.unit.Given.{Given}
 use Rattle.cc_tree.specs.declared.unit.Init.{Init}
 use Rattle.cc_tree.specs.declared.unit.Item.TheVariants as item
 use Rattle.cc_type.specs.Defined.{defined_by, defined_with, given_in, name_in}
-use Rattle.cc_typed_bodies.specs.Declarations.{declaration}
-use Rattle.cc_words.specs.declared.word.Word.{Word}
-use Rattle.cc_words.specs.declared.word.Word.TheVariants as w
+use Rattle.cc_type.specs.CcTypedBodies.Declarations.{declaration}
+use Rattle.cc_program.specs.CcWords.declared.word.Word.{Word}
+use Rattle.cc_program.specs.CcWords.declared.word.Word.TheVariants as w
 
 some_none : {A : Type 0} (x : A) → Some x ≡ None → ⊥
 some_none x h = cc

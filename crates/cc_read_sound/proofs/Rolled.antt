@@ -3,10 +3,10 @@ use Rattle.std.proofs.Common.{◌≡◌, ℕ, ◌^◌, Bool, true, ◌&&◌, Lis
 use Rattle.std.specs.Prelude.{nat_lt}
 use Rattle.std.specs.List.{list_all}
 use Rattle.std.proofs.lemmas.List.Folds.{list_all-append}
-use Rattle.cc_lex.specs.declared.token.Mark.{Mark}
-use Rattle.cc_lex.specs.declared.token.Suffix.{Suffix}
-use Rattle.cc_syntax.proofs.SameLemmas.{and_true}
-use Rattle.cc_words.specs.declared.word.Word.{Word}
+use Rattle.cc_type.specs.CcLex.declared.token.Mark.{Mark}
+use Rattle.cc_type.specs.CcLex.declared.token.Suffix.{Suffix}
+use Rattle.cc_type.proofs.CcSyntax.SameLemmas.{and_true}
+use Rattle.cc_program.specs.CcWords.declared.word.Word.{Word}
 use Rattle.cc_sound_terms.specs.Ranges.{all_fit, declr_fits, params_fit, spec_fits, tree_fits, enumr_fits, members_fit, param_fits, type_name_fits, fits, declr_in_range, params_in_range, spec_in_range, enumr_in_range, members_in_range, param_in_range, type_name_in_range}
 use Rattle.cc_tree.specs.Tokens.{Name}
 use Rattle.cc_tree.specs.declared.at.At.{At}

@@ -1,11 +1,11 @@
 -- What is found in a scope of its own.
 use Rattle.std.proofs.Common.{◌≡◌, List, Ok, sym, subst}
-use Rattle.cc_scopes.specs.State.{State, empty, entered, left}
-use Rattle.cc_scopes.specs.Verdicts.{Found}
+use Rattle.cc_type.specs.CcScopes.State.{State, empty, entered, left}
+use Rattle.cc_type.specs.CcScopes.Verdicts.{Found}
 use Rattle.cc_sound_declarations.specs.Reached.{GoesOn, Reached}
 use Rattle.cc_sound_terms.proofs.Founds.{answer_is, then_found}
-use Rattle.cc_syntax.specs.Types.{Named}
-use Rattle.cc_typed_bodies.specs.Meanings.{scoped}
+use Rattle.cc_type.specs.CcSyntax.Types.{Named}
+use Rattle.cc_type.specs.CcTypedBodies.Meanings.{scoped}
 
 module _ (Goes : State → List Named → State → List Named → Type 0) (Knows : List Named → State → State → Type 0) (Has : List Named → State → Type 0) (on : GoesOn Goes Knows Has) where
   pub scoped_reached : {A : Type 0} (T : List Named → A → Type 0) (inner : State → Found A) (D : List Named) (s : State) (r : A × State) → Has D s →

@@ -5,26 +5,26 @@ use Rattle.std.specs.List.{list_all}
 use Rattle.cc_operand_types.proofs.Operands.{ok_is}
 use Rattle.cc_operand_types.proofs.Standing.{params_stand, result_stands, sig-opens}
 use Rattle.cc_operand_types.specs.Typed.{stands}
-use Rattle.cc_operands.specs.Qualified.{unqualified}
-use Rattle.cc_operands.specs.Verdicts.{Judged}
+use Rattle.cc_type.specs.CcOperands.Qualified.{unqualified}
+use Rattle.cc_type.specs.CcOperands.Verdicts.{Judged}
 use Rattle.cc_program.proofs.Each.{Each}
 use Rattle.cc_program.specs.declared.types.CType.{CType}
 use Rattle.cc_program.specs.declared.types.Shape.{Shape, out-Shape}
 use Rattle.cc_program.specs.declared.types.Shape.TheOpen as shape
 use Rattle.cc_program.specs.declared.types.Shape.TheVariants.{outs-Func}
 use Rattle.cc_program.specs.declared.types.Sig.{Sig, out-Sig, roll-Sig, out-roll-Sig}
-use Rattle.cc_scopes.specs.State.{Scope}
+use Rattle.cc_type.specs.CcScopes.State.{Scope}
 use Rattle.cc_read_sound.specs.Bodies.{ResultStands}
 use Rattle.cc_sound_terms.specs.Standing.{DerivationsStand, IsBounded, ParameterStands}
-use Rattle.cc_specifiers.specs.Declarators.{function_to}
-use Rattle.cc_specifiers.specs.declared.derivation.Derivation.{Derivation}
-use Rattle.cc_specifiers.specs.declared.derivation.Derivation.TheVariants as to
-use Rattle.cc_specifiers.specs.declared.derivation.Parameter.{Parameter}
-use Rattle.cc_syntax.proofs.Prefixes.{both_true}
-use Rattle.cc_syntax.specs.Kinds.{Kind, is_plain_scalar, is_result, is_sig, kind_of}
-use Rattle.cc_syntax.specs.SameTypes.{is_void_shape}
-use Rattle.cc_syntax.specs.Values.{ValueType, NoValue, result_value, scalar_shape, scalar_value}
-use Rattle.cc_syntax.specs.Views.{View, kind_in}
+use Rattle.cc_type.specs.CcSpecifiers.Declarators.{function_to}
+use Rattle.cc_type.specs.CcSpecifiers.declared.derivation.Derivation.{Derivation}
+use Rattle.cc_type.specs.CcSpecifiers.declared.derivation.Derivation.TheVariants as to
+use Rattle.cc_type.specs.CcSpecifiers.declared.derivation.Parameter.{Parameter}
+use Rattle.cc_type.proofs.CcSyntax.Prefixes.{both_true}
+use Rattle.cc_type.specs.CcSyntax.Kinds.{Kind, is_plain_scalar, is_result, is_sig, kind_of}
+use Rattle.cc_type.specs.CcSyntax.SameTypes.{is_void_shape}
+use Rattle.cc_type.specs.CcSyntax.Values.{ValueType, NoValue, result_value, scalar_shape, scalar_value}
+use Rattle.cc_type.specs.CcSyntax.Views.{View, kind_in}
 use Rattle.cc_tree.specs.declared.at.At.{At}
 use Rattle.cc_type.specs.Functions.{parameters_in, parameters_of, signature_at, signature_of}
 

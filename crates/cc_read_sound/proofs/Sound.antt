@@ -3,12 +3,12 @@ use Rattle.std.proofs.Common.{◌≡◌, ◌<◌, ◌≤◌, ◌^◌, ℕ, zero,
 use Rattle.std.specs.List.{AllZip}
 use Rattle.std.proofs.lemmas.List.Sums.{sum_by-cons}
 use Rattle.cc_named_units.proofs.Texts.{of_text, own_main}
-use Rattle.cc_num.specs.declared.target.Target.{Target}
+use Rattle.cc_program.specs.CcNum.declared.target.Target.{Target}
 use Rattle.cc_program.specs.declared.program.Program.{Program}
 use Rattle.cc_program.specs.declared.program.Roles.{Roles}
 use Rattle.cc_read.specs.Texts.{IsTypedText, Reads}
 use Rattle.cc_linked_programs.proofs.Whole.{sources_sound}
-use Rattle.cc_syntax.specs.Sound.{IsSound}
+use Rattle.cc_type.specs.CcSyntax.Sound.{IsSound}
 use Rattle.cc_things.specs.declared.text.Text.{Text}
 use Rattle.cc_read_sound.proofs.Units.{text_sound}
 use Rattle.cc_read_sound.proofs.Few.{few-texts}

@@ -1,7 +1,7 @@
 -- Declarations, statements and units that are spelled by tokens whose numbers fit: theirs fit.
 use Rattle.std.proofs.Common.{◌≡◌, Bool, true, ◌&&◌, List, [], Option, refl, ◌∙◌}
 use Rattle.std.specs.List.{list_all}
-use Rattle.cc_syntax.proofs.SameLemmas.{and_true}
+use Rattle.cc_type.proofs.CcSyntax.SameLemmas.{and_true}
 use Rattle.cc_sound_terms.specs.Ranges.{fits, declr_in_range, spec_in_range}
 use Rattle.cc_tree.specs.Scopes.{Scope}
 use Rattle.cc_tree.specs.Sentences.{IsItem, ADeclItem, AFunc, IsItems, NoItem, MoreItems, IsSentence}

@@ -1,40 +1,40 @@
 -- The storage class of specifiers is that of their tree: it is a word, and stands alone (C99 6.7.1, 2).
 use Rattle.std.proofs.Common.{◌≡◌, ℕ, Bool, true, false, not, ◌&&◌, List, [], ◌∷◌, map, Option, Some, None, Ok, refl, ap, sym, ◌∙◌, subst}
 use Rattle.std.specs.Prelude.{is_some, Err}
-use Rattle.cc_typed_terms.specs.Located.{located}
-use Rattle.cc_typed_terms.specs.Specifiers.{begin, type_named, marked, as_type, structure_tag, enumeration_tag}
-use Rattle.cc_num.specs.declared.target.Target.{Target}
-use Rattle.cc_objects.specs.Categories.{storage_class, storage_at, storage_in}
+use Rattle.cc_type.specs.CcTypedTerms.Located.{located}
+use Rattle.cc_type.specs.CcTypedTerms.Specifiers.{begin, type_named, marked, as_type, structure_tag, enumeration_tag}
+use Rattle.cc_program.specs.CcNum.declared.target.Target.{Target}
+use Rattle.cc_type.specs.CcObjects.Categories.{storage_class, storage_at, storage_in}
 use Rattle.cc_operand_types.proofs.Operands.{given, must_ok}
-use Rattle.cc_operands.specs.declared.rule.Rule.TheVariants as rule
+use Rattle.cc_type.specs.CcOperands.declared.rule.Rule.TheVariants as rule
 use Rattle.cc_program.specs.declared.program.Roles.{Roles}
 use Rattle.cc_program.specs.declared.types.CType.{CType}
-use Rattle.cc_scopes.specs.State.{State, Name, or_else, designated, tagged}
-use Rattle.cc_scopes.specs.Structures.{structure_named, enumeration_named, tagged_option, closed, enumeration_closed, in_list}
-use Rattle.cc_scopes.specs.Verdicts.{Found, whole, and_then}
-use Rattle.cc_scopes.specs.declared.designated.Designated.{Designated}
-use Rattle.cc_scopes.specs.declared.designated.Designated.TheVariants as means
+use Rattle.cc_type.specs.CcScopes.State.{State, Name, or_else, designated, tagged}
+use Rattle.cc_type.specs.CcScopes.Structures.{structure_named, enumeration_named, tagged_option, closed, enumeration_closed, in_list}
+use Rattle.cc_type.specs.CcScopes.Verdicts.{Found, whole, and_then}
+use Rattle.cc_type.specs.CcScopes.declared.designated.Designated.{Designated}
+use Rattle.cc_type.specs.CcScopes.declared.designated.Designated.TheVariants as means
 use Rattle.cc_sound_declarations.proofs.Storage.{same_specs, specified_same}
 use Rattle.cc_sound_terms.proofs.Founds.{answer_is, then_found, whole_found, then_judged}
-use Rattle.cc_specifiers.specs.Attributes.{are_meant, attributes, attributes_in}
-use Rattle.cc_specifiers.specs.Specifiers.{no_specifier, with_base, with_storage, word_beside, type_beside, said, with_mark, with_specifier, specified}
-use Rattle.cc_specifiers.specs.Storage.{fits_storage}
-use Rattle.cc_specifiers.specs.declared.attribute.Entity.TheVariants as entity
-use Rattle.cc_specifiers.specs.declared.specifier.Specified.{Specified}
-use Rattle.cc_specifiers.specs.declared.specifier.Specifier.{Specifier}
-use Rattle.cc_specifiers.specs.declared.specifier.Specifier.TheVariants as specifier
-use Rattle.cc_specifiers.specs.declared.specifier.Specs.{Specs}
-use Rattle.cc_specifiers.specs.declared.storage.Setting.{Setting}
-use Rattle.cc_terms.specs.Constants.{enumr_step, constants_found, enumeration_found}
-use Rattle.cc_terms.specs.Declarators.{declr_step, params_step, param_step, type_name_step}
-use Rattle.cc_terms.specs.Expressions.{tree_step}
-use Rattle.cc_terms.specs.InTurn.{in_turn}
-use Rattle.cc_terms.specs.Meanings.{TreeMeaning, DeclrMeaning, ParamsMeaning, ParamMeaning, SpecMeaning, MembersMeaning, EnumrMeaning, TypeNameMeaning}
-use Rattle.cc_terms.specs.Members.{members_step}
-use Rattle.cc_terms.specs.Specifiers.{specifier_found, specifiers_found, specified_found, enumeration_spec, structure_spec, spec_step}
-use Rattle.cc_terms.specs.Structures.{structure_opened, members_found, structure_closed, structure_found}
-use Rattle.cc_terms.specs.Terms.{tree_of, declr_of, params_of, param_of, spec_of, members_of, enumr_of, type_name_of, spec_here}
-use Rattle.cc_syntax.specs.Types.{Named}
+use Rattle.cc_type.specs.CcSpecifiers.Attributes.{are_meant, attributes, attributes_in}
+use Rattle.cc_type.specs.CcSpecifiers.Specifiers.{no_specifier, with_base, with_storage, word_beside, type_beside, said, with_mark, with_specifier, specified}
+use Rattle.cc_type.specs.CcSpecifiers.Storage.{fits_storage}
+use Rattle.cc_type.specs.CcSpecifiers.declared.attribute.Entity.TheVariants as entity
+use Rattle.cc_type.specs.CcSpecifiers.declared.specifier.Specified.{Specified}
+use Rattle.cc_type.specs.CcSpecifiers.declared.specifier.Specifier.{Specifier}
+use Rattle.cc_type.specs.CcSpecifiers.declared.specifier.Specifier.TheVariants as specifier
+use Rattle.cc_type.specs.CcSpecifiers.declared.specifier.Specs.{Specs}
+use Rattle.cc_type.specs.CcSpecifiers.declared.storage.Setting.{Setting}
+use Rattle.cc_type.specs.CcTerms.Constants.{enumr_step, constants_found, enumeration_found}
+use Rattle.cc_type.specs.CcTerms.Declarators.{declr_step, params_step, param_step, type_name_step}
+use Rattle.cc_type.specs.CcTerms.Expressions.{tree_step}
+use Rattle.cc_type.specs.CcTerms.InTurn.{in_turn}
+use Rattle.cc_type.specs.CcTerms.Meanings.{TreeMeaning, DeclrMeaning, ParamsMeaning, ParamMeaning, SpecMeaning, MembersMeaning, EnumrMeaning, TypeNameMeaning}
+use Rattle.cc_type.specs.CcTerms.Members.{members_step}
+use Rattle.cc_type.specs.CcTerms.Specifiers.{specifier_found, specifiers_found, specified_found, enumeration_spec, structure_spec, spec_step}
+use Rattle.cc_type.specs.CcTerms.Structures.{structure_opened, members_found, structure_closed, structure_found}
+use Rattle.cc_type.specs.CcTerms.Terms.{tree_of, declr_of, params_of, param_of, spec_of, members_of, enumr_of, type_name_of, spec_here}
+use Rattle.cc_type.specs.CcSyntax.Types.{Named}
 use Rattle.cc_tree.specs.declared.at.At.{At}
 use Rattle.cc_tree.specs.declared.tree.Attr.{Attr}
 use Rattle.cc_tree.specs.declared.tree.Declr.{Declr}
@@ -46,8 +46,8 @@ use Rattle.cc_tree.specs.declared.tree.Params.{Params}
 use Rattle.cc_tree.specs.declared.tree.Spec.{Spec, out-Spec, fold_out-Spec, map-Spec}
 use Rattle.cc_tree.specs.declared.tree.Tree.{Tree}
 use Rattle.cc_tree.specs.declared.tree.TypeName.{TypeName}
-use Rattle.cc_words.specs.declared.word.Word.{Word}
-use Rattle.cc_words.specs.declared.word.Word.TheVariants as w
+use Rattle.cc_program.specs.CcWords.declared.word.Word.{Word}
+use Rattle.cc_program.specs.CcWords.declared.word.Word.TheVariants as w
 
 abbrev stored : Specs → Option Word
 stored d = d.storage

@@ -4,21 +4,21 @@ use Rattle.std.specs.Prelude.{slice_get}
 use Rattle.std.specs.List.{list_all}
 use Rattle.cc_read_sound.proofs.FirstObjects.{kept_if}
 use Rattle.cc_read_sound.specs.Values.{HasInitial, AreInitial}
-use Rattle.cc_num.specs.Integers.{is_value_of}
-use Rattle.cc_num.specs.declared.int_type.IntType.TheVariants as int
+use Rattle.cc_program.specs.CcNum.Integers.{is_value_of}
+use Rattle.cc_program.specs.CcNum.declared.int_type.IntType.TheVariants as int
 use Rattle.cc_operand_types.proofs.Constants.{truth_fits, converted_fits}
-use Rattle.cc_operands.specs.Operands.{character_value}
-use Rattle.cc_typed_terms.specs.Primary.{char_type, string_type, char_leaf, string_object}
+use Rattle.cc_type.specs.CcOperands.Operands.{character_value}
+use Rattle.cc_type.specs.CcTypedTerms.Primary.{char_type, string_type, char_leaf, string_object}
 use Rattle.cc_program.specs.declared.types.Shape.TheVariants.{outs-Int, outs-Array}
 use Rattle.cc_program.specs.declared.value.Leaf.{Leaf}
 use Rattle.cc_program.specs.declared.value.Leaf.TheVariants as leaf
-use Rattle.cc_scopes.specs.State.{State}
-use Rattle.cc_scopes.specs.declared.unit.Declared.{Declared}
+use Rattle.cc_type.specs.CcScopes.State.{State}
+use Rattle.cc_type.specs.CcScopes.declared.unit.Declared.{Declared}
 use Rattle.cc_sound_terms.proofs.Growth.{get_front}
 use Rattle.cc_sound_terms.specs.Behind.{HasEntry, IsUnnamed, OfString, OfDevice, Extends}
-use Rattle.cc_syntax.specs.Folding.{Value}
-use Rattle.cc_syntax.specs.Initial.{is_zero, AreLeaves, OfInteger, OfArray, AreElements, NoElement, Element, IsInitial}
-use Rattle.cc_syntax.specs.Views.{View}
+use Rattle.cc_type.specs.CcSyntax.Folding.{Value}
+use Rattle.cc_type.specs.CcSyntax.Initial.{is_zero, AreLeaves, OfInteger, OfArray, AreElements, NoElement, Element, IsInitial}
+use Rattle.cc_type.specs.CcSyntax.Views.{View}
 
 some_is : {A : Type 0} (a b : A) → Some a ≡ Some b → a ≡ b
 some_is a b h = cc

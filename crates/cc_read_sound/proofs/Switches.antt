@@ -1,28 +1,28 @@
 -- A `switch` over sound cases is sound.
 use Rattle.std.proofs.Common.{◌≡◌, true, not, List, [], ◌∷◌, Option, Some, None, Ok, refl, ap, sym, ◌∙◌, subst}
 use Rattle.std.specs.List.{list_all}
-use Rattle.cc_num.specs.Promotions.{promoted}
-use Rattle.cc_num.specs.declared.int_type.IntType.{IntType}
-use Rattle.cc_operands.specs.Operands.{Operand, converted_to}
-use Rattle.cc_operands.specs.Verdicts.{must, judge_then}
-use Rattle.cc_operands.specs.declared.rule.Rule.TheVariants as rule
+use Rattle.cc_program.specs.CcNum.Promotions.{promoted}
+use Rattle.cc_program.specs.CcNum.declared.int_type.IntType.{IntType}
+use Rattle.cc_type.specs.CcOperands.Operands.{Operand, converted_to}
+use Rattle.cc_type.specs.CcOperands.Verdicts.{must, judge_then}
+use Rattle.cc_type.specs.CcOperands.declared.rule.Rule.TheVariants as rule
 use Rattle.cc_operand_types.proofs.Integers.{promoted_is}
 use Rattle.cc_operand_types.proofs.Operands.{given, ok_is, must_ok, value_ok, converted_typed, value_integer}
 use Rattle.cc_operand_types.proofs.Stores.{then_ok}
 use Rattle.cc_operand_types.specs.Typed.{IsTypedOperand}
-use Rattle.cc_syntax.specs.Views.{View}
+use Rattle.cc_type.specs.CcSyntax.Views.{View}
 use Rattle.cc_program.specs.declared.expr.Expr.{Expr}
 use Rattle.cc_program.specs.declared.stmt.Case.{Case}
 use Rattle.cc_program.specs.declared.stmt.Stmt.{Stmt, Switch}
 use Rattle.cc_program.specs.declared.types.CType.{CType}
-use Rattle.cc_syntax.proofs.SameLemmas.{and_true}
-use Rattle.cc_syntax.specs.Operators.{is_integer, is_promoted}
-use Rattle.cc_syntax.specs.Statements.{labels_of, labels_fit, label_fits}
-use Rattle.cc_syntax.specs.Types.{Named}
-use Rattle.cc_syntax.specs.Values.{ValueType, NoValue, Integer, ToObject, ToFunction}
-use Rattle.cc_typed_statements.specs.Switch.{switch_type, cases_of, switch_of}
-use Rattle.cc_typed_statements.specs.declared.cases.Cases.{Cases}
-use Rattle.cc_typed_statements.specs.declared.jumps.Jumps.{Jumps}
+use Rattle.cc_type.proofs.CcSyntax.SameLemmas.{and_true}
+use Rattle.cc_type.specs.CcSyntax.Operators.{is_integer, is_promoted}
+use Rattle.cc_type.specs.CcSyntax.Statements.{labels_of, labels_fit, label_fits}
+use Rattle.cc_type.specs.CcSyntax.Types.{Named}
+use Rattle.cc_type.specs.CcSyntax.Values.{ValueType, NoValue, Integer, ToObject, ToFunction}
+use Rattle.cc_type.specs.CcTypedStatements.Switch.{switch_type, cases_of, switch_of}
+use Rattle.cc_type.specs.CcTypedStatements.declared.cases.Cases.{Cases}
+use Rattle.cc_type.specs.CcTypedStatements.declared.jumps.Jumps.{Jumps}
 use Rattle.cc_read_sound.specs.Sound.{Keeps, AreSound, AreCases}
 use Rattle.cc_read_sound.proofs.KeptStatements.{integer_kept}
 use Rattle.cc_read_sound.proofs.Opened.{switch_sound}

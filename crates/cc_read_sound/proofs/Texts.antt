@@ -1,15 +1,15 @@
 -- The numbers of a text fit.
 use Rattle.std.proofs.Common.{◌≡◌, ◌<◌, ◌≤◌, ◌^◌, ℕ, Bool, true, false, List, Option, Some, None, refl, arith}
 use Rattle.std.proofs.lemmas.Bool.{lt-ltb}
-use Rattle.cc_lex.specs.Identifiers.{named}
-use Rattle.cc_lex.specs.Numbers.{IsInteger, AnInteger, greatest}
-use Rattle.cc_lex.specs.Tokens.{Spells, AName, ANumber, ACharacter, AText, AMark, TokensFrom, NoToken, Separated, Spelled, Tokens}
-use Rattle.cc_lex.specs.declared.token.Kind.{Kind}
-use Rattle.cc_lex.specs.declared.token.Suffix.{Suffix}
-use Rattle.cc_lex.specs.declared.token.Token.{Token}
-use Rattle.cc_syntax.proofs.SameLemmas.{and_true}
-use Rattle.cc_words.specs.Words.{word_of}
-use Rattle.cc_words.specs.declared.word.Word.{Word}
+use Rattle.cc_type.specs.CcLex.Identifiers.{named}
+use Rattle.cc_type.specs.CcLex.Numbers.{IsInteger, AnInteger, greatest}
+use Rattle.cc_type.specs.CcLex.Tokens.{Spells, AName, ANumber, ACharacter, AText, AMark, TokensFrom, NoToken, Separated, Spelled, Tokens}
+use Rattle.cc_type.specs.CcLex.declared.token.Kind.{Kind}
+use Rattle.cc_type.specs.CcLex.declared.token.Suffix.{Suffix}
+use Rattle.cc_type.specs.CcLex.declared.token.Token.{Token}
+use Rattle.cc_type.proofs.CcSyntax.SameLemmas.{and_true}
+use Rattle.cc_program.specs.CcWords.Words.{word_of}
+use Rattle.cc_program.specs.CcWords.declared.word.Word.{Word}
 use Rattle.cc_read_sound.specs.Ranges.{kind_fits, tokens_fit}
 
 below : (decimal unsigned : Bool) (n : ℕ) → n ≤ greatest decimal unsigned → n < 2 ^ 64

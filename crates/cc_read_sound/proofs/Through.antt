@@ -4,10 +4,10 @@ use Rattle.std.specs.Prelude.{slice_get, option_map, if◌then◌else◌}
 use Rattle.std.proofs.lemmas.Option.{slice_get-map}
 use Rattle.cc_read_sound.specs.Values.{HasContent, HasContents, AreInitial}
 use Rattle.cc_read_sound.specs.Initialises.{Initialises}
-use Rattle.cc_num.specs.declared.target.Target.{Target}
+use Rattle.cc_program.specs.CcNum.declared.target.Target.{Target}
 use Rattle.cc_standing_units.specs.Views.{view_of}
 use Rattle.cc_program.specs.declared.expr.Place.{Place}
-use Rattle.cc_scopes.specs.State.{State, Name, KnownStructure, members_or_none, as_structure, with_unfinished}
+use Rattle.cc_type.specs.CcScopes.State.{State, Name, KnownStructure, members_or_none, as_structure, with_unfinished}
 use Rattle.cc_sound_declarations.proofs.Declaring.{known_before, known_behind}
 use Rattle.cc_sound_declarations.specs.Declaring.{DeclaresGiven, Declares}
 use Rattle.cc_sound_terms.proofs.Behind.{knows_back, known_first, known_second}
@@ -16,8 +16,8 @@ use Rattle.cc_sound_terms.specs.Behind.{Extends, NamesKept}
 use Rattle.cc_sound_terms.specs.Growing.{StructuresKept}
 use Rattle.cc_sound_terms.specs.Ordered.{HasMembers}
 use Rattle.cc_sound_terms.specs.Typing.{Knows, KnowsTypes}
-use Rattle.cc_syntax.specs.Types.{Named}
-use Rattle.cc_syntax.specs.Views.{View}
+use Rattle.cc_type.specs.CcSyntax.Types.{Named}
+use Rattle.cc_type.specs.CcSyntax.Views.{View}
 
 -- ---- members
 

@@ -1,17 +1,17 @@
 -- The unit of a tree is left by its last state.
 use Rattle.std.proofs.Common.{◌≡◌, ◌<◌, ◌^◌, ℕ, List, length, Ok, Err, refl, sym, subst}
 use Rattle.std.specs.Prelude.{Result}
-use Rattle.cc_lex.specs.Tokens.{Tokens}
-use Rattle.cc_lex.specs.declared.token.Token.{Token}
+use Rattle.cc_type.specs.CcLex.Tokens.{Tokens}
+use Rattle.cc_type.specs.CcLex.declared.token.Token.{Token}
 use Rattle.cc_named_units.proofs.Texts.{members_there, of_text}
-use Rattle.cc_num.specs.declared.target.Target.{Target}
-use Rattle.cc_numbering.specs.Units.{unit_left}
+use Rattle.cc_program.specs.CcNum.declared.target.Target.{Target}
+use Rattle.cc_type.specs.CcNumbering.Units.{unit_left}
 use Rattle.cc_program.specs.declared.program.Roles.{Roles}
 use Rattle.cc_read_sound.proofs.Statements.{sentence_fits}
 use Rattle.cc_read_sound.proofs.Texts.{text_fits}
-use Rattle.cc_scopes.specs.State.{State, at_first}
-use Rattle.cc_scopes.specs.Verdicts.{Checked, Found}
-use Rattle.cc_scopes.specs.declared.verdict.Fault.{Fault}
+use Rattle.cc_type.specs.CcScopes.State.{State, at_first}
+use Rattle.cc_type.specs.CcScopes.Verdicts.{Checked, Found}
+use Rattle.cc_type.specs.CcScopes.declared.verdict.Fault.{Fault}
 use Rattle.cc_read_sound.proofs.Items.{closings_of_units, unit_sound}
 use Rattle.cc_read_sound.specs.Items.{IsSoundState}
 use Rattle.cc_relocated_units.specs.Units.{IsOfText, IsSoundUnit}
@@ -25,7 +25,7 @@ use Rattle.cc_tree.specs.declared.unit.Unit.{Unit as UnitTree}
 use Rattle.cc_type.specs.Defined.{defined_names}
 use Rattle.cc_type.specs.Typed.{IsTyped}
 use Rattle.cc_type.specs.Units.{items_found, unit_found, unit_of}
-use Rattle.cc_unit.specs.declared.unit.TypedUnit.{TypedUnit}
+use Rattle.cc_type.specs.CcUnit.declared.unit.TypedUnit.{TypedUnit}
 
 unit_is : (found : Found Checked) (t : TypedUnit) → unit_found found ≡ Ok t → (r : Checked × State) × (found ≡ Ok r) × (unit_left r.1 ≡ t)
 unit_is (Ok r) t h = (r, refl, (let e : unit_left r.1 ≡ t = cc in e))

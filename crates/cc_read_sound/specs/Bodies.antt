@@ -5,11 +5,11 @@ use Rattle.cc_program.specs.declared.stmt.Stmt.{Stmt}
 use Rattle.cc_program.specs.declared.types.CType.{CType}
 use Rattle.cc_read_sound.specs.Sound.{AreSound}
 use Rattle.cc_sound_declarations.specs.Declaring.{lowered}
-use Rattle.cc_syntax.specs.Expressions.{type_of}
-use Rattle.cc_syntax.specs.Types.{Named}
-use Rattle.cc_syntax.specs.Values.{ValueType, scalar_value}
-use Rattle.cc_syntax.specs.Views.{View}
-use Rattle.cc_typed_statements.specs.declared.jumps.Jumps.{Jumps}
+use Rattle.cc_type.specs.CcSyntax.Expressions.{type_of}
+use Rattle.cc_type.specs.CcSyntax.Types.{Named}
+use Rattle.cc_type.specs.CcSyntax.Values.{ValueType, scalar_value}
+use Rattle.cc_type.specs.CcSyntax.Views.{View}
+use Rattle.cc_type.specs.CcTypedStatements.declared.jumps.Jumps.{Jumps}
 
 -- over the locals of the function, when it declares these objects
 abbrev pub StatementsSound : View → ℕ → CType → Jumps → List Named → List Stmt → Type 0

@@ -1,6 +1,6 @@
 -- What the definition of a function leaves: an entry that has a body, which is sound over each view that knows what there is behind it (C99 6.9.1).
 use Rattle.std.specs.Prelude.{◌≡◌, ◌⊎◌, ℕ, true, false, List, [], map, Some, Ok, slice_get}
-use Rattle.cc_operands.specs.Qualified.{is_function_type}
+use Rattle.cc_type.specs.CcOperands.Qualified.{is_function_type}
 use Rattle.cc_program.specs.declared.func.Entry.{Entry}
 use Rattle.cc_program.specs.declared.func.Func.{Func}
 use Rattle.cc_program.specs.declared.program.Roles.{Roles}
@@ -10,12 +10,12 @@ use Rattle.cc_program.specs.declared.types.Shape.{out-Shape}
 use Rattle.cc_program.specs.declared.types.Shape.TheOpen as shape
 use Rattle.cc_program.specs.declared.types.Sig.{Sig}
 use Rattle.cc_program.specs.declared.value.Leaf.{Leaf}
-use Rattle.cc_scopes.specs.State.{State, Name}
-use Rattle.cc_scopes.specs.declared.unit.Declared.{Declared}
+use Rattle.cc_type.specs.CcScopes.State.{State, Name}
+use Rattle.cc_type.specs.CcScopes.declared.unit.Declared.{Declared}
 use Rattle.cc_relocated_units.specs.Units.{IsSoundFunction}
-use Rattle.cc_syntax.specs.Views.{View}
-use Rattle.cc_unit.specs.declared.unit.UnitKind.{UnitKind}
-use Rattle.cc_unit.specs.declared.unit.UnitKind.TheVariants as kind
+use Rattle.cc_type.specs.CcSyntax.Views.{View}
+use Rattle.cc_type.specs.CcUnit.declared.unit.UnitKind.{UnitKind}
+use Rattle.cc_type.specs.CcUnit.declared.unit.UnitKind.TheVariants as kind
 
 -- no object has a function's type
 abbrev pub AreApart : List Declared → Type 0

@@ -3,25 +3,25 @@
 use Rattle.std.specs.Prelude.{◌≡◌, ◌⊎◌, ℕ, Bool, true, false, nat_lt, List, Option, Some, slice_get, is_some}
 use Rattle.std.specs.List.{list_any}
 use Rattle.std.specs.Str.{bytes_eq}
-use Rattle.cc_linkage.specs.Linkage.{is_main_shape}
-use Rattle.cc_numbering.specs.Names.{count_of}
-use Rattle.cc_operands.specs.Qualified.{is_function_type}
-use Rattle.cc_typed_terms.specs.Primary.{is_intrinsic}
+use Rattle.cc_type.specs.CcLinkage.Linkage.{is_main_shape}
+use Rattle.cc_type.specs.CcNumbering.Names.{count_of}
+use Rattle.cc_type.specs.CcOperands.Qualified.{is_function_type}
+use Rattle.cc_type.specs.CcTypedTerms.Primary.{is_intrinsic}
 use Rattle.cc_program.proofs.Each.{Each}
 use Rattle.cc_program.specs.declared.func.Entry.{Entry}
 use Rattle.cc_program.specs.declared.func.Func.{Func}
 use Rattle.cc_program.specs.declared.program.Roles.{Roles}
 use Rattle.cc_program.specs.declared.types.CType.{CType}
 use Rattle.cc_program.specs.declared.types.Shape.{out-Shape}
-use Rattle.cc_scopes.specs.Linked.{is_linked, linked_name}
-use Rattle.cc_scopes.specs.State.{State, Name}
-use Rattle.cc_scopes.specs.declared.unit.Declared.{Declared}
-use Rattle.cc_num.specs.declared.target.Target.{Target}
+use Rattle.cc_type.specs.CcScopes.Linked.{is_linked, linked_name}
+use Rattle.cc_type.specs.CcScopes.State.{State, Name}
+use Rattle.cc_type.specs.CcScopes.declared.unit.Declared.{Declared}
+use Rattle.cc_program.specs.CcNum.declared.target.Target.{Target}
 use Rattle.cc_sound_declarations.specs.Entries.{IsEntry}
 use Rattle.cc_relocated_units.specs.Units.{is_attributed, is_main_name, is_register_type}
 use Rattle.cc_things.specs.Things.{is_external_linkage}
-use Rattle.cc_unit.specs.declared.unit.UnitKind.{UnitKind}
-use Rattle.cc_unit.specs.declared.unit.UnitKind.TheVariants as kind
+use Rattle.cc_type.specs.CcUnit.declared.unit.UnitKind.{UnitKind}
+use Rattle.cc_type.specs.CcUnit.declared.unit.UnitKind.TheVariants as kind
 
 -- a definition counts, tentative ones too
 abbrev pub is_counted : Declared → Bool

@@ -4,17 +4,17 @@ use Rattle.cc_operand_types.specs.Typed.{MembersStand}
 use Rattle.cc_program.proofs.Each.{Each}
 use Rattle.cc_program.specs.declared.stmt.Stmt.{Stmt}
 use Rattle.cc_program.specs.declared.types.CType.{CType}
-use Rattle.cc_scopes.specs.State.{State, Name, Scope, entered, with_locals}
+use Rattle.cc_type.specs.CcScopes.State.{State, Name, Scope, entered, with_locals}
 use Rattle.cc_read_sound.specs.Bodies.{ResultStands}
 use Rattle.cc_sound_declarations.specs.Declaring.{AreObjects, Declares, lowered}
 use Rattle.cc_sound_terms.specs.Knowing.{KnowsNames, ObjectsStand}
 use Rattle.cc_sound_terms.specs.Standing.{ParameterStands}
 use Rattle.cc_sound_terms.specs.Typing.{KnowsTypes}
-use Rattle.cc_specifiers.specs.declared.derivation.Parameter.{Parameter}
-use Rattle.cc_syntax.specs.Expressions.{type_of}
-use Rattle.cc_syntax.specs.Statements.{is_sound_body}
-use Rattle.cc_syntax.specs.Types.{Named}
-use Rattle.cc_syntax.specs.Views.{View}
+use Rattle.cc_type.specs.CcSpecifiers.declared.derivation.Parameter.{Parameter}
+use Rattle.cc_type.specs.CcSyntax.Expressions.{type_of}
+use Rattle.cc_type.specs.CcSyntax.Statements.{is_sound_body}
+use Rattle.cc_type.specs.CcSyntax.Types.{Named}
+use Rattle.cc_type.specs.CcSyntax.Views.{View}
 use Rattle.cc_type.specs.Functions.{locals_of}
 
 -- where the body begins

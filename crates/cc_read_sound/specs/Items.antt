@@ -1,9 +1,9 @@
 -- The state behind the last item of a unit: what is known of it over its own view, and what is so of its entries (C99 6.9).
 use Rattle.std.specs.Prelude.{List, []}
-use Rattle.cc_num.specs.declared.target.Target.{Target}
+use Rattle.cc_program.specs.CcNum.declared.target.Target.{Target}
 use Rattle.cc_standing_units.specs.Views.{view_of}
 use Rattle.cc_program.specs.declared.program.Roles.{Roles}
-use Rattle.cc_scopes.specs.State.{State, Name, at_first}
+use Rattle.cc_type.specs.CcScopes.State.{State, Name, at_first}
 use Rattle.cc_read_sound.specs.Definitions.{IsSoundAt}
 use Rattle.cc_read_sound.specs.Entries.{AreWell}
 use Rattle.cc_sound_declarations.specs.Declaring.{Declares}

@@ -1,9 +1,9 @@
 -- Statements and units whose numbers fit 64 bits, as those of each text do (C99 6.4.4.1, 5); and tokens.
 use Rattle.std.specs.Prelude.{◌^◌, Bool, true, ◌&&◌, nat_lt, List, map, Option, Some, None}
 use Rattle.std.specs.List.{list_all}
-use Rattle.cc_lex.specs.declared.token.Kind.{Kind}
-use Rattle.cc_lex.specs.declared.token.Kind.TheVariants as kind
-use Rattle.cc_lex.specs.declared.token.Token.{Token}
+use Rattle.cc_type.specs.CcLex.declared.token.Kind.{Kind}
+use Rattle.cc_type.specs.CcLex.declared.token.Kind.TheVariants as kind
+use Rattle.cc_type.specs.CcLex.declared.token.Token.{Token}
 use Rattle.cc_sound_declarations.specs.Ranges.{decl_fits}
 use Rattle.cc_sound_terms.specs.Ranges.{all_fit, fits, declr_in_range, spec_in_range}
 use Rattle.cc_tree.specs.declared.at.At.{At}

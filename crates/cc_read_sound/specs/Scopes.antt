@@ -1,15 +1,15 @@
 -- The scope of a function's parameters, which is that of its body in a definition (C99 6.2.1, 4; 6.9.1, 5 and 9).
 use Rattle.std.specs.Prelude.{◌≡◌, Bool, true, List, Some, slice_get, is_some}
 use Rattle.std.specs.List.{list_all}
-use Rattle.cc_num.specs.declared.int_type.IntType.TheVariants as int
-use Rattle.cc_num.specs.declared.target.Target.{Target}
-use Rattle.cc_num.specs.Integers.{is_value_of}
-use Rattle.cc_scopes.specs.State.{State, Name, Scope, find_name}
-use Rattle.cc_scopes.specs.declared.designated.Designated.{Designated}
-use Rattle.cc_scopes.specs.declared.designated.Designated.TheVariants as means
-use Rattle.cc_scopes.specs.declared.designated.Tagged.{Tagged}
+use Rattle.cc_program.specs.CcNum.declared.int_type.IntType.TheVariants as int
+use Rattle.cc_program.specs.CcNum.declared.target.Target.{Target}
+use Rattle.cc_program.specs.CcNum.Integers.{is_value_of}
+use Rattle.cc_type.specs.CcScopes.State.{State, Name, Scope, find_name}
+use Rattle.cc_type.specs.CcScopes.declared.designated.Designated.{Designated}
+use Rattle.cc_type.specs.CcScopes.declared.designated.Designated.TheVariants as means
+use Rattle.cc_type.specs.CcScopes.declared.designated.Tagged.{Tagged}
 use Rattle.cc_sound_terms.specs.Growing.{IsTag}
-use Rattle.cc_specifiers.specs.declared.derivation.Parameter.{Parameter}
+use Rattle.cc_type.specs.CcSpecifiers.declared.derivation.Parameter.{Parameter}
 
 abbrev pub have_names : List Parameter → Bool
 have_names ps = list_all (λ (p : Parameter). is_some p.name) ps

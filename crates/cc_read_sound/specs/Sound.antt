@@ -1,19 +1,19 @@
 -- Sound statements where they stand: what their expressions are typed over, and which jumps there are (C99 6.8).
 use Rattle.std.specs.Prelude.{◌≡◌, Bool, true, List, map, Option, Some}
 use Rattle.std.specs.List.{list_all}
-use Rattle.cc_num.specs.declared.int_type.IntType.{IntType}
-use Rattle.cc_num.specs.declared.target.Target.{Target}
-use Rattle.cc_syntax.specs.Views.{View}
-use Rattle.cc_syntax.specs.Expressions.{type_of}
+use Rattle.cc_program.specs.CcNum.declared.int_type.IntType.{IntType}
+use Rattle.cc_program.specs.CcNum.declared.target.Target.{Target}
+use Rattle.cc_type.specs.CcSyntax.Views.{View}
+use Rattle.cc_type.specs.CcSyntax.Expressions.{type_of}
 use Rattle.cc_program.specs.declared.expr.Expr.{Expr}
 use Rattle.cc_program.specs.declared.stmt.Case.{Case, out-Case}
 use Rattle.cc_program.specs.declared.stmt.Stmt.{Stmt}
 use Rattle.cc_program.specs.declared.types.CType.{CType}
 use Rattle.cc_operand_types.specs.Reduced.{Reduced}
-use Rattle.cc_syntax.specs.Statements.{label_fits, labels_of, are_apart, has_label, is_sound_stmt}
-use Rattle.cc_syntax.specs.Types.{Named}
-use Rattle.cc_syntax.specs.Values.{ValueType}
-use Rattle.cc_typed_statements.specs.declared.jumps.Jumps.{Jumps}
+use Rattle.cc_type.specs.CcSyntax.Statements.{label_fits, labels_of, are_apart, has_label, is_sound_stmt}
+use Rattle.cc_type.specs.CcSyntax.Types.{Named}
+use Rattle.cc_type.specs.CcSyntax.Values.{ValueType}
+use Rattle.cc_type.specs.CcTypedStatements.declared.jumps.Jumps.{Jumps}
 
 -- what is typed over the locals as they are declared has a type, which may lack qualifiers of that one
 abbrev pub Keeps : View → List Named → (Expr → Option ValueType) → Type 0

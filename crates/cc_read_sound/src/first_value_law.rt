@@ -2,25 +2,25 @@ ghost use Rattle.std.specs.Prelude.{◌≡◌, true, false, List, Ok};
 ghost use Rattle.cc_read_sound.specs.Values.{AreFirst, HasContents};
 ghost use Rattle.cc_sound_declarations.specs.Scalars.{scalars_of};
 ghost use Rattle.cc_sound_declarations.specs.Values.{MayStand};
-ghost use Rattle.cc_initialisers.specs.Contents.{Contents, contents};
-ghost use Rattle.cc_initialisers.specs.Initialisers.{here, initialised};
-ghost use Rattle.cc_objects.specs.Values.{leaf_given, no_leaf};
-ghost use Rattle.cc_typed_terms.specs.Primary.{leaves_or_none};
+ghost use Rattle.cc_type.specs.CcInitialisers.Contents.{Contents, contents};
+ghost use Rattle.cc_type.specs.CcInitialisers.Initialisers.{here, initialised};
+ghost use Rattle.cc_type.specs.CcObjects.Values.{leaf_given, no_leaf};
+ghost use Rattle.cc_type.specs.CcTypedTerms.Primary.{leaves_or_none};
 ghost use Rattle.cc_program.proofs.Each.{Each};
 ghost use Rattle.cc_program.specs.declared.program.Roles.{Roles};
 ghost use Rattle.cc_program.specs.declared.types.CType.{CType};
 ghost use Rattle.cc_program.specs.declared.value.Leaf.{Leaf};
-ghost use Rattle.cc_scopes.specs.State.{State, structures_of};
+ghost use Rattle.cc_type.specs.CcScopes.State.{State, structures_of};
 ghost use Rattle.cc_sound_declarations.specs.Ranges.{given_in_range};
 ghost use Rattle.cc_sound_terms.specs.Behind.{Extends};
 ghost use Rattle.cc_sound_terms.specs.Ordered.{IsOrdered};
 ghost use Rattle.cc_sound_terms.specs.Typing.{Knows};
-ghost use Rattle.cc_syntax.specs.Initial.{IsInitial};
-ghost use Rattle.cc_syntax.specs.Types.{Named, is_complete};
-ghost use Rattle.cc_syntax.specs.Views.{View};
+ghost use Rattle.cc_type.specs.CcSyntax.Initial.{IsInitial};
+ghost use Rattle.cc_type.specs.CcSyntax.Types.{Named, is_complete};
+ghost use Rattle.cc_type.specs.CcSyntax.Views.{View};
 ghost use Rattle.cc_tree.specs.declared.at.At.{At};
 ghost use Rattle.cc_tree.specs.declared.unit.Given.{Given};
-ghost use Rattle.cc_typed_bodies.specs.Plans.{steps_done};
+ghost use Rattle.cc_type.specs.CcTypedBodies.Plans.{steps_done};
 
 /// What an initialiser of an object with static storage duration gives, over any view and any locals (C99 6.6, 6.7.8, 4 and 10). The call does nothing.
 pub fn first_value_laws()

@@ -14,7 +14,7 @@ use Rattle.cc_program.specs.declared.stmt.Stmt.TheOpen as is
 use Rattle.cc_program.proofs.Each.{Each}
 use Rattle.cc_program.proofs.FoldFusion.{fused}
 use Rattle.cc_program.proofs.StmtInduction.{StmtParts, CaseParts, by_stmts}
-use Rattle.cc_syntax.specs.Registers.{PlaceUse, address_step, use_step, is_address_taken, is_taken_in_optional, stmt_step, is_taken_in, is_addressed}
+use Rattle.cc_typed.specs.CcSyntax.Registers.{PlaceUse, address_step, use_step, is_address_taken, is_taken_in_optional, stmt_step, is_taken_in, is_addressed}
 use Rattle.cc_registers.specs.Taken.{among, listed, all_of, PlaceTaken, taken_step, place_taken_step, taken_in, taken_if, stmt_taken_step, taken_by, taken_by_all}
 
 abbrev any : List Bool → Bool

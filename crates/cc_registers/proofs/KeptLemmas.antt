@@ -2,7 +2,7 @@
 use Rattle.std.proofs.Common.{arith, ◌≡◌, ◌<◌, ◌≤◌, ◌+◌, ◌⊎◌, inl, inr, ℕ, zero, suc, Bool, false, not, ◌&&◌, List, [], ◌∷◌, ◌++◌, length, Some, refl, ap, sym, ◌∙◌, slice_get}
 use Rattle.std.proofs.lemmas.Option.{slice_get_past}
 use Rattle.cc_program.specs.declared.func.Func.{Func}
-use Rattle.cc_syntax.specs.Registers.{is_register, may_be_register, is_addressed}
+use Rattle.cc_typed.specs.CcSyntax.Registers.{is_register, may_be_register, is_addressed}
 use Rattle.cc_registers.specs.Kept.{AreKept, if_kept}
 use Rattle.cc_registers.specs.Marks.{marks_of}
 use Rattle.cc_registers.specs.Taken.{taken_by_all}

@@ -1,7 +1,7 @@
 -- What is kept of the locals of a function: whether each is a register.
 use Rattle.std.specs.Prelude.{◌≡◌, ℕ, Bool, false, List, Option, Some, None, slice_get}
 use Rattle.cc_program.specs.declared.func.Func.{Func}
-use Rattle.cc_syntax.specs.Registers.{is_register}
+use Rattle.cc_typed.specs.CcSyntax.Registers.{is_register}
 
 abbrev pub if_kept : Option Bool → Bool
 if_kept None = false

@@ -4,7 +4,7 @@ ghost use Rattle.std.specs.Prelude.{◌≡◌, ◌++◌, OnOk};
 ghost use Rattle.std.specs.List.{flat_map};
 ghost use Rattle.cc_registers.specs.Taken.{listed, taken_in, taken_if, place_taken_in};
 
-use cc_num::{Boxed, NoMemory};
+use cc_program::num::{Boxed, NoMemory};
 use cc_program::{Expr, Place};
 
 /// Puts the local that a place is, if it is one, behind others.

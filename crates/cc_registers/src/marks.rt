@@ -3,7 +3,7 @@
 ghost use Rattle.std.specs.Prelude.{◌≡◌, false, IfOk, replicate};
 ghost use Rattle.cc_registers.specs.Marks.{marks_of, with_mark};
 
-use cc_num::NoMemory;
+use cc_program::num::NoMemory;
 use std::alloc::Global;
 
 /// As many marks, none of which is set.

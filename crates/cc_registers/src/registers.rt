@@ -5,11 +5,11 @@ ghost use Rattle.std.specs.Option.{option_copied};
 ghost use Rattle.cc_registers.specs.Kept.{AreKept, if_kept};
 ghost use Rattle.cc_registers.specs.Marks.{marks_of};
 ghost use Rattle.cc_registers.specs.Taken.{taken_by_all};
-ghost use Rattle.cc_syntax.specs.Registers.{may_be_register as may_be_register_of};
+ghost use Rattle.cc_typed.specs.CcSyntax.Registers.{may_be_register as may_be_register_of};
 
 use crate::marks::marks;
 use crate::statements::put_list;
-use cc_num::{Name, NoMemory, at};
+use cc_program::num::{Name, NoMemory, at};
 use cc_program::{CType, Func};
 use cc_typed::scalar_value;
 use std::alloc::Global;

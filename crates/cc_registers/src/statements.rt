@@ -6,7 +6,7 @@ ghost use Rattle.cc_program.specs.declared.stmt.Case.{out-Case};
 ghost use Rattle.cc_registers.specs.Taken.{taken_by, taken_by_all};
 
 use crate::expressions::{put_taken, put_taken_if};
-use cc_num::{List, NoMemory};
+use cc_program::num::{List, NoMemory};
 use cc_program::{Case, Stmt};
 
 /// Puts the locals whose addresses are taken in a statement behind others.

@@ -1,8 +1,8 @@
 -- A type has its kind by other numbers of structures, where what has these numbers is as large.
 use Rattle.std.proofs.Common.{◌≡◌, ℕ, Bool, true, false, ◌&&◌, ◌||◌, List, [], ◌∷◌, map, Option, Some, None, refl, ap, sym, ◌∙◌}
 use Rattle.std.specs.List.{list_all}
-use Rattle.cc_num.specs.declared.target.Target.{Target}
-use Rattle.cc_syntax.proofs.KindRolls.{parts_kind, kind-opens}
+use Rattle.cc_program.specs.CcNum.declared.target.Target.{Target}
+use Rattle.cc_operands.proofs.CcSyntax.KindRolls.{parts_kind, kind-opens}
 use Rattle.cc_program.proofs.Each.{Each}
 use Rattle.cc_program.proofs.TypeInduction.{with_shape, TypeParts, SigParts, by_type, by_sig}
 use Rattle.cc_program.specs.declared.types.CType.{CType}
@@ -10,8 +10,8 @@ use Rattle.cc_program.specs.declared.types.Shape.{Shape, out-Shape, roll-Shape, 
 use Rattle.cc_program.specs.declared.types.Shape.TheOpen as shape
 use Rattle.cc_program.specs.declared.types.Sig.{Sig, roll-Sig, out-Sig, out-roll-Sig, fold_out-Sig}
 use Rattle.cc_structures.proofs.WordLaws.{number_by, renumbered_level, level-renumbered, constant-kept, volatile-kept, renumbered_sig_level, sig_level}
-use Rattle.cc_syntax.specs.Kinds.{Kind, is_result, is_plain_scalar, extent_kind, qualified_kind, type_kind, is_signature, shape_kind, kind_of, is_sig}
-use Rattle.cc_syntax.proofs.Prefixes.{both_true}
+use Rattle.cc_operands.specs.CcSyntax.Kinds.{Kind, is_result, is_plain_scalar, extent_kind, qualified_kind, type_kind, is_signature, shape_kind, kind_of, is_sig}
+use Rattle.cc_operands.proofs.CcSyntax.Prefixes.{both_true}
 use Rattle.cc_unit.specs.Renumbered.{type_renumbered, sig_renumbered}
 
 module _ (target : Target) (numbers : List ℕ) (before after : ℕ → Option (Option ℕ)) (kept : (i : ℕ) (x : Option ℕ) → before i ≡ Some x → after (number_by numbers i) ≡ Some x) where

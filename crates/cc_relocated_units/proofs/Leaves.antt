@@ -2,10 +2,10 @@
 use Rattle.std.proofs.Common.{◌≡◌, inl, inr, ℕ, ℤ, Bool, true, false, not, ◌&&◌, ◌||◌, nat_eq, List, [], ◌∷◌, map, Option, Some, None, option_map, slice_get, refl, ap, sym, ◌∙◌, subst}
 use Rattle.std.specs.Prelude.{nat_le, if◌then◌else◌}
 use Rattle.std.specs.List.{list_all, flat_map}
-use Rattle.cc_num.specs.declared.int_type.IntType.{IntType}
-use Rattle.cc_num.specs.declared.target.Target.{Target}
-use Rattle.cc_num.specs.Integers.{is_value_of}
-use Rattle.cc_syntax.specs.Views.{View}
+use Rattle.cc_program.specs.CcNum.declared.int_type.IntType.{IntType}
+use Rattle.cc_program.specs.CcNum.declared.target.Target.{Target}
+use Rattle.cc_program.specs.CcNum.Integers.{is_value_of}
+use Rattle.cc_operands.specs.CcSyntax.Views.{View}
 use Rattle.cc_program.specs.declared.types.CType.{CType}
 use Rattle.cc_program.specs.declared.types.Shape.{Shape, out-Shape}
 use Rattle.cc_program.specs.declared.types.Shape.TheOpen as shape
@@ -21,11 +21,11 @@ use Rattle.cc_program.specs.declared.value.Root.{Root}
 use Rattle.cc_program.specs.declared.value.Root.TheVariants as root
 use Rattle.cc_program.proofs.Each.{Each}
 use Rattle.cc_structures.proofs.WordLaws.{number_by, renumbered_level, level-renumbered}
-use Rattle.cc_syntax.specs.Expressions.{of_one}
-use Rattle.cc_syntax.specs.Initial.{bound_shape, bound_of, is_below, step_into, place_at, leads_to_element, names_element, names_whole, names, is_zero, static_place, is_address, AreLeaves, AreElements, AreMembers, OfInteger, OfPointer, OfArray, OfStructure, NoElement, Element, NoMember, Member, IsInitial}
-use Rattle.cc_syntax.specs.Lists.{is_count}
-use Rattle.cc_syntax.specs.Types.{Named}
-use Rattle.cc_syntax.specs.Values.{ValueType, PlaceType, DevicePlace, ObjectPlace, FunctionPlace, pointer_to, address_of, element_of, is_assignable_some}
+use Rattle.cc_operands.specs.CcSyntax.Expressions.{of_one}
+use Rattle.cc_operands.specs.CcSyntax.Initial.{bound_shape, bound_of, is_below, step_into, place_at, leads_to_element, names_element, names_whole, names, is_zero, static_place, is_address, AreLeaves, AreElements, AreMembers, OfInteger, OfPointer, OfArray, OfStructure, NoElement, Element, NoMember, Member, IsInitial}
+use Rattle.cc_operands.specs.CcSyntax.Lists.{is_count}
+use Rattle.cc_operands.specs.CcSyntax.Types.{Named}
+use Rattle.cc_operands.specs.CcSyntax.Values.{ValueType, PlaceType, DevicePlace, ObjectPlace, FunctionPlace, pointer_to, address_of, element_of, is_assignable_some}
 use Rattle.cc_unit.specs.Mentioned.{in_leaf, in_address, in_root}
 use Rattle.cc_unit.specs.Renumbered.{type_renumbered, leaf_renumbered, address_renumbered, root_renumbered, func_by, object_by}
 use Rattle.cc_unit.specs.declared.ids.Ids.{Ids}

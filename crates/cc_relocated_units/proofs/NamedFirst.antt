@@ -6,9 +6,9 @@ use Rattle.cc_relocation.specs.Relocated.{member_with}
 use Rattle.cc_structures.specs.Structures.{Known, Numbering, structures, numbers_of, number_of, firsts_of, is_complete, in_program_order, AreNumbered}
 use Rattle.cc_structures.proofs.Elements.{In}
 use Rattle.cc_structures.proofs.OrderLemmas.{filter-both, filter-all, in-filter, in-firsts, from-order}
-use Rattle.cc_syntax.specs.Lists.{come_first}
-use Rattle.cc_syntax.specs.Sound.{is_only_named}
-use Rattle.cc_syntax.specs.Types.{Named}
+use Rattle.cc_operands.specs.CcSyntax.Lists.{come_first}
+use Rattle.cc_operands.specs.CcSyntax.Sound.{is_only_named}
+use Rattle.cc_operands.specs.CcSyntax.Types.{Named}
 use Rattle.cc_unit.specs.declared.unit.TypedUnit.{TypedUnit}
 use Rattle.cc_relocated_units.specs.Linked.{linked, structure_of, HasMembers}
 use Rattle.cc_relocated_units.proofs.ProgramOrder.{filter-passes}

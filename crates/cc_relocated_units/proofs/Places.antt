@@ -9,8 +9,8 @@ use Rattle.cc_program.specs.declared.types.Shape.TheOpen as shape
 use Rattle.cc_program.specs.declared.types.Sig.{Sig}
 use Rattle.cc_program.specs.declared.types.Structure.{Structure}
 use Rattle.cc_structures.proofs.WordLaws.{number_by, renumbered_level, level-renumbered}
-use Rattle.cc_syntax.specs.Types.{Named, has_members}
-use Rattle.cc_syntax.specs.Values.{ValueType, NoValue, Integer, ToObject, ToFunction, PlaceType, DevicePlace, ObjectPlace, FunctionPlace, is_void, read_from, written_to, address_of, pointed_to, element_of, element_shape, member_of, member_shape, member_in, member_at, scalar_value}
+use Rattle.cc_operands.specs.CcSyntax.Types.{Named, has_members}
+use Rattle.cc_operands.specs.CcSyntax.Values.{ValueType, NoValue, Integer, ToObject, ToFunction, PlaceType, DevicePlace, ObjectPlace, FunctionPlace, is_void, read_from, written_to, address_of, pointed_to, element_of, element_shape, member_of, member_shape, member_in, member_at, scalar_value}
 use Rattle.cc_unit.specs.Renumbered.{type_renumbered}
 use Rattle.cc_relocated_units.specs.Renumbering.{value_renumbered, place_type_renumbered, MemberTypes}
 use Rattle.cc_relocated_units.proofs.Types.{const_kept, volatile_kept, void_kept, scalar_kept}

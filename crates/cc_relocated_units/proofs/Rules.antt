@@ -2,14 +2,14 @@
 use Rattle.std.proofs.Common.{◌≡◌, ℕ, ℤ, Bool, true, false, not, ◌&&◌, ◌||◌, List, [], ◌∷◌, map, Option, Some, None, option_map, slice_get, refl, ap, sym, ◌∙◌, subst}
 use Rattle.std.specs.Prelude.{if◌then◌else◌}
 use Rattle.std.proofs.lemmas.Option.{same_Some}
-use Rattle.cc_num.specs.declared.int_type.IntType.{IntType}
-use Rattle.cc_num.specs.declared.int_type.IntType.TheVariants as int
-use Rattle.cc_num.specs.declared.op.BinOp.{BinOp}
-use Rattle.cc_num.specs.declared.op.UnOp.{UnOp}
-use Rattle.cc_num.specs.declared.target.Target.{Target}
-use Rattle.cc_num.specs.Integers.{is_value_of}
-use Rattle.cc_num.specs.Promotions.{promoted, usual_of}
-use Rattle.cc_num.specs.Results.{is_shift}
+use Rattle.cc_program.specs.CcNum.declared.int_type.IntType.{IntType}
+use Rattle.cc_program.specs.CcNum.declared.int_type.IntType.TheVariants as int
+use Rattle.cc_program.specs.CcNum.declared.op.BinOp.{BinOp}
+use Rattle.cc_program.specs.CcNum.declared.op.UnOp.{UnOp}
+use Rattle.cc_program.specs.CcNum.declared.target.Target.{Target}
+use Rattle.cc_program.specs.CcNum.Integers.{is_value_of}
+use Rattle.cc_program.specs.CcNum.Promotions.{promoted, usual_of}
+use Rattle.cc_program.specs.CcNum.Results.{is_shift}
 use Rattle.cc_program.specs.declared.expr.Intr.{Intr}
 use Rattle.cc_program.specs.declared.expr.Intr.TheVariants as intr
 use Rattle.cc_program.specs.declared.types.CType.{CType}
@@ -18,10 +18,10 @@ use Rattle.cc_program.specs.declared.types.Shape.TheOpen as shape
 use Rattle.cc_program.specs.declared.types.Sig.{Sig, out-Sig}
 use Rattle.cc_program.specs.declared.types.Structure.{Structure}
 use Rattle.cc_structures.proofs.WordLaws.{number_by, renumbered_level, level-renumbered, sig_level}
-use Rattle.cc_syntax.specs.Operators.{when, first_of, pointer_in, void_pointer_in, is_unqualified, constant_type, unary_type, unary_result, binary_type, binary_result, conversion_type, when_assignable, moved_type, gap_type, difference_type, comparison_type, is_comparison, logical_type, choice_type, common_type, assignment_type, change_type, changes_by, after_type, call_type, intrinsic_type, subscript_type, is_promoted, is_promoted_value, is_of, is_integer, is_additive, second_fits, points_to_object, has_difference}
-use Rattle.cc_syntax.specs.SameTypes.{same_int}
-use Rattle.cc_syntax.specs.Types.{has_members, is_complete}
-use Rattle.cc_syntax.specs.Values.{ValueType, NoValue, Integer, ToObject, ToFunction, PlaceType, is_scalar, is_void, point_alike, is_assignable, is_assignable_some, are_assignable, scalar_value, result_value, pointer_to, element_of, read_from, written_to, address_of, pointed_to, member_of}
+use Rattle.cc_operands.specs.CcSyntax.Operators.{when, first_of, pointer_in, void_pointer_in, is_unqualified, constant_type, unary_type, unary_result, binary_type, binary_result, conversion_type, when_assignable, moved_type, gap_type, difference_type, comparison_type, is_comparison, logical_type, choice_type, common_type, assignment_type, change_type, changes_by, after_type, call_type, intrinsic_type, subscript_type, is_promoted, is_promoted_value, is_of, is_integer, is_additive, second_fits, points_to_object, has_difference}
+use Rattle.cc_operands.specs.CcSyntax.SameTypes.{same_int}
+use Rattle.cc_operands.specs.CcSyntax.Types.{has_members, is_complete}
+use Rattle.cc_operands.specs.CcSyntax.Values.{ValueType, NoValue, Integer, ToObject, ToFunction, PlaceType, is_scalar, is_void, point_alike, is_assignable, is_assignable_some, are_assignable, scalar_value, result_value, pointer_to, element_of, read_from, written_to, address_of, pointed_to, member_of}
 use Rattle.cc_operand_types.proofs.Follows.{Gives, Follows}
 use Rattle.cc_operand_types.proofs.ReducedPlaces.{address_reduced, pointed_reduced, member_reduced, read_reduced, written_reduced}
 use Rattle.cc_operand_types.proofs.Rules as reduced

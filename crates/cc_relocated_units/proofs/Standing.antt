@@ -4,7 +4,7 @@ use Rattle.std.proofs.Common.{◌≡◌, ◌∙◌, ◌⊎◌, inl, inr, ◌<◌
 use Rattle.std.specs.List.{list_all}
 use Rattle.std.proofs.lemmas.List.{append-nil}
 use Rattle.std.proofs.lemmas.Option.{slice_get-map, slice_get_within, get_or_from_slice_get}
-use Rattle.cc_num.specs.declared.target.Target.{Target}
+use Rattle.cc_program.specs.CcNum.declared.target.Target.{Target}
 use Rattle.cc_program.specs.declared.types.CType.{CType}
 use Rattle.cc_program.specs.declared.types.Shape.{roll-Shape}
 use Rattle.cc_program.specs.declared.types.Shape.TheOpen as shape
@@ -19,16 +19,16 @@ use Rattle.cc_structures.proofs.Numbered.{one-looks}
 use Rattle.cc_structures.proofs.OrderLemmas.{in-order, from-order, in-firsts}
 use Rattle.cc_structures.proofs.TypeLemmas.{one-place}
 use Rattle.cc_structures.proofs.WordLaws.{number_by}
-use Rattle.cc_syntax.specs.Kinds.{Kind, IsStructure, IsIncomplete, is_object_type, extent_kind, kind_of, struct_kind, extent_in, extent_with}
-use Rattle.cc_syntax.specs.Layout.{nothing, type_layout, structure, layouts}
-use Rattle.cc_syntax.specs.Lists.{come_first}
-use Rattle.cc_syntax.specs.Names.{are_names, local_names}
-use Rattle.cc_syntax.specs.Sound.{have_ids, is_member, is_structure, are_structures, is_only_named}
-use Rattle.cc_syntax.specs.Types.{Named, has_members, is_complete as is_complete_type}
-use Rattle.cc_syntax.specs.declared.sizes.Layout.{Layout}
-use Rattle.cc_syntax.proofs.Prefixes.{both_true, get_taken, layouts-at, layout-taken}
-use Rattle.cc_syntax.proofs.StructureLemmas.{structures_sized, object_complete}
-use Rattle.cc_syntax.proofs.TypeLayouts.{layout-roll, complete-roll}
+use Rattle.cc_operands.specs.CcSyntax.Kinds.{Kind, IsStructure, IsIncomplete, is_object_type, extent_kind, kind_of, struct_kind, extent_in, extent_with}
+use Rattle.cc_operands.specs.CcSyntax.Layout.{nothing, type_layout, structure, layouts}
+use Rattle.cc_operands.specs.CcSyntax.Lists.{come_first}
+use Rattle.cc_operands.specs.CcSyntax.Names.{are_names, local_names}
+use Rattle.cc_operands.specs.CcSyntax.Sound.{have_ids, is_member, is_structure, are_structures, is_only_named}
+use Rattle.cc_operands.specs.CcSyntax.Types.{Named, has_members, is_complete as is_complete_type}
+use Rattle.cc_operands.specs.CcSyntax.declared.sizes.Layout.{Layout}
+use Rattle.cc_operands.proofs.CcSyntax.Prefixes.{both_true, get_taken, layouts-at, layout-taken}
+use Rattle.cc_operands.proofs.CcSyntax.StructureLemmas.{structures_sized, object_complete}
+use Rattle.cc_operands.proofs.CcSyntax.TypeLayouts.{layout-roll, complete-roll}
 use Rattle.cc_unit.specs.Renumbered.{type_renumbered}
 use Rattle.cc_unit.specs.declared.unit.TypedUnit.{TypedUnit}
 use Rattle.cc_unit.specs.declared.unit.UnitStructure.{UnitStructure}

@@ -1,8 +1,8 @@
 -- Statements that are sound over a view are so, by other numbers, over one that has what they mention.
 use Rattle.std.proofs.Common.{◌≡◌, ℕ, ℤ, Bool, true, List, [], ◌∷◌, ◌++◌, map, Option, Some, None, option_map, is_some, refl, sym, ◌∙◌, subst}
-use Rattle.cc_num.specs.declared.target.Target.{Target}
-use Rattle.cc_syntax.specs.Views.{View}
-use Rattle.cc_syntax.specs.Expressions.{type_of}
+use Rattle.cc_program.specs.CcNum.declared.target.Target.{Target}
+use Rattle.cc_operands.specs.CcSyntax.Views.{View}
+use Rattle.cc_operands.specs.CcSyntax.Expressions.{type_of}
 use Rattle.cc_program.specs.declared.expr.Expr.{Expr}
 use Rattle.cc_program.specs.declared.stmt.Case.{Case, roll-Case, fold-roll-Case}
 use Rattle.cc_program.specs.declared.stmt.Stmt.{Stmt, roll-Stmt, map-Stmt, fold-roll-Stmt}
@@ -10,9 +10,9 @@ use Rattle.cc_program.specs.declared.stmt.Stmt.TheOpen as is
 use Rattle.cc_program.specs.declared.stmt.Stmt.TheVariants.{rolls-Do, rolls-If, rolls-While, rolls-DoWhile, rolls-For, rolls-Switch, rolls-Break, rolls-Continue, rolls-Return, rolls-Empty, rolls-Block}
 use Rattle.cc_program.specs.declared.types.CType.{CType}
 use Rattle.cc_program.proofs.Each.{Each, Held}
-use Rattle.cc_syntax.specs.Statements.{labels_fit, is_condition, is_sound_body}
-use Rattle.cc_syntax.specs.Types.{Named}
-use Rattle.cc_syntax.specs.Values.{ValueType, NoValue, Integer, ToObject, ToFunction}
+use Rattle.cc_operands.specs.CcSyntax.Statements.{labels_fit, is_condition, is_sound_body}
+use Rattle.cc_operands.specs.CcSyntax.Types.{Named}
+use Rattle.cc_operands.specs.CcSyntax.Values.{ValueType, NoValue, Integer, ToObject, ToFunction}
 use Rattle.cc_unit.specs.Mentioned as mentioned
 use Rattle.cc_unit.specs.Mentioned.{in_expr, in_maybe, in_stmt, in_case, all_of}
 use Rattle.cc_unit.specs.Renumbered as renumbered

@@ -1,8 +1,8 @@
 -- Typing is kept by other numbers: an expression that is typed over a view is so, by the numbers, over another that has what it mentions.
 use Rattle.std.proofs.Common.{◌≡◌, ℕ, Bool, true, List, [], ◌∷◌, ◌++◌, map, Option, Some, None, slice_get, option_map, refl, ap, sym, ◌∙◌, subst}
 use Rattle.std.proofs.lemmas.Option.{same_Some}
-use Rattle.cc_num.specs.declared.target.Target.{Target}
-use Rattle.cc_syntax.specs.Views.{View, kind_in}
+use Rattle.cc_program.specs.CcNum.declared.target.Target.{Target}
+use Rattle.cc_operands.specs.CcSyntax.Views.{View, kind_in}
 use Rattle.cc_operand_types.proofs.Rolls.{expr-roll, place-roll}
 use Rattle.cc_program.specs.declared.expr.Expr.{Expr, roll-Expr, map-Expr, fold-roll-Expr}
 use Rattle.cc_program.specs.declared.expr.Expr.TheOpen as one
@@ -13,11 +13,11 @@ use Rattle.cc_program.specs.declared.types.CType.{CType}
 use Rattle.cc_program.proofs.Each.{Each}
 use Rattle.cc_program.proofs.ExprInduction.{Parts, PlaceParts, by_expr, by_place}
 use Rattle.cc_structures.proofs.WordLaws.{number_by}
-use Rattle.cc_syntax.specs.Expressions.{of_one, of_two, type_of, place_type, expr_step, place_step, pointer_type}
-use Rattle.cc_syntax.specs.Kinds.{Kind, is_plain_scalar, kind_of}
-use Rattle.cc_syntax.specs.Operators.{constant_type, unary_type, binary_type, conversion_type, when_assignable, moved_type, gap_type, comparison_type, logical_type, choice_type, assignment_type, change_type, after_type, call_type, subscript_type}
-use Rattle.cc_syntax.specs.Types.{Named, has_members}
-use Rattle.cc_syntax.specs.Values.{ValueType, PlaceType, read_from, written_to, address_of, pointed_to, member_of, object_place}
+use Rattle.cc_operands.specs.CcSyntax.Expressions.{of_one, of_two, type_of, place_type, expr_step, place_step, pointer_type}
+use Rattle.cc_operands.specs.CcSyntax.Kinds.{Kind, is_plain_scalar, kind_of}
+use Rattle.cc_operands.specs.CcSyntax.Operators.{constant_type, unary_type, binary_type, conversion_type, when_assignable, moved_type, gap_type, comparison_type, logical_type, choice_type, assignment_type, change_type, after_type, call_type, subscript_type}
+use Rattle.cc_operands.specs.CcSyntax.Types.{Named, has_members}
+use Rattle.cc_operands.specs.CcSyntax.Values.{ValueType, PlaceType, read_from, written_to, address_of, pointed_to, member_of, object_place}
 use Rattle.cc_unit.specs.Mentioned as mentioned
 use Rattle.cc_unit.specs.Mentioned.{in_expr, in_place, all_of}
 use Rattle.cc_unit.specs.Renumbered as renumbered

@@ -9,11 +9,11 @@ use Rattle.cc_program.specs.declared.types.Sig.{Sig}
 use Rattle.cc_program.proofs.QualifierLemmas.{const-opens, volatile-opens, parts_const, parts_volatile}
 use Rattle.cc_program.proofs.TypeInduction.{with_shape, TypeParts, by_type}
 use Rattle.cc_structures.proofs.WordLaws.{renumbered_level, level-renumbered, constant-kept, volatile-kept}
-use Rattle.cc_syntax.specs.SameTypes.{same_sig, alike, is_void_shape}
-use Rattle.cc_syntax.specs.Operators.{is_unqualified}
-use Rattle.cc_syntax.specs.Values.{ValueType, NoValue, is_void, pointer_shape, pointer_to, scalar_shape, scalar_value, result_value, object_place}
-use Rattle.cc_syntax.proofs.AlikeLemmas.{shares, tested}
-use Rattle.cc_syntax.proofs.SameLemmas.{Alike, SameShape, Arrays, sig_compared}
+use Rattle.cc_operands.specs.CcSyntax.SameTypes.{same_sig, alike, is_void_shape}
+use Rattle.cc_operands.specs.CcSyntax.Operators.{is_unqualified}
+use Rattle.cc_operands.specs.CcSyntax.Values.{ValueType, NoValue, is_void, pointer_shape, pointer_to, scalar_shape, scalar_value, result_value, object_place}
+use Rattle.cc_operands.proofs.CcSyntax.AlikeLemmas.{shares, tested}
+use Rattle.cc_operands.proofs.CcSyntax.SameLemmas.{Alike, SameShape, Arrays, sig_compared}
 use Rattle.cc_unit.specs.Renumbered.{type_renumbered, sig_renumbered}
 use Rattle.cc_relocated_units.specs.Renumbering.{value_renumbered, place_type_renumbered}
 

@@ -2,7 +2,7 @@
 -- and their kinds. A structure that was incomplete may be complete then.
 use Rattle.std.proofs.Common.{◌≡◌, ◌∙◌, ◌⊎◌, inl, inr, ℕ, ◌||◌, Bool, true, false, true≢false, nat_lt, List, [], ◌∷◌, map, Option, Some, None, slice_get, unwrap_or, refl, ap, sym, subst}
 use Rattle.std.specs.List.{list_all}
-use Rattle.cc_num.specs.declared.target.Target.{Target}
+use Rattle.cc_program.specs.CcNum.declared.target.Target.{Target}
 use Rattle.cc_program.specs.declared.types.CType.{CType}
 use Rattle.cc_program.specs.declared.types.Shape.{Shape, out-Shape, roll-Shape, out-roll-Shape}
 use Rattle.cc_program.specs.declared.types.Shape.TheOpen as shape
@@ -11,13 +11,13 @@ use Rattle.cc_program.specs.declared.types.Structure.{Structure}
 use Rattle.cc_program.proofs.Each.{Each}
 use Rattle.cc_program.proofs.TypeInduction.{with_shape, TypeParts, SigParts, by_type}
 use Rattle.cc_structures.proofs.WordLaws.{number_by, renumbered_level, level-renumbered, constant-kept, volatile-kept, renumbered_sig_level, sig_level}
-use Rattle.cc_syntax.specs.Kinds.{Kind, IsStructure, IsIncomplete, shape_kind, type_kind, is_signature, qualified_kind, kind_of, is_sig, is_result, is_plain_scalar, is_object_type, struct_kind, extent_with}
-use Rattle.cc_syntax.specs.Layout.{nothing, shape_layout, type_layout}
-use Rattle.cc_syntax.specs.Types.{has_members, complete_shape, is_complete}
-use Rattle.cc_syntax.specs.declared.sizes.Layout.{Layout}
-use Rattle.cc_syntax.proofs.KindRolls.{parts_kind, kind-opens}
-use Rattle.cc_syntax.proofs.Prefixes.{both_true}
-use Rattle.cc_syntax.proofs.TypeLayouts.{parts_layout, layout-opens, parts_complete, complete-opens}
+use Rattle.cc_operands.specs.CcSyntax.Kinds.{Kind, IsStructure, IsIncomplete, shape_kind, type_kind, is_signature, qualified_kind, kind_of, is_sig, is_result, is_plain_scalar, is_object_type, struct_kind, extent_with}
+use Rattle.cc_operands.specs.CcSyntax.Layout.{nothing, shape_layout, type_layout}
+use Rattle.cc_operands.specs.CcSyntax.Types.{has_members, complete_shape, is_complete}
+use Rattle.cc_operands.specs.CcSyntax.declared.sizes.Layout.{Layout}
+use Rattle.cc_operands.proofs.CcSyntax.KindRolls.{parts_kind, kind-opens}
+use Rattle.cc_operands.proofs.CcSyntax.Prefixes.{both_true}
+use Rattle.cc_operands.proofs.CcSyntax.TypeLayouts.{parts_layout, layout-opens, parts_complete, complete-opens}
 use Rattle.cc_unit.specs.Renumbered.{type_renumbered, sig_renumbered}
 
 -- ---- one level

@@ -2,10 +2,10 @@
 use Rattle.std.proofs.Common.{◌≡◌, ℕ, length, ap}
 use Rattle.std.proofs.lemmas.List.{length-map}
 use Rattle.cc_relocated_units.specs.Linked.{structures_of, untagged}
-use Rattle.cc_num.specs.declared.target.Target.{Target}
+use Rattle.cc_program.specs.CcNum.declared.target.Target.{Target}
 use Rattle.cc_program.specs.declared.types.CType.{CType}
-use Rattle.cc_syntax.specs.Kinds.{kind_of, extent_with}
-use Rattle.cc_syntax.specs.Views.{kind_in}
+use Rattle.cc_operands.specs.CcSyntax.Kinds.{kind_of, extent_with}
+use Rattle.cc_operands.specs.CcSyntax.Views.{kind_in}
 use Rattle.cc_unit.specs.declared.unit.TypedUnit.{TypedUnit}
 use Rattle.cc_relocated_units.specs.Units.{unit_view}
 

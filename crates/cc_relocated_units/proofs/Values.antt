@@ -2,20 +2,20 @@
 use Rattle.std.proofs.Common.{◌≡◌, ℕ, Bool, true, false, not, ◌&&◌, ◌||◌, List, slice_get, refl, ap, ◌∙◌}
 use Rattle.std.specs.Prelude.{if◌then◌else◌}
 use Rattle.cc_relocated_units.proofs.TypesKept.{complete-kept}
-use Rattle.cc_num.specs.declared.int_type.IntType.{IntType}
-use Rattle.cc_num.specs.declared.op.BinOp.{BinOp}
-use Rattle.cc_num.specs.declared.target.Target.{Target}
-use Rattle.cc_num.specs.Results.{is_shift}
+use Rattle.cc_program.specs.CcNum.declared.int_type.IntType.{IntType}
+use Rattle.cc_program.specs.CcNum.declared.op.BinOp.{BinOp}
+use Rattle.cc_program.specs.CcNum.declared.target.Target.{Target}
+use Rattle.cc_program.specs.CcNum.Results.{is_shift}
 use Rattle.cc_program.specs.declared.types.CType.{CType}
 use Rattle.cc_program.specs.declared.types.Sig.{Sig}
 use Rattle.cc_program.specs.declared.types.Structure.{Structure}
 use Rattle.cc_structures.proofs.WordLaws.{number_by}
-use Rattle.cc_syntax.specs.Operators.{is_of, is_promoted_value, is_integer, second_fits, points_to_object, has_difference, common_type, is_promoted}
-use Rattle.cc_syntax.specs.SameTypes.{same_int, same_sig, alike}
-use Rattle.cc_syntax.specs.Types.{has_members, is_complete}
-use Rattle.cc_syntax.specs.Values.{ValueType, NoValue, Integer, ToObject, ToFunction, is_scalar, is_void, point_alike, is_assignable, implies}
-use Rattle.cc_syntax.proofs.AlikeLemmas.{alike_joined}
-use Rattle.cc_syntax.proofs.Prefixes.{both_true}
+use Rattle.cc_operands.specs.CcSyntax.Operators.{is_of, is_promoted_value, is_integer, second_fits, points_to_object, has_difference, common_type, is_promoted}
+use Rattle.cc_operands.specs.CcSyntax.SameTypes.{same_int, same_sig, alike}
+use Rattle.cc_operands.specs.CcSyntax.Types.{has_members, is_complete}
+use Rattle.cc_operands.specs.CcSyntax.Values.{ValueType, NoValue, Integer, ToObject, ToFunction, is_scalar, is_void, point_alike, is_assignable, implies}
+use Rattle.cc_operands.proofs.CcSyntax.AlikeLemmas.{alike_joined}
+use Rattle.cc_operands.proofs.CcSyntax.Prefixes.{both_true}
 use Rattle.cc_unit.specs.Renumbered.{type_renumbered, sig_renumbered}
 use Rattle.cc_operand_types.proofs.Rules.{both}
 use Rattle.cc_operand_types.proofs.Values.{reduced_itself}

@@ -1,11 +1,11 @@
 -- The structures of the program that sources link to, and those of each source as a program of its own has them.
 use Rattle.std.specs.Prelude.{◌≡◌, ◌<◌, ℕ, true, List, [], map, zip, length, Some, slice_get, unwrap_or, is_some}
 use Rattle.std.specs.List.{All}
-use Rattle.cc_num.specs.declared.target.Target.{Target}
+use Rattle.cc_program.specs.CcNum.declared.target.Target.{Target}
 use Rattle.cc_program.specs.declared.types.Structure.{Structure}
 use Rattle.cc_relocation.specs.Relocated.{structure_with}
 use Rattle.cc_structures.specs.Structures.{Known, Numbering, numbers_of}
-use Rattle.cc_syntax.specs.Sound.{are_structures}
+use Rattle.cc_operands.specs.CcSyntax.Sound.{are_structures}
 use Rattle.cc_unit.specs.declared.unit.TypedUnit.{TypedUnit}
 use Rattle.cc_unit.specs.declared.unit.UnitStructure.{UnitStructure}
 

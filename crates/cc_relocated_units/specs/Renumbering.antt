@@ -1,11 +1,11 @@
 -- A view and another, in which structures, objects, devices and functions have other numbers; and types by those.
 use Rattle.std.specs.Prelude.{◌≡◌, ℕ, Bool, true, List, map, Option, Some, slice_get}
-use Rattle.cc_syntax.specs.Views.{View}
-use Rattle.cc_syntax.specs.Expressions.{place_type}
+use Rattle.cc_operands.specs.CcSyntax.Views.{View}
+use Rattle.cc_operands.specs.CcSyntax.Expressions.{place_type}
 use Rattle.cc_program.specs.declared.types.Structure.{Structure as Content}
 use Rattle.cc_operand_types.specs.Reduced.{ReducedPlace}
-use Rattle.cc_syntax.specs.Types.{Named}
-use Rattle.cc_syntax.specs.Values.{ValueType, NoValue, Integer, ToObject, ToFunction, PlaceType, DevicePlace, ObjectPlace, FunctionPlace}
+use Rattle.cc_operands.specs.CcSyntax.Types.{Named}
+use Rattle.cc_operands.specs.CcSyntax.Values.{ValueType, NoValue, Integer, ToObject, ToFunction, PlaceType, DevicePlace, ObjectPlace, FunctionPlace}
 use Rattle.cc_unit.specs.Renumbered.{structure_by, object_by, func_by, device_by, type_renumbered, sig_renumbered}
 use Rattle.cc_unit.specs.declared.ids.Ids.{Ids}
 

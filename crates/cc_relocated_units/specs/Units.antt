@@ -3,9 +3,9 @@ use Rattle.std.specs.Prelude.{◌≡◌, ℕ, Bool, true, false, not, ◌&&◌, 
 use Rattle.std.specs.List.{All, list_all}
 use Rattle.std.specs.Str.{bytes_eq}
 use Rattle.cc_relocated_units.specs.Linked.{structures_of, AreStanding}
-use Rattle.cc_num.specs.declared.target.Target.{Target}
-use Rattle.cc_syntax.specs.Views.{View, kind_in}
-use Rattle.cc_syntax.specs.Expressions.{type_of}
+use Rattle.cc_program.specs.CcNum.declared.target.Target.{Target}
+use Rattle.cc_operands.specs.CcSyntax.Views.{View, kind_in}
+use Rattle.cc_operands.specs.CcSyntax.Expressions.{type_of}
 use Rattle.cc_program.specs.declared.func.Entry.{Entry}
 use Rattle.cc_program.specs.declared.func.Entry.TheVariants as entry
 use Rattle.cc_program.specs.declared.func.Func.{Func}
@@ -15,20 +15,20 @@ use Rattle.cc_program.specs.declared.types.Shape.{Shape, out-Shape}
 use Rattle.cc_program.specs.declared.types.Shape.TheOpen as shape
 use Rattle.cc_program.specs.declared.types.Sig.{Sig, out-Sig}
 use Rattle.cc_program.specs.declared.value.Leaf.{Leaf}
-use Rattle.cc_syntax.specs.Kinds.{is_result, is_plain_scalar, is_object_type, extent_in}
-use Rattle.cc_syntax.specs.Names.{local_names}
-use Rattle.cc_syntax.specs.Sound.{have_ids, is_device, is_automatic, are_parameters, is_plain_int, is_plain_void, main_name}
-use Rattle.cc_syntax.specs.Types.{Named}
-use Rattle.cc_syntax.specs.Values.{ValueType, ToFunction, PlaceType, DevicePlace, object_place}
+use Rattle.cc_operands.specs.CcSyntax.Kinds.{is_result, is_plain_scalar, is_object_type, extent_in}
+use Rattle.cc_operands.specs.CcSyntax.Names.{local_names}
+use Rattle.cc_operands.specs.CcSyntax.Sound.{have_ids, is_device, is_automatic, are_parameters, is_plain_int, is_plain_void, main_name}
+use Rattle.cc_operands.specs.CcSyntax.Types.{Named}
+use Rattle.cc_operands.specs.CcSyntax.Values.{ValueType, ToFunction, PlaceType, DevicePlace, object_place}
 use Rattle.cc_things.specs.Things.{is_device_kind, is_external_linkage}
 use Rattle.cc_unit.specs.declared.unit.TypedUnit.{TypedUnit}
 use Rattle.cc_unit.specs.declared.unit.UnitKind.{UnitKind}
 use Rattle.cc_unit.specs.declared.unit.UnitKind.TheVariants as kind
 use Rattle.cc_unit.specs.declared.unit.UnitName.{UnitName}
 use Rattle.cc_unit.specs.declared.unit.UnitStructure.{UnitStructure}
-use Rattle.cc_words.specs.Names.{is_name}
-use Rattle.cc_syntax.specs.Initial.{IsInitial}
-use Rattle.cc_syntax.specs.Statements.{is_sound_body}
+use Rattle.cc_program.specs.CcWords.Names.{is_name}
+use Rattle.cc_operands.specs.CcSyntax.Initial.{IsInitial}
+use Rattle.cc_operands.specs.CcSyntax.Statements.{is_sound_body}
 
 -- ---- the view that a unit is: no function is a handler yet
 

@@ -1,9 +1,9 @@
 ghost use Rattle.std.specs.Prelude.{◌≡◌, length};
 ghost use Rattle.cc_relocated_units.specs.Linked.{structures_of};
-ghost use Rattle.cc_num.specs.declared.target.Target.{Target};
-ghost use Rattle.cc_syntax.specs.Views.{kind_in};
+ghost use Rattle.cc_program.specs.CcNum.declared.target.Target.{Target};
+ghost use Rattle.cc_operands.specs.CcSyntax.Views.{kind_in};
 ghost use Rattle.cc_program.specs.declared.types.CType.{CType};
-ghost use Rattle.cc_syntax.specs.Kinds.{kind_of, extent_with};
+ghost use Rattle.cc_operands.specs.CcSyntax.Kinds.{kind_of, extent_with};
 ghost use Rattle.cc_unit.specs.declared.unit.TypedUnit.{TypedUnit};
 ghost use Rattle.cc_relocated_units.specs.Units.{unit_view};
 

@@ -1,12 +1,12 @@
 //! What a structure contains comes before it in the program, as in its source.
 
 ghost use Rattle.std.specs.Prelude.{◌≡◌, ℕ, true, List, [], length, Some, slice_get};
-ghost use Rattle.cc_num.specs.declared.target.Target.{Target};
+ghost use Rattle.cc_program.specs.CcNum.declared.target.Target.{Target};
 ghost use Rattle.cc_program.specs.declared.types.CType.{CType};
 ghost use Rattle.cc_structures.specs.Structures.{Known, Numbering, AreNumbered, type_in};
-ghost use Rattle.cc_syntax.specs.Kinds.{Kind, kind_of, extent_in, extent_with};
-ghost use Rattle.cc_syntax.specs.Lists.{come_first};
-ghost use Rattle.cc_syntax.specs.Sound.{are_structures, is_only_named};
+ghost use Rattle.cc_operands.specs.CcSyntax.Kinds.{Kind, kind_of, extent_in, extent_with};
+ghost use Rattle.cc_operands.specs.CcSyntax.Lists.{come_first};
+ghost use Rattle.cc_operands.specs.CcSyntax.Sound.{are_structures, is_only_named};
 ghost use Rattle.cc_unit.specs.declared.unit.TypedUnit.{TypedUnit};
 ghost use Rattle.cc_relocated_units.specs.Linked.{linked, structures_of, AllStand};
 

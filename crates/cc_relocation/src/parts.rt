@@ -5,7 +5,7 @@ ghost use Rattle.std.specs.Option.{option_copied};
 ghost use Rattle.cc_unit.specs.Renumbered.{leaf_renumbered};
 ghost use Rattle.cc_relocation.specs.Relocated.{device_with, func_with, local_with, member_with, object_with, structure_with};
 
-use cc_num::{List, Name, NoMemory, at};
+use cc_program::num::{List, Name, NoMemory, at};
 use cc_program::{CType, Device, Entry, Func, Leaf, Object, Structure, copy_list};
 use cc_unit::{Ids, renumber_leaf, renumber_sig, renumber_stmts, renumber_type};
 use std::alloc::Global;

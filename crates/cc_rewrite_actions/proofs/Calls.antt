@@ -1,8 +1,8 @@
 -- Calls and returns: the caller waits in front of the same statements in both; what was interrupted goes on as it stood.
 use Rattle.std.proofs.Common.{◌≡◌, ◌+◌, ℕ, Bool, true, false, not, List, [], ◌∷◌, Option, Some, slice_get, refl, ap, sym, subst, if◌then◌else◌}
-use Rattle.cc_eval.specs.declared.action.Action.TheVariants.{Call}
-use Rattle.cc_eval.specs.declared.mark.Mark.{Mark}
-use Rattle.cc_eval.specs.declared.mark.Mark.TheVariants.{Gave, Did}
+use Rattle.cc_steps.specs.CcEval.declared.action.Action.TheVariants.{Call}
+use Rattle.cc_steps.specs.CcEval.declared.mark.Mark.{Mark}
+use Rattle.cc_steps.specs.CcEval.declared.mark.Mark.TheVariants.{Gave, Did}
 use Rattle.cc_program.specs.declared.func.Func.{Func}
 use Rattle.cc_program.specs.declared.program.Program.{Program}
 use Rattle.cc_program.specs.declared.value.Address.{Address}

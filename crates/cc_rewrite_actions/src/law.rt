@@ -1,5 +1,5 @@
 ghost use Rattle.std.specs.Prelude.{◌≡◌, ℕ, Bool, false, List, slice_get};
-ghost use Rattle.cc_eval.specs.declared.action.Action.{Action};
+ghost use Rattle.cc_steps.specs.CcEval.declared.action.Action.{Action};
 ghost use Rattle.cc_program.specs.declared.program.Program.{Program};
 ghost use Rattle.cc_program.specs.declared.value.Value.{Value};
 ghost use Rattle.cc_rewrite_actions.specs.Actions.{IsActionKnown, IsResumed, MarkBoth, StaysUnguarded};

@@ -2,8 +2,8 @@
 use Rattle.std.proofs.Common.{◌≡◌, ◌∙◌, ◌∷◌, ◌||◌, ℕ, Bool, true, false, not, List, [], map, Option, Some, None, option_map, refl, sym, subst}
 use Rattle.std.specs.Prelude.{pos}
 use Rattle.std.proofs.lemmas.Bool.{or_parts}
-use Rattle.cc_num.specs.declared.int_type.IntType.{IntType}
-use Rattle.cc_num.specs.declared.op.BinOp.{BinOp}
+use Rattle.cc_program.specs.CcNum.declared.int_type.IntType.{IntType}
+use Rattle.cc_program.specs.CcNum.declared.op.BinOp.{BinOp}
 use Rattle.cc_program.specs.declared.expr.Expr.{Expr, roll-Expr, map-Expr, fold-roll-Expr}
 use Rattle.cc_program.specs.declared.expr.Expr.TheOpen as one
 use Rattle.cc_program.specs.declared.expr.Intr.{Intr}
@@ -15,16 +15,16 @@ use Rattle.cc_program.specs.declared.value.Value.TheVariants.{Int, Place}
 use Rattle.cc_program.specs.declared.value.Root.TheVariants as root
 use Rattle.cc_program.proofs.Each.{Each}
 use Rattle.cc_program.proofs.ExprInduction.{Parts, PlaceParts, by_expr}
-use Rattle.cc_syntax.specs.Effects.{Registers, Effects, also}
-use Rattle.cc_syntax.specs.Expressions.{of_two}
-use Rattle.cc_values.specs.Values.{address_in, unary, binary, conversion, truth, of_truth, movement, gap, comparison}
-use Rattle.cc_eval.specs.declared.action.Action.TheVariants.{Read, Write, Choose, Call, Flag, Save}
-use Rattle.cc_eval.specs.declared.spots.Spot.{Spot}
-use Rattle.cc_eval.specs.declared.spots.Spot.TheVariants as spot
-use Rattle.cc_eval.specs.Context.{Context, reached, member, is_seen}
-use Rattle.cc_eval.specs.Eval.{Meaning, Designation, manner, from_one, both_values, from_two, place_and_value, branch, outcome, arms, choice, as_condition, assigned_by, each, all_good, called_with, called, intrinsic, sequence, changed, sum_or_difference, one_more_type, address_of, value_type, fetched, stored, assigned, changed_with, changed_by, stepped_back, stepped_with, stepped_by_one, next_step, expr_meaning, element_at, leads_to, meaning, designation}
-use Rattle.cc_eval.specs.Progress.{Get, known, ask, bind, needs, given, chosen}
-use Rattle.cc_eval.proofs.Links.{level, place_level}
+use Rattle.cc_states.specs.CcSyntax.Effects.{Registers, Effects, also}
+use Rattle.cc_states.specs.CcSyntax.Expressions.{of_two}
+use Rattle.cc_states.specs.CcValues.Values.{address_in, unary, binary, conversion, truth, of_truth, movement, gap, comparison}
+use Rattle.cc_states.specs.CcEval.declared.action.Action.TheVariants.{Read, Write, Choose, Call, Flag, Save}
+use Rattle.cc_states.specs.CcEval.declared.spots.Spot.{Spot}
+use Rattle.cc_states.specs.CcEval.declared.spots.Spot.TheVariants as spot
+use Rattle.cc_states.specs.CcEval.Context.{Context, reached, member, is_seen}
+use Rattle.cc_states.specs.CcEval.Eval.{Meaning, Designation, manner, from_one, both_values, from_two, place_and_value, branch, outcome, arms, choice, as_condition, assigned_by, each, all_good, called_with, called, intrinsic, sequence, changed, sum_or_difference, one_more_type, address_of, value_type, fetched, stored, assigned, changed_with, changed_by, stepped_back, stepped_with, stepped_by_one, next_step, expr_meaning, element_at, leads_to, meaning, designation}
+use Rattle.cc_states.specs.CcEval.Progress.{Get, known, ask, bind, needs, given, chosen}
+use Rattle.cc_states.proofs.CcEval.Links.{level, place_level}
 use Rattle.cc_rewrite_addresses.specs.Holds.{Every, MayIn}
 use Rattle.cc_rewrite_addresses.specs.Takes.{InPlace, any_of, expr_step, place_step, takes_other, in_place}
 use Rattle.cc_rewrite_addresses.proofs.Operators.{unary_in, binary_in, conversion_in, of_truth_in, movement_in, gap_in, comparison_in, changed_in, address_of_value, good_in}

@@ -1,16 +1,16 @@
 -- What is worked takes the address of no object that fails the test, where the body of its function takes none.
 use Rattle.std.proofs.Common.{◌≡◌, ◌∙◌, ◌∷◌, ◌++◌, ◌||◌, ◌⊎◌, inl, inr, ℕ, Bool, true, false, List, [], map, Some, None, ap, sym, subst}
 use Rattle.std.proofs.lemmas.Bool.{true≢false, cases_Bool}
-use Rattle.cc_control.specs.declared.phase.Phase.{Phase}
-use Rattle.cc_control.specs.declared.phase.Phase.TheVariants.{First, Test, Again}
-use Rattle.cc_control.specs.Control.{Level, bodies}
+use Rattle.cc_states.specs.CcControl.declared.phase.Phase.{Phase}
+use Rattle.cc_states.specs.CcControl.declared.phase.Phase.TheVariants.{First, Test, Again}
+use Rattle.cc_states.specs.CcControl.Control.{Level, bodies}
 use Rattle.cc_program.specs.declared.expr.Expr.{Expr}
 use Rattle.cc_program.specs.declared.func.Func.{Func}
 use Rattle.cc_program.specs.declared.stmt.Case.{Case, out-Case, fold_out-Case}
 use Rattle.cc_program.specs.declared.stmt.Stmt.{Stmt, out-Stmt, map-Stmt, fold_out-Stmt}
 use Rattle.cc_program.specs.declared.stmt.Stmt.TheOpen as is
-use Rattle.cc_steps.specs.State.{Active}
-use Rattle.cc_steps.specs.Step.{worked}
+use Rattle.cc_states.specs.CcSteps.State.{Active}
+use Rattle.cc_states.specs.CcSteps.Step.{worked}
 use Rattle.cc_states.specs.Inside.{IsListIn, IsListInFirst, IsLeft, AreInside}
 use Rattle.cc_states.specs.States.{worked_at, expression_of}
 use Rattle.cc_states.proofs.Options.{either_true, left_true, right_true}

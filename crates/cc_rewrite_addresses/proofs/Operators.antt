@@ -1,24 +1,24 @@
 -- Operators give integers, and addresses in the objects that their operands name.
 use Rattle.std.proofs.Common.{◌≡◌, ℕ, ℤ, Bool, true, false, List, [], ◌∷◌, Option, Some, None, option_map, option_and_then, subst, if◌then◌else◌}
 use Rattle.std.specs.Prelude.{◌-ℤ◌, nat_le, nat_lt, pos}
-use Rattle.cc_num.specs.declared.int_type.IntType.{IntType}
-use Rattle.cc_num.specs.declared.op.BinOp.{BinOp}
-use Rattle.cc_num.specs.declared.op.BinOp.TheVariants as op
-use Rattle.cc_num.specs.declared.op.UnOp.{UnOp}
-use Rattle.cc_num.specs.declared.target.Target.{Target}
-use Rattle.cc_num.specs.Integers.{is_value_of, converted}
-use Rattle.cc_num.specs.Results.{one_if}
+use Rattle.cc_program.specs.CcNum.declared.int_type.IntType.{IntType}
+use Rattle.cc_program.specs.CcNum.declared.op.BinOp.{BinOp}
+use Rattle.cc_program.specs.CcNum.declared.op.BinOp.TheVariants as op
+use Rattle.cc_program.specs.CcNum.declared.op.UnOp.{UnOp}
+use Rattle.cc_program.specs.CcNum.declared.target.Target.{Target}
+use Rattle.cc_program.specs.CcNum.Integers.{is_value_of, converted}
+use Rattle.cc_program.specs.CcNum.Results.{one_if}
 use Rattle.cc_program.specs.declared.value.Address.{Address}
 use Rattle.cc_program.specs.declared.value.Address.TheVariants as address
 use Rattle.cc_program.specs.declared.value.Part.{Part}
 use Rattle.cc_program.specs.declared.value.Root.{Root}
 use Rattle.cc_program.specs.declared.value.Value.{Value}
 use Rattle.cc_program.specs.declared.value.Value.TheVariants.{Int, Place}
-use Rattle.cc_syntax.specs.Expressions.{of_two}
-use Rattle.cc_syntax.specs.Operators.{difference_type}
-use Rattle.cc_syntax.specs.Values.{ValueType, NoValue, Integer, ToObject, ToFunction}
-use Rattle.cc_eval.specs.Eval.{all_good, in_front, changed, is_back}
-use Rattle.cc_values.specs.Values.{integer, address_in, unary_result, binary_result, unary, binary, conversion, of_truth, index_in, moved_address, movement, in_one_array, difference, gap, compared, comparison}
+use Rattle.cc_states.specs.CcSyntax.Expressions.{of_two}
+use Rattle.cc_states.specs.CcSyntax.Operators.{difference_type}
+use Rattle.cc_states.specs.CcSyntax.Values.{ValueType, NoValue, Integer, ToObject, ToFunction}
+use Rattle.cc_states.specs.CcEval.Eval.{all_good, in_front, changed, is_back}
+use Rattle.cc_states.specs.CcValues.Values.{integer, address_in, unary_result, binary_result, unary, binary, conversion, of_truth, index_in, moved_address, movement, in_one_array, difference, gap, compared, comparison}
 use Rattle.cc_rewrite_addresses.specs.Holds.{Every, ValueIn, MayIn}
 use Rattle.cc_rewrite_renamed.specs.Names.{names_in_root, names_in_address}
 

@@ -9,14 +9,14 @@ use Rattle.cc_program.specs.declared.value.Part.TheVariants as part
 use Rattle.cc_program.specs.declared.value.Root.{Root}
 use Rattle.cc_program.specs.declared.value.Value.{Value}
 use Rattle.cc_program.specs.declared.value.Value.TheVariants.{Int, Place}
-use Rattle.cc_syntax.specs.Expressions.{of_two}
-use Rattle.cc_syntax.specs.Initial.{bound_of}
-use Rattle.cc_syntax.specs.Values.{PlaceType}
-use Rattle.cc_values.specs.Values.{integer, address_in, index_in}
-use Rattle.cc_eval.specs.declared.spots.Spot.{Spot}
-use Rattle.cc_eval.specs.declared.spots.Spot.TheVariants as spot
-use Rattle.cc_eval.specs.Context.{Context, has_elements, path_to, named_by, designated, element_in, element, member}
-use Rattle.cc_eval.specs.Eval.{address_of, element_at}
+use Rattle.cc_states.specs.CcSyntax.Expressions.{of_two}
+use Rattle.cc_states.specs.CcSyntax.Initial.{bound_of}
+use Rattle.cc_states.specs.CcSyntax.Values.{PlaceType}
+use Rattle.cc_states.specs.CcValues.Values.{integer, address_in, index_in}
+use Rattle.cc_states.specs.CcEval.declared.spots.Spot.{Spot}
+use Rattle.cc_states.specs.CcEval.declared.spots.Spot.TheVariants as spot
+use Rattle.cc_states.specs.CcEval.Context.{Context, has_elements, path_to, named_by, designated, element_in, element, member}
+use Rattle.cc_states.specs.CcEval.Eval.{address_of, element_at}
 use Rattle.cc_rewrite_addresses.specs.Holds.{MayIn}
 use Rattle.cc_rewrite_renamed.specs.Names.{names_in_root, names_in_address}
 

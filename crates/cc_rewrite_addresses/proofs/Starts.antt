@@ -2,7 +2,7 @@
 use Rattle.std.proofs.Common.{◌≡◌, ◌∷◌, ◌++◌, arith, ℕ, zero, suc, ℤ, Bool, true, false, List, [], map, Option, Some, None, slice_get, refl, subst, sym}
 use Rattle.std.specs.Prelude.{unwrap_or, replicate, fold}
 use Rattle.std.specs.List.{All, flat_map}
-use Rattle.cc_cells.specs.Scalars.{shape_zeros, zeros_over, member_zeros, structure_zeros, zeros}
+use Rattle.cc_states.specs.CcCells.Scalars.{shape_zeros, zeros_over, member_zeros, structure_zeros, zeros}
 use Rattle.cc_program.specs.declared.func.Func.{Func}
 use Rattle.cc_program.specs.declared.object.Object.{Object}
 use Rattle.cc_program.specs.declared.program.Program.{Program}
@@ -19,11 +19,11 @@ use Rattle.cc_states.proofs.StartLemmas.{start_state}
 use Rattle.cc_states.proofs.TurnLemmas.{turn_state}
 use Rattle.cc_states.proofs.ZeroLemmas.{parts_zeros, zeros-shape}
 use Rattle.cc_states.specs.States.{IsState}
-use Rattle.cc_steps.specs.Runs.{Arrivals, run}
-use Rattle.cc_steps.specs.State.{State, first_value, values_or, first_values}
-use Rattle.cc_steps.specs.Turn.{first_of_stack, start, turn}
-use Rattle.cc_syntax.specs.Sound.{IsTypedProgram}
-use Rattle.cc_syntax.specs.Types.{Named}
+use Rattle.cc_states.specs.CcSteps.Runs.{Arrivals, run}
+use Rattle.cc_states.specs.CcSteps.State.{State, first_value, values_or, first_values}
+use Rattle.cc_states.specs.CcSteps.Turn.{first_of_stack, start, turn}
+use Rattle.cc_states.specs.CcSyntax.Sound.{IsTypedProgram}
+use Rattle.cc_states.specs.CcSyntax.Types.{Named}
 use Rattle.cc_rewrite_renamed.specs.Names.{names_in_leaf}
 use Rattle.cc_rewrite_addresses.specs.Holds.{Every, ValueIn, HoldsIn}
 use Rattle.cc_rewrite_addresses.specs.Takes.{NamesNone, AreAddressesIn}

@@ -1,16 +1,16 @@
 -- Steps and turns leave all addresses in objects that pass the test.
 use Rattle.std.proofs.Common.{◌≡◌, ◌∷◌, ◌++◌, ◌==◌, ◌||◌, ◌⊎◌, inl, inr, ℕ, zero, suc, ℤ, Bool, true, false, List, [], length, Option, Some, None, option_and_then, slice_get, refl, ap, sym, subst, if◌then◌else◌}
 use Rattle.std.specs.Prelude.{slice_set, replicate}
-use Rattle.cc_num.specs.Integers.{converted}
-use Rattle.cc_num.specs.Results.{one_if}
-use Rattle.cc_cells.specs.Cells.{scalar_in, set_scalar, with_scalar}
-use Rattle.cc_cells.specs.Scalars.{zeros}
-use Rattle.cc_eval.specs.declared.action.Action.{Action}
-use Rattle.cc_eval.specs.declared.action.Action.TheVariants.{Read, Write, Choose, Call, Flag, Save}
-use Rattle.cc_eval.specs.declared.action.Manner.{Manner}
-use Rattle.cc_eval.specs.declared.mark.Mark.{Mark}
-use Rattle.cc_eval.specs.declared.mark.Mark.TheVariants.{Gave, Did, Chose}
-use Rattle.cc_eval.specs.Progress.{Progress, Known, Waits, Traps, no_value}
+use Rattle.cc_program.specs.CcNum.Integers.{converted}
+use Rattle.cc_program.specs.CcNum.Results.{one_if}
+use Rattle.cc_states.specs.CcCells.Cells.{scalar_in, set_scalar, with_scalar}
+use Rattle.cc_states.specs.CcCells.Scalars.{zeros}
+use Rattle.cc_states.specs.CcEval.declared.action.Action.{Action}
+use Rattle.cc_states.specs.CcEval.declared.action.Action.TheVariants.{Read, Write, Choose, Call, Flag, Save}
+use Rattle.cc_states.specs.CcEval.declared.action.Manner.{Manner}
+use Rattle.cc_states.specs.CcEval.declared.mark.Mark.{Mark}
+use Rattle.cc_states.specs.CcEval.declared.mark.Mark.TheVariants.{Gave, Did, Chose}
+use Rattle.cc_states.specs.CcEval.Progress.{Progress, Known, Waits, Traps, no_value}
 use Rattle.cc_program.specs.declared.expr.Expr.{Expr}
 use Rattle.cc_program.specs.declared.func.Func.{Func}
 use Rattle.cc_program.specs.declared.object.Device.{Device}
@@ -26,21 +26,21 @@ use Rattle.cc_program.specs.declared.value.Root.{Root}
 use Rattle.cc_program.specs.declared.value.Root.TheVariants as root
 use Rattle.cc_program.specs.declared.value.Value.{Value}
 use Rattle.cc_program.specs.declared.value.Value.TheVariants.{Int}
-use Rattle.cc_steps.specs.declared.content.Content.{Content}
-use Rattle.cc_steps.specs.declared.content.Content.TheVariants.{Gone, Unwritten, Holds}
-use Rattle.cc_steps.specs.declared.event.End.{End}
-use Rattle.cc_steps.specs.declared.event.End.TheVariants.{Trap, Starved}
-use Rattle.cc_steps.specs.declared.event.Event.{Event}
-use Rattle.cc_steps.specs.declared.event.Event.TheVariants as event
-use Rattle.cc_steps.specs.Access.{content, local_content, with_locals, is_open, with_local}
-use Rattle.cc_steps.specs.State.{Active, State, locals_with}
-use Rattle.cc_steps.specs.Step.{stopped, with_stack, with_flag, with_inputs, with_event, with_mark, static_content, content_at, written, gives_nothing, is_known, at_test, moved, next_place, is_return, worked, progress_of, progress_in, passes, goes_to, settled_in, settled, marked, on_top, did, cell_position, has_read, input_read, read, has_written, write, activation, opened, opened_if, call, return_mark, returned, fallen, perform, done, stepped, active_step, proceed}
-use Rattle.cc_steps.specs.Turn.{is_going, entering, turn_by, turn}
-use Rattle.cc_control.specs.Control.{behind}
+use Rattle.cc_states.specs.CcSteps.declared.content.Content.{Content}
+use Rattle.cc_states.specs.CcSteps.declared.content.Content.TheVariants.{Gone, Unwritten, Holds}
+use Rattle.cc_states.specs.CcSteps.declared.event.End.{End}
+use Rattle.cc_states.specs.CcSteps.declared.event.End.TheVariants.{Trap, Starved}
+use Rattle.cc_states.specs.CcSteps.declared.event.Event.{Event}
+use Rattle.cc_states.specs.CcSteps.declared.event.Event.TheVariants as event
+use Rattle.cc_states.specs.CcSteps.Access.{content, local_content, with_locals, is_open, with_local}
+use Rattle.cc_states.specs.CcSteps.State.{Active, State, locals_with}
+use Rattle.cc_states.specs.CcSteps.Step.{stopped, with_stack, with_flag, with_inputs, with_event, with_mark, static_content, content_at, written, gives_nothing, is_known, at_test, moved, next_place, is_return, worked, progress_of, progress_in, passes, goes_to, settled_in, settled, marked, on_top, did, cell_position, has_read, input_read, read, has_written, write, activation, opened, opened_if, call, return_mark, returned, fallen, perform, done, stepped, active_step, proceed}
+use Rattle.cc_states.specs.CcSteps.Turn.{is_going, entering, turn_by, turn}
+use Rattle.cc_states.specs.CcControl.Control.{behind}
 use Rattle.cc_states.specs.States.{worked_at, expression_of, IsActive, AreActive, IsState}
-use Rattle.cc_syntax.proofs.Parts.{all_at}
-use Rattle.cc_syntax.specs.Types.{Named}
-use Rattle.cc_syntax.specs.Effects.{no_one}
+use Rattle.cc_states.proofs.CcSyntax.Parts.{all_at}
+use Rattle.cc_states.specs.CcSyntax.Types.{Named}
+use Rattle.cc_states.specs.CcSyntax.Effects.{no_one}
 use Rattle.cc_rewrite_addresses.specs.Holds.{Every, ValueIn, MayIn, MarkIn, ActionIn, ProgressIn, ActiveIn, HoldsIn}
 use Rattle.cc_rewrite_addresses.specs.Takes.{takes_other, TakesNone, AreAddressesIn}
 use Rattle.cc_rewrite_addresses.proofs.Expressions.{expression_safe}

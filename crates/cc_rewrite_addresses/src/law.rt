@@ -1,7 +1,7 @@
 ghost use Rattle.std.specs.Prelude.{◌≡◌, ℕ, ℤ, Bool, true, false, List, Option};
-ghost use Rattle.cc_eval.specs.declared.mark.Mark.{Mark};
-ghost use Rattle.cc_eval.specs.Context.{Context};
-ghost use Rattle.cc_eval.specs.Eval.{meaning};
+ghost use Rattle.cc_states.specs.CcEval.declared.mark.Mark.{Mark};
+ghost use Rattle.cc_states.specs.CcEval.Context.{Context};
+ghost use Rattle.cc_states.specs.CcEval.Eval.{meaning};
 ghost use Rattle.cc_program.specs.declared.expr.Expr.{Expr};
 ghost use Rattle.cc_program.specs.declared.func.Func.{Func};
 ghost use Rattle.cc_program.specs.declared.object.Object.{Object};
@@ -12,11 +12,11 @@ ghost use Rattle.cc_rewrite_addresses.specs.Takes.{AreAddressesIn, takes_other};
 ghost use Rattle.cc_rewrite_renamed.specs.Names.{names_in_expr};
 ghost use Rattle.cc_rewrite_renamed.specs.Renaming.{in_program};
 ghost use Rattle.cc_states.specs.States.{IsState};
-ghost use Rattle.cc_steps.specs.Runs.{Arrivals, run};
-ghost use Rattle.cc_steps.specs.State.{State};
-ghost use Rattle.cc_steps.specs.Turn.{start, turn};
-ghost use Rattle.cc_syntax.specs.Effects.{Registers};
-ghost use Rattle.cc_syntax.specs.Sound.{IsTypedProgram};
+ghost use Rattle.cc_states.specs.CcSteps.Runs.{Arrivals, run};
+ghost use Rattle.cc_states.specs.CcSteps.State.{State};
+ghost use Rattle.cc_states.specs.CcSteps.Turn.{start, turn};
+ghost use Rattle.cc_states.specs.CcSyntax.Effects.{Registers};
+ghost use Rattle.cc_states.specs.CcSyntax.Sound.{IsTypedProgram};
 
 /// That runs of a program whose text takes the addresses of static objects only where they pass a test meet no other addresses of static
 /// objects. The call does nothing.

@@ -5,10 +5,10 @@ use Rattle.cc_code.specs.declared.kinds.Coding.{Coding}
 use Rattle.cc_code.specs.declared.kinds.Coding.TheVariants as coding
 use Rattle.cc_lower_expressions.specs.Expressions.{Make, done, ◌>>=◌, fresh, emit, temp, set, into, is_idle, folded_un}
 use Rattle.cc_lower_expressions.specs.Temporaries.{declared_type, is_same_type}
-use Rattle.cc_num.specs.declared.int_type.IntType.{IntType}
-use Rattle.cc_num.specs.declared.int_type.IntType.TheVariants as int
-use Rattle.cc_num.specs.declared.op.BinOp.TheVariants as op
-use Rattle.cc_num.specs.declared.op.UnOp.TheVariants as unary
+use Rattle.cc_program.specs.CcNum.declared.int_type.IntType.{IntType}
+use Rattle.cc_program.specs.CcNum.declared.int_type.IntType.TheVariants as int
+use Rattle.cc_program.specs.CcNum.declared.op.BinOp.TheVariants as op
+use Rattle.cc_program.specs.CcNum.declared.op.UnOp.TheVariants as unary
 use Rattle.cc_program.specs.declared.expr.Expr.{Expr, Const, Load, Assign, Intr, out-Expr}
 use Rattle.cc_program.specs.declared.expr.Expr.TheOpen as one
 use Rattle.cc_program.specs.declared.expr.Intr.TheVariants as intr
@@ -20,9 +20,9 @@ use Rattle.cc_program.specs.declared.value.Value.{Value}
 use Rattle.cc_rewrite_codes.specs.Homes.{Code, Home, Fixed, InWord, InArray}
 use Rattle.cc_rewrite_codes.specs.Words.{word_type, mask, unsigned, converted, worked, raised, field, with_code, code_alone, constant, encoded, decoded}
 use Rattle.cc_slots_types.specs.declared.slot.Slot.{Slot}
-use Rattle.cc_syntax.specs.Effects.{place_effects_of}
-use Rattle.cc_syntax.specs.Programs.{type_of}
-use Rattle.cc_syntax.specs.Values.{ValueType, NoValue, Integer, ToObject, ToFunction}
+use Rattle.cc_operands.specs.CcSyntax.Effects.{place_effects_of}
+use Rattle.cc_operands.specs.CcSyntax.Programs.{type_of}
+use Rattle.cc_operands.specs.CcSyntax.Values.{ValueType, NoValue, Integer, ToObject, ToFunction}
 
 -- ---- guards
 

@@ -9,8 +9,8 @@ use Rattle.cc_program.specs.declared.value.Leaf.TheVariants as leaf
 use Rattle.cc_program.specs.declared.value.Value.{Value}
 use Rattle.cc_program.specs.declared.value.Value.TheVariants as value
 use Rattle.cc_rewrite_codes.specs.Homes.{Code}
-use Rattle.cc_syntax.specs.Initial.{is_zero}
-use Rattle.cc_values.specs.Values.{same_address}
+use Rattle.cc_operands.specs.CcSyntax.Initial.{is_zero}
+use Rattle.cc_state_points.specs.CcValues.Values.{same_address}
 
 -- ---- codes of values
 

@@ -3,17 +3,17 @@
 use Rattle.std.specs.Prelude.{Bool, List, false, not, slice_get, true, ℕ, ◌&&◌, ◌++◌}
 use Rattle.std.specs.List.{list_any}
 use Rattle.std.specs.Option.{option_map_or}
-use Rattle.cc_flow.specs.declared.types.Point.{Point}
-use Rattle.cc_flow.specs.Points.{flow_of}
+use Rattle.cc_state_points.specs.CcFlow.declared.types.Point.{Point}
+use Rattle.cc_state_points.specs.CcFlow.Points.{flow_of}
 use Rattle.cc_program.specs.declared.program.Program.{Program}
 use Rattle.cc_slots.specs.Judged.{is_lone}
 use Rattle.cc_slots_types.specs.declared.class.Class.{Class}
 use Rattle.cc_slots_types.specs.declared.class.Class.TheVariants as class
 use Rattle.cc_slots_types.specs.declared.slot.Slot.{Slot}
-use Rattle.cc_state_facts.specs.declared.facts.Facts.{Facts}
-use Rattle.cc_state_facts.specs.declared.facts.PointFact.{PointFact}
-use Rattle.cc_state_facts.specs.Facts.{fact_at, levels_of}
-use Rattle.cc_state_facts.specs.Levels.{one_may_enter}
+use Rattle.cc_state_points.specs.CcStateFacts.declared.facts.Facts.{Facts}
+use Rattle.cc_state_points.specs.CcStateFacts.declared.facts.PointFact.{PointFact}
+use Rattle.cc_state_points.specs.CcStateFacts.Facts.{fact_at, levels_of}
+use Rattle.cc_state_points.specs.CcStateFacts.Levels.{one_may_enter}
 
 abbrev pub is_written : Class → Bool
 is_written class.Lone = false

@@ -3,7 +3,7 @@ use Rattle.std.specs.Prelude.{ℕ, Bool, List}
 use Rattle.cc_code.specs.declared.kinds.Coding.{Coding}
 use Rattle.cc_program.specs.declared.value.Value.{Value}
 use Rattle.cc_slots_types.specs.declared.slot.Slot.{Slot}
-use Rattle.cc_syntax.specs.Values.{ValueType}
+use Rattle.cc_operands.specs.CcSyntax.Values.{ValueType}
 
 pub record Code : Type 0 where
   -- the type of a scalar's value

@@ -20,13 +20,13 @@ use Rattle.cc_program.specs.declared.value.Value.{Value}
 use Rattle.cc_program.specs.declared.value.Value.TheVariants as value
 use Rattle.cc_rewrite_codes.specs.Homes.{Code, Home, Fixed, InWord, InArray}
 use Rattle.cc_slots_types.specs.declared.slot.Slot.{Slot}
-use Rattle.cc_state_facts.specs.declared.facts.Key.{Key}
-use Rattle.cc_state_facts.specs.declared.facts.Key.TheVariants as key
-use Rattle.cc_state_keys.specs.Keys.{is_key}
+use Rattle.cc_state_points.specs.CcStateFacts.declared.facts.Key.{Key}
+use Rattle.cc_state_points.specs.CcStateFacts.declared.facts.Key.TheVariants as key
+use Rattle.cc_state_points.specs.CcStateKeys.Keys.{is_key}
 use Rattle.cc_slots.specs.Counts.{scalar_of}
-use Rattle.cc_state.specs.Shape.{ctype_of}
+use Rattle.cc_state_points.specs.CcState.Shape.{ctype_of}
 use Rattle.cc_program.specs.declared.types.CType.{CType}
-use Rattle.cc_syntax.specs.Values.{ValueType, NoValue, scalar_value}
+use Rattle.cc_operands.specs.CcSyntax.Values.{ValueType, NoValue, scalar_value}
 
 module _ (slots : List Slot) (plan : Plan) where
   -- ---- words by owner: 0 is the program, and n + 1 the structure n

@@ -5,7 +5,7 @@ use Rattle.std.specs.List.{enumerate_from, filter, flat_map}
 use Rattle.std.specs.Option.{option_map_or}
 use Rattle.cc_bins.specs.declared.types.Field.{Field}
 use Rattle.cc_bins.specs.declared.types.Word.{Word}
-use Rattle.cc_flow_sound.specs.Moves.{entry}
+use Rattle.cc_state_points.specs.CcFlowSound.Moves.{entry}
 use Rattle.cc_lower_expressions.specs.Expressions.{Piece}
 use Rattle.cc_lower_expressions.specs.Temporaries.{declared_type}
 use Rattle.cc_lower_numbers.specs.Numbered.{names_of_program}
@@ -30,11 +30,11 @@ use Rattle.cc_rewrite_codes.specs.Relaid.{relaid}
 use Rattle.cc_rewrite_codes.specs.Statements.{coded_list}
 use Rattle.cc_rewrite_codes.specs.Words.{word_type}
 use Rattle.cc_slots_types.specs.declared.slot.Slot.{Slot}
-use Rattle.cc_state_facts.specs.declared.facts.Facts.{Facts}
-use Rattle.cc_state_facts.specs.declared.facts.Key.{Key}
-use Rattle.cc_state_facts.specs.declared.facts.Key.TheVariants as key
-use Rattle.cc_steps.specs.State.{first_values}
-use Rattle.cc_syntax.specs.Types.{Named}
+use Rattle.cc_state_points.specs.CcStateFacts.declared.facts.Facts.{Facts}
+use Rattle.cc_state_points.specs.CcStateFacts.declared.facts.Key.{Key}
+use Rattle.cc_state_points.specs.CcStateFacts.declared.facts.Key.TheVariants as key
+use Rattle.cc_state_points.specs.CcSteps.State.{first_values}
+use Rattle.cc_operands.specs.CcSyntax.Types.{Named}
 
 -- ---- names: `w__1` and so on for words, and `v__1` and so on for tables, without those that the program has
 

@@ -11,11 +11,11 @@ use Rattle.cc_program.specs.declared.stmt.Stmt.{Stmt, If, While, DoWhile, For, S
 use Rattle.cc_program.specs.declared.stmt.Stmt.TheOpen as is
 use Rattle.cc_rewrite_codes.specs.Accesses.{read_of, write_of}
 use Rattle.cc_rewrite_codes.specs.Homes.{Home}
-use Rattle.cc_rules_flows.specs.Acts.{Act, Sets, Reads, Writes, Calls, Saves, Turns, Restores, Tests, Chooses, Returns, Passes, does}
+use Rattle.cc_state_points.specs.CcRulesFlows.Acts.{Act, Sets, Reads, Writes, Calls, Saves, Turns, Restores, Tests, Chooses, Returns, Passes, does}
 use Rattle.cc_program.specs.declared.expr.Expr.{out-Expr}
 use Rattle.cc_slots_types.specs.declared.slot.Slot.{Slot}
-use Rattle.cc_state_facts.specs.declared.facts.Key.{Key}
-use Rattle.cc_state_keys.specs.Addressed.{in_place}
+use Rattle.cc_state_points.specs.CcStateFacts.declared.facts.Key.{Key}
+use Rattle.cc_state_points.specs.CcStateKeys.Addressed.{in_place}
 
 -- statements from a point on, with the point behind them
 abbrev pub Coder : Type 0 → Type 0

@@ -6,11 +6,11 @@ use Rattle.cc_code.specs.declared.kinds.Coding.{Coding}
 use Rattle.cc_code.specs.declared.kinds.Coding.TheVariants as coding
 use Rattle.cc_lower_expressions.specs.Expressions.{constant_in, conv_unless, folded_bin}
 use Rattle.cc_lower_expressions.specs.Temporaries.{declared_type, is_same_type}
-use Rattle.cc_num.specs.declared.int_type.IntType.{IntType}
-use Rattle.cc_num.specs.declared.int_type.IntType.TheVariants as int
-use Rattle.cc_num.specs.declared.op.BinOp.{BinOp}
-use Rattle.cc_num.specs.declared.op.BinOp.TheVariants as op
-use Rattle.cc_num.specs.Promotions.{promoted}
+use Rattle.cc_program.specs.CcNum.declared.int_type.IntType.{IntType}
+use Rattle.cc_program.specs.CcNum.declared.int_type.IntType.TheVariants as int
+use Rattle.cc_program.specs.CcNum.declared.op.BinOp.{BinOp}
+use Rattle.cc_program.specs.CcNum.declared.op.BinOp.TheVariants as op
+use Rattle.cc_program.specs.CcNum.Promotions.{promoted}
 use Rattle.cc_program.specs.declared.expr.Expr.{Expr, Const, Null, FuncAddr, Load, AddrOf, Move, Compare, Choose}
 use Rattle.cc_program.specs.declared.expr.Place.{Place, Static, Element, Member}
 use Rattle.cc_program.specs.declared.func.Func.{Func}
@@ -24,10 +24,10 @@ use Rattle.cc_program.specs.declared.value.Root.TheVariants as root
 use Rattle.cc_program.specs.declared.value.Value.{Value}
 use Rattle.cc_program.specs.declared.value.Value.TheVariants as value
 use Rattle.cc_rewrite_codes.specs.Homes.{Code}
-use Rattle.cc_syntax.specs.Folding.{Constant, NoConstant, Value as Number, Traps}
-use Rattle.cc_syntax.specs.Forms.{form_of}
-use Rattle.cc_syntax.specs.Values.{ValueType, NoValue, Integer, ToObject, ToFunction, PlaceType, pointed_to}
-use Rattle.cc_eval.specs.Context.{has_elements}
+use Rattle.cc_operands.specs.CcSyntax.Folding.{Constant, NoConstant, Value as Number, Traps}
+use Rattle.cc_operands.specs.CcSyntax.Forms.{form_of}
+use Rattle.cc_operands.specs.CcSyntax.Values.{ValueType, NoValue, Integer, ToObject, ToFunction, PlaceType, pointed_to}
+use Rattle.cc_state_points.specs.CcEval.Context.{has_elements}
 use Rattle.cc_operands.specs.Operands.{first_with, decimal_types}
 
 -- ---- words

@@ -4,7 +4,7 @@ use Rattle.cc_program.specs.declared.value.Value.{Value}
 use Rattle.cc_program.specs.declared.value.Value.TheVariants.{Int}
 use Rattle.cc_rewrite_fields.specs.Field.{field, put}
 use Rattle.cc_rewrite_fields.proofs.FieldLemmas.{field_put, field_below, field_above, put_below, field_alone}
-use Rattle.cc_cells.specs.Cells.{scalar_in, with_scalar}
+use Rattle.cc_steps.specs.CcCells.Cells.{scalar_in, with_scalar}
 use Rattle.cc_rewrite_homes.specs.Homes.{Field, Home, Whole, Packed, Fixed, HoldsWord, Beside, Apart, IsOff, AtHome, Statics, AreHomes}
 use Rattle.cc_rewrite_homes.proofs.ScalarLemmas.{both_or_not, written_there, written_read, written_elsewhere}
 

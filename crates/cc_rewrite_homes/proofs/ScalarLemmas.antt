@@ -2,7 +2,7 @@
 use Rattle.std.proofs.Common.{◌≡◌, ℕ, zero, suc, List, [], ◌∷◌, Option, Some, None, option_map, slice_get, slice_set, refl, ap, sym, ◌∙◌, Bool, true, false, ◌⊎◌, inl, inr}
 use Rattle.std.specs.Prelude.{option_and_then, ◌==◌}
 use Rattle.std.proofs.lemmas.Bool.{eq-eqb, eqb-true}
-use Rattle.cc_cells.specs.Cells.{scalar_in, with_scalar}
+use Rattle.cc_steps.specs.CcCells.Cells.{scalar_in, with_scalar}
 use Rattle.cc_steps.proofs.CellsApart.{set_here, set_elsewhere, elsewhere, written_here}
 
 set_nowhere : {A : Type 0} → (xs : List A) (k : ℕ) (v : A) → slice_get xs k ≡ None → slice_get (slice_set xs k v) k ≡ None

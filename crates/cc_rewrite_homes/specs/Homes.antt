@@ -1,7 +1,7 @@
 -- How the static scalars of a program stand in the program that is made of it: as they are, in a field of a word, or nowhere, since they never
 -- change. A scalar is told by its object and its position there.
 use Rattle.std.specs.Prelude.{◌≡◌, ◌<◌, ◌≤◌, ◌+◌, ◌^◌, ◌⊎◌, ℕ, pos, List, Some}
-use Rattle.cc_cells.specs.Cells.{scalar_in}
+use Rattle.cc_steps.specs.CcCells.Cells.{scalar_in}
 use Rattle.cc_program.specs.declared.value.Value.{Value}
 use Rattle.cc_program.specs.declared.value.Value.TheVariants.{Int}
 use Rattle.cc_rewrite_fields.specs.Field.{field}

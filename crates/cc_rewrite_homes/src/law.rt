@@ -1,5 +1,5 @@
 ghost use Rattle.std.specs.Prelude.{◌≡◌, ◌<◌, ◌≤◌, ◌+◌, ◌*◌, ◌^◌, ℕ, pos, List, Some};
-ghost use Rattle.cc_cells.specs.Cells.{scalar_in, with_scalar};
+ghost use Rattle.cc_steps.specs.CcCells.Cells.{scalar_in, with_scalar};
 ghost use Rattle.cc_program.specs.declared.value.Value.{Value};
 ghost use Rattle.cc_program.specs.declared.value.Value.TheVariants.{Int};
 ghost use Rattle.cc_rewrite_fields.specs.Field.{put};

@@ -7,8 +7,8 @@ ghost use Rattle.cc_rewrite_names.specs.NewNames.{new_names as new_names_of, tab
 
 use crate::reservations::reserved;
 use cc_names::{Names, Wish, names_for};
-use cc_num::{Name, NoMemory};
 use cc_program::Program;
+use cc_program::num::{Name, NoMemory};
 use std::alloc::Global;
 
 /// So many wishes for a name with a number.

@@ -6,7 +6,7 @@ ghost use Rattle.cc_names.specs.Holds.{Holds};
 ghost use Rattle.cc_syntax.specs.Names.{device_names, file_names, intrinsic_names, local_names};
 
 use cc_names::Taken;
-use cc_num::{Name, NoMemory};
+use cc_program::num::{Name, NoMemory};
 use cc_program::{CType, Device, Func, Object, Program, Roles, Structure};
 use std::alloc::Global;
 

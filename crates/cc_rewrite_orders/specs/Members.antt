@@ -1,7 +1,7 @@
 -- Programs whose members stand in another order, some of them left out.
 use Rattle.std.specs.Prelude.{ℕ, List, flat_map, map}
 use Rattle.std.specs.List.{enumerate_from}
-use Rattle.cc_eval.specs.Context.{object_type}
+use Rattle.cc_state_points.specs.CcEval.Context.{object_type}
 use Rattle.cc_lower_numbers.specs.Order.{arranged, place_in}
 use Rattle.cc_program.specs.declared.func.Func.{Func}
 use Rattle.cc_program.specs.declared.object.Object.{Object}

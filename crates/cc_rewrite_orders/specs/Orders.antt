@@ -15,12 +15,12 @@ use Rattle.cc_program.specs.declared.program.Program.{Program}
 use Rattle.cc_program.specs.declared.types.Structure.{Structure}
 use Rattle.cc_rewrite_codes.specs.Placed.{first_array, first_table, owner, place_among, tables, word_number}
 use Rattle.cc_slots_types.specs.declared.slot.Slot.{Slot}
-use Rattle.cc_state_facts.specs.declared.facts.Key.{Key}
-use Rattle.cc_state_facts.specs.declared.facts.Key.TheVariants as key
-use Rattle.cc_state_keys.specs.Keys.{is_key}
-use Rattle.cc_syntax.specs.declared.sizes.Layout.{Layout}
-use Rattle.cc_syntax.specs.Layout.{layout_of}
-use Rattle.cc_syntax.specs.Types.{Named}
+use Rattle.cc_state_points.specs.CcStateFacts.declared.facts.Key.{Key}
+use Rattle.cc_state_points.specs.CcStateFacts.declared.facts.Key.TheVariants as key
+use Rattle.cc_state_points.specs.CcStateKeys.Keys.{is_key}
+use Rattle.cc_state_points.specs.CcSyntax.declared.sizes.Layout.{Layout}
+use Rattle.cc_state_points.specs.CcSyntax.Layout.{layout_of}
+use Rattle.cc_state_points.specs.CcSyntax.Types.{Named}
 
 -- ---- by alignment descending
 

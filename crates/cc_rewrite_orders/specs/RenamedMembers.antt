@@ -15,11 +15,11 @@ use Rattle.cc_program.specs.declared.value.Leaf.TheVariants as leaf
 use Rattle.cc_program.specs.declared.value.Part.{Part}
 use Rattle.cc_program.specs.declared.value.Part.TheVariants as part
 use Rattle.cc_program.specs.declared.value.Root.{Root}
-use Rattle.cc_state_keys.specs.Keys.{structure_of}
-use Rattle.cc_syntax.specs.Expressions.{of_one}
-use Rattle.cc_syntax.specs.Initial.{step_into}
-use Rattle.cc_syntax.specs.Programs.{expr_step, place_step}
-use Rattle.cc_syntax.specs.Values.{ValueType, PlaceType}
+use Rattle.cc_state_points.specs.CcStateKeys.Keys.{structure_of}
+use Rattle.cc_state_points.specs.CcSyntax.Expressions.{of_one}
+use Rattle.cc_state_points.specs.CcSyntax.Initial.{step_into}
+use Rattle.cc_state_points.specs.CcSyntax.Programs.{expr_step, place_step}
+use Rattle.cc_state_points.specs.CcSyntax.Values.{ValueType, PlaceType}
 
 -- an expression and a place, with the types that they have in the program
 pub record ExprIn : Type 0 where

@@ -9,7 +9,7 @@ use Rattle.cc_rewrite_orders.specs.Members.{with_members_ordered}
 use Rattle.cc_rewrite_orders.specs.Orders.{member_order, object_order}
 use Rattle.cc_rewrite_renamed.specs.Objects.{with_objects_ordered}
 use Rattle.cc_slots_types.specs.declared.slot.Slot.{Slot}
-use Rattle.cc_state_facts.specs.declared.facts.Facts.{Facts}
+use Rattle.cc_state_points.specs.CcStateFacts.declared.facts.Facts.{Facts}
 
 module _ {I : Type 0} (slots : List Slot) (plan : Plan) (facts : Facts I) (p : Program) where
   -- names are passed over that stand in what is left out too

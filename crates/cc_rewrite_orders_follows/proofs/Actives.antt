@@ -13,13 +13,13 @@ use Rattle.cc_program.specs.declared.stmt.Stmt.{Stmt, out-Stmt}
 use Rattle.cc_program.specs.declared.stmt.Stmt.TheOpen as is
 use Rattle.cc_program.specs.declared.value.Value.{Value}
 use Rattle.cc_program.specs.declared.value.Value.TheVariants.{Int, Place}
-use Rattle.cc_control.specs.Control.{Level, Control, arm, around_list, behind, close, counted, from_label, is_label, is_default}
-use Rattle.cc_eval.specs.declared.mark.Mark.{Mark}
-use Rattle.cc_eval.specs.Progress.{Progress, Known, Waits, Traps}
-use Rattle.cc_steps.specs.State.{Active}
-use Rattle.cc_syntax.specs.Effects.{no_one}
-use Rattle.cc_steps.specs.Step.{is_known, is_passed, number_in, at_test, moved, with_mark, in_case, switched, looped, next_place, progress_in, progress_at, is_past, passes, begun_at, goes_to, progress_of, settled_in, settled, marked}
-use Rattle.cc_values.specs.Values.{is_true}
+use Rattle.cc_states.specs.CcControl.Control.{Level, Control, arm, around_list, behind, close, counted, from_label, is_label, is_default}
+use Rattle.cc_states.specs.CcEval.declared.mark.Mark.{Mark}
+use Rattle.cc_states.specs.CcEval.Progress.{Progress, Known, Waits, Traps}
+use Rattle.cc_states.specs.CcSteps.State.{Active}
+use Rattle.cc_states.specs.CcSyntax.Effects.{no_one}
+use Rattle.cc_states.specs.CcSteps.Step.{is_known, is_passed, number_in, at_test, moved, with_mark, in_case, switched, looped, next_place, progress_in, progress_at, is_past, passes, begun_at, goes_to, progress_of, settled_in, settled, marked}
+use Rattle.cc_states.specs.CcValues.Values.{is_true}
 use Rattle.cc_rewrite_renamed.specs.Objects.{expr_renamed, func_renamed}
 use Rattle.cc_rewrite_renamed.specs.Renaming.{value_renamed, mark_renamed, marks_renamed, may_renamed, progress_renamed, AreRenamed}
 use Rattle.cc_rewrite_renamed.proofs.Laws.{does_same}

@@ -13,9 +13,9 @@ use Rattle.cc_program.specs.declared.value.Root.{Root}
 use Rattle.cc_program.specs.declared.value.Root.TheVariants as root
 use Rattle.cc_program.specs.declared.value.Value.{Value}
 use Rattle.cc_program.specs.declared.value.Value.TheVariants.{Int, Place}
-use Rattle.cc_steps.specs.declared.event.Event.{Event}
-use Rattle.cc_steps.specs.declared.event.Event.TheVariants as event
-use Rattle.cc_steps.specs.Rows.{Spelled, Static, Auto, ToObject, ToFunction, Reads, Writes, Enters, steps, func_name, local_in, object_spelled, cell_spelled, address_spelled, value_spelled, row_of, rows_of}
+use Rattle.cc_states.specs.CcSteps.declared.event.Event.{Event}
+use Rattle.cc_states.specs.CcSteps.declared.event.Event.TheVariants as event
+use Rattle.cc_states.specs.CcSteps.Rows.{Spelled, Static, Auto, ToObject, ToFunction, Reads, Writes, Enters, steps, func_name, local_in, object_spelled, cell_spelled, address_spelled, value_spelled, row_of, rows_of}
 use Rattle.cc_rewrite_renamed.specs.Objects.{root_renamed, address_renamed, object_renamed, func_renamed}
 use Rattle.cc_rewrite_renamed.specs.Renaming.{value_renamed, cell_renamed, AreRenamed}
 use Rattle.cc_rewrite_renamed.proofs.Places.{Q, func_same, object_same}

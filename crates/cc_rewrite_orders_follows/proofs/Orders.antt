@@ -1,7 +1,7 @@
 -- A program whose objects stand in an order follows its source and answers it.
 use Rattle.std.proofs.Common.{List, ℕ, subst}
 use Rattle.cc_program.specs.declared.program.Program.{Program}
-use Rattle.cc_steps.specs.Runs.{Follows, Answers}
+use Rattle.cc_states.specs.CcSteps.Runs.{Follows, Answers}
 use Rattle.cc_rewrite_orders_follows.proofs.Whole.{follows, answers}
 use Rattle.cc_rewrite_renamed.specs.Objects.{with_objects_ordered}
 use Rattle.cc_rewrite_renamed.specs.Orders.{IsOrderOf}

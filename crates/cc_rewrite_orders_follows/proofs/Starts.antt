@@ -4,7 +4,7 @@ use Rattle.std.specs.Prelude.{unwrap_or, replicate, fold}
 use Rattle.std.specs.List.{flat_map}
 use Rattle.std.proofs.lemmas.List.{map-append}
 use Rattle.std.proofs.lemmas.Option.{slice_get-map}
-use Rattle.cc_cells.specs.Scalars.{shape_zeros, zeros_over, member_zeros, structure_zeros, zeros}
+use Rattle.cc_states.specs.CcCells.Scalars.{shape_zeros, zeros_over, member_zeros, structure_zeros, zeros}
 use Rattle.cc_program.specs.declared.func.Func.{Func}
 use Rattle.cc_program.specs.declared.object.Object.{Object}
 use Rattle.cc_program.specs.declared.program.Program.{Program}
@@ -18,9 +18,9 @@ use Rattle.cc_program.specs.declared.value.Leaf.TheVariants as leaf
 use Rattle.cc_program.specs.declared.value.Value.{Value}
 use Rattle.cc_program.proofs.TypeInduction.{with_shape, TypeParts, by_type}
 use Rattle.cc_states.proofs.ZeroLemmas.{parts_zeros, zeros-shape}
-use Rattle.cc_steps.specs.State.{Active, first_value, values_or, first_values}
-use Rattle.cc_steps.specs.Turn.{first_of_stack, start}
-use Rattle.cc_syntax.specs.Types.{Named}
+use Rattle.cc_states.specs.CcSteps.State.{Active, first_value, values_or, first_values}
+use Rattle.cc_states.specs.CcSteps.Turn.{first_of_stack, start}
+use Rattle.cc_states.specs.CcSyntax.Types.{Named}
 use Rattle.cc_rewrite_renamed.specs.Objects.{leaf_renamed, object_renamed, func_renamed}
 use Rattle.cc_rewrite_renamed.specs.Renaming.{value_renamed, AreRenamed}
 use Rattle.cc_rewrite_orders_follows.proofs.Steps.{Q, stack_renamed, AreStaticsSame, IsStateSame, activation_same}

@@ -4,18 +4,18 @@ use Rattle.std.specs.Prelude.{◌≢◌, slice_set, replicate}
 use Rattle.std.proofs.lemmas.Bool.Decides.{eqb_tells}
 use Rattle.std.proofs.lemmas.List.{map-append, map-set}
 use Rattle.std.proofs.lemmas.Option.{slice_get-map}
-use Rattle.cc_num.specs.Integers.{converted}
-use Rattle.cc_num.specs.Results.{one_if}
-use Rattle.cc_cells.specs.Cells.{scalar_in, set_scalar, with_scalar}
-use Rattle.cc_cells.specs.Scalars.{zeros, position}
-use Rattle.cc_control.specs.Control.{close, level}
-use Rattle.cc_control.specs.declared.phase.Phase.TheVariants.{First}
-use Rattle.cc_eval.specs.declared.action.Action.{Action}
-use Rattle.cc_eval.specs.declared.action.Action.TheVariants.{Read, Write, Choose, Call, Flag, Save}
-use Rattle.cc_eval.specs.declared.action.Manner.{Manner}
-use Rattle.cc_eval.specs.declared.mark.Mark.{Mark}
-use Rattle.cc_eval.specs.declared.mark.Mark.TheVariants.{Gave, Did, Chose}
-use Rattle.cc_eval.specs.Progress.{Progress, Known, Waits, Traps, no_value}
+use Rattle.cc_program.specs.CcNum.Integers.{converted}
+use Rattle.cc_program.specs.CcNum.Results.{one_if}
+use Rattle.cc_states.specs.CcCells.Cells.{scalar_in, set_scalar, with_scalar}
+use Rattle.cc_states.specs.CcCells.Scalars.{zeros, position}
+use Rattle.cc_states.specs.CcControl.Control.{close, level}
+use Rattle.cc_states.specs.CcControl.declared.phase.Phase.TheVariants.{First}
+use Rattle.cc_states.specs.CcEval.declared.action.Action.{Action}
+use Rattle.cc_states.specs.CcEval.declared.action.Action.TheVariants.{Read, Write, Choose, Call, Flag, Save}
+use Rattle.cc_states.specs.CcEval.declared.action.Manner.{Manner}
+use Rattle.cc_states.specs.CcEval.declared.mark.Mark.{Mark}
+use Rattle.cc_states.specs.CcEval.declared.mark.Mark.TheVariants.{Gave, Did, Chose}
+use Rattle.cc_states.specs.CcEval.Progress.{Progress, Known, Waits, Traps, no_value}
 use Rattle.cc_program.specs.declared.func.Func.{Func}
 use Rattle.cc_program.specs.declared.object.Device.{Device}
 use Rattle.cc_program.specs.declared.object.Object.{Object}
@@ -32,17 +32,17 @@ use Rattle.cc_program.specs.declared.value.Root.{Root}
 use Rattle.cc_program.specs.declared.value.Root.TheVariants as root
 use Rattle.cc_program.specs.declared.value.Value.{Value}
 use Rattle.cc_program.specs.declared.value.Value.TheVariants.{Int}
-use Rattle.cc_steps.specs.declared.content.Content.{Content}
-use Rattle.cc_steps.specs.declared.content.Content.TheVariants.{Gone, Unwritten, Holds}
-use Rattle.cc_steps.specs.declared.event.End.{End}
-use Rattle.cc_steps.specs.declared.event.End.TheVariants.{Exit, Trap, Starved}
-use Rattle.cc_steps.specs.declared.event.Event.{Event}
-use Rattle.cc_steps.specs.declared.event.Event.TheVariants as event
-use Rattle.cc_steps.specs.Access.{content, local_content, with_locals, is_open, with_local}
-use Rattle.cc_steps.specs.State.{Active, Memory, State, locals_with}
-use Rattle.cc_steps.specs.Step.{stopped, with_stack, with_flag, with_statics, with_inputs, with_event, static_content, content_at, written, gives_nothing, next_place, is_return, worked, progress_of, goes_to, marked, on_top, did, cell_position, has_read, input_read, read, has_written, write, activation, opened, opened_if, call, return_mark, returned, fallen, perform, done, stepped, active_step, proceed}
-use Rattle.cc_steps.proofs.CellsApart.{elsewhere, written_here}
-use Rattle.cc_syntax.specs.Types.{Named}
+use Rattle.cc_states.specs.CcSteps.declared.content.Content.{Content}
+use Rattle.cc_states.specs.CcSteps.declared.content.Content.TheVariants.{Gone, Unwritten, Holds}
+use Rattle.cc_states.specs.CcSteps.declared.event.End.{End}
+use Rattle.cc_states.specs.CcSteps.declared.event.End.TheVariants.{Exit, Trap, Starved}
+use Rattle.cc_states.specs.CcSteps.declared.event.Event.{Event}
+use Rattle.cc_states.specs.CcSteps.declared.event.Event.TheVariants as event
+use Rattle.cc_states.specs.CcSteps.Access.{content, local_content, with_locals, is_open, with_local}
+use Rattle.cc_states.specs.CcSteps.State.{Active, Memory, State, locals_with}
+use Rattle.cc_states.specs.CcSteps.Step.{stopped, with_stack, with_flag, with_statics, with_inputs, with_event, static_content, content_at, written, gives_nothing, next_place, is_return, worked, progress_of, goes_to, marked, on_top, did, cell_position, has_read, input_read, read, has_written, write, activation, opened, opened_if, call, return_mark, returned, fallen, perform, done, stepped, active_step, proceed}
+use Rattle.cc_states.proofs.CcSteps.CellsApart.{elsewhere, written_here}
+use Rattle.cc_states.specs.CcSyntax.Types.{Named}
 use Rattle.cc_rewrite_renamed.specs.Objects.{expr_renamed, root_renamed, address_renamed, func_renamed}
 use Rattle.cc_rewrite_renamed.specs.Renaming.{value_renamed, may_renamed, cell_renamed, action_renamed, mark_renamed, progress_renamed, AreRenamed}
 use Rattle.cc_rewrite_renamed.proofs.Places.{func_same, object_same}

@@ -6,11 +6,11 @@ use Rattle.cc_program.specs.declared.func.Func.{Func}
 use Rattle.cc_program.specs.declared.object.Object.{Object}
 use Rattle.cc_program.specs.declared.program.Program.{Program}
 use Rattle.cc_program.specs.declared.value.Value.{Value}
-use Rattle.cc_steps.specs.declared.event.Event.TheVariants.{Enter}
-use Rattle.cc_steps.specs.State.{Active, State}
-use Rattle.cc_steps.specs.Step.{with_flag, with_event, opened}
-use Rattle.cc_steps.specs.Turn.{is_going, only_handler, level_in, level_of, running_level, may_enter, entering, enters, entered, turn_by, turn}
-use Rattle.cc_syntax.specs.Operators.{is_handler}
+use Rattle.cc_states.specs.CcSteps.declared.event.Event.TheVariants.{Enter}
+use Rattle.cc_states.specs.CcSteps.State.{Active, State}
+use Rattle.cc_states.specs.CcSteps.Step.{with_flag, with_event, opened}
+use Rattle.cc_states.specs.CcSteps.Turn.{is_going, only_handler, level_in, level_of, running_level, may_enter, entering, enters, entered, turn_by, turn}
+use Rattle.cc_states.specs.CcSyntax.Operators.{is_handler}
 use Rattle.cc_rewrite_renamed.specs.Objects.{func_renamed}
 use Rattle.cc_rewrite_renamed.specs.Renaming.{AreRenamed}
 use Rattle.cc_rewrite_renamed.proofs.Places.{func_same}

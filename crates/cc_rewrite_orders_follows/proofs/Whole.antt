@@ -1,19 +1,19 @@
 -- A program follows and answers the one that it is by other numbers of static objects.
 use Rattle.std.proofs.Common.{◌≡◌, ◌∙◌, ◌∷◌, ◌&&◌, ℕ, ℤ, Bool, List, [], Option, option_map, slice_get, refl, ap, sym}
-use Rattle.cc_control.specs.declared.phase.Phase.{Phase}
-use Rattle.cc_control.specs.declared.phase.Phase.TheVariants.{First, Test, Again}
-use Rattle.cc_eval.specs.declared.mark.Mark.{Mark}
+use Rattle.cc_states.specs.CcControl.declared.phase.Phase.{Phase}
+use Rattle.cc_states.specs.CcControl.declared.phase.Phase.TheVariants.{First, Test, Again}
+use Rattle.cc_states.specs.CcEval.declared.mark.Mark.{Mark}
 use Rattle.cc_program.specs.declared.expr.Expr.{Expr}
 use Rattle.cc_program.specs.declared.object.Object.{Object}
 use Rattle.cc_program.specs.declared.program.Program.{Program}
 use Rattle.cc_program.specs.declared.stmt.Case.{Case}
 use Rattle.cc_program.specs.declared.stmt.Stmt.{Stmt, out-Stmt}
 use Rattle.cc_program.specs.declared.stmt.Stmt.TheOpen as is
-use Rattle.cc_steps.proofs.RunLaws.{Follows-by_simulation, Answers-by_simulation}
-use Rattle.cc_steps.specs.Rows.{rows_of}
-use Rattle.cc_steps.specs.Runs.{Same, Follows, Answers, IsBoundary, is_empty, begins_at, begins, running_begins}
-use Rattle.cc_steps.specs.State.{Active, State}
-use Rattle.cc_steps.specs.Turn.{is_going, start, turn, enters}
+use Rattle.cc_states.proofs.CcSteps.RunLaws.{Follows-by_simulation, Answers-by_simulation}
+use Rattle.cc_states.specs.CcSteps.Rows.{rows_of}
+use Rattle.cc_states.specs.CcSteps.Runs.{Same, Follows, Answers, IsBoundary, is_empty, begins_at, begins, running_begins}
+use Rattle.cc_states.specs.CcSteps.State.{Active, State}
+use Rattle.cc_states.specs.CcSteps.Turn.{is_going, start, turn, enters}
 use Rattle.cc_rewrite_renamed.specs.Objects.{expr_renamed, object_renamed}
 use Rattle.cc_rewrite_renamed.specs.Renaming.{marks_renamed, AreRenamed}
 use Rattle.cc_rewrite_orders_follows.proofs.Controls.{list_there, layer_there, out_there}

@@ -2,7 +2,7 @@ ghost use Rattle.std.specs.Prelude.{ℕ, List};
 ghost use Rattle.cc_program.specs.declared.program.Program.{Program};
 ghost use Rattle.cc_rewrite_renamed.specs.Objects.{with_objects_ordered};
 ghost use Rattle.cc_rewrite_renamed.specs.Orders.{IsOrderOf};
-ghost use Rattle.cc_steps.specs.Runs.{Follows, Answers};
+ghost use Rattle.cc_states.specs.CcSteps.Runs.{Follows, Answers};
 
 /// That a program does what it did when its static objects stand in another order, without those that neither its functions nor the first
 /// values of the others name. The call does nothing.

@@ -10,8 +10,8 @@ use Rattle.cc_program.specs.declared.stmt.Stmt.{Stmt, roll-Stmt, map-Stmt, fold-
 use Rattle.cc_program.specs.declared.stmt.Stmt.TheOpen as is
 use Rattle.cc_program.proofs.Each.{Each}
 use Rattle.cc_program.proofs.StmtInduction.{StmtParts, CaseParts, by_stmt}
-use Rattle.cc_syntax.specs.Forms.{Form, ConstantForm, FunctionForm, LoadForm, AssignForm, CallForm, IntrinsicForm, OtherForm, form_of}
-use Rattle.cc_syntax.specs.Normal.{device_in, device_read, devices_accessed, devices_step, devices_of, devices_in}
+use Rattle.cc_eval.specs.CcSyntax.Forms.{Form, ConstantForm, FunctionForm, LoadForm, AssignForm, CallForm, IntrinsicForm, OtherForm, form_of}
+use Rattle.cc_eval.specs.CcSyntax.Normal.{device_in, device_read, devices_accessed, devices_step, devices_of, devices_in}
 use Rattle.cc_rewrite_renamed.specs.Objects.{place_with, expr_renamed, place_renamed, func_renamed}
 use Rattle.cc_rewrite_renamed.specs.Statements.{stmt_with, stmt_by, case_by, stmt_step as renamed_stmt_step}
 use Rattle.cc_rewrite_orders_sound.proofs.Forms.{form_with, form_same, place_out}

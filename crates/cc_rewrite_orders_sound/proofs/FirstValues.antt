@@ -12,12 +12,12 @@ use Rattle.cc_program.specs.declared.value.Address.TheVariants as address
 use Rattle.cc_program.specs.declared.value.Leaf.{Leaf}
 use Rattle.cc_program.specs.declared.value.Leaf.TheVariants as leaf
 use Rattle.cc_program.specs.declared.value.Root.TheVariants as root
-use Rattle.cc_syntax.specs.Expressions.{of_one}
-use Rattle.cc_syntax.specs.Initial.{place_at, names, is_zero, is_address, AreLeaves, AreElements, AreMembers, OfInteger, OfPointer, OfArray, OfStructure, NoElement, Element, NoMember, Member, IsInitial}
-use Rattle.cc_syntax.specs.Operators.{function_type}
-use Rattle.cc_syntax.specs.Types.{Named}
-use Rattle.cc_syntax.specs.Values.{ValueType, PlaceType, pointer_to, is_assignable_some, object_place}
-use Rattle.cc_syntax.specs.Views.{View, of_program}
+use Rattle.cc_eval.specs.CcSyntax.Expressions.{of_one}
+use Rattle.cc_eval.specs.CcSyntax.Initial.{place_at, names, is_zero, is_address, AreLeaves, AreElements, AreMembers, OfInteger, OfPointer, OfArray, OfStructure, NoElement, Element, NoMember, Member, IsInitial}
+use Rattle.cc_eval.specs.CcSyntax.Operators.{function_type}
+use Rattle.cc_eval.specs.CcSyntax.Types.{Named}
+use Rattle.cc_eval.specs.CcSyntax.Values.{ValueType, PlaceType, pointer_to, is_assignable_some, object_place}
+use Rattle.cc_eval.specs.CcSyntax.Views.{View, of_program}
 use Rattle.cc_rewrite_renamed.specs.Names.{names_in_address, names_in_leaf}
 use Rattle.cc_rewrite_renamed.specs.Objects.{address_renamed, leaf_renamed, func_renamed}
 use Rattle.cc_rewrite_renamed.specs.Orders.{is_in, NamesInObject, IsOrderOf}

@@ -3,7 +3,7 @@ use Rattle.std.proofs.Common.{◌≡◌, ◌∙◌, ℕ, None, Some, option_map,
 use Rattle.cc_program.specs.declared.expr.Expr.{Expr, roll-Expr, out-Expr, out-roll-Expr, map-Expr, fold_out-Expr}
 use Rattle.cc_program.specs.declared.expr.Expr.TheOpen as one
 use Rattle.cc_program.specs.declared.expr.Place.{Place, out-Place, out-roll-Place, map-Place, fold_out-Place}
-use Rattle.cc_syntax.specs.Forms.{Form, ConstantForm, FunctionForm, LoadForm, AssignForm, CallForm, IntrinsicForm, OtherForm, form_at, form_of}
+use Rattle.cc_eval.specs.CcSyntax.Forms.{Form, ConstantForm, FunctionForm, LoadForm, AssignForm, CallForm, IntrinsicForm, OtherForm, form_at, form_of}
 use Rattle.cc_rewrite_renamed.specs.Objects.{place_with, place_step, expr_renamed, place_renamed}
 
 module _ (r : ℕ → ℕ) where

@@ -13,14 +13,14 @@ use Rattle.cc_lower_numbers_sound.proofs.DeviceNames.{order-among, order-distinc
 use Rattle.cc_lower_numbers_sound.proofs.NameLists.{among-either, distinct-front, distinct-back, parts-apart, all-named}
 use Rattle.cc_lower_numbers_sound.proofs.Orders.{has, once, place-there}
 use Rattle.cc_names.specs.Names.{is_among}
-use Rattle.cc_num.specs.declared.int_type.IntType.TheVariants as int
+use Rattle.cc_program.specs.CcNum.declared.int_type.IntType.TheVariants as int
 use Rattle.cc_program.specs.declared.func.Func.{Func}
 use Rattle.cc_program.specs.declared.object.Device.{Device}
 use Rattle.cc_program.specs.declared.object.Object.{Object}
 use Rattle.cc_program.specs.declared.program.Program.{Program}
-use Rattle.cc_syntax.specs.Names.{are_names, device_names, intrinsic_names, file_names, local_names}
-use Rattle.cc_syntax.specs.Sound.{AreNamesApart}
-use Rattle.cc_words.specs.Names.{is_name, are_distinct}
+use Rattle.cc_eval.specs.CcSyntax.Names.{are_names, device_names, intrinsic_names, file_names, local_names}
+use Rattle.cc_eval.specs.CcSyntax.Sound.{AreNamesApart}
+use Rattle.cc_program.specs.CcWords.Names.{is_name, are_distinct}
 use Rattle.cc_rewrite_renamed.specs.Objects.{ordered_object, ordered_func}
 use Rattle.cc_rewrite_renamed.specs.Orders.{IsOrderOf}
 use Rattle.cc_rewrite_renamed.proofs.Sources.{ordered}

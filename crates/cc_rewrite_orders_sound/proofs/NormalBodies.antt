@@ -1,7 +1,7 @@
 -- Statements by other numbers of static objects are in normal form where they were.
 use Rattle.std.proofs.Common.{◌≡◌, ◌∙◌, ◌&&◌, ◌||◌, ◌∷◌, ℕ, Bool, not, List, [], map, Option, Some, None, option_map, is_some, refl, ap, sym, if◌then◌else◌}
 use Rattle.std.specs.List.{list_all}
-use Rattle.cc_num.specs.declared.target.Target.{Target}
+use Rattle.cc_program.specs.CcNum.declared.target.Target.{Target}
 use Rattle.cc_program.specs.declared.expr.Expr.{Expr, roll-Expr, fold-Expr, fold-roll-Expr}
 use Rattle.cc_program.specs.declared.expr.Expr.TheOpen as one
 use Rattle.cc_program.specs.declared.expr.Place.{Place, fold-Place, map-Place, fold-roll-Place}
@@ -14,10 +14,10 @@ use Rattle.cc_program.specs.declared.stmt.Stmt.TheOpen as is
 use Rattle.cc_program.proofs.Each.{Each}
 use Rattle.cc_program.proofs.FoldFusion.{fused, place_fused}
 use Rattle.cc_program.proofs.StmtInduction.{StmtParts, CaseParts, by_stmt}
-use Rattle.cc_syntax.specs.Effects.{Effects, PlaceEffects, no_one, effects_of}
-use Rattle.cc_syntax.specs.Folding.{Folding, folding_step, place_folding_step, folding_of, is_folded_place}
-use Rattle.cc_syntax.specs.Forms.{Form, ConstantForm, FunctionForm, LoadForm, AssignForm, CallForm, IntrinsicForm, OtherForm, form_of}
-use Rattle.cc_syntax.specs.Normal.{is_one, is_operand, is_optional_operand, is_register_place, is_other_place, is_callee, is_call, is_place_read, is_assignment, is_expression_statement, normal_step, is_normal_stmt, is_normal_body}
+use Rattle.cc_eval.specs.CcSyntax.Effects.{Effects, PlaceEffects, no_one, effects_of}
+use Rattle.cc_eval.specs.CcSyntax.Folding.{Folding, folding_step, place_folding_step, folding_of, is_folded_place}
+use Rattle.cc_eval.specs.CcSyntax.Forms.{Form, ConstantForm, FunctionForm, LoadForm, AssignForm, CallForm, IntrinsicForm, OtherForm, form_of}
+use Rattle.cc_eval.specs.CcSyntax.Normal.{is_one, is_operand, is_optional_operand, is_register_place, is_other_place, is_callee, is_call, is_place_read, is_assignment, is_expression_statement, normal_step, is_normal_stmt, is_normal_body}
 use Rattle.cc_rewrite_renamed.specs.Objects.{place_with, place_step as renamed_step, expr_renamed, place_renamed, func_renamed}
 use Rattle.cc_rewrite_renamed.specs.Renaming.{AreRenamed}
 use Rattle.cc_rewrite_renamed.specs.Statements.{stmt_with, stmt_by, case_by, stmt_step as renamed_stmt_step}

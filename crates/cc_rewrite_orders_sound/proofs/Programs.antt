@@ -14,12 +14,12 @@ use Rattle.cc_program.specs.declared.func.Func.{Func}
 use Rattle.cc_program.specs.declared.object.Object.{Object}
 use Rattle.cc_program.specs.declared.program.Program.{Program}
 use Rattle.cc_program.specs.declared.types.Sig.{out-Sig}
-use Rattle.cc_syntax.specs.Normal.{has_name, count_named, next_of, devices_in_order, is_normal_body}
-use Rattle.cc_syntax.specs.Lists.{come_first, is_count}
-use Rattle.cc_syntax.specs.Programs.{IsInitial, type_of}
-use Rattle.cc_syntax.specs.Sound.{any_names, have_ids, is_object, is_main_there, IsFuncBy, IsTypedProgram}
-use Rattle.cc_syntax.specs.Statements.{is_sound_body}
-use Rattle.cc_syntax.proofs.Parts.{all_at}
+use Rattle.cc_eval.specs.CcSyntax.Normal.{has_name, count_named, next_of, devices_in_order, is_normal_body}
+use Rattle.cc_eval.specs.CcSyntax.Lists.{come_first, is_count}
+use Rattle.cc_eval.specs.CcSyntax.Programs.{IsInitial, type_of}
+use Rattle.cc_eval.specs.CcSyntax.Sound.{any_names, have_ids, is_object, is_main_there, IsFuncBy, IsTypedProgram}
+use Rattle.cc_eval.specs.CcSyntax.Statements.{is_sound_body}
+use Rattle.cc_eval.proofs.CcSyntax.Parts.{all_at}
 use Rattle.cc_rewrite_renamed.specs.Objects.{expr_renamed, func_renamed, ordered_object, ordered_func}
 use Rattle.cc_rewrite_renamed.specs.Orders.{NamesInFunc, IsOrderOf}
 use Rattle.cc_rewrite_renamed.proofs.Kept.{func_back}

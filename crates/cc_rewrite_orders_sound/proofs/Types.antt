@@ -1,7 +1,7 @@
 -- Statements with other expressions that have the types of the old ones are sound where they were.
 use Rattle.std.proofs.Common.{◌≡◌, ◌∙◌, ◌&&◌, ◌∷◌, Bool, true, false, List, [], map, Option, Some, None, option_map, is_some, refl, ap, sym}
 use Rattle.std.specs.List.{list_all, flat_map}
-use Rattle.cc_num.specs.declared.target.Target.{Target}
+use Rattle.cc_program.specs.CcNum.declared.target.Target.{Target}
 use Rattle.cc_program.specs.declared.expr.Expr.{Expr}
 use Rattle.cc_program.specs.declared.stmt.Case.{Case, roll-Case, fold-Case, map-Case, fold-roll-Case}
 use Rattle.cc_program.specs.declared.stmt.Stmt.{Stmt, roll-Stmt, map-Stmt, fold-roll-Stmt}
@@ -9,8 +9,8 @@ use Rattle.cc_program.specs.declared.stmt.Stmt.TheOpen as is
 use Rattle.cc_program.specs.declared.types.CType.{CType}
 use Rattle.cc_program.proofs.Each.{Each}
 use Rattle.cc_program.proofs.StmtInduction.{StmtParts, CaseParts, by_stmt}
-use Rattle.cc_syntax.specs.Statements.{SoundWhere, Labelled, is_condition, has_label, labels_fit, are_apart, is_typed, is_optional_condition, returns, sound_case, sound_step, is_sound_stmt, is_sound_body}
-use Rattle.cc_syntax.specs.Values.{ValueType, is_assignable_some, scalar_value}
+use Rattle.cc_eval.specs.CcSyntax.Statements.{SoundWhere, Labelled, is_condition, has_label, labels_fit, are_apart, is_typed, is_optional_condition, returns, sound_case, sound_step, is_sound_stmt, is_sound_body}
+use Rattle.cc_eval.specs.CcSyntax.Values.{ValueType, is_assignable_some, scalar_value}
 use Rattle.cc_rewrite_renamed.specs.Statements.{stmt_with, stmt_by, case_by, stmt_step as renamed_stmt_step}
 
 module _ (target : Target) (result : CType) (new_type old_type : Expr → Option ValueType) (change : Expr → Expr) (same : (e : Expr) → new_type (change e) ≡ old_type e) where

@@ -1,9 +1,9 @@
 -- A program with the objects of an order is sound, and in normal form, where its source is.
 use Rattle.std.proofs.Common.{◌∙◌, ℕ, List}
 use Rattle.cc_program.specs.declared.program.Program.{Program}
-use Rattle.cc_syntax.proofs.NameRules.{sound-typed, sound-named, typed-sound}
-use Rattle.cc_syntax.specs.Normal.{IsNormal}
-use Rattle.cc_syntax.specs.Sound.{AreNamesApart, IsSound, IsTypedProgram}
+use Rattle.cc_eval.proofs.CcSyntax.NameRules.{sound-typed, sound-named, typed-sound}
+use Rattle.cc_eval.specs.CcSyntax.Normal.{IsNormal}
+use Rattle.cc_eval.specs.CcSyntax.Sound.{AreNamesApart, IsSound, IsTypedProgram}
 use Rattle.cc_rewrite_renamed.specs.Objects.{with_objects_ordered}
 use Rattle.cc_rewrite_renamed.specs.Orders.{IsOrderOf}
 use Rattle.cc_rewrite_orders_sound.proofs.Names.{ordered_apart}

@@ -2,8 +2,8 @@ ghost use Rattle.std.specs.Prelude.{ℕ, List};
 ghost use Rattle.cc_program.specs.declared.program.Program.{Program};
 ghost use Rattle.cc_rewrite_renamed.specs.Objects.{with_objects_ordered};
 ghost use Rattle.cc_rewrite_renamed.specs.Orders.{IsOrderOf};
-ghost use Rattle.cc_syntax.specs.Normal.{IsNormal};
-ghost use Rattle.cc_syntax.specs.Sound.{AreNamesApart, IsSound, IsTypedProgram};
+ghost use Rattle.cc_eval.specs.CcSyntax.Normal.{IsNormal};
+ghost use Rattle.cc_eval.specs.CcSyntax.Sound.{AreNamesApart, IsSound, IsTypedProgram};
 
 /// What is left of a program when its static objects stand in another order, without those that neither its functions nor the first values of the
 /// others name. The call does nothing.

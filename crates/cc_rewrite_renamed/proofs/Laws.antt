@@ -8,8 +8,8 @@ use Rattle.cc_program.specs.declared.expr.Place.{Place}
 use Rattle.cc_program.specs.declared.func.Func.{Func}
 use Rattle.cc_program.specs.declared.object.Object.{Object}
 use Rattle.cc_program.specs.declared.program.Program.{Program}
-use Rattle.cc_syntax.specs.Effects.{Registers, effects_of, place_effects_of}
-use Rattle.cc_syntax.specs.Programs.{type_of}
+use Rattle.cc_eval.specs.CcSyntax.Effects.{Registers, effects_of, place_effects_of}
+use Rattle.cc_eval.specs.CcSyntax.Programs.{type_of}
 use Rattle.cc_rewrite_renamed.specs.Objects.{expr_renamed, place_renamed, func_renamed, with_objects}
 use Rattle.cc_rewrite_renamed.specs.Renaming.{AreRenamed, AreAlike, in_program, marks_renamed, may_renamed, progress_renamed}
 use Rattle.cc_rewrite_renamed.proofs.Meanings.{IsMeaningSame, meaning_same, designation_same}

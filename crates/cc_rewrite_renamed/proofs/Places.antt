@@ -6,7 +6,7 @@ use Rattle.cc_program.specs.declared.func.Func.{Func}
 use Rattle.cc_program.specs.declared.object.Object.{Object}
 use Rattle.cc_program.specs.declared.program.Program.{Program}
 use Rattle.cc_program.specs.declared.value.Root.{Root}
-use Rattle.cc_syntax.specs.Values.{object_place}
+use Rattle.cc_eval.specs.CcSyntax.Values.{object_place}
 use Rattle.cc_rewrite_renamed.specs.Objects.{root_renamed, func_renamed, with_objects}
 use Rattle.cc_rewrite_renamed.specs.Renaming.{AreRenamed, AreAlike}
 use Rattle.cc_rewrite_renamed.proofs.Spots.{static_same as static_there, object_same as object_there}

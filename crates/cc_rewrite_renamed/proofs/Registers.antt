@@ -11,7 +11,7 @@ use Rattle.cc_program.specs.declared.stmt.Stmt.TheOpen as is
 use Rattle.cc_program.proofs.Each.{Each}
 use Rattle.cc_program.proofs.FoldFusion.{fused}
 use Rattle.cc_program.proofs.StmtInduction.{StmtParts, CaseParts, by_stmt}
-use Rattle.cc_syntax.specs.Registers.{PlaceUse, address_step, use_step, is_address_taken, place_use, is_taken_in_optional, stmt_step, is_taken_in, is_addressed, may_be_register, is_register}
+use Rattle.cc_eval.specs.CcSyntax.Registers.{PlaceUse, address_step, use_step, is_address_taken, place_use, is_taken_in_optional, stmt_step, is_taken_in, is_addressed, may_be_register, is_register}
 use Rattle.cc_rewrite_renamed.specs.Objects.{place_with, expr_renamed, place_renamed, place_step as renamed_step, func_renamed}
 use Rattle.cc_rewrite_renamed.specs.Statements.{stmt_with, stmt_by, case_by, stmt_step as renamed_stmt_step}
 

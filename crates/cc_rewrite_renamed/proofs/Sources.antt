@@ -9,7 +9,7 @@ use Rattle.cc_lower_numbers_sound.proofs.Orders.{place-there, found, AreThere, a
 use Rattle.cc_program.specs.declared.func.Func.{Func}
 use Rattle.cc_program.specs.declared.object.Object.{Object}
 use Rattle.cc_program.specs.declared.program.Program.{Program}
-use Rattle.cc_syntax.proofs.Parts.{all_at}
+use Rattle.cc_eval.proofs.CcSyntax.Parts.{all_at}
 use Rattle.cc_rewrite_renamed.specs.Orders.{is_in, NamesInFunc, NamesInObject, IsOrderOf}
 use Rattle.cc_rewrite_renamed.proofs.Kept.{all_back, object_back, func_back}
 use Rattle.cc_rewrite_renamed.specs.Objects.{object_renamed, func_renamed, with_objects, ordered_object, ordered_func}

@@ -15,11 +15,11 @@ use Rattle.cc_program.specs.declared.value.Part.TheVariants as part
 use Rattle.cc_program.specs.declared.value.Root.{Root}
 use Rattle.cc_program.specs.declared.value.Root.TheVariants as root
 use Rattle.cc_program.specs.declared.value.Value.TheVariants as value
-use Rattle.cc_syntax.specs.Expressions.{of_two}
-use Rattle.cc_syntax.specs.Initial.{place_at, bound_of}
-use Rattle.cc_syntax.specs.Types.{Named}
-use Rattle.cc_syntax.specs.Values.{PlaceType, object_place, element_of}
-use Rattle.cc_values.specs.Values.{element_at}
+use Rattle.cc_eval.specs.CcSyntax.Expressions.{of_two}
+use Rattle.cc_eval.specs.CcSyntax.Initial.{place_at, bound_of}
+use Rattle.cc_eval.specs.CcSyntax.Types.{Named}
+use Rattle.cc_eval.specs.CcSyntax.Values.{PlaceType, object_place, element_of}
+use Rattle.cc_eval.specs.CcValues.Values.{element_at}
 use Rattle.cc_rewrite_renamed.specs.Objects.{root_renamed, address_renamed}
 use Rattle.cc_rewrite_renamed.specs.Renaming.{cell_renamed, may_renamed, AreRenamed, IsAlike, AreAlike}
 use Rattle.cc_rewrite_renamed.proofs.Values.{element_at_kept, value_of_address}

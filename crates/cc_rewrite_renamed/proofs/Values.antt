@@ -2,13 +2,13 @@
 use Rattle.std.proofs.Common.{◌≡◌, ◌∙◌, ◌==◌, ◌&&◌, ◌⊎◌, inl, inr, ℕ, ℤ, Bool, true, false, not, List, [], ◌∷◌, map, Option, Some, None, option_map, option_and_then, refl, ap, sym, if◌then◌else◌}
 use Rattle.std.specs.Prelude.{◌≢◌, ◌-ℤ◌, nat_le, nat_lt, pos}
 use Rattle.std.proofs.lemmas.Bool.Decides.{eqb_tells}
-use Rattle.cc_num.specs.declared.int_type.IntType.{IntType}
-use Rattle.cc_num.specs.declared.op.BinOp.{BinOp}
-use Rattle.cc_num.specs.declared.op.BinOp.TheVariants as op
-use Rattle.cc_num.specs.declared.op.UnOp.{UnOp}
-use Rattle.cc_num.specs.declared.target.Target.{Target}
-use Rattle.cc_num.specs.Integers.{is_value_of, converted}
-use Rattle.cc_num.specs.Results.{one_if}
+use Rattle.cc_program.specs.CcNum.declared.int_type.IntType.{IntType}
+use Rattle.cc_program.specs.CcNum.declared.op.BinOp.{BinOp}
+use Rattle.cc_program.specs.CcNum.declared.op.BinOp.TheVariants as op
+use Rattle.cc_program.specs.CcNum.declared.op.UnOp.{UnOp}
+use Rattle.cc_program.specs.CcNum.declared.target.Target.{Target}
+use Rattle.cc_program.specs.CcNum.Integers.{is_value_of, converted}
+use Rattle.cc_program.specs.CcNum.Results.{one_if}
 use Rattle.cc_program.specs.declared.value.Address.{Address}
 use Rattle.cc_program.specs.declared.value.Address.TheVariants as address
 use Rattle.cc_program.specs.declared.value.Part.{Part}
@@ -16,9 +16,9 @@ use Rattle.cc_program.specs.declared.value.Root.{Root}
 use Rattle.cc_program.specs.declared.value.Root.TheVariants as root
 use Rattle.cc_program.specs.declared.value.Value.{Value}
 use Rattle.cc_program.specs.declared.value.Value.TheVariants.{Int, Place}
-use Rattle.cc_syntax.specs.Expressions.{of_two}
-use Rattle.cc_syntax.specs.Operators.{difference_type}
-use Rattle.cc_values.specs.Values.{integer, address_in, unary_result, binary_result, unary, binary, conversion, is_true, truth, of_truth, index_in, element_at, moved_address, movement, same_path, same_object, same_address, in_one_array, difference, gap, ordered, compared, comparison}
+use Rattle.cc_eval.specs.CcSyntax.Expressions.{of_two}
+use Rattle.cc_eval.specs.CcSyntax.Operators.{difference_type}
+use Rattle.cc_eval.specs.CcValues.Values.{integer, address_in, unary_result, binary_result, unary, binary, conversion, is_true, truth, of_truth, index_in, element_at, moved_address, movement, same_path, same_object, same_address, in_one_array, difference, gap, ordered, compared, comparison}
 use Rattle.cc_eval.specs.Eval.{all_good, in_front}
 use Rattle.cc_rewrite_renamed.specs.Objects.{root_renamed, address_renamed}
 use Rattle.cc_rewrite_renamed.specs.Renaming.{value_renamed}

@@ -8,8 +8,8 @@ ghost use Rattle.cc_program.specs.declared.program.Program.{Program};
 ghost use Rattle.cc_rewrite_renamed.specs.Names.{names_in_expr};
 ghost use Rattle.cc_rewrite_renamed.specs.Objects.{expr_renamed, func_renamed, with_objects};
 ghost use Rattle.cc_rewrite_renamed.specs.Renaming.{AreRenamed, in_program, marks_renamed, may_renamed, progress_renamed};
-ghost use Rattle.cc_syntax.specs.Effects.{Registers, effects_of};
-ghost use Rattle.cc_syntax.specs.Programs.{type_of};
+ghost use Rattle.cc_eval.specs.CcSyntax.Effects.{Registers, effects_of};
+ghost use Rattle.cc_eval.specs.CcSyntax.Programs.{type_of};
 
 /// What an expression does where static objects have other numbers. The call does nothing.
 pub fn renaming_laws()

@@ -1,7 +1,7 @@
 -- One step of the running activation inside an expression statement, and what its mark does.
 use Rattle.std.proofs.Common.{◌≡◌, ℕ, ◌+◌, Bool, true, false, List, [], ◌∷◌, ◌++◌, Option, Some, None, slice_get, refl, ap, ◌∙◌}
 use Rattle.std.proofs.lemmas.Bool.{eq-eqb}
-use Rattle.cc_num.specs.Results.{one_if}
+use Rattle.cc_program.specs.CcNum.Results.{one_if}
 use Rattle.cc_program.specs.declared.expr.Expr.{Expr}
 use Rattle.cc_program.specs.declared.func.Func.{Func}
 use Rattle.cc_program.specs.declared.program.Program.{Program}
@@ -10,19 +10,19 @@ use Rattle.cc_program.specs.declared.stmt.Stmt.TheOpen as is
 use Rattle.cc_program.specs.declared.value.Cell.TheVariants as cell
 use Rattle.cc_program.specs.declared.value.Part.TheVariants as part
 use Rattle.cc_program.specs.declared.value.Root.TheVariants as root
-use Rattle.cc_cells.specs.Scalars.{position as position_in}
+use Rattle.cc_steps.specs.CcCells.Scalars.{position as position_in}
 use Rattle.cc_program.specs.declared.value.Value.{Value}
 use Rattle.cc_program.specs.declared.value.Value.TheVariants.{Int}
-use Rattle.cc_cells.specs.Cells.{scalar_in, with_scalar}
-use Rattle.cc_control.specs.Control.{Level, Control, counted, close}
-use Rattle.cc_control.proofs.Begun.{begun_stands}
-use Rattle.cc_eval.specs.declared.action.Action.TheVariants.{Read, Write, Choose, Flag, Save}
-use Rattle.cc_eval.specs.declared.action.Manner.{Manner}
-use Rattle.cc_eval.specs.declared.mark.Mark.{Mark}
-use Rattle.cc_eval.specs.declared.mark.Mark.TheVariants.{Gave, Did, Chose}
-use Rattle.cc_eval.specs.Context.{Context, object_type}
-use Rattle.cc_eval.specs.Eval.{next_of}
-use Rattle.cc_eval.specs.Progress.{Progress, Waits, Traps}
+use Rattle.cc_steps.specs.CcCells.Cells.{scalar_in, with_scalar}
+use Rattle.cc_steps.specs.CcControl.Control.{Level, Control, counted, close}
+use Rattle.cc_steps.proofs.CcControl.Begun.{begun_stands}
+use Rattle.cc_steps.specs.CcEval.declared.action.Action.TheVariants.{Read, Write, Choose, Flag, Save}
+use Rattle.cc_steps.specs.CcEval.declared.action.Manner.{Manner}
+use Rattle.cc_steps.specs.CcEval.declared.mark.Mark.{Mark}
+use Rattle.cc_steps.specs.CcEval.declared.mark.Mark.TheVariants.{Gave, Did, Chose}
+use Rattle.cc_steps.specs.CcEval.Context.{Context, object_type}
+use Rattle.cc_steps.specs.CcEval.Eval.{next_of}
+use Rattle.cc_steps.specs.CcEval.Progress.{Progress, Waits, Traps}
 use Rattle.cc_steps.specs.State.{Active, State}
 use Rattle.cc_steps.specs.declared.event.End.TheVariants.{Trap}
 use Rattle.cc_steps.specs.Step.{stopped, is_known, did, begun_at, stepped}

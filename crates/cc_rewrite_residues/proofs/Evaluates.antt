@@ -1,9 +1,9 @@
 -- What expressions do next that read and write registers and static objects which are not volatile.
 use Rattle.std.proofs.Common.{◌≡◌, ℕ, zero, suc, ℤ, pos, Bool, false, List, [], ◌∷◌, Option, Some, None, slice_get, refl, ap, sym, ◌∙◌}
-use Rattle.cc_num.specs.declared.int_type.IntType.{IntType}
-use Rattle.cc_num.specs.declared.int_type.IntType.TheVariants as int
-use Rattle.cc_num.specs.declared.op.BinOp.{BinOp}
-use Rattle.cc_num.specs.declared.op.BinOp.TheVariants as op
+use Rattle.cc_program.specs.CcNum.declared.int_type.IntType.{IntType}
+use Rattle.cc_program.specs.CcNum.declared.int_type.IntType.TheVariants as int
+use Rattle.cc_program.specs.CcNum.declared.op.BinOp.{BinOp}
+use Rattle.cc_program.specs.CcNum.declared.op.BinOp.TheVariants as op
 use Rattle.cc_program.specs.declared.expr.Expr.{Expr, Const, Load, Bin, Conv, Assign, Intr}
 use Rattle.cc_program.specs.declared.expr.Expr.TheVariants.{rolls-Const, rolls-Load, rolls-Bin, rolls-Conv, rolls-Assign, rolls-Intr}
 use Rattle.cc_program.specs.declared.expr.Expr.TheOpen as one
@@ -17,19 +17,19 @@ use Rattle.cc_program.specs.declared.value.Root.TheVariants as root
 use Rattle.cc_program.specs.declared.value.Value.{Value}
 use Rattle.cc_program.specs.declared.value.Value.TheVariants.{Int}
 use Rattle.cc_program.specs.Qualifiers.{is_volatile}
-use Rattle.cc_syntax.specs.Effects.{Registers, no_one, also, is_soft}
-use Rattle.cc_syntax.specs.Types.{Named}
-use Rattle.cc_eval.specs.declared.action.Action.{Action}
-use Rattle.cc_eval.specs.declared.action.Action.TheVariants.{Read, Write, Flag, Save}
-use Rattle.cc_eval.specs.declared.mark.Mark.{Mark}
-use Rattle.cc_eval.specs.declared.mark.Mark.TheVariants.{Did}
-use Rattle.cc_eval.specs.declared.spots.Spot.{Spot}
-use Rattle.cc_eval.specs.declared.spots.Spot.TheVariants as spot
-use Rattle.cc_eval.specs.Context.{Context}
-use Rattle.cc_eval.specs.Eval.{Meaning, Designation, expr_meaning, place_meaning, meaning, designation, next_of, stored, assigned}
-use Rattle.cc_eval.specs.Progress.{Progress, Known, Waits, Traps, Get, ask, needs, and_then, known, given}
-use Rattle.cc_eval.proofs.Links.{level, place_level}
-use Rattle.cc_values.specs.Values.{binary, conversion, truth}
+use Rattle.cc_steps.specs.CcSyntax.Effects.{Registers, no_one, also, is_soft}
+use Rattle.cc_steps.specs.CcSyntax.Types.{Named}
+use Rattle.cc_steps.specs.CcEval.declared.action.Action.{Action}
+use Rattle.cc_steps.specs.CcEval.declared.action.Action.TheVariants.{Read, Write, Flag, Save}
+use Rattle.cc_steps.specs.CcEval.declared.mark.Mark.{Mark}
+use Rattle.cc_steps.specs.CcEval.declared.mark.Mark.TheVariants.{Did}
+use Rattle.cc_steps.specs.CcEval.declared.spots.Spot.{Spot}
+use Rattle.cc_steps.specs.CcEval.declared.spots.Spot.TheVariants as spot
+use Rattle.cc_steps.specs.CcEval.Context.{Context}
+use Rattle.cc_steps.specs.CcEval.Eval.{Meaning, Designation, expr_meaning, place_meaning, meaning, designation, next_of, stored, assigned}
+use Rattle.cc_steps.specs.CcEval.Progress.{Progress, Known, Waits, Traps, Get, ask, needs, and_then, known, given}
+use Rattle.cc_steps.proofs.CcEval.Links.{level, place_level}
+use Rattle.cc_steps.specs.CcValues.Values.{binary, conversion, truth}
 use Rattle.cc_rewrite_residues.proofs.DoSteps.{quiet}
 
 -- a local, and a static object, that are not volatile

@@ -2,7 +2,7 @@
 use Rattle.std.proofs.Common.{◌≡◌, ◌<◌, ◌≤◌, ℕ, zero, suc, Bool, List, Option, Some, None, refl, ap, sym, ◌∙◌, subst, arith, ◌⊎◌, inl, inr}
 use Rattle.cc_program.specs.declared.program.Program.{Program}
 use Rattle.cc_program.specs.declared.value.Value.{Value}
-use Rattle.cc_cells.specs.Cells.{scalar_in, with_scalar}
+use Rattle.cc_steps.specs.CcCells.Cells.{scalar_in, with_scalar}
 use Rattle.cc_steps.specs.Turn.{turn}
 use Rattle.cc_steps.specs.Step.{stopped}
 use Rattle.cc_steps.specs.declared.event.End.TheVariants.{Trap}

@@ -1,7 +1,7 @@
 -- The residue of a statement: what an activation has still to do of it. It is told by what the turns come to, whatever else the state has: other
 -- locals, which other activations may write through pointers, the static objects, the interrupt flag, and what stands below.
 use Rattle.std.specs.Prelude.{◌≡◌, ◌<◌, ◌≤◌, ℕ, zero, suc, pos, Bool, true, false, List, [], ◌∷◌, Option, Some, None, replicate}
-use Rattle.cc_cells.specs.Cells.{scalar_in, with_scalar}
+use Rattle.cc_steps.specs.CcCells.Cells.{scalar_in, with_scalar}
 use Rattle.cc_program.specs.declared.program.Program.{Program}
 use Rattle.cc_program.specs.declared.value.Value.{Value}
 use Rattle.cc_program.specs.declared.value.Value.TheVariants.{Int}

@@ -1,8 +1,8 @@
 -- Activations and states by their parts: what an activation is, where it stands, and what stays the same while it makes steps of its own.
 use Rattle.std.specs.Prelude.{ℕ, ℤ, Bool, List, [], ◌∷◌, Option}
-use Rattle.cc_control.specs.Control.{Level, Control, close, level}
-use Rattle.cc_control.specs.declared.phase.Phase.TheVariants.{First}
-use Rattle.cc_eval.specs.declared.mark.Mark.{Mark}
+use Rattle.cc_steps.specs.CcControl.Control.{Level, Control, close, level}
+use Rattle.cc_steps.specs.CcControl.declared.phase.Phase.TheVariants.{First}
+use Rattle.cc_steps.specs.CcEval.declared.mark.Mark.{Mark}
 use Rattle.cc_program.specs.declared.func.Func.{Func}
 use Rattle.cc_program.specs.declared.program.Program.{Program}
 use Rattle.cc_program.specs.declared.stmt.Stmt.{Stmt}

@@ -1,5 +1,5 @@
 ghost use Rattle.std.specs.Prelude.{◌≡◌, ◌<◌, ℕ, suc, Bool, List, Option, None};
-ghost use Rattle.cc_cells.specs.Cells.{with_scalar};
+ghost use Rattle.cc_steps.specs.CcCells.Cells.{with_scalar};
 ghost use Rattle.cc_program.specs.declared.program.Program.{Program};
 ghost use Rattle.cc_program.specs.declared.value.Value.{Value};
 ghost use Rattle.cc_rewrite_residues.specs.Residues.{Agree, AreMet, Does, Doomed, IsSilent, Need, Residue, Turns, alone, locals_after, statics_after};

@@ -3,7 +3,7 @@ use Rattle.std.proofs.Common.{◌≡◌, ◌<◌, ◌^◌, ℕ, zero, suc, pos, 
 use Rattle.cc_program.specs.declared.program.Program.{Program}
 use Rattle.cc_program.specs.declared.value.Value.{Value}
 use Rattle.cc_program.specs.declared.value.Value.TheVariants.{Int}
-use Rattle.cc_cells.specs.Cells.{scalar_in, with_scalar}
+use Rattle.cc_steps.specs.CcCells.Cells.{scalar_in, with_scalar}
 use Rattle.cc_steps.specs.State.{Active, State}
 use Rattle.cc_steps.specs.Rows.{rows_of}
 use Rattle.cc_steps.specs.Turn.{turn}

@@ -1,7 +1,7 @@
 -- What is to be shown of two programs that are compared, so that Q follows P, and answers it: the step of two activations that stand in front of the
 -- same statements, and how runs and handlers begin. All else that may be related is carried on by laws.
 use Rattle.std.specs.Prelude.{◌≡◌, ◌&&◌, ℕ, ℤ, Bool, true, false, List, [], Option, Some, None, slice_get}
-use Rattle.cc_cells.specs.Cells.{scalar_in}
+use Rattle.cc_steps.specs.CcCells.Cells.{scalar_in}
 use Rattle.cc_program.specs.declared.func.Func.{Func}
 use Rattle.cc_program.specs.declared.program.Program.{Program}
 use Rattle.cc_program.specs.declared.value.Value.{Value}

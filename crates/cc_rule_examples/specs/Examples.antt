@@ -1,14 +1,14 @@
 -- Targets, constants and lists of words that examples speak of.
 use Rattle.std.specs.Prelude.{ℕ, Bool, true, false, List, [], ◌∷◌, Option, Some, None, refl}
 use Rattle.std.specs.Option.{option_and_then}
-use Rattle.cc_lex.specs.declared.token.Suffix.{Suffix}
+use Rattle.cc_typed_terms.specs.CcLex.declared.token.Suffix.{Suffix}
 use Rattle.cc_num.specs.declared.int_type.IntType.TheVariants as int
 use Rattle.cc_num.specs.declared.target.Target.{Target}
 use Rattle.cc_program.specs.declared.types.CType.{CType}
 use Rattle.cc_program.specs.declared.types.Shape.{Shape, Int}
-use Rattle.cc_specifiers.specs.BasicTypes.{no_word, with_word, basic_type}
-use Rattle.cc_specifiers.specs.declared.basic.Basic.{Basic}
-use Rattle.cc_words.specs.declared.word.Word.{Word}
+use Rattle.cc_typed_terms.specs.CcSpecifiers.BasicTypes.{no_word, with_word, basic_type}
+use Rattle.cc_typed_terms.specs.CcSpecifiers.declared.basic.Basic.{Basic}
+use Rattle.cc_program.specs.CcWords.declared.word.Word.{Word}
 
 -- `int` and pointers of 2 bytes, and char with a sign; and `int` and pointers of 4
 abbrev pub narrow : Target

@@ -4,19 +4,19 @@ ghost use Rattle.std.specs.Prelude.{◌≡◌, pos, negsuc, true, false, [], ◌
 ghost use Rattle.cc_linkage.specs.Linkage.{agrees};
 ghost use Rattle.cc_linkage.specs.declared.linkage.DeclaredAs.TheVariants.{AsObject, AsExtern};
 ghost use Rattle.cc_num.specs.declared.int_type.IntType.TheVariants as int;
-ghost use Rattle.cc_operands.specs.declared.rule.Rule.TheVariants as rule;
+ghost use Rattle.cc_typed_terms.specs.CcOperands.declared.rule.Rule.TheVariants as rule;
 ghost use Rattle.cc_program.specs.declared.types.Shape.{Int};
 ghost use Rattle.cc_rule_examples.specs.Examples.{narrow, type_of_words};
-ghost use Rattle.cc_scopes.specs.Structures.{enumeration_constant};
-ghost use Rattle.cc_unit.specs.declared.unit.Linkage.TheVariants as linked;
-ghost use Rattle.cc_specifiers.specs.Attributes.{attribute_of, has_meaning};
-ghost use Rattle.cc_specifiers.specs.Bounds.{bound_in};
-ghost use Rattle.cc_specifiers.specs.Storage.{storage_fits};
-ghost use Rattle.cc_specifiers.specs.declared.attribute.Attribute.TheVariants as attribute;
-ghost use Rattle.cc_specifiers.specs.declared.attribute.Entity.TheVariants as entity;
-ghost use Rattle.cc_specifiers.specs.declared.storage.Where.TheVariants as stands;
+ghost use Rattle.cc_typed_terms.specs.CcScopes.Structures.{enumeration_constant};
+ghost use Rattle.cc_typed_terms.specs.CcUnit.declared.unit.Linkage.TheVariants as linked;
+ghost use Rattle.cc_typed_terms.specs.CcSpecifiers.Attributes.{attribute_of, has_meaning};
+ghost use Rattle.cc_typed_terms.specs.CcSpecifiers.Bounds.{bound_in};
+ghost use Rattle.cc_typed_terms.specs.CcSpecifiers.Storage.{storage_fits};
+ghost use Rattle.cc_typed_terms.specs.CcSpecifiers.declared.attribute.Attribute.TheVariants as attribute;
+ghost use Rattle.cc_typed_terms.specs.CcSpecifiers.declared.attribute.Entity.TheVariants as entity;
+ghost use Rattle.cc_typed_terms.specs.CcSpecifiers.declared.storage.Where.TheVariants as stands;
 ghost use Rattle.cc_syntax.specs.Folding.{Value};
-ghost use Rattle.cc_words.specs.declared.word.Word.TheVariants as word;
+ghost use Rattle.cc_program.specs.CcWords.declared.word.Word.TheVariants as word;
 
 /// The words of a type stand in any order, and not every list of them names one (C99 6.7.2, 2).
 pub fn basic_types()

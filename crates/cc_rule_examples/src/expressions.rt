@@ -1,11 +1,11 @@
 //! Constants, strings, devices and what is designated, for example.
 
 ghost use Rattle.std.specs.Prelude.{◌≡◌, pos, negsuc, true, false, [], ◌∷◌, Some, None, Ok, Err};
-ghost use Rattle.cc_designators.specs.Designators.{IsPlace, IsIntrinsic, IsAddress};
-ghost use Rattle.cc_lex.specs.declared.token.Mark.TheVariants as mark;
+ghost use Rattle.cc_typed_terms.specs.CcDesignators.Designators.{IsPlace, IsIntrinsic, IsAddress};
+ghost use Rattle.cc_typed_terms.specs.CcLex.declared.token.Mark.TheVariants as mark;
 ghost use Rattle.cc_num.specs.declared.int_type.IntType.TheVariants as int;
-ghost use Rattle.cc_operands.specs.Operands.{integer, number_type};
-ghost use Rattle.cc_operands.specs.declared.rule.Rule.TheVariants as rule;
+ghost use Rattle.cc_typed_terms.specs.CcOperands.Operands.{integer, number_type};
+ghost use Rattle.cc_typed_terms.specs.CcOperands.declared.rule.Rule.TheVariants as rule;
 ghost use Rattle.cc_typed_terms.specs.Devices.{device_of, declared_device, number_of, register_found};
 ghost use Rattle.cc_typed_terms.specs.Operators.{prefix_of};
 ghost use Rattle.cc_typed_terms.specs.Primary.{string_object};
@@ -18,8 +18,8 @@ ghost use Rattle.cc_program.specs.declared.types.CType.{CType};
 ghost use Rattle.cc_program.specs.declared.types.Shape.TheOpen as shape;
 ghost use Rattle.cc_program.specs.declared.value.Leaf.TheVariants as leaf;
 ghost use Rattle.cc_rule_examples.specs.Examples.{narrow, wide, suffix, register};
-ghost use Rattle.cc_scopes.specs.State.{State, at_first, with_declared};
-ghost use Rattle.cc_unit.specs.declared.unit.UnitKind.TheVariants as kind;
+ghost use Rattle.cc_typed_terms.specs.CcScopes.State.{State, at_first, with_declared};
+ghost use Rattle.cc_typed_terms.specs.CcUnit.declared.unit.UnitKind.TheVariants as kind;
 ghost use Rattle.cc_syntax.specs.Values.{DevicePlace};
 
 /// The types of integer constants (C99 6.4.4.1, 5).

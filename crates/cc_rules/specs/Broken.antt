@@ -4,11 +4,11 @@ use Rattle.std.specs.List.{Contains}
 use Rattle.cc_program.specs.declared.program.Program.{Program}
 use Rattle.cc_rules.specs.Constraints.{Constraint, constraints}
 use Rattle.cc_rules.specs.Rules.{IsAsked, IsMet, IsSolution}
-use Rattle.cc_rules_needs.specs.declared.needs.Part.{Part}
-use Rattle.cc_rules_needs.specs.declared.needs.Slot.{Slot}
-use Rattle.cc_rules_needs.specs.Needs.{Needs, get, IsBelowPart, HasAll}
-use Rattle.cc_state_facts.specs.declared.facts.Facts.{Facts}
-use Rattle.cc_state_operators.specs.Domains.{Domain}
+use Rattle.cc_rules_flows.specs.CcRulesNeeds.declared.needs.Part.{Part}
+use Rattle.cc_rules_flows.specs.CcRulesNeeds.declared.needs.Slot.{Slot}
+use Rattle.cc_rules_flows.specs.CcRulesNeeds.Needs.{Needs, get, IsBelowPart, HasAll}
+use Rattle.cc_rules_flows.specs.CcStateFacts.declared.facts.Facts.{Facts}
+use Rattle.cc_rules_flows.specs.CcStateOperators.Domains.{Domain}
 
 module _ {I : Type 0} (d : Domain I) (p : Program) (facts : Facts I) where
   pub record IsFirstBroken (c : Constraint) (slot : Slot) (need : Part I) : Type 0 where

@@ -1,9 +1,9 @@
 -- The constraints of a program in order: first what each key is asked to have, then, point by point, what the others ask.
 use Rattle.std.specs.Prelude.{ℕ, List, [], ◌∷◌, map}
 use Rattle.std.specs.List.{flat_map}
-use Rattle.cc_flow.specs.Points.{count_of}
+use Rattle.cc_rules_flows.specs.CcFlow.Points.{count_of}
 use Rattle.cc_program.specs.declared.program.Program.{Program}
-use Rattle.cc_rules_needs.specs.Flowing.{numbers}
+use Rattle.cc_rules_flows.specs.CcRulesNeeds.Flowing.{numbers}
 
 pub data Rule : Type 0 where
   Initial : Rule

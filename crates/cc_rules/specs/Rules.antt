@@ -1,11 +1,11 @@
 -- What each constraint asks of facts: that slots of them have at least some parts.
 use Rattle.std.specs.Prelude.{◌≡◌, ◌<◌, ◌^◌, ℕ, suc, ◌==◌, pos, Bool, true, false, not, ◌&&◌, List, [], ◌∷◌, ◌++◌, map, length, Option, Some, None, option_and_then, slice_get, if◌then◌else◌}
 use Rattle.std.specs.List.{AllPairs, Contains, filter, flat_map}
-use Rattle.cc_cells.specs.Cells.{scalar_in}
-use Rattle.cc_flow.specs.declared.types.Point.{Point}
-use Rattle.cc_flow_sound.specs.Moves.{entry}
-use Rattle.cc_places.specs.declared.abs.Abs.{Abs}
-use Rattle.cc_places.specs.Abstract.{AreOfOneKind, IsBelowAbs, HasValue}
+use Rattle.cc_rules_flows.specs.CcCells.Cells.{scalar_in}
+use Rattle.cc_rules_flows.specs.CcFlow.declared.types.Point.{Point}
+use Rattle.cc_rules_flows.specs.CcFlowSound.Moves.{entry}
+use Rattle.cc_rules_flows.specs.CcPlaces.declared.abs.Abs.{Abs}
+use Rattle.cc_rules_flows.specs.CcPlaces.Abstract.{AreOfOneKind, IsBelowAbs, HasValue}
 use Rattle.cc_program.specs.declared.expr.Expr.{Expr}
 use Rattle.cc_program.specs.declared.expr.Place.{Place}
 use Rattle.cc_program.specs.declared.func.Func.{Func}
@@ -21,27 +21,27 @@ use Rattle.cc_rules.specs.Constraints.{Rule, Initial, Start, Flow, Write, Touch,
 use Rattle.cc_rules_flows.specs.Acts.{Act, Sets, Reads, Writes, Calls, Saves, Turns, Restores, Tests, Chooses, Returns, Passes, act_of}
 use Rattle.cc_rules_flows.specs.Flows.{Flows, sets, ValueAt}
 use Rattle.cc_rules_flows.specs.Nexts.{IsPoint, statement_of, exit_of}
-use Rattle.cc_rules_needs.specs.Flowing.{Flowing, of_fact, with_local, without_pairs, IsJoined, each_pair, needs_at, numbers}
-use Rattle.cc_rules_needs.specs.declared.needs.Part.{Part}
-use Rattle.cc_rules_needs.specs.declared.needs.Part.TheVariants.{Mark, LevelSet, Values}
-use Rattle.cc_rules_needs.specs.declared.needs.Slot.{Slot}
-use Rattle.cc_rules_needs.specs.declared.needs.Slot.TheVariants.{Whole, HandlerReads, HandlerWrites, ReadLevels, WriteLevels, Result, ByMain, ByHandler, Levels, From, CellAt, Apart}
-use Rattle.cc_rules_needs.specs.Needs.{Needs, HasAll}
-use Rattle.cc_state_facts.specs.declared.facts.Facts.{Facts}
-use Rattle.cc_state_facts.specs.declared.facts.Key.{Key}
-use Rattle.cc_state_facts.specs.declared.facts.Key.TheVariants as key
-use Rattle.cc_state_facts.specs.declared.facts.PointFact.{PointFact}
-use Rattle.cc_state_facts.specs.Facts.{fact_at, cell_of, mark_of, levels_of}
-use Rattle.cc_state_facts.specs.Levels.{may_enter, one_may_enter, only_level}
-use Rattle.cc_state_keys.specs.Keys.{keys_of, cell_key, key_number}
-use Rattle.cc_state_keys.specs.Paths.{LeadsTo}
-use Rattle.cc_state_keys.specs.Tracked.{registers, register_number, tracked}
-use Rattle.cc_state_operators.specs.Domains.{Domain}
-use Rattle.cc_state_reads.specs.Reads.{AreNamed}
-use Rattle.cc_steps.specs.State.{first_values}
-use Rattle.cc_steps.specs.Step.{gives_nothing}
-use Rattle.cc_steps.specs.Turn.{level_of}
-use Rattle.cc_syntax.specs.Operators.{is_handler}
+use Rattle.cc_rules_flows.specs.CcRulesNeeds.Flowing.{Flowing, of_fact, with_local, without_pairs, IsJoined, each_pair, needs_at, numbers}
+use Rattle.cc_rules_flows.specs.CcRulesNeeds.declared.needs.Part.{Part}
+use Rattle.cc_rules_flows.specs.CcRulesNeeds.declared.needs.Part.TheVariants.{Mark, LevelSet, Values}
+use Rattle.cc_rules_flows.specs.CcRulesNeeds.declared.needs.Slot.{Slot}
+use Rattle.cc_rules_flows.specs.CcRulesNeeds.declared.needs.Slot.TheVariants.{Whole, HandlerReads, HandlerWrites, ReadLevels, WriteLevels, Result, ByMain, ByHandler, Levels, From, CellAt, Apart}
+use Rattle.cc_rules_flows.specs.CcRulesNeeds.Needs.{Needs, HasAll}
+use Rattle.cc_rules_flows.specs.CcStateFacts.declared.facts.Facts.{Facts}
+use Rattle.cc_rules_flows.specs.CcStateFacts.declared.facts.Key.{Key}
+use Rattle.cc_rules_flows.specs.CcStateFacts.declared.facts.Key.TheVariants as key
+use Rattle.cc_rules_flows.specs.CcStateFacts.declared.facts.PointFact.{PointFact}
+use Rattle.cc_rules_flows.specs.CcStateFacts.Facts.{fact_at, cell_of, mark_of, levels_of}
+use Rattle.cc_rules_flows.specs.CcStateFacts.Levels.{may_enter, one_may_enter, only_level}
+use Rattle.cc_rules_flows.specs.CcStateKeys.Keys.{keys_of, cell_key, key_number}
+use Rattle.cc_rules_flows.specs.CcStateKeys.Paths.{LeadsTo}
+use Rattle.cc_rules_flows.specs.CcStateKeys.Tracked.{registers, register_number, tracked}
+use Rattle.cc_rules_flows.specs.CcStateOperators.Domains.{Domain}
+use Rattle.cc_rules_flows.specs.CcStateReads.Reads.{AreNamed}
+use Rattle.cc_rules_flows.specs.CcSteps.State.{first_values}
+use Rattle.cc_rules_flows.specs.CcSteps.Step.{gives_nothing}
+use Rattle.cc_rules_flows.specs.CcSteps.Turn.{level_of}
+use Rattle.cc_rules_flows.specs.CcSyntax.Operators.{is_handler}
 
 -- the functions that are handlers, ascending
 abbrev pub handlers_from : ℕ → List Func → List ℕ

@@ -1,20 +1,20 @@
 -- Facts that are the same in each thing that a constraint reads are the same for it.
 use Rattle.std.proofs.Common.{ℕ, List, [], ◌∷◌, refl, sym, ap, ◌∙◌}
 use Rattle.std.specs.List.{AllZip, Contains}
-use Rattle.cc_flow.specs.declared.types.Point.{Point}
-use Rattle.cc_places.specs.Abstract.{AreOfOneKind}
-use Rattle.cc_places.specs.laws.ListLaws.{at_head, behind_head}
+use Rattle.cc_rules_grow.specs.CcFlow.declared.types.Point.{Point}
+use Rattle.cc_rules_grow.specs.CcPlaces.Abstract.{AreOfOneKind}
+use Rattle.cc_rules_grow.specs.CcPlaces.laws.ListLaws.{at_head, behind_head}
 use Rattle.cc_program.specs.declared.func.Func.{Func}
 use Rattle.cc_program.specs.declared.program.Program.{Program}
-use Rattle.cc_rules.specs.Constraints.{Rule, Initial, Start, Flow, Write, Touch, Call, Back, Return, Handler, Stability, Constraint, at_point}
-use Rattle.cc_rules.specs.Rules.{act_at}
+use Rattle.cc_rules_grow.specs.CcRules.Constraints.{Rule, Initial, Start, Flow, Write, Touch, Call, Back, Return, Handler, Stability, Constraint, at_point}
+use Rattle.cc_rules_grow.specs.CcRules.Rules.{act_at}
 use Rattle.cc_rules_again.specs.Things.{Thing, OfPoint, OfWhole, OfResult, OfReach, OfTouch, ReadsHere, OfRead, OfReached, OfGiven, OfExit, OfWriters, OfUnstable, ReadsThing, ItsPoint, Beside, IsSame, AreSameTouches}
-use Rattle.cc_rules_flows.specs.Acts.{Act}
-use Rattle.cc_rules_flows.specs.Nexts.{IsPoint, statement_of, exit_of}
+use Rattle.cc_rules_grow.specs.CcRulesFlows.Acts.{Act}
+use Rattle.cc_rules_grow.specs.CcRulesFlows.Nexts.{IsPoint, statement_of, exit_of}
 use Rattle.cc_rules_reads.specs.Reads.{AreSameMarks, AreSameHere, AreSameIn, AreSameFor}
-use Rattle.cc_state_facts.specs.declared.facts.Facts.{Facts}
-use Rattle.cc_state_facts.specs.Facts.{levels_of}
-use Rattle.cc_state_facts.specs.Levels.{one_may_enter}
+use Rattle.cc_rules_grow.specs.CcStateFacts.declared.facts.Facts.{Facts}
+use Rattle.cc_rules_grow.specs.CcStateFacts.Facts.{levels_of}
+use Rattle.cc_rules_grow.specs.CcStateFacts.Levels.{one_may_enter}
 
 -- the rules that read what is known at their point
 abbrev pub later : List Rule

@@ -2,43 +2,43 @@
 use Rattle.std.proofs.Common.{arith, ◌≡◌, inl, inr, ℕ, suc, ◌+◌, Bool, true, false, List, [], ◌∷◌, ◌++◌, map, length, Contains, Option, Some, None, slice_get, refl, sym, ap, subst, ◌∙◌}
 use Rattle.std.specs.Prelude.{if◌then◌else◌}
 use Rattle.std.specs.List.{flat_map, filter}
-use Rattle.cc_flow.specs.declared.types.Point.{Point}
-use Rattle.cc_flow_sound.specs.Moves.{entry}
-use Rattle.cc_places.specs.declared.abs.Abs.{Abs}
-use Rattle.cc_places.specs.laws.ListLaws.{cons_cases, at_head, behind_head, none_in}
+use Rattle.cc_rules_grow.specs.CcFlow.declared.types.Point.{Point}
+use Rattle.cc_rules_grow.specs.CcFlowSound.Moves.{entry}
+use Rattle.cc_rules_grow.specs.CcPlaces.declared.abs.Abs.{Abs}
+use Rattle.cc_rules_grow.specs.CcPlaces.laws.ListLaws.{cons_cases, at_head, behind_head, none_in}
 use Rattle.cc_program.specs.declared.expr.Place.{Place}
 use Rattle.cc_program.specs.declared.func.Func.{Func}
 use Rattle.cc_program.specs.declared.program.Program.{Program}
-use Rattle.cc_rules.specs.Constraints.{Rule, Initial, Start, Flow, Write, Touch, Call, Back, Return, Handler, Stability, Constraint, at_point}
-use Rattle.cc_rules.specs.Rules.{handlers, act_at, NeedsAt, AreFirstSets, IsStarted, AtStart, Elsewhere, ComesToEach, ComesTo, flows_to, Written, OfWrite, OfNone, AreNumbers, AreKeys, reads, writes, Touched, ByRead, ByWrite, ByNone, ForEach, at_entry, need_whole, other_parameters, Entered, of_exit, Returned, FromExit, NoExit, CallAsks, OfEntries, OfReturns, OfNoCall, Given, OfReturn, OfNoValue, at_handler, interrupted, entering, unstable_cell, is_unstable, unstable, HandlersAsk, AskedHere, AskedIn, IsAsked}
+use Rattle.cc_rules_grow.specs.CcRules.Constraints.{Rule, Initial, Start, Flow, Write, Touch, Call, Back, Return, Handler, Stability, Constraint, at_point}
+use Rattle.cc_rules_grow.specs.CcRules.Rules.{handlers, act_at, NeedsAt, AreFirstSets, IsStarted, AtStart, Elsewhere, ComesToEach, ComesTo, flows_to, Written, OfWrite, OfNone, AreNumbers, AreKeys, reads, writes, Touched, ByRead, ByWrite, ByNone, ForEach, at_entry, need_whole, other_parameters, Entered, of_exit, Returned, FromExit, NoExit, CallAsks, OfEntries, OfReturns, OfNoCall, Given, OfReturn, OfNoValue, at_handler, interrupted, entering, unstable_cell, is_unstable, unstable, HandlersAsk, AskedHere, AskedIn, IsAsked}
 use Rattle.cc_rules_again.proofs.Lists.{each_flat_in, each_more}
 use Rattle.cc_rules_again.specs.Things.{Thing, OfPoint, OfReach, OfTouch, thing_of, IsCalledBy, RaisesHere, ByFlow, ByTouchOfRead, ByTouchOfWrite, ByCall, ByEntry, ByArgument, ByBack, ByReturn, ByHandler, ByHandlerEntry, ByStability, Raises, AtFirst, AtMain, AtMainEntry, AtPoint}
 use Rattle.cc_rules_again.specs.Things.{ByWrite as RaisesWritten}
-use Rattle.cc_rules_flows.specs.Acts.{Act}
-use Rattle.cc_rules_flows.specs.Nexts.{statement_of}
+use Rattle.cc_rules_grow.specs.CcRulesFlows.Acts.{Act}
+use Rattle.cc_rules_grow.specs.CcRulesFlows.Nexts.{statement_of}
 use Rattle.cc_rules_grow.proofs.Elements.{Each, each_append, each_map}
-use Rattle.cc_rules_needs.specs.declared.needs.Part.{Part}
-use Rattle.cc_rules_needs.specs.declared.needs.Part.TheVariants.{Mark, LevelSet, Values}
-use Rattle.cc_rules_needs.specs.declared.needs.Slot.{Slot}
-use Rattle.cc_rules_needs.specs.declared.needs.Slot.TheVariants.{Whole, HandlerReads, HandlerWrites, ReadLevels, WriteLevels, Apart}
-use Rattle.cc_rules_needs.specs.Flowing.{Flowing, numbers, each_pair, need_apart, need_local, need_cell, needs_at}
-use Rattle.cc_rules_needs.specs.Needs.{Needs}
+use Rattle.cc_rules_grow.specs.CcRulesNeeds.declared.needs.Part.{Part}
+use Rattle.cc_rules_grow.specs.CcRulesNeeds.declared.needs.Part.TheVariants.{Mark, LevelSet, Values}
+use Rattle.cc_rules_grow.specs.CcRulesNeeds.declared.needs.Slot.{Slot}
+use Rattle.cc_rules_grow.specs.CcRulesNeeds.declared.needs.Slot.TheVariants.{Whole, HandlerReads, HandlerWrites, ReadLevels, WriteLevels, Apart}
+use Rattle.cc_rules_grow.specs.CcRulesNeeds.Flowing.{Flowing, numbers, each_pair, need_apart, need_local, need_cell, needs_at}
+use Rattle.cc_rules_grow.specs.CcRulesNeeds.Needs.{Needs}
 use Rattle.cc_rules_reads.proofs.Called.{may_call}
 use Rattle.cc_rules_reads.proofs.Formed.{named_formed}
 use Rattle.cc_rules_reads.specs.Reads.{MayName}
-use Rattle.cc_state.proofs.Lists.{from_filter}
-use Rattle.cc_state_facts.specs.declared.facts.Facts.{Facts}
-use Rattle.cc_state_facts.specs.declared.facts.Key.{Key}
-use Rattle.cc_state_facts.specs.declared.facts.Key.TheVariants as key
-use Rattle.cc_state_facts.specs.declared.facts.PointFact.{PointFact}
-use Rattle.cc_state_facts.specs.Facts.{fact_at, mark_of, levels_of}
-use Rattle.cc_state_facts.specs.Levels.{may_enter}
-use Rattle.cc_state_keys.specs.Keys.{keys_of, key_number}
-use Rattle.cc_state_keys.specs.Tracked.{registers, tracked}
-use Rattle.cc_state_operators.specs.Domains.{Domain}
-use Rattle.cc_state_reads.specs.Named.{is_among}
-use Rattle.cc_state_reads.specs.Reads.{registers_at}
-use Rattle.cc_steps.specs.Turn.{level_of}
+use Rattle.cc_rules_grow.proofs.CcState.Lists.{from_filter}
+use Rattle.cc_rules_grow.specs.CcStateFacts.declared.facts.Facts.{Facts}
+use Rattle.cc_rules_grow.specs.CcStateFacts.declared.facts.Key.{Key}
+use Rattle.cc_rules_grow.specs.CcStateFacts.declared.facts.Key.TheVariants as key
+use Rattle.cc_rules_grow.specs.CcStateFacts.declared.facts.PointFact.{PointFact}
+use Rattle.cc_rules_grow.specs.CcStateFacts.Facts.{fact_at, mark_of, levels_of}
+use Rattle.cc_rules_grow.specs.CcStateFacts.Levels.{may_enter}
+use Rattle.cc_rules_grow.specs.CcStateKeys.Keys.{keys_of, key_number}
+use Rattle.cc_rules_grow.specs.CcStateKeys.Tracked.{registers, tracked}
+use Rattle.cc_rules_grow.specs.CcStateOperators.Domains.{Domain}
+use Rattle.cc_rules_grow.specs.CcStateReads.Named.{is_among}
+use Rattle.cc_rules_grow.specs.CcStateReads.Reads.{registers_at}
+use Rattle.cc_rules_grow.specs.CcSteps.Turn.{level_of}
 
 -- ---- what is asked at a point, and each time of some functions
 

@@ -2,22 +2,22 @@
 use Rattle.std.proofs.Common.{arith, ◌≡◌, ℕ, ◌+◌, ◌*◌, ◌<◌, Bool, true, false, List, [], ◌∷◌, ◌++◌, map, length, Option, Some, None, slice_get, refl}
 use Rattle.std.specs.Prelude.{◌==◌, nat_lt, if◌then◌else◌}
 use Rattle.std.specs.List.{filter, flat_map}
-use Rattle.cc_flow.specs.declared.types.Point.{Point}
-use Rattle.cc_flow.specs.Points.{flow_of}
-use Rattle.cc_flow_sound.specs.Moves.{entry}
+use Rattle.cc_rules_grow.specs.CcFlow.declared.types.Point.{Point}
+use Rattle.cc_rules_grow.specs.CcFlow.Points.{flow_of}
+use Rattle.cc_rules_grow.specs.CcFlowSound.Moves.{entry}
 use Rattle.cc_program.specs.declared.func.Func.{Func}
 use Rattle.cc_program.specs.declared.program.Program.{Program}
-use Rattle.cc_rules.specs.Constraints.{Rule, Initial, Start, Flow, Write, Touch, Call, Back, Return, Handler, Stability, Constraint}
-use Rattle.cc_rules.specs.Rules.{act_at, handlers}
+use Rattle.cc_rules_grow.specs.CcRules.Constraints.{Rule, Initial, Start, Flow, Write, Touch, Call, Back, Return, Handler, Stability, Constraint}
+use Rattle.cc_rules_grow.specs.CcRules.Rules.{act_at, handlers}
 use Rattle.cc_rules_again.proofs.Lists.{number_below, each_flat_in}
 use Rattle.cc_rules_again.specs.Again.{place_of, number_at, may_call, is_call, returns, written, accessed, read, ids, does, at_each, result_readers, exit_is, own, point_readers, reach_readers, through_pointers, has_tracked, entry_readers, is_unstable, whole_readers, call_readers, again_here, again_in, again_at, again_of}
 use Rattle.cc_rules_again.specs.Named.{Named, LocalsOf, EachKey, is_named, is_each}
-use Rattle.cc_rules_flows.specs.Acts.{Act}
-use Rattle.cc_rules_flows.specs.Nexts.{statement_of}
+use Rattle.cc_rules_grow.specs.CcRulesFlows.Acts.{Act}
+use Rattle.cc_rules_grow.specs.CcRulesFlows.Nexts.{statement_of}
 use Rattle.cc_rules_grow.proofs.Elements.{Each, each_append, each_map}
-use Rattle.cc_rules_needs.specs.Flowing.{numbers}
-use Rattle.cc_state.proofs.Lists.{from_filter}
-use Rattle.cc_state_facts.specs.declared.facts.Facts.{Facts}
+use Rattle.cc_rules_grow.specs.CcRulesNeeds.Flowing.{numbers}
+use Rattle.cc_rules_grow.proofs.CcState.Lists.{from_filter}
+use Rattle.cc_rules_grow.specs.CcStateFacts.declared.facts.Facts.{Facts}
 
 place_below : (rule : Rule) → place_of rule < 9
 place_below Initial = omega arith

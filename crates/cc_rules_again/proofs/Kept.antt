@@ -3,29 +3,29 @@ use Rattle.std.proofs.Common.{◌≡◌, ◌⊎◌, inl, inr, ℕ, Bool, false, 
 use Rattle.std.specs.Prelude.{option_and_then, unwrap_or}
 use Rattle.std.proofs.lemmas.List.Elements.{length_all_zip}
 use Rattle.std.proofs.lemmas.Option.{same_Some, none-some}
-use Rattle.cc_flow.specs.declared.types.Point.{Point}
-use Rattle.cc_flow.specs.Points.{flow_of}
-use Rattle.cc_places.specs.declared.abs.Abs.{Abs}
-use Rattle.cc_places.specs.Abstract.{AreOfOneKind, IsBelowAbs}
+use Rattle.cc_rules_grow.specs.CcFlow.declared.types.Point.{Point}
+use Rattle.cc_rules_grow.specs.CcFlow.Points.{flow_of}
+use Rattle.cc_rules_grow.specs.CcPlaces.declared.abs.Abs.{Abs}
+use Rattle.cc_rules_grow.specs.CcPlaces.Abstract.{AreOfOneKind, IsBelowAbs}
 use Rattle.cc_program.specs.declared.func.Func.{Func}
 use Rattle.cc_program.specs.declared.program.Program.{Program}
 use Rattle.cc_rules_again.proofs.Picked.{picked, length_picked, picked_there, picked_other, is_picked, picked_above, picked_below}
 use Rattle.cc_rules_again.specs.Things.{Thing, OfPoint, OfWhole, OfResult, OfReach, OfTouch, thing_of, IsSame}
-use Rattle.cc_rules_needs.specs.declared.needs.Part.{Part}
-use Rattle.cc_rules_needs.specs.declared.needs.Part.TheVariants.{Mark, LevelSet, Values}
-use Rattle.cc_rules_needs.specs.declared.needs.Slot.{Slot}
-use Rattle.cc_rules_needs.specs.declared.needs.Slot.TheVariants as slot
-use Rattle.cc_rules_needs.specs.Needs.{get, flags_in, apart_in}
-use Rattle.cc_state.specs.Shape.{AreSets, IsKeyType, IsResultType, IsPointFact, HaveShape}
-use Rattle.cc_state_facts.specs.declared.facts.Facts.{Facts}
-use Rattle.cc_state_facts.specs.declared.facts.PointFact.{PointFact}
-use Rattle.cc_state_facts.specs.Facts.{cell_of, local_of, mark_of, levels_of}
-use Rattle.cc_state_facts.specs.Levels.{AreLevelsWithin}
-use Rattle.cc_state_facts.specs.Orders.{IsMarkBelow, AreKnownAlike, AreAlike, IsKnownBelow, IsBelow}
-use Rattle.cc_state_facts.specs.laws.OrderLaws.{kind_itself, point_itself, known_below_itself}
-use Rattle.cc_state_keys.specs.Keys.{keys_of}
-use Rattle.cc_state_operators.specs.Domains.{Domain}
-use Rattle.cc_syntax.specs.Values.{ValueType}
+use Rattle.cc_rules_grow.specs.CcRulesNeeds.declared.needs.Part.{Part}
+use Rattle.cc_rules_grow.specs.CcRulesNeeds.declared.needs.Part.TheVariants.{Mark, LevelSet, Values}
+use Rattle.cc_rules_grow.specs.CcRulesNeeds.declared.needs.Slot.{Slot}
+use Rattle.cc_rules_grow.specs.CcRulesNeeds.declared.needs.Slot.TheVariants as slot
+use Rattle.cc_rules_grow.specs.CcRulesNeeds.Needs.{get, flags_in, apart_in}
+use Rattle.cc_rules_grow.specs.CcState.Shape.{AreSets, IsKeyType, IsResultType, IsPointFact, HaveShape}
+use Rattle.cc_rules_grow.specs.CcStateFacts.declared.facts.Facts.{Facts}
+use Rattle.cc_rules_grow.specs.CcStateFacts.declared.facts.PointFact.{PointFact}
+use Rattle.cc_rules_grow.specs.CcStateFacts.Facts.{cell_of, local_of, mark_of, levels_of}
+use Rattle.cc_rules_grow.specs.CcStateFacts.Levels.{AreLevelsWithin}
+use Rattle.cc_rules_grow.specs.CcStateFacts.Orders.{IsMarkBelow, AreKnownAlike, AreAlike, IsKnownBelow, IsBelow}
+use Rattle.cc_rules_grow.specs.CcStateFacts.laws.OrderLaws.{kind_itself, point_itself, known_below_itself}
+use Rattle.cc_rules_grow.specs.CcStateKeys.Keys.{keys_of}
+use Rattle.cc_rules_grow.specs.CcStateOperators.Domains.{Domain}
+use Rattle.cc_rules_grow.specs.CcSyntax.Values.{ValueType}
 
 -- where a thing stands in each list
 abbrev pub point_place : Thing → Option ℕ

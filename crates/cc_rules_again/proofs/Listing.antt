@@ -5,36 +5,36 @@ use Rattle.std.specs.List.{filter, flat_map}
 use Rattle.std.proofs.lemmas.List.Elements.{Contains-append_left, Contains-append_right}
 use Rattle.std.proofs.lemmas.Map.Keys.{any_passes_from_place}
 use Rattle.std.proofs.lemmas.Option.{slice_get_within}
-use Rattle.cc_flow.proofs.Paths.{all_counted}
-use Rattle.cc_flow.specs.declared.types.Point.{Point}
-use Rattle.cc_flow.specs.Points.{count_of, flow_of}
-use Rattle.cc_flow_sound.specs.Moves.{entry}
-use Rattle.cc_places.specs.laws.ListLaws.{and_true, cons_cases}
+use Rattle.cc_rules_grow.proofs.CcFlow.Paths.{all_counted}
+use Rattle.cc_rules_grow.specs.CcFlow.declared.types.Point.{Point}
+use Rattle.cc_rules_grow.specs.CcFlow.Points.{count_of, flow_of}
+use Rattle.cc_rules_grow.specs.CcFlowSound.Moves.{entry}
+use Rattle.cc_rules_grow.specs.CcPlaces.laws.ListLaws.{and_true, cons_cases}
 use Rattle.cc_program.specs.declared.expr.Expr.{Expr, out-Expr}
 use Rattle.cc_program.specs.declared.expr.Expr.TheOpen as one
 use Rattle.cc_program.specs.declared.expr.Place.{Place, out-Place}
 use Rattle.cc_program.specs.declared.func.Func.{Func}
 use Rattle.cc_program.specs.declared.program.Program.{Program}
-use Rattle.cc_rules.specs.Constraints.{Rule, Initial, Start, Flow, Write, Touch, Call, Back, Return, Handler, Stability, Constraint, at_point, rules_at, constraints}
-use Rattle.cc_rules.specs.Rules.{act_at, handlers}
+use Rattle.cc_rules_grow.specs.CcRules.Constraints.{Rule, Initial, Start, Flow, Write, Touch, Call, Back, Return, Handler, Stability, Constraint, at_point, rules_at, constraints}
+use Rattle.cc_rules_grow.specs.CcRules.Rules.{act_at, handlers}
 use Rattle.cc_rules_again.proofs.Alike.{later}
 use Rattle.cc_rules_again.proofs.Lists.{is_equal, is_less, number_below, number_there, flat_there}
 use Rattle.cc_rules_again.proofs.Naming.{one_key, may_concern, meet}
 use Rattle.cc_rules_again.specs.Again.{number_at, number_of, is_callee, may_call, is_call, returns, written, accessed, read, ids, does_in, does, at_each, result_readers, exit_is, own, point_readers, reach_readers, through_pointers, touch_readers, entry_readers, is_entered, is_unstable, whole_readers, call_readers, again_here, again_in, again_at, again_of}
 use Rattle.cc_rules_again.specs.Named.{Named, NoKey, LocalsOf, EachKey, concerns, is_named, is_each, named}
 use Rattle.cc_rules_again.specs.Things.{Thing, OfPoint, OfWhole, OfResult, OfReach, OfTouch, IsCalledBy, RaisesHere, ByFlow, ByWrite, ByTouchOfRead, ByTouchOfWrite, ByCall, ByEntry, ByArgument, ByBack, ByReturn, ByHandler, ByHandlerEntry, ByStability, ReadsHere, OfRead, OfReached, OfGiven, OfExit, OfWriters, OfUnstable, Raises, AtFirst, AtMain, AtMainEntry, AtPoint, ReadsThing, ItsPoint, Beside}
-use Rattle.cc_rules_flows.specs.Acts.{Act, Reads, Writes}
-use Rattle.cc_rules_flows.specs.Nexts.{IsPoint, statement_of, exit_of}
+use Rattle.cc_rules_grow.specs.CcRulesFlows.Acts.{Act, Reads, Writes}
+use Rattle.cc_rules_grow.specs.CcRulesFlows.Nexts.{IsPoint, statement_of, exit_of}
 use Rattle.cc_rules_grow.proofs.Elements.{Each, each_at, in_map, in_filter, map_contained}
-use Rattle.cc_rules_needs.specs.Flowing.{numbers}
+use Rattle.cc_rules_grow.specs.CcRulesNeeds.Flowing.{numbers}
 use Rattle.cc_rules_reads.specs.Reads.{MayName, MayCall}
-use Rattle.cc_state.proofs.Lists.{from_flat}
-use Rattle.cc_state_facts.specs.declared.facts.Facts.{Facts}
-use Rattle.cc_state_facts.specs.declared.facts.Key.{Key}
-use Rattle.cc_state_facts.specs.declared.facts.Key.TheVariants as key
-use Rattle.cc_state_keys.specs.Keys.{key_number}
-use Rattle.cc_state_keys.specs.Tracked.{tracked}
-use Rattle.cc_state_reads.specs.Reads.{tracked_in}
+use Rattle.cc_rules_grow.proofs.CcState.Lists.{from_flat}
+use Rattle.cc_rules_grow.specs.CcStateFacts.declared.facts.Facts.{Facts}
+use Rattle.cc_rules_grow.specs.CcStateFacts.declared.facts.Key.{Key}
+use Rattle.cc_rules_grow.specs.CcStateFacts.declared.facts.Key.TheVariants as key
+use Rattle.cc_rules_grow.specs.CcStateKeys.Keys.{key_number}
+use Rattle.cc_rules_grow.specs.CcStateKeys.Tracked.{tracked}
+use Rattle.cc_rules_grow.specs.CcStateReads.Reads.{tracked_in}
 
 -- ---- rules of points
 

@@ -9,10 +9,10 @@ use Rattle.cc_program.specs.declared.func.Func.{Func}
 use Rattle.cc_program.specs.declared.program.Program.{Program}
 use Rattle.cc_rules_again.specs.Named.{Named, NoKey, OneKey, MembersAt, LocalsOf, EachKey, is_member, is_local, concerns, has_member, has_local, is_named, is_each, no_expression, named_step, named}
 use Rattle.cc_rules_reads.specs.Reads.{MayName, ByLocal, ByStatic, ByElement, ByMember, ByTarget}
-use Rattle.cc_state.proofs.Lists.{same_key, is_itself, position_at}
-use Rattle.cc_state_facts.specs.declared.facts.Key.{Key}
-use Rattle.cc_state_facts.specs.declared.facts.Key.TheVariants as key
-use Rattle.cc_state_keys.specs.Keys.{keys_of, is_key, key_number}
+use Rattle.cc_rules_grow.proofs.CcState.Lists.{same_key, is_itself, position_at}
+use Rattle.cc_rules_grow.specs.CcStateFacts.declared.facts.Key.{Key}
+use Rattle.cc_rules_grow.specs.CcStateFacts.declared.facts.Key.TheVariants as key
+use Rattle.cc_rules_grow.specs.CcStateKeys.Keys.{keys_of, is_key, key_number}
 
 -- a number is that of one key
 pub one_key : (p : Program) (k l : Key) (number : ℕ) → key_number p k ≡ Some number → key_number p l ≡ Some number → k ≡ l

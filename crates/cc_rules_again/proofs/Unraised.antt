@@ -1,21 +1,21 @@
 -- Things that a constraint does not raise stay.
 use Rattle.std.proofs.Common.{◌≡◌, inl, inr, [], ◌∷◌, sym, subst}
-use Rattle.cc_lattice.specs.Systems.{IsRaised}
-use Rattle.cc_places.specs.declared.abs.Abs.{Abs}
-use Rattle.cc_places.specs.Abstract.{IsBelowAbs}
+use Rattle.cc_rules_grow.specs.CcLattice.Systems.{IsRaised}
+use Rattle.cc_rules_grow.specs.CcPlaces.declared.abs.Abs.{Abs}
+use Rattle.cc_rules_grow.specs.CcPlaces.Abstract.{IsBelowAbs}
 use Rattle.cc_program.specs.declared.program.Program.{Program}
-use Rattle.cc_rules.specs.Constraints.{Constraint}
-use Rattle.cc_rules.specs.Rules.{Asks}
+use Rattle.cc_rules_grow.specs.CcRules.Constraints.{Constraint}
+use Rattle.cc_rules_grow.specs.CcRules.Rules.{Asks}
 use Rattle.cc_rules_again.proofs.Asking.{asked_raised}
 use Rattle.cc_rules_again.proofs.Kept.{kept, kept_above, kept_below, kept_alike, kept_same, kept_shape, either_slot}
 use Rattle.cc_rules_again.specs.Things.{Thing, thing_of, Raises, IsSame}
 use Rattle.cc_rules_grow.proofs.Elements.{Each, each_all, all_each}
-use Rattle.cc_rules_needs.specs.declared.needs.Part.{Part}
-use Rattle.cc_rules_needs.specs.Needs.{Needs, IsBelowPart, Has}
-use Rattle.cc_state.specs.Shape.{HaveShape}
-use Rattle.cc_state_facts.specs.declared.facts.Facts.{Facts}
-use Rattle.cc_state_facts.specs.Orders.{AreAlike, IsBelow}
-use Rattle.cc_state_operators.specs.Domains.{Domain}
+use Rattle.cc_rules_grow.specs.CcRulesNeeds.declared.needs.Part.{Part}
+use Rattle.cc_rules_grow.specs.CcRulesNeeds.Needs.{Needs, IsBelowPart, Has}
+use Rattle.cc_rules_grow.specs.CcState.Shape.{HaveShape}
+use Rattle.cc_rules_grow.specs.CcStateFacts.declared.facts.Facts.{Facts}
+use Rattle.cc_rules_grow.specs.CcStateFacts.Orders.{AreAlike, IsBelow}
+use Rattle.cc_rules_grow.specs.CcStateOperators.Domains.{Domain}
 
 module _ {I : Type 0} (d : Domain I) (p : Program) (c : Constraint) (t : Thing) (f g : Facts I) (alike : AreAlike f g) where
   -- needs that are of other things are had where the greater facts have them

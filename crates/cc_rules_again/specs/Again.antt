@@ -2,27 +2,27 @@
 -- are told by their numbers.
 use Rattle.std.specs.Prelude.{ℕ, ◌+◌, ◌*◌, ◌==◌, nat_lt, Bool, true, false, ◌&&◌, List, [], ◌∷◌, ◌++◌, map, length, Option, Some, None, is_none, slice_get, if◌then◌else◌}
 use Rattle.std.specs.List.{filter, flat_map, list_any}
-use Rattle.cc_flow.specs.declared.types.Point.{Point}
-use Rattle.cc_flow.specs.Points.{flow_of}
-use Rattle.cc_flow_sound.specs.Moves.{entry}
+use Rattle.cc_rules_grow.specs.CcFlow.declared.types.Point.{Point}
+use Rattle.cc_rules_grow.specs.CcFlow.Points.{flow_of}
+use Rattle.cc_rules_grow.specs.CcFlowSound.Moves.{entry}
 use Rattle.cc_program.specs.declared.expr.Expr.{Expr, out-Expr}
 use Rattle.cc_program.specs.declared.expr.Expr.TheOpen as one
 use Rattle.cc_program.specs.declared.expr.Place.{Place, out-Place}
 use Rattle.cc_program.specs.declared.func.Func.{Func}
 use Rattle.cc_program.specs.declared.program.Program.{Program}
-use Rattle.cc_rules.specs.Constraints.{Rule, Initial, Start, Flow, Write, Touch, Call, Back, Return, Handler, Stability, Constraint}
-use Rattle.cc_rules.specs.Rules.{act_at, handlers}
+use Rattle.cc_rules_grow.specs.CcRules.Constraints.{Rule, Initial, Start, Flow, Write, Touch, Call, Back, Return, Handler, Stability, Constraint}
+use Rattle.cc_rules_grow.specs.CcRules.Rules.{act_at, handlers}
 use Rattle.cc_rules_again.specs.Named.{Named, NoKey, LocalsOf, EachKey, concerns, is_named, is_each, named}
-use Rattle.cc_rules_flows.specs.Acts.{Act, Reads, Writes, Calls, Returns}
-use Rattle.cc_rules_flows.specs.Nexts.{statement_of, exit_of}
-use Rattle.cc_rules_needs.specs.Flowing.{numbers}
-use Rattle.cc_state_facts.specs.declared.facts.Facts.{Facts}
-use Rattle.cc_state_facts.specs.declared.facts.Key.TheVariants as key
-use Rattle.cc_state_facts.specs.Facts.{levels_of}
-use Rattle.cc_state_facts.specs.Levels.{one_may_enter}
-use Rattle.cc_state_keys.specs.Keys.{key_number}
-use Rattle.cc_state_keys.specs.Tracked.{tracked}
-use Rattle.cc_state_reads.specs.Reads.{tracked_in}
+use Rattle.cc_rules_grow.specs.CcRulesFlows.Acts.{Act, Reads, Writes, Calls, Returns}
+use Rattle.cc_rules_grow.specs.CcRulesFlows.Nexts.{statement_of, exit_of}
+use Rattle.cc_rules_grow.specs.CcRulesNeeds.Flowing.{numbers}
+use Rattle.cc_rules_grow.specs.CcStateFacts.declared.facts.Facts.{Facts}
+use Rattle.cc_rules_grow.specs.CcStateFacts.declared.facts.Key.TheVariants as key
+use Rattle.cc_rules_grow.specs.CcStateFacts.Facts.{levels_of}
+use Rattle.cc_rules_grow.specs.CcStateFacts.Levels.{one_may_enter}
+use Rattle.cc_rules_grow.specs.CcStateKeys.Keys.{key_number}
+use Rattle.cc_rules_grow.specs.CcStateKeys.Tracked.{tracked}
+use Rattle.cc_rules_grow.specs.CcStateReads.Reads.{tracked_in}
 
 -- ---- the number of a constraint in the list of all
 

@@ -2,9 +2,9 @@
 use Rattle.std.specs.Prelude.{ℕ, ◌==◌, Bool, true, false}
 use Rattle.cc_program.specs.declared.expr.Expr.TheOpen as one
 use Rattle.cc_program.specs.declared.expr.Place.{Place, fold-Place}
-use Rattle.cc_state_facts.specs.declared.facts.Key.{Key}
-use Rattle.cc_state_facts.specs.declared.facts.Key.TheVariants as key
-use Rattle.cc_state_keys.specs.Keys.{is_key}
+use Rattle.cc_rules_grow.specs.CcStateFacts.declared.facts.Key.{Key}
+use Rattle.cc_rules_grow.specs.CcStateFacts.declared.facts.Key.TheVariants as key
+use Rattle.cc_rules_grow.specs.CcStateKeys.Keys.{is_key}
 
 pub data Named : Type 0 where
   NoKey : Named

@@ -1,27 +1,27 @@
 -- What constraints read of facts and what they raise, each as a whole: a constraint is asked again where it reads what another one raises.
 use Rattle.std.specs.Prelude.{◌≡◌, ◌<◌, ℕ, true, List, [], ◌∷◌, length, Option, Some, None, slice_get}
 use Rattle.std.specs.List.{Contains}
-use Rattle.cc_flow.specs.declared.types.Point.{Point}
-use Rattle.cc_flow_sound.specs.Moves.{entry}
+use Rattle.cc_rules_grow.specs.CcFlow.declared.types.Point.{Point}
+use Rattle.cc_rules_grow.specs.CcFlowSound.Moves.{entry}
 use Rattle.cc_program.specs.declared.expr.Expr.{Expr}
 use Rattle.cc_program.specs.declared.expr.Place.{Place, out-Place}
 use Rattle.cc_program.specs.declared.func.Func.{Func}
 use Rattle.cc_program.specs.declared.program.Program.{Program}
-use Rattle.cc_rules.specs.Constraints.{Rule, Initial, Start, Flow, Write, Touch, Call, Back, Return, Handler, Stability, Constraint}
-use Rattle.cc_rules.specs.Rules.{act_at, handlers}
-use Rattle.cc_rules_flows.specs.Acts.{Act, Reads, Writes, Calls, Returns}
-use Rattle.cc_rules_flows.specs.Nexts.{IsPoint, statement_of, exit_of}
-use Rattle.cc_rules_needs.specs.declared.needs.Slot.{Slot}
-use Rattle.cc_rules_needs.specs.declared.needs.Slot.TheVariants as slot
+use Rattle.cc_rules_grow.specs.CcRules.Constraints.{Rule, Initial, Start, Flow, Write, Touch, Call, Back, Return, Handler, Stability, Constraint}
+use Rattle.cc_rules_grow.specs.CcRules.Rules.{act_at, handlers}
+use Rattle.cc_rules_grow.specs.CcRulesFlows.Acts.{Act, Reads, Writes, Calls, Returns}
+use Rattle.cc_rules_grow.specs.CcRulesFlows.Nexts.{IsPoint, statement_of, exit_of}
+use Rattle.cc_rules_grow.specs.CcRulesNeeds.declared.needs.Slot.{Slot}
+use Rattle.cc_rules_grow.specs.CcRulesNeeds.declared.needs.Slot.TheVariants as slot
 use Rattle.cc_rules_reads.specs.Reads.{MayName, MayCall, AreSameAt, AreSameWhole, AreSameMarks}
-use Rattle.cc_state_facts.specs.declared.facts.Facts.{Facts}
-use Rattle.cc_state_facts.specs.declared.facts.Key.{Key}
-use Rattle.cc_state_facts.specs.declared.facts.Key.TheVariants as key
-use Rattle.cc_state_facts.specs.Facts.{mark_of, levels_of}
-use Rattle.cc_state_facts.specs.Levels.{one_may_enter}
-use Rattle.cc_state_keys.specs.Keys.{keys_of, key_number}
-use Rattle.cc_state_keys.specs.Tracked.{tracked}
-use Rattle.cc_state_reads.specs.Reads.{tracked_in}
+use Rattle.cc_rules_grow.specs.CcStateFacts.declared.facts.Facts.{Facts}
+use Rattle.cc_rules_grow.specs.CcStateFacts.declared.facts.Key.{Key}
+use Rattle.cc_rules_grow.specs.CcStateFacts.declared.facts.Key.TheVariants as key
+use Rattle.cc_rules_grow.specs.CcStateFacts.Facts.{mark_of, levels_of}
+use Rattle.cc_rules_grow.specs.CcStateFacts.Levels.{one_may_enter}
+use Rattle.cc_rules_grow.specs.CcStateKeys.Keys.{keys_of, key_number}
+use Rattle.cc_rules_grow.specs.CcStateKeys.Tracked.{tracked}
+use Rattle.cc_rules_grow.specs.CcStateReads.Reads.{tracked_in}
 
 pub data Thing : Type 0 where
   -- what is known at a point; the whole-run set of a key; what a function gives

@@ -1,21 +1,21 @@
-ghost use Rattle.cc_flow.specs.Points.{count_of};
-ghost use Rattle.cc_lattice.specs.Systems.{IsRaised};
+ghost use Rattle.cc_rules_grow.specs.CcFlow.Points.{count_of};
+ghost use Rattle.cc_rules_grow.specs.CcLattice.Systems.{IsRaised};
 ghost use Rattle.cc_program.specs.declared.program.Program.{Program};
-ghost use Rattle.cc_rules.specs.Constraints.{Constraint, constraints};
-ghost use Rattle.cc_rules.specs.Rules.{IsAsked, Asks};
+ghost use Rattle.cc_rules_grow.specs.CcRules.Constraints.{Constraint, constraints};
+ghost use Rattle.cc_rules_grow.specs.CcRules.Rules.{IsAsked, Asks};
 ghost use Rattle.cc_rules_again.specs.Again.{number_of, again_of};
 ghost use Rattle.cc_rules_again.specs.Things.{Thing, thing_of, Raises, ReadsThing, IsSame};
-ghost use Rattle.cc_rules_needs.specs.Needs.{Needs};
+ghost use Rattle.cc_rules_grow.specs.CcRulesNeeds.Needs.{Needs};
 ghost use Rattle.cc_rules_reads.specs.Reads.{AreSameFor};
-ghost use Rattle.cc_places.specs.Abstract.{AreOfOneKind};
-ghost use Rattle.cc_state.specs.Shape.{HaveShape};
-ghost use Rattle.cc_state_facts.specs.declared.facts.Facts.{Facts};
-ghost use Rattle.cc_state_facts.specs.Orders.{AreAlike, IsBelow};
-ghost use Rattle.cc_state_operators.specs.Domains.{domain};
+ghost use Rattle.cc_rules_grow.specs.CcPlaces.Abstract.{AreOfOneKind};
+ghost use Rattle.cc_rules_grow.specs.CcState.Shape.{HaveShape};
+ghost use Rattle.cc_rules_grow.specs.CcStateFacts.declared.facts.Facts.{Facts};
+ghost use Rattle.cc_rules_grow.specs.CcStateFacts.Orders.{AreAlike, IsBelow};
+ghost use Rattle.cc_rules_grow.specs.CcStateOperators.Domains.{domain};
 ghost use Rattle.std.specs.Prelude.{◌⊎◌, ◌+◌, ◌*◌, ◌<◌, ℕ, All};
 ghost use Rattle.std.specs.List.{AllZip, Contains};
 
-use cc_lattice::IntDomain;
+use cc_rules_grow::lattice::IntDomain;
 
 /// Which constraints are asked again. The call does nothing.
 pub fn laws<I: IntDomain>()

@@ -2,7 +2,7 @@
 use Rattle.std.proofs.Common.{◌≡◌, ◌≤◌, ◌<◌, ◌+◌, ◌==◌, ℕ, Bool, true, false, cond, List, [], ◌∷◌, ◌++◌, map, length, take, get_or, append-nil, append_assoc, All, Option, Some, None, slice_get, refl, ap, sym, subst, ◌∙◌}
 use Rattle.std.specs.List.{AllZip, filter, flat_map}
 use Rattle.std.proofs.lemmas.List.Elements.{All-nil, All-cons, filter_more}
-use Rattle.cc_flow_sound.specs.Moves.{entry}
+use Rattle.cc_rules.specs.CcFlowSound.Moves.{entry}
 use Rattle.cc_program.specs.declared.func.Func.{Func}
 use Rattle.cc_rules.specs.Constraints.{Handler as HandlerRule}
 use Rattle.cc_rules.specs.Rules.{handlers, ForEach, interrupted, HandlersAsk}
@@ -13,16 +13,16 @@ use Rattle.cc_rules_asked.specs.Asked.{all_needs}
 use Rattle.cc_rules_asked.specs.Asks.{AsksHere}
 use Rattle.cc_rules_asked.specs.Handlers.{IsHandlerOf, AreHandlersOf, fact_entered, running_here, levels_entered, asked_of, asked_of_all, enters_here}
 use Rattle.cc_rules_asked.proofs.Listed.{parts_behind}
-use Rattle.cc_rules_flows.specs.declared.after.Here.{Here}
-use Rattle.cc_rules_flows.specs.Acts.{Act}
-use Rattle.cc_rules_needs.specs.Flowing.{needs_at, of_fact}
-use Rattle.cc_rules_needs.specs.declared.needs.Part.TheVariants.{Mark, LevelSet}
-use Rattle.cc_rules_needs.specs.declared.needs.Slot.TheVariants.{ByHandler, Levels, From}
-use Rattle.cc_rules_needs.specs.Needs.{Needs}
-use Rattle.cc_state_facts.specs.Levels.{may_enter, only_level}
-use Rattle.cc_state_keys.specs.Tracked.{registers, tracked}
-use Rattle.cc_state_operators.specs.Domains.{Domain}
-use Rattle.cc_steps.specs.Turn.{level_of}
+use Rattle.cc_rules.specs.CcRulesFlows.declared.after.Here.{Here}
+use Rattle.cc_rules.specs.CcRulesFlows.Acts.{Act}
+use Rattle.cc_rules.specs.CcRulesNeeds.Flowing.{needs_at, of_fact}
+use Rattle.cc_rules.specs.CcRulesNeeds.declared.needs.Part.TheVariants.{Mark, LevelSet}
+use Rattle.cc_rules.specs.CcRulesNeeds.declared.needs.Slot.TheVariants.{ByHandler, Levels, From}
+use Rattle.cc_rules.specs.CcRulesNeeds.Needs.{Needs}
+use Rattle.cc_rules.specs.CcStateFacts.Levels.{may_enter, only_level}
+use Rattle.cc_rules.specs.CcStateKeys.Tracked.{registers, tracked}
+use Rattle.cc_rules.specs.CcStateOperators.Domains.{Domain}
+use Rattle.cc_rules.specs.CcSteps.Turn.{level_of}
 
 pub low_levels : {I : Type 0} (here : Here I) (list : List Handler) (ids : List ℕ) → AllZip (IsHandlerOf here.context.program.now) list ids → All (λ h. h.level ≤ 7) list
 low_levels here [] ids z = All-nil (λ (h : Handler). h.level ≤ 7)

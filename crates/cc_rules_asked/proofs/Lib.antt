@@ -5,3 +5,12 @@ pub mod StabilityLemmas
 pub mod TouchLemmas
 pub mod ValuesHere
 pub mod WriteLemmas
+pub mod CcFlow
+pub mod CcFlowSound
+pub mod CcLattice
+pub mod CcRulesFlows
+pub mod CcRulesNeeds
+pub mod CcStateKeys
+pub mod CcStates
+pub mod CcSteps
+pub mod CcSyntax

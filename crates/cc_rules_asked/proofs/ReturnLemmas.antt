@@ -1,19 +1,19 @@
 -- What returns ask.
 use Rattle.std.proofs.Common.{◌≡◌, [], ◌∷◌, Some, None, refl, ap, subst}
-use Rattle.cc_places.specs.declared.abs.Abs.{Abs}
+use Rattle.cc_rules.specs.CcPlaces.declared.abs.Abs.{Abs}
 use Rattle.cc_program.specs.declared.expr.Expr.{Expr}
 use Rattle.cc_rules.specs.Constraints.{Return}
 use Rattle.cc_rules.specs.Rules.{OfReturn, OfNoValue}
 use Rattle.cc_rules_asked.specs.declared.asked.Asked.TheVariants as asked
 use Rattle.cc_rules_asked.specs.Asks.{AsksHere, returned}
 use Rattle.cc_rules_asked.proofs.ValuesHere.{value_here}
-use Rattle.cc_rules_flows.specs.declared.after.Here.{Here}
-use Rattle.cc_rules_flows.specs.Acts.{Act, Sets, Reads, Writes, Calls, Saves, Turns, Restores, Tests, Chooses, Returns, Passes}
-use Rattle.cc_rules_flows.specs.Here.{IsHere}
-use Rattle.cc_rules_needs.specs.declared.needs.Part.TheVariants.{Values}
-use Rattle.cc_rules_needs.specs.declared.needs.Slot.TheVariants.{Result}
-use Rattle.cc_state_operators.specs.Domains.{Domain}
-use Rattle.cc_state_values.specs.Contexts.{IsValIn, IsPureIn}
+use Rattle.cc_rules.specs.CcRulesFlows.declared.after.Here.{Here}
+use Rattle.cc_rules.specs.CcRulesFlows.Acts.{Act, Sets, Reads, Writes, Calls, Saves, Turns, Restores, Tests, Chooses, Returns, Passes}
+use Rattle.cc_rules.specs.CcRulesFlows.Here.{IsHere}
+use Rattle.cc_rules.specs.CcRulesNeeds.declared.needs.Part.TheVariants.{Values}
+use Rattle.cc_rules.specs.CcRulesNeeds.declared.needs.Slot.TheVariants.{Result}
+use Rattle.cc_rules.specs.CcStateOperators.Domains.{Domain}
+use Rattle.cc_rules.specs.CcStateValues.Contexts.{IsValIn, IsPureIn}
 use Rattle.cc_rules_asked.specs.Asks.{ArePureHere}
 
 module _ {I : Type 0} (d : Domain I) (here : Here I) where

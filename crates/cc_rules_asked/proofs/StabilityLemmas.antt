@@ -4,7 +4,7 @@ use Rattle.std.specs.List.{filter, flat_map}
 use Rattle.std.proofs.lemmas.List.{length-map}
 use Rattle.std.proofs.lemmas.List.Elements.{filter-append, filter_agree}
 use Rattle.std.proofs.lemmas.Option.{slice_get-map}
-use Rattle.cc_places.specs.declared.abs.Abs.{Abs}
+use Rattle.cc_rules.specs.CcPlaces.declared.abs.Abs.{Abs}
 use Rattle.cc_program.specs.declared.program.Program.{Program}
 use Rattle.cc_rules.specs.Constraints.{Stability}
 use Rattle.cc_rules_asked.specs.declared.asked.Asked.{Asked}
@@ -14,20 +14,20 @@ use Rattle.cc_rules.specs.Rules.{whole_number, is_unstable, is_written}
 use Rattle.cc_rules_asked.specs.Asks.{AsksHere}
 use Rattle.cc_rules_asked.specs.Unstable.{AreCellKeysOf, key_at, is_unstable_by, unstable_by, parts_of_cells, parts_apart, parts_unstable, unstable_in}
 use Rattle.cc_rules_asked.proofs.Listed.{parts, parts_behind}
-use Rattle.cc_rules_flows.specs.declared.after.Here.{Here}
-use Rattle.cc_rules_flows.specs.Acts.{Act}
-use Rattle.cc_rules_flows.specs.Here.{IsHere}
-use Rattle.cc_rules_needs.specs.Flowing.{numbers, each_pair}
-use Rattle.cc_rules_needs.specs.declared.needs.Part.{Part}
-use Rattle.cc_rules_needs.specs.declared.needs.Part.TheVariants.{Mark, Values}
-use Rattle.cc_rules_needs.specs.declared.needs.Slot.{Slot}
-use Rattle.cc_rules_needs.specs.declared.needs.Slot.TheVariants.{CellAt, Apart}
-use Rattle.cc_rules_needs.specs.Needs.{Needs}
-use Rattle.cc_state_facts.specs.declared.facts.Key.TheVariants as key
-use Rattle.cc_state_facts.specs.Facts.{levels_of}
-use Rattle.cc_state_keys.specs.Keys.{key_number}
-use Rattle.cc_state_keys.specs.Tracked.{registers, tracked}
-use Rattle.cc_state_operators.specs.Domains.{Domain}
+use Rattle.cc_rules.specs.CcRulesFlows.declared.after.Here.{Here}
+use Rattle.cc_rules.specs.CcRulesFlows.Acts.{Act}
+use Rattle.cc_rules.specs.CcRulesFlows.Here.{IsHere}
+use Rattle.cc_rules.specs.CcRulesNeeds.Flowing.{numbers, each_pair}
+use Rattle.cc_rules.specs.CcRulesNeeds.declared.needs.Part.{Part}
+use Rattle.cc_rules.specs.CcRulesNeeds.declared.needs.Part.TheVariants.{Mark, Values}
+use Rattle.cc_rules.specs.CcRulesNeeds.declared.needs.Slot.{Slot}
+use Rattle.cc_rules.specs.CcRulesNeeds.declared.needs.Slot.TheVariants.{CellAt, Apart}
+use Rattle.cc_rules.specs.CcRulesNeeds.Needs.{Needs}
+use Rattle.cc_rules.specs.CcStateFacts.declared.facts.Key.TheVariants as key
+use Rattle.cc_rules.specs.CcStateFacts.Facts.{levels_of}
+use Rattle.cc_rules.specs.CcStateKeys.Keys.{key_number}
+use Rattle.cc_rules.specs.CcStateKeys.Tracked.{registers, tracked}
+use Rattle.cc_rules.specs.CcStateOperators.Domains.{Domain}
 
 -- ---- numbers from one on
 

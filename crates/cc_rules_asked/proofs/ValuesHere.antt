@@ -1,23 +1,23 @@
 -- What is worked at a point by the sets of its registers, and the keys that its places name, as the rules speak of them.
 use Rattle.std.proofs.Common.{◌≡◌, ℕ, Bool, true, false, List, [], ◌∷◌, map, All, Contains, Option, Some, None, is_some, option_and_then, ◌==◌, position, slice_get, refl, ap, sym, subst, ◌∙◌}
 use Rattle.std.specs.List.{filter}
-use Rattle.cc_places.specs.declared.abs.Abs.{Abs}
+use Rattle.cc_rules.specs.CcPlaces.declared.abs.Abs.{Abs}
 use Rattle.cc_program.specs.declared.expr.Expr.{Expr}
 use Rattle.cc_program.specs.declared.expr.Place.{Place}
 use Rattle.cc_program.specs.declared.program.Program.{Program}
 use Rattle.cc_rules.specs.Rules.{IsValue, AreNumbers}
 use Rattle.cc_rules_asked.specs.Asks.{AreKeysHere, AreNumbered}
-use Rattle.cc_rules_flows.specs.declared.after.Here.{Here}
-use Rattle.cc_rules_flows.specs.Here.{IsHere}
-use Rattle.cc_state_facts.specs.declared.facts.Key.{Key}
-use Rattle.cc_state_facts.specs.Facts.{local_of}
-use Rattle.cc_state_keys.specs.Keys.{keys_of, key_number}
-use Rattle.cc_state_keys.specs.Tracked.{register_number}
-use Rattle.cc_state_operators.specs.Domains.{Domain}
-use Rattle.cc_state_reads.specs.Reads.{AreNamed, registers_at}
-use Rattle.cc_state_values.specs.Contexts.{IsValIn, set_in}
-use Rattle.cc_state_reads.specs.Contexts.{AreNamedIn}
-use Rattle.cc_state_values.specs.Values.{IsVal}
+use Rattle.cc_rules.specs.CcRulesFlows.declared.after.Here.{Here}
+use Rattle.cc_rules.specs.CcRulesFlows.Here.{IsHere}
+use Rattle.cc_rules.specs.CcStateFacts.declared.facts.Key.{Key}
+use Rattle.cc_rules.specs.CcStateFacts.Facts.{local_of}
+use Rattle.cc_rules.specs.CcStateKeys.Keys.{keys_of, key_number}
+use Rattle.cc_rules.specs.CcStateKeys.Tracked.{register_number}
+use Rattle.cc_rules.specs.CcStateOperators.Domains.{Domain}
+use Rattle.cc_rules.specs.CcStateReads.Reads.{AreNamed, registers_at}
+use Rattle.cc_rules.specs.CcStateValues.Contexts.{IsValIn, set_in}
+use Rattle.cc_rules.specs.CcStateReads.Contexts.{AreNamedIn}
+use Rattle.cc_rules.specs.CcStateValues.Values.{IsVal}
 
 module _ {I : Type 0} (d : Domain I) (here : Here I) where
   -- the registers of the function at the point

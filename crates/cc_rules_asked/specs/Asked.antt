@@ -4,9 +4,9 @@ use Rattle.std.specs.List.{flat_map}
 use Rattle.cc_program.specs.declared.program.Program.{Program}
 use Rattle.cc_rules_asked.specs.declared.asked.Asked.{Asked}
 use Rattle.cc_rules_asked.specs.declared.asked.Asked.TheVariants as asked
-use Rattle.cc_rules_needs.specs.Flowing.{of_fact, needs_at}
-use Rattle.cc_rules_needs.specs.Needs.{Needs}
-use Rattle.cc_state_keys.specs.Tracked.{tracked}
+use Rattle.cc_rules.specs.CcRulesNeeds.Flowing.{of_fact, needs_at}
+use Rattle.cc_rules.specs.CcRulesNeeds.Needs.{Needs}
+use Rattle.cc_rules.specs.CcStateKeys.Tracked.{tracked}
 
 module _ {I : Type 0} (p : Program) where
   -- of a point all that it needs of what flows there

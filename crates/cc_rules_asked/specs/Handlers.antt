@@ -1,21 +1,21 @@
 -- Handlers, as the code has them, and what is asked where one may enter.
 use Rattle.std.specs.Prelude.{◌≡◌, ◌≤◌, ◌==◌, if◌then◌else◌, ℕ, Bool, true, false, List, [], ◌∷◌, length, Some, slice_get}
 use Rattle.std.specs.List.{AllZip, filter, flat_map}
-use Rattle.cc_flow_sound.specs.Moves.{entry}
+use Rattle.cc_rules.specs.CcFlowSound.Moves.{entry}
 use Rattle.cc_program.specs.declared.func.Func.{Func}
 use Rattle.cc_program.specs.declared.program.Program.{Program}
 use Rattle.cc_rules.specs.Rules.{handlers}
 use Rattle.cc_rules_asked.specs.declared.asked.Asked.{Asked}
 use Rattle.cc_rules_asked.specs.declared.asked.Asked.TheVariants as asked
 use Rattle.cc_rules_asked.specs.declared.handlers.Handler.{Handler}
-use Rattle.cc_rules_flows.specs.declared.after.Here.{Here}
-use Rattle.cc_rules_needs.specs.declared.needs.Part.TheVariants.{Mark, LevelSet}
-use Rattle.cc_rules_needs.specs.declared.needs.Slot.TheVariants.{ByHandler, Levels, From}
-use Rattle.cc_state_facts.specs.declared.facts.PointFact.{PointFact}
-use Rattle.cc_state_facts.specs.Facts.{levels_of}
-use Rattle.cc_state_facts.specs.Levels.{may_enter, only_level}
-use Rattle.cc_state_keys.specs.Tracked.{registers}
-use Rattle.cc_steps.specs.Turn.{level_of}
+use Rattle.cc_rules.specs.CcRulesFlows.declared.after.Here.{Here}
+use Rattle.cc_rules.specs.CcRulesNeeds.declared.needs.Part.TheVariants.{Mark, LevelSet}
+use Rattle.cc_rules.specs.CcRulesNeeds.declared.needs.Slot.TheVariants.{ByHandler, Levels, From}
+use Rattle.cc_rules.specs.CcStateFacts.declared.facts.PointFact.{PointFact}
+use Rattle.cc_rules.specs.CcStateFacts.Facts.{levels_of}
+use Rattle.cc_rules.specs.CcStateFacts.Levels.{may_enter, only_level}
+use Rattle.cc_rules.specs.CcStateKeys.Tracked.{registers}
+use Rattle.cc_rules.specs.CcSteps.Turn.{level_of}
 
 -- a handler of a program, by the function's id
 pub record IsHandlerOf (p : Program) (h : Handler) (id : ℕ) : Type 0 where

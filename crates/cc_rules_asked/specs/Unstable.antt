@@ -1,19 +1,19 @@
 -- Tracked cells that handlers which may enter may write, by the numbers of their keys.
 use Rattle.std.specs.Prelude.{◌≡◌, ℕ, Bool, true, false, List, ◌++◌, map, length, Option, Some, None, option_and_then, slice_get}
 use Rattle.std.specs.List.{filter, flat_map}
-use Rattle.cc_places.specs.declared.abs.Abs.{Abs}
+use Rattle.cc_rules.specs.CcPlaces.declared.abs.Abs.{Abs}
 use Rattle.cc_program.specs.declared.program.Program.{Program}
 use Rattle.cc_rules_asked.specs.declared.asked.Asked.{Asked}
 use Rattle.cc_rules_asked.specs.declared.asked.Asked.TheVariants as asked
-use Rattle.cc_rules_flows.specs.declared.after.Here.{Here}
-use Rattle.cc_rules_needs.specs.Flowing.{numbers}
-use Rattle.cc_rules_needs.specs.declared.needs.Part.TheVariants.{Mark, Values}
-use Rattle.cc_rules_needs.specs.declared.needs.Slot.TheVariants.{CellAt, Apart}
-use Rattle.cc_state_facts.specs.declared.facts.Key.TheVariants as key
-use Rattle.cc_state_facts.specs.Facts.{levels_of}
-use Rattle.cc_state_facts.specs.Levels.{one_may_enter}
-use Rattle.cc_state_keys.specs.Keys.{key_number}
-use Rattle.cc_state_keys.specs.Tracked.{tracked}
+use Rattle.cc_rules.specs.CcRulesFlows.declared.after.Here.{Here}
+use Rattle.cc_rules.specs.CcRulesNeeds.Flowing.{numbers}
+use Rattle.cc_rules.specs.CcRulesNeeds.declared.needs.Part.TheVariants.{Mark, Values}
+use Rattle.cc_rules.specs.CcRulesNeeds.declared.needs.Slot.TheVariants.{CellAt, Apart}
+use Rattle.cc_rules.specs.CcStateFacts.declared.facts.Key.TheVariants as key
+use Rattle.cc_rules.specs.CcStateFacts.Facts.{levels_of}
+use Rattle.cc_rules.specs.CcStateFacts.Levels.{one_may_enter}
+use Rattle.cc_rules.specs.CcStateKeys.Keys.{key_number}
+use Rattle.cc_rules.specs.CcStateKeys.Tracked.{tracked}
 
 -- the numbers of the keys of the tracked cells of a program
 abbrev pub AreCellKeysOf : Program → List (Option ℕ) → Type 0

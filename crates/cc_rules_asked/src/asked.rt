@@ -2,10 +2,10 @@
 
 ghost use Rattle.std.specs.Prelude.{◌≡◌, [], ◌∷◌, IfOk};
 
-use cc_lattice::IntDomain;
-use cc_num::NoMemory;
-use cc_rules_needs::{Part, Slot};
-use cc_state_facts::PointFact;
+use cc_program::num::NoMemory;
+use cc_rules::lattice::IntDomain;
+use cc_rules::rules_needs::{Part, Slot};
+use cc_rules::state_facts::PointFact;
 use std::alloc::Global;
 
 /// What is asked of facts, slot by slot or for a point as a whole.

@@ -5,18 +5,18 @@ ghost use Rattle.std.specs.Prelude.{◌≡◌, ◌≤◌, ◌++◌, All, IfOk, O
 ghost use Rattle.cc_rules.specs.Constraints.{Handler as HandlerRule};
 ghost use Rattle.cc_rules_asked.specs.Asks.{AsksHere};
 ghost use Rattle.cc_rules_asked.specs.Handlers.{AreHandlersOf, fact_entered, levels_entered as levels_entered_of, asked_of, asked_of_all};
-ghost use Rattle.cc_rules_flows.specs.Acts.{Act as ActOf};
-ghost use Rattle.cc_rules_flows.specs.Here.{IsHere};
-ghost use Rattle.cc_state_operators.specs.Domains.{domain};
+ghost use Rattle.cc_rules.specs.CcRulesFlows.Acts.{Act as ActOf};
+ghost use Rattle.cc_rules.specs.CcRulesFlows.Here.{IsHere};
+ghost use Rattle.cc_rules.specs.CcStateOperators.Domains.{domain};
 
 use crate::asked::Asked;
 use crate::marks::{levels, only_level};
-use cc_lattice::IntDomain;
-use cc_num::{List, NoMemory};
-use cc_rules_flows::Here;
-use cc_rules_needs::{Part, Slot};
-use cc_state_facts::{PointFact, may_enter};
-use cc_state_shared::share_all;
+use cc_program::num::{List, NoMemory};
+use cc_rules::lattice::IntDomain;
+use cc_rules::rules_flows::Here;
+use cc_rules::rules_needs::{Part, Slot};
+use cc_rules::state_facts::{PointFact, may_enter};
+use cc_rules::state_shared::share_all;
 use std::alloc::Global;
 
 /// A function that is a handler.

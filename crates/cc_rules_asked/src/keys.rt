@@ -2,18 +2,18 @@
 
 ghost use Rattle.std.specs.Prelude.{◌≡◌, ◌<◌, ◌^◌, All, length, IfOk, is_some, true};
 ghost use Rattle.cc_rules_asked.specs.Asks.{AreNumbered, AreKeysHere};
-ghost use Rattle.cc_rules_flows.specs.Here.{IsHere};
-ghost use Rattle.cc_state_keys.specs.Keys.{keys_of, key_number as key_number_of};
-ghost use Rattle.cc_state_operators.specs.Domains.{domain};
-ghost use Rattle.cc_state_values.specs.Contexts.{IsPurePlaceIn};
+ghost use Rattle.cc_rules.specs.CcRulesFlows.Here.{IsHere};
+ghost use Rattle.cc_rules.specs.CcStateKeys.Keys.{keys_of, key_number as key_number_of};
+ghost use Rattle.cc_rules.specs.CcStateOperators.Domains.{domain};
+ghost use Rattle.cc_rules.specs.CcStateValues.Contexts.{IsPurePlaceIn};
 
-use cc_lattice::IntDomain;
-use cc_num::NoMemory;
+use cc_program::num::NoMemory;
 use cc_program::{Place, Program};
-use cc_rules_flows::Here;
-use cc_state_facts::Key;
-use cc_state_keys::key_number;
-use cc_state_reads::keys_named;
+use cc_rules::lattice::IntDomain;
+use cc_rules::rules_flows::Here;
+use cc_rules::state_facts::Key;
+use cc_rules::state_keys::key_number;
+use cc_rules::state_reads::keys_named;
 use std::alloc::Global;
 
 /// The number of a key of a program.

@@ -13,6 +13,10 @@ mod touches;
 mod writes;
 
 pub use asked::{Asked, only_part};
+pub use cc_rules::{
+    cells, flow, lattice, places, registers, rules_flows, rules_needs, state_facts, state_keys,
+    state_operators, state_shared, state_values,
+};
 pub use handlers::{Handler, asked_by_handlers};
 pub use marks::{levels, mark, only_level};
 pub use returns::asked_by_return;

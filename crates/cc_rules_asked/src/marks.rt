@@ -1,10 +1,10 @@
 //! Marks and sets of levels of facts.
 
 ghost use Rattle.std.specs.Prelude.{◌≡◌, ◌≤◌};
-ghost use Rattle.cc_state_facts.specs.Facts.{mark_of, levels_of};
-ghost use Rattle.cc_state_facts.specs.Levels.{only_level as only_level_of};
+ghost use Rattle.cc_rules.specs.CcStateFacts.Facts.{mark_of, levels_of};
+ghost use Rattle.cc_rules.specs.CcStateFacts.Levels.{only_level as only_level_of};
 
-use cc_num::at;
+use cc_program::num::at;
 
 /// A mark of a function or a key.
 pub fn mark(marks: &[bool], n: usize) -> bool

@@ -4,17 +4,17 @@ ghost use Rattle.std.specs.Prelude.{◌≡◌, IfOk};
 ghost use Rattle.std.specs.Option.{option_copied};
 ghost use Rattle.cc_rules.specs.Constraints.{Return};
 ghost use Rattle.cc_rules_asked.specs.Asks.{AsksHere, ArePureHere, returned as returned_of};
-ghost use Rattle.cc_rules_flows.specs.Here.{IsHere};
-ghost use Rattle.cc_rules_flows.specs.View.{act_view};
-ghost use Rattle.cc_state_operators.specs.Domains.{domain};
+ghost use Rattle.cc_rules.specs.CcRulesFlows.Here.{IsHere};
+ghost use Rattle.cc_rules.specs.CcRulesFlows.View.{act_view};
+ghost use Rattle.cc_rules.specs.CcStateOperators.Domains.{domain};
 
 use crate::asked::{Asked, only_part};
-use cc_lattice::IntDomain;
-use cc_num::NoMemory;
 use cc_program::Expr;
-use cc_rules_flows::{Act, Here};
-use cc_rules_needs::{Part, Slot};
-use cc_state_values::value_of;
+use cc_program::num::NoMemory;
+use cc_rules::lattice::IntDomain;
+use cc_rules::rules_flows::{Act, Here};
+use cc_rules::rules_needs::{Part, Slot};
+use cc_rules::state_values::value_of;
 use std::alloc::Global;
 
 /// What is returned.

@@ -2,9 +2,9 @@
 
 ghost use Rattle.std.specs.Prelude.{◌≡◌, IfOk};
 
-use cc_lattice::{IntDomain, copied};
-use cc_num::NoMemory;
-use cc_places::Abs;
+use cc_program::num::NoMemory;
+use cc_rules::lattice::{IntDomain, copied};
+use cc_rules::places::Abs;
 use std::alloc::Global;
 
 /// A copy.

@@ -6,20 +6,20 @@ ghost use Rattle.std.specs.List.{flat_map};
 ghost use Rattle.cc_rules.specs.Constraints.{Stability};
 ghost use Rattle.cc_rules_asked.specs.Asks.{AsksHere};
 ghost use Rattle.cc_rules_asked.specs.Unstable.{AreCellKeysOf, key_at as key_at_of, is_unstable_by, unstable_by, parts_of_cells, parts_apart, parts_unstable, unstable_in};
-ghost use Rattle.cc_rules_flows.specs.Acts.{Act as ActOf};
-ghost use Rattle.cc_rules_flows.specs.Here.{IsHere};
-ghost use Rattle.cc_rules_needs.specs.Flowing.{numbers};
-ghost use Rattle.cc_state_operators.specs.Domains.{domain};
+ghost use Rattle.cc_rules.specs.CcRulesFlows.Acts.{Act as ActOf};
+ghost use Rattle.cc_rules.specs.CcRulesFlows.Here.{IsHere};
+ghost use Rattle.cc_rules.specs.CcRulesNeeds.Flowing.{numbers};
+ghost use Rattle.cc_rules.specs.CcStateOperators.Domains.{domain};
 
 use crate::asked::Asked;
 use crate::marks::levels;
 use crate::sets::copied_set;
-use cc_lattice::IntDomain;
-use cc_num::{NoMemory, at};
-use cc_places::Abs;
-use cc_rules_flows::Here;
-use cc_rules_needs::{Part, Slot};
-use cc_state_facts::one_may_enter;
+use cc_program::num::{NoMemory, at};
+use cc_rules::lattice::IntDomain;
+use cc_rules::places::Abs;
+use cc_rules::rules_flows::Here;
+use cc_rules::rules_needs::{Part, Slot};
+use cc_rules::state_facts::one_may_enter;
 use std::alloc::Global;
 
 /// Whether handlers that may enter may write a cell, by the number of its key.

@@ -4,20 +4,20 @@
 ghost use Rattle.std.specs.Prelude.{◌≡◌, ◌<◌, ◌^◌, ◌++◌, map, length, option_map, IfOk, OnOk, Some, true, if◌then◌else◌, []};
 ghost use Rattle.cc_rules.specs.Constraints.{Touch};
 ghost use Rattle.cc_rules_asked.specs.Asks.{AsksHere, ArePureHere, touched as touched_of, mark_slot as mark_slot_of, level_slot as level_slot_of, list_touched};
-ghost use Rattle.cc_rules_flows.specs.Here.{IsHere};
-ghost use Rattle.cc_rules_flows.specs.View.{act_view};
-ghost use Rattle.cc_rules_flows.specs.Acts.{Act as ActOf};
-ghost use Rattle.cc_state_operators.specs.Domains.{domain};
-ghost use Rattle.cc_state_values.specs.Contexts.{IsPurePlaceIn};
+ghost use Rattle.cc_rules.specs.CcRulesFlows.Here.{IsHere};
+ghost use Rattle.cc_rules.specs.CcRulesFlows.View.{act_view};
+ghost use Rattle.cc_rules.specs.CcRulesFlows.Acts.{Act as ActOf};
+ghost use Rattle.cc_rules.specs.CcStateOperators.Domains.{domain};
+ghost use Rattle.cc_rules.specs.CcStateValues.Contexts.{IsPurePlaceIn};
 
 use crate::asked::Asked;
 use crate::keys::keys_here;
 use crate::marks::{levels, mark};
-use cc_lattice::IntDomain;
-use cc_num::NoMemory;
 use cc_program::Place;
-use cc_rules_flows::{Act, Here};
-use cc_rules_needs::{Part, Slot};
+use cc_program::num::NoMemory;
+use cc_rules::lattice::IntDomain;
+use cc_rules::rules_flows::{Act, Here};
+use cc_rules::rules_needs::{Part, Slot};
 use std::alloc::Global;
 
 /// A read or a write.

@@ -3,22 +3,22 @@
 ghost use Rattle.std.specs.Prelude.{◌≡◌, ◌<◌, ◌^◌, map, length, option_map, IfOk, Some};
 ghost use Rattle.cc_rules.specs.Constraints.{Write as WriteRule};
 ghost use Rattle.cc_rules_asked.specs.Asks.{AsksHere, ArePureHere, written as written_of};
-ghost use Rattle.cc_rules_flows.specs.Here.{IsHere};
-ghost use Rattle.cc_rules_flows.specs.View.{act_view};
-ghost use Rattle.cc_rules_flows.specs.Acts.{Writes};
-ghost use Rattle.cc_state_operators.specs.Domains.{domain};
-ghost use Rattle.cc_state_values.specs.Contexts.{IsPureIn, IsPurePlaceIn};
+ghost use Rattle.cc_rules.specs.CcRulesFlows.Here.{IsHere};
+ghost use Rattle.cc_rules.specs.CcRulesFlows.View.{act_view};
+ghost use Rattle.cc_rules.specs.CcRulesFlows.Acts.{Writes};
+ghost use Rattle.cc_rules.specs.CcStateOperators.Domains.{domain};
+ghost use Rattle.cc_rules.specs.CcStateValues.Contexts.{IsPureIn, IsPurePlaceIn};
 
 use crate::asked::Asked;
 use crate::keys::keys_here;
 use crate::sets::copied_set;
-use cc_lattice::IntDomain;
-use cc_num::NoMemory;
-use cc_places::Abs;
+use cc_program::num::NoMemory;
 use cc_program::{Expr, Place};
-use cc_rules_flows::{Act, Here};
-use cc_rules_needs::{Part, Slot};
-use cc_state_values::value_of;
+use cc_rules::lattice::IntDomain;
+use cc_rules::places::Abs;
+use cc_rules::rules_flows::{Act, Here};
+use cc_rules::rules_needs::{Part, Slot};
+use cc_rules::state_values::value_of;
 use std::alloc::Global;
 
 /// A write.

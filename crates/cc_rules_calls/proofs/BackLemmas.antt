@@ -4,11 +4,11 @@ use Rattle.std.specs.List.{flat_map}
 use Rattle.std.specs.Prelude.{IfSome}
 use Rattle.std.proofs.lemmas.List.{take_more}
 use Rattle.std.proofs.lemmas.List.Elements.{All-append, All-contains_itself, All-map, All-nil, All-same, All-weaker}
-use Rattle.cc_places.specs.declared.abs.Abs.{Abs}
+use Rattle.cc_state_points.specs.CcPlaces.declared.abs.Abs.{Abs}
 use Rattle.cc_program.specs.declared.expr.Expr.{Expr}
 use Rattle.cc_program.specs.declared.func.Func.{Func}
-use Rattle.cc_rules.specs.Constraints.{Back}
-use Rattle.cc_rules.specs.Rules.{ForEach, Returned, IsGiven, of_exit, ToRegister, ToNone, FromExit, NoExit, OfReturns}
+use Rattle.cc_rules_asked.specs.CcRules.Constraints.{Back}
+use Rattle.cc_rules_asked.specs.CcRules.Rules.{ForEach, Returned, IsGiven, of_exit, ToRegister, ToNone, FromExit, NoExit, OfReturns}
 use Rattle.cc_rules_asked.specs.declared.asked.Asked.{Asked}
 use Rattle.cc_rules_asked.specs.declared.asked.Asked.TheVariants as asked
 use Rattle.cc_rules_asked.specs.Asked.{all_needs}
@@ -21,15 +21,15 @@ use Rattle.cc_rules_calls.specs.Here.{AreFunctionsIn}
 use Rattle.cc_rules_calls.proofs.CalledLemmas.{called_by}
 use Rattle.cc_rules_calls.proofs.Flowing.{needs_with}
 use Rattle.cc_rules_calls.proofs.Listed.{set_at}
-use Rattle.cc_rules_flows.specs.declared.after.Here.{Here}
-use Rattle.cc_rules_flows.specs.Acts.{Calls}
-use Rattle.cc_rules_flows.specs.Here.{IsHere}
-use Rattle.cc_rules_needs.specs.Flowing.{Flowing, needs_at, of_fact, with_local}
-use Rattle.cc_rules_needs.specs.Needs.{Needs}
-use Rattle.cc_state_facts.specs.declared.facts.PointFact.{PointFact}
-use Rattle.cc_state_facts.specs.Facts.{fact_at}
-use Rattle.cc_state_keys.specs.Tracked.{registers, tracked}
-use Rattle.cc_state_operators.specs.Domains.{Domain}
+use Rattle.cc_state_points.specs.CcRulesFlows.declared.after.Here.{Here}
+use Rattle.cc_state_points.specs.CcRulesFlows.Acts.{Calls}
+use Rattle.cc_state_points.specs.CcRulesFlows.Here.{IsHere}
+use Rattle.cc_state_points.specs.CcRulesNeeds.Flowing.{Flowing, needs_at, of_fact, with_local}
+use Rattle.cc_state_points.specs.CcRulesNeeds.Needs.{Needs}
+use Rattle.cc_state_points.specs.CcStateFacts.declared.facts.PointFact.{PointFact}
+use Rattle.cc_state_points.specs.CcStateFacts.Facts.{fact_at}
+use Rattle.cc_state_points.specs.CcStateKeys.Tracked.{registers, tracked}
+use Rattle.cc_state_points.specs.CcStateOperators.Domains.{Domain}
 
 module _ {I : Type 0} (d : Domain I) (here : Here I) where
   -- ---- points

@@ -2,7 +2,7 @@
 use Rattle.std.proofs.Common.{◌≡◌, ℕ, List, Option, Some, ap}
 use Rattle.cc_program.specs.declared.expr.Expr.{Expr}
 use Rattle.cc_rules_calls.specs.Here.{called}
-use Rattle.cc_rules_flows.specs.Acts.{Act, Sets, Reads, Writes, Calls, Saves, Turns, Restores, Tests, Chooses, Returns, Passes}
+use Rattle.cc_state_points.specs.CcRulesFlows.Acts.{Act, Sets, Reads, Writes, Calls, Saves, Turns, Restores, Tests, Chooses, Returns, Passes}
 
 same : {X : Type 0} (x y : X) → Some x ≡ Some y → x ≡ y
 same x y h = cc

@@ -5,13 +5,13 @@ use Rattle.std.proofs.lemmas.Bool.Decides.{nat_tests}
 use Rattle.std.specs.Ordering.{nat_cmp, is_lt}
 use Rattle.std.proofs.lemmas.List.Elements.{All-nil, All-cons, All-weaker, All-contains_itself, Contains-append_left, Contains-append_right, Contains-append_cases}
 use Rattle.std.proofs.lemmas.List.Kept.{AllPairs-cons}
-use Rattle.cc_places.specs.declared.abs.Abs.{Abs}
-use Rattle.cc_places.specs.declared.abs.Abs.TheVariants as abs
-use Rattle.cc_places.specs.Abstract.{HasValue}
-use Rattle.cc_places.specs.Kept.{member_for, is_kept, is_starred}
-use Rattle.cc_places.specs.Members.{are_members, are_many, most_exact}
-use Rattle.cc_places.specs.Order.{ascends, is_before}
-use Rattle.cc_places.specs.laws.OrderLaws.{order_by_cases}
+use Rattle.cc_state_points.specs.CcPlaces.declared.abs.Abs.{Abs}
+use Rattle.cc_state_points.specs.CcPlaces.declared.abs.Abs.TheVariants as abs
+use Rattle.cc_state_points.specs.CcPlaces.Abstract.{HasValue}
+use Rattle.cc_state_points.specs.CcPlaces.Kept.{member_for, is_kept, is_starred}
+use Rattle.cc_state_points.specs.CcPlaces.Members.{are_members, are_many, most_exact}
+use Rattle.cc_state_points.specs.CcPlaces.Order.{ascends, is_before}
+use Rattle.cc_state_points.specs.CcPlaces.laws.OrderLaws.{order_by_cases}
 use Rattle.cc_program.specs.declared.expr.Expr.{Expr}
 use Rattle.cc_program.specs.declared.value.Address.{Address}
 use Rattle.cc_program.specs.declared.value.Address.TheVariants as address
@@ -21,10 +21,10 @@ use Rattle.cc_rules_calls.specs.Called.{function_at, functions_among, functions_
 use Rattle.cc_rules_functions.specs.Functions.{AreFunctionsOf}
 use Rattle.cc_rules_calls.specs.Here.{AreCalledHere, AreFunctionsIn}
 use Rattle.cc_rules_functions.specs.declared.functions.Function.{Function}
-use Rattle.cc_rules_flows.specs.declared.after.Here.{Here}
-use Rattle.cc_rules_flows.specs.Here.{IsHere}
-use Rattle.cc_state_operators.specs.Domains.{Domain}
-use Rattle.cc_state_values.specs.Contexts.{IsValIn}
+use Rattle.cc_state_points.specs.CcRulesFlows.declared.after.Here.{Here}
+use Rattle.cc_state_points.specs.CcRulesFlows.Here.{IsHere}
+use Rattle.cc_state_points.specs.CcStateOperators.Domains.{Domain}
+use Rattle.cc_state_points.specs.CcStateValues.Contexts.{IsValIn}
 
 both_true : (a b : Bool) → a && b ≡ true → (a ≡ true) × (b ≡ true)
 both_true true b h = (refl, h)

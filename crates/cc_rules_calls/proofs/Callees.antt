@@ -2,8 +2,8 @@
 use Rattle.std.proofs.Common.{◌≡◌, ℕ, Bool, true, false, true≢false, ◌&&◌, ◌||◌, List, Option, Some, None, is_some, refl, ap, slice_get}
 use Rattle.std.specs.Prelude.{if◌then◌else◌}
 use Rattle.std.specs.List.{list_all}
-use Rattle.cc_flow_sound.proofs.Opened.{NormalAt}
-use Rattle.cc_flow_sound.specs.Statements.{statement_at}
+use Rattle.cc_state_points.proofs.CcFlowSound.Opened.{NormalAt}
+use Rattle.cc_state_points.specs.CcFlowSound.Statements.{statement_at}
 use Rattle.cc_program.specs.declared.expr.Expr.{Expr, out-Expr}
 use Rattle.cc_program.specs.declared.expr.Expr.TheOpen as one
 use Rattle.cc_program.specs.declared.expr.Intr.{Intr}
@@ -14,14 +14,14 @@ use Rattle.cc_program.specs.declared.program.Program.{Program}
 use Rattle.cc_program.specs.declared.stmt.Case.{Case}
 use Rattle.cc_program.specs.declared.stmt.Stmt.{Stmt, out-Stmt}
 use Rattle.cc_program.specs.declared.stmt.Stmt.TheOpen as is
-use Rattle.cc_rules_flows.specs.Acts.{Act, Sets, Reads, Writes, Calls, Saves, Turns, Restores, Tests, Chooses, Returns, Passes, acts, does, assigns, gets, loads, intrinsic, act_of}
+use Rattle.cc_state_points.specs.CcRulesFlows.Acts.{Act, Sets, Reads, Writes, Calls, Saves, Turns, Restores, Tests, Chooses, Returns, Passes, acts, does, assigns, gets, loads, intrinsic, act_of}
 use Rattle.cc_state_points.proofs.Sound.{its_normal}
-use Rattle.cc_state_values.proofs.Parts.{effects_at}
-use Rattle.cc_syntax.proofs.Prefixes.{both_true}
-use Rattle.cc_syntax.specs.Effects.{Effects, no_one, effects_of, place_effects_of}
-use Rattle.cc_syntax.specs.Folding.{is_folded}
-use Rattle.cc_syntax.specs.Forms.{form_at, form_of}
-use Rattle.cc_syntax.specs.Normal.{IsNormal, is_operand, is_other_place, is_callee, is_call, is_place_read, is_expression_statement}
+use Rattle.cc_state_points.proofs.CcStateValues.Parts.{effects_at}
+use Rattle.cc_state_points.proofs.CcSyntax.Prefixes.{both_true}
+use Rattle.cc_state_points.specs.CcSyntax.Effects.{Effects, no_one, effects_of, place_effects_of}
+use Rattle.cc_state_points.specs.CcSyntax.Folding.{is_folded}
+use Rattle.cc_state_points.specs.CcSyntax.Forms.{form_at, form_of}
+use Rattle.cc_state_points.specs.CcSyntax.Normal.{IsNormal, is_operand, is_other_place, is_callee, is_call, is_place_read, is_expression_statement}
 
 first_fails : (a b : Bool) → a ≡ false → (a && b) ≡ false
 first_fails true b e = absurd (true≢false e)

@@ -2,12 +2,12 @@
 use Rattle.std.proofs.Common.{◌≡◌, ℕ, suc, Bool, true, true≢false, List, [], ◌∷◌, ◌++◌, length, All, Option, Some, None, is_some, slice_get, refl, ap, sym, subst, ◌∙◌}
 use Rattle.std.specs.List.{AllZip}
 use Rattle.std.proofs.lemmas.List.Elements.{All-head, All-tail}
-use Rattle.cc_flow_sound.specs.Moves.{entry}
-use Rattle.cc_places.specs.declared.abs.Abs.{Abs}
+use Rattle.cc_state_points.specs.CcFlowSound.Moves.{entry}
+use Rattle.cc_state_points.specs.CcPlaces.declared.abs.Abs.{Abs}
 use Rattle.cc_program.specs.declared.expr.Expr.{Expr}
 use Rattle.cc_program.specs.declared.func.Func.{Func}
-use Rattle.cc_rules.specs.Constraints.{Call}
-use Rattle.cc_rules.specs.Rules.{AreValues, ForEach, Entered, parameter, other_parameters, need_whole, CallAsks, OfEntries, OfNoCall}
+use Rattle.cc_rules_asked.specs.CcRules.Constraints.{Call}
+use Rattle.cc_rules_asked.specs.CcRules.Rules.{AreValues, ForEach, Entered, parameter, other_parameters, need_whole, CallAsks, OfEntries, OfNoCall}
 use Rattle.cc_rules_asked.specs.declared.asked.Asked.{Asked}
 use Rattle.cc_rules_asked.specs.Asked.{all_needs}
 use Rattle.cc_rules_asked.specs.Asks.{AsksHere}
@@ -20,19 +20,19 @@ use Rattle.cc_rules_calls.specs.Here.{AreFunctionsIn, called, part_whole, parts_
 use Rattle.cc_rules_calls.proofs.CalledLemmas.{called_by}
 use Rattle.cc_rules_calls.proofs.Flowing.{needs_with}
 use Rattle.cc_rules_calls.proofs.Risen.{parameters_at}
-use Rattle.cc_rules_flows.specs.declared.after.Here.{Here}
-use Rattle.cc_rules_flows.specs.Acts.{Act, Sets, Reads, Writes, Calls, Saves, Turns, Restores, Tests, Chooses, Returns, Passes}
-use Rattle.cc_rules_flows.specs.Here.{IsHere}
-use Rattle.cc_rules_needs.specs.Flowing.{Flowing, needs_at, of_fact, without_pairs}
-use Rattle.cc_rules_needs.specs.declared.needs.Part.TheVariants.{Mark, LevelSet, Values}
-use Rattle.cc_rules_needs.specs.declared.needs.Slot.TheVariants.{Whole, ByMain, ByHandler, Levels, From}
-use Rattle.cc_rules_needs.specs.Needs.{Needs}
-use Rattle.cc_state_facts.specs.declared.facts.Key.TheVariants as key
-use Rattle.cc_state_facts.specs.Facts.{mark_of, levels_of}
-use Rattle.cc_state_keys.specs.Keys.{key_number}
-use Rattle.cc_state_keys.specs.Tracked.{registers, tracked}
-use Rattle.cc_state_operators.specs.Domains.{Domain}
-use Rattle.cc_state_values.specs.Contexts.{IsValIn}
+use Rattle.cc_state_points.specs.CcRulesFlows.declared.after.Here.{Here}
+use Rattle.cc_state_points.specs.CcRulesFlows.Acts.{Act, Sets, Reads, Writes, Calls, Saves, Turns, Restores, Tests, Chooses, Returns, Passes}
+use Rattle.cc_state_points.specs.CcRulesFlows.Here.{IsHere}
+use Rattle.cc_state_points.specs.CcRulesNeeds.Flowing.{Flowing, needs_at, of_fact, without_pairs}
+use Rattle.cc_state_points.specs.CcRulesNeeds.declared.needs.Part.TheVariants.{Mark, LevelSet, Values}
+use Rattle.cc_state_points.specs.CcRulesNeeds.declared.needs.Slot.TheVariants.{Whole, ByMain, ByHandler, Levels, From}
+use Rattle.cc_state_points.specs.CcRulesNeeds.Needs.{Needs}
+use Rattle.cc_state_points.specs.CcStateFacts.declared.facts.Key.TheVariants as key
+use Rattle.cc_state_points.specs.CcStateFacts.Facts.{mark_of, levels_of}
+use Rattle.cc_state_points.specs.CcStateKeys.Keys.{key_number}
+use Rattle.cc_state_points.specs.CcStateKeys.Tracked.{registers, tracked}
+use Rattle.cc_state_points.specs.CcStateOperators.Domains.{Domain}
+use Rattle.cc_state_points.specs.CcStateValues.Contexts.{IsValIn}
 
 module _ {I : Type 0} (d : Domain I) (here : Here I) where
   -- ---- the sets of arguments

@@ -8,10 +8,10 @@ use Rattle.cc_program.specs.declared.func.Func.{Func}
 use Rattle.cc_program.specs.declared.program.Program.{Program}
 use Rattle.cc_program.specs.declared.types.Structure.{Structure}
 use Rattle.cc_rules_calls.proofs.Listed.{differ}
-use Rattle.cc_state_facts.specs.declared.facts.Key.{Key}
-use Rattle.cc_state_facts.specs.declared.facts.Key.TheVariants as key
-use Rattle.cc_state_keys.specs.Keys.{is_key, keys_of, key_number, has_object_key, has_local_key, has_member_key, local_keys, member_keys}
-use Rattle.cc_state_keys.specs.Lists.{only_if, made_from, all_from}
+use Rattle.cc_state_points.specs.CcStateFacts.declared.facts.Key.{Key}
+use Rattle.cc_state_points.specs.CcStateFacts.declared.facts.Key.TheVariants as key
+use Rattle.cc_state_points.specs.CcStateKeys.Keys.{is_key, keys_of, key_number, has_object_key, has_local_key, has_member_key, local_keys, member_keys}
+use Rattle.cc_state_points.specs.CcStateKeys.Lists.{only_if, made_from, all_from}
 
 not_less : (n : ℕ) → nat_lt n n ≡ false
 not_less n = grind arith

@@ -1,12 +1,12 @@
 -- What is asked of a point where registers have other sets and none is known to equal a cell.
 use Rattle.std.proofs.Common.{◌≡◌, ℕ, false, List, [], ◌∷◌, ◌++◌, map, Option, slice_get, refl, ap, ◌∙◌}
 use Rattle.std.specs.List.{flat_map}
-use Rattle.cc_places.specs.declared.abs.Abs.{Abs}
+use Rattle.cc_state_points.specs.CcPlaces.declared.abs.Abs.{Abs}
 use Rattle.cc_rules_calls.specs.Here.{fact_with}
-use Rattle.cc_rules_needs.specs.Flowing.{needs_at, need_local, need_cell, need_apart, each_pair, numbers, of_fact, without_pairs}
-use Rattle.cc_rules_needs.specs.declared.needs.Part.TheVariants.{Flags, Values}
-use Rattle.cc_rules_needs.specs.declared.needs.Slot.TheVariants.{Flag, LocalAt}
-use Rattle.cc_state_facts.specs.declared.facts.PointFact.{PointFact}
+use Rattle.cc_state_points.specs.CcRulesNeeds.Flowing.{needs_at, need_local, need_cell, need_apart, each_pair, numbers, of_fact, without_pairs}
+use Rattle.cc_state_points.specs.CcRulesNeeds.declared.needs.Part.TheVariants.{Flags, Values}
+use Rattle.cc_state_points.specs.CcRulesNeeds.declared.needs.Slot.TheVariants.{Flag, LocalAt}
+use Rattle.cc_state_points.specs.CcStateFacts.declared.facts.PointFact.{PointFact}
 
 pub map_agree : {A B : Type 0} (f g : A → B) → ((x : A) → f x ≡ g x) → (xs : List A) → map f xs ≡ map g xs
 map_agree f g h [] = refl

@@ -2,12 +2,12 @@
 use Rattle.std.proofs.Common.{◌≡◌, ◌<◌, ℕ, true, true≢false, Option, Some, None, length, Contains, refl, ap, sym, subst, ◌∙◌, slice_get}
 use Rattle.std.specs.Prelude.{option_and_then, position, ◌==◌}
 use Rattle.std.proofs.lemmas.Option.{same_Some, none-some, slice_get_within}
-use Rattle.cc_flow.specs.declared.types.Point.{Point}
-use Rattle.cc_places.specs.declared.abs.Abs.{Abs}
-use Rattle.cc_places.specs.declared.abs.Abs.TheVariants as abs
-use Rattle.cc_places.specs.declared.addrs.Addrs.{Addrs}
-use Rattle.cc_places.specs.Abstract.{HasValue}
-use Rattle.cc_places.specs.Kept.{member_for}
+use Rattle.cc_state_points.specs.CcFlow.declared.types.Point.{Point}
+use Rattle.cc_state_points.specs.CcPlaces.declared.abs.Abs.{Abs}
+use Rattle.cc_state_points.specs.CcPlaces.declared.abs.Abs.TheVariants as abs
+use Rattle.cc_state_points.specs.CcPlaces.declared.addrs.Addrs.{Addrs}
+use Rattle.cc_state_points.specs.CcPlaces.Abstract.{HasValue}
+use Rattle.cc_state_points.specs.CcPlaces.Kept.{member_for}
 use Rattle.cc_program.specs.declared.expr.Expr.{Expr, out-Expr}
 use Rattle.cc_program.specs.declared.expr.Expr.TheOpen as one
 use Rattle.cc_program.specs.declared.expr.Place.{Place}
@@ -18,24 +18,24 @@ use Rattle.cc_program.specs.declared.value.Value.TheVariants as value
 use Rattle.cc_rules_calls.proofs.Callees.{IsCalled}
 use Rattle.cc_rules_calls.proofs.CalledLemmas.{same_member}
 use Rattle.cc_rules_calls.specs.Here.{MayCallHere}
-use Rattle.cc_rules_flows.specs.declared.after.Here.{Here}
-use Rattle.cc_rules_flows.specs.Acts.{Act, Sets, Reads, Writes, Calls, Saves, Turns, Restores, Tests, Chooses, Returns, Passes}
-use Rattle.cc_rules_flows.specs.Here.{IsHere}
-use Rattle.cc_rules_flows.specs.Nexts.{IsPoint}
-use Rattle.cc_state.proofs.Sets.{its_shape}
-use Rattle.cc_state.specs.Points.{IsPointOf}
-use Rattle.cc_state.specs.Shape.{HoldsPointers, IsSetIn, HaveShape}
-use Rattle.cc_state_operators.specs.Addresses.{IsOnly}
-use Rattle.cc_state_operators.specs.Domains.{Domain}
+use Rattle.cc_state_points.specs.CcRulesFlows.declared.after.Here.{Here}
+use Rattle.cc_state_points.specs.CcRulesFlows.Acts.{Act, Sets, Reads, Writes, Calls, Saves, Turns, Restores, Tests, Chooses, Returns, Passes}
+use Rattle.cc_state_points.specs.CcRulesFlows.Here.{IsHere}
+use Rattle.cc_state_points.specs.CcRulesFlows.Nexts.{IsPoint}
+use Rattle.cc_state_points.proofs.CcState.Sets.{its_shape}
+use Rattle.cc_state_points.specs.CcState.Points.{IsPointOf}
+use Rattle.cc_state_points.specs.CcState.Shape.{HoldsPointers, IsSetIn, HaveShape}
+use Rattle.cc_state_points.specs.CcStateOperators.Addresses.{IsOnly}
+use Rattle.cc_state_points.specs.CcStateOperators.Domains.{Domain}
 use Rattle.cc_state_points.specs.Operands.{AreOperands}
-use Rattle.cc_state_values.proofs.Parts.{typed_as}
-use Rattle.cc_state_values.specs.Contexts.{IsValIn, set_in}
-use Rattle.cc_state_values.specs.Values.{OfConst, OfNull, OfFunction, OfRegister, OfAddress, OfUn, OfBin, OfConv, OfQualify, OfMove, OfGap, OfCompare, OfBoth, OfEither, OfChoose}
-use Rattle.cc_syntax.specs.Forms.{form_at}
-use Rattle.cc_syntax.specs.Normal.{is_callee}
-use Rattle.cc_syntax.specs.Operators.{function_type}
-use Rattle.cc_syntax.specs.Programs.{type_of}
-use Rattle.cc_syntax.specs.Values.{ValueType, NoValue, Integer, ToObject, ToFunction, is_assignable_some}
+use Rattle.cc_state_points.proofs.CcStateValues.Parts.{typed_as}
+use Rattle.cc_state_points.specs.CcStateValues.Contexts.{IsValIn, set_in}
+use Rattle.cc_state_points.specs.CcStateValues.Values.{OfConst, OfNull, OfFunction, OfRegister, OfAddress, OfUn, OfBin, OfConv, OfQualify, OfMove, OfGap, OfCompare, OfBoth, OfEither, OfChoose}
+use Rattle.cc_state_points.specs.CcSyntax.Forms.{form_at}
+use Rattle.cc_state_points.specs.CcSyntax.Normal.{is_callee}
+use Rattle.cc_state_points.specs.CcSyntax.Operators.{function_type}
+use Rattle.cc_state_points.specs.CcSyntax.Programs.{type_of}
+use Rattle.cc_state_points.specs.CcSyntax.Values.{ValueType, NoValue, Integer, ToObject, ToFunction, is_assignable_some}
 
 function_there : (o : Option Func) (t : ValueType) → function_type o ≡ Some t → (f : Func) × (o ≡ Some f)
 function_there None t e = absurd (none-some t e)

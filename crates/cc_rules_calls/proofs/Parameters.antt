@@ -1,14 +1,14 @@
 -- What is asked of parameters that are no registers, one by one, and of a function as a whole.
 use Rattle.std.proofs.Common.{arith, ◌≡◌, ◌<◌, ◌+◌, ℕ, suc, List, [], ◌∷◌, ◌++◌, length, take, get_or, append-nil, append_assoc, length-take, Option, ap, sym, ◌∙◌}
 use Rattle.std.proofs.lemmas.List.{take_more}
-use Rattle.cc_places.specs.declared.abs.Abs.{Abs}
+use Rattle.cc_state_points.specs.CcPlaces.declared.abs.Abs.{Abs}
 use Rattle.cc_program.specs.declared.program.Program.{Program}
 use Rattle.cc_rules_asked.specs.declared.asked.Asked.{Asked}
 use Rattle.cc_rules_asked.specs.declared.asked.Asked.TheVariants as asked
 use Rattle.cc_rules_calls.specs.Here.{part_whole, parts_whole}
-use Rattle.cc_state_facts.specs.declared.facts.Key.TheVariants as key
-use Rattle.cc_state_facts.specs.declared.facts.PointFact.{PointFact}
-use Rattle.cc_state_keys.specs.Keys.{key_number}
+use Rattle.cc_state_points.specs.CcStateFacts.declared.facts.Key.TheVariants as key
+use Rattle.cc_state_points.specs.CcStateFacts.declared.facts.PointFact.{PointFact}
+use Rattle.cc_state_points.specs.CcStateKeys.Keys.{key_number}
 
 module _ {I : Type 0} (p : Program) (g : ℕ) where
   parts_put : (r m : ℕ) (xs : List (Abs I)) (y : Abs I) → m ≡ r + length xs → parts_whole p g r (xs ++ y ∷ []) ≡ parts_whole p g r xs ++ part_whole (key_number p (key.Local g m)) y

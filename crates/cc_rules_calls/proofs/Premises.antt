@@ -1,21 +1,21 @@
 -- What calls ask, at a point of a program in normal form, of facts of its shape.
 use Rattle.std.proofs.Common.{◌≡◌, ℕ, List, Option, Some, None, refl, slice_get}
 use Rattle.cc_program.specs.declared.stmt.Stmt.{Stmt}
-use Rattle.cc_rules.specs.Rules.{act_at}
+use Rattle.cc_rules_asked.specs.CcRules.Rules.{act_at}
 use Rattle.cc_rules_calls.proofs.Callees.{called_at}
 use Rattle.cc_rules_calls.proofs.InRange.{may_call}
 use Rattle.cc_rules_calls.proofs.Results.{may_get}
 use Rattle.cc_rules_calls.specs.Backs.{gets, MayGetHere}
 use Rattle.cc_rules_calls.specs.Here.{MayCallHere}
-use Rattle.cc_rules_flows.specs.declared.after.Here.{Here}
-use Rattle.cc_rules_flows.specs.Here.{IsHere}
-use Rattle.cc_rules_flows.specs.Nexts.{IsPoint, statement_of}
+use Rattle.cc_state_points.specs.CcRulesFlows.declared.after.Here.{Here}
+use Rattle.cc_state_points.specs.CcRulesFlows.Here.{IsHere}
+use Rattle.cc_state_points.specs.CcRulesFlows.Nexts.{IsPoint, statement_of}
 use Rattle.cc_rules_functions.specs.declared.functions.Function.{Function}
 use Rattle.cc_rules_functions.specs.Functions.{AreFunctionsOf}
-use Rattle.cc_state.specs.Shape.{HaveShape}
-use Rattle.cc_state_operators.specs.Domains.{Domain}
+use Rattle.cc_state_points.specs.CcState.Shape.{HaveShape}
+use Rattle.cc_state_points.specs.CcStateOperators.Domains.{Domain}
 use Rattle.cc_state_points.proofs.Acting.{operands_at}
-use Rattle.cc_syntax.specs.Normal.{IsNormal}
+use Rattle.cc_state_points.specs.CcSyntax.Normal.{IsNormal}
 
 module _ {I : Type 0} (d : Domain I) (here : Here I) (normal : IsNormal here.context.program.now) (shape : HaveShape d here.context.program.now here.facts.now)
     (is : IsPoint here.context.program.now here.number here.context.id here.context.func.now here.point.now) where

@@ -1,18 +1,18 @@
 -- What a function may give, with the 0 of main.
 use Rattle.std.proofs.Common.{◌≡◌, ◌==◌, ℕ, pos, Bool, true, false, true≢false, not, ◌&&◌, Some, slice_get, refl, sym, ◌∙◌}
 use Rattle.std.proofs.lemmas.Bool.{eqb-true, eq-eqb}
-use Rattle.cc_lattice.specs.Orders.{IsLeastUpperBound}
-use Rattle.cc_places.specs.declared.abs.Abs.{Abs}
-use Rattle.cc_places.specs.declared.abs.Abs.TheVariants as abs
-use Rattle.cc_places.specs.Abstract.{AreOfOneKind, IsBelowAbs, HasValue}
+use Rattle.cc_state_points.specs.CcLattice.Orders.{IsLeastUpperBound}
+use Rattle.cc_state_points.specs.CcPlaces.declared.abs.Abs.{Abs}
+use Rattle.cc_state_points.specs.CcPlaces.declared.abs.Abs.TheVariants as abs
+use Rattle.cc_state_points.specs.CcPlaces.Abstract.{AreOfOneKind, IsBelowAbs, HasValue}
 use Rattle.cc_program.specs.declared.value.Value.TheVariants as value
-use Rattle.cc_rules.specs.Rules.{IsOnly, OfMain, OfOther}
+use Rattle.cc_rules_asked.specs.CcRules.Rules.{IsOnly, OfMain, OfOther}
 use Rattle.cc_rules_functions.specs.declared.functions.Function.{Function}
 use Rattle.cc_rules_calls.specs.Backs.{IsWithZero, IsResultHere}
 use Rattle.cc_rules_functions.specs.Functions.{IsFunctionOf}
-use Rattle.cc_rules_flows.specs.declared.after.Here.{Here}
-use Rattle.cc_state_operators.specs.Domains.{Domain}
-use Rattle.cc_steps.specs.Step.{gives_nothing}
+use Rattle.cc_state_points.specs.CcRulesFlows.declared.after.Here.{Here}
+use Rattle.cc_state_points.specs.CcStateOperators.Domains.{Domain}
+use Rattle.cc_state_points.specs.CcSteps.Step.{gives_nothing}
 
 both_true : (a b : Bool) → a && b ≡ true → (a ≡ true) × (b ≡ true)
 both_true true b h = (refl, h)

@@ -4,11 +4,11 @@ use Rattle.std.proofs.Common.{◌≡◌, ◌<◌, ◌==◌, ℕ, Bool, true, fal
 use Rattle.std.specs.Prelude.{if◌then◌else◌}
 use Rattle.std.proofs.lemmas.Bool.{eqb-true}
 use Rattle.std.proofs.lemmas.Option.{same_Some, none-some, slice_get_within, get_or_from_slice_get}
-use Rattle.cc_num.specs.declared.int_type.IntType.{IntType}
-use Rattle.cc_num.specs.declared.int_type.IntType.TheVariants as int
-use Rattle.cc_places.specs.declared.abs.Abs.{Abs}
-use Rattle.cc_places.specs.declared.abs.Abs.TheVariants as abs
-use Rattle.cc_places.specs.Abstract.{AreOfOneKind}
+use Rattle.cc_program.specs.CcNum.declared.int_type.IntType.{IntType}
+use Rattle.cc_program.specs.CcNum.declared.int_type.IntType.TheVariants as int
+use Rattle.cc_state_points.specs.CcPlaces.declared.abs.Abs.{Abs}
+use Rattle.cc_state_points.specs.CcPlaces.declared.abs.Abs.TheVariants as abs
+use Rattle.cc_state_points.specs.CcPlaces.Abstract.{AreOfOneKind}
 use Rattle.cc_program.specs.declared.expr.Expr.{Expr}
 use Rattle.cc_program.specs.declared.func.Func.{Func}
 use Rattle.cc_program.specs.declared.program.Program.{Program}
@@ -18,22 +18,22 @@ use Rattle.cc_program.specs.declared.types.Shape.TheOpen as shape
 use Rattle.cc_program.specs.declared.types.Sig.{Sig, out-Sig}
 use Rattle.cc_rules_calls.proofs.CalledLemmas.{there}
 use Rattle.cc_rules_calls.specs.Backs.{gets, MayGetHere}
-use Rattle.cc_rules_flows.specs.declared.after.Here.{Here}
-use Rattle.cc_rules_flows.specs.Acts.{Act, Sets, Reads, Writes, Calls, Saves, Turns, Restores, Tests, Chooses, Returns, Passes}
+use Rattle.cc_state_points.specs.CcRulesFlows.declared.after.Here.{Here}
+use Rattle.cc_state_points.specs.CcRulesFlows.Acts.{Act, Sets, Reads, Writes, Calls, Saves, Turns, Restores, Tests, Chooses, Returns, Passes}
 use Rattle.cc_rules_functions.specs.declared.functions.Function.{Function}
 use Rattle.cc_rules_functions.specs.Functions.{IsFunctionOf, AreFunctionsOf}
-use Rattle.cc_state.specs.Shape.{IsSetIn, HaveShape}
-use Rattle.cc_state_keys.specs.Tracked.{register_number}
-use Rattle.cc_state_operators.specs.Domains.{Domain}
+use Rattle.cc_state_points.specs.CcState.Shape.{IsSetIn, HaveShape}
+use Rattle.cc_state_points.specs.CcStateKeys.Tracked.{register_number}
+use Rattle.cc_state_points.specs.CcStateOperators.Domains.{Domain}
 use Rattle.cc_state_points.specs.Operands.{AreOperands}
-use Rattle.cc_steps.specs.Step.{gives_nothing}
-use Rattle.cc_syntax.proofs.Prefixes.{both_true}
-use Rattle.cc_syntax.specs.Normal.{IsNormal}
-use Rattle.cc_syntax.specs.Operators.{is_handler}
-use Rattle.cc_syntax.specs.SameTypes.{is_int_shape, is_void_shape}
-use Rattle.cc_syntax.specs.Sound.{is_main, is_main_there, form_fits, takes_nothing, is_plain_int, is_plain_void}
-use Rattle.cc_syntax.specs.Operators.{is_unqualified}
-use Rattle.cc_syntax.specs.Values.{ValueType, NoValue, Integer, is_void, result_value, scalar_shape}
+use Rattle.cc_state_points.specs.CcSteps.Step.{gives_nothing}
+use Rattle.cc_state_points.proofs.CcSyntax.Prefixes.{both_true}
+use Rattle.cc_state_points.specs.CcSyntax.Normal.{IsNormal}
+use Rattle.cc_state_points.specs.CcSyntax.Operators.{is_handler}
+use Rattle.cc_state_points.specs.CcSyntax.SameTypes.{is_int_shape, is_void_shape}
+use Rattle.cc_state_points.specs.CcSyntax.Sound.{is_main, is_main_there, form_fits, takes_nothing, is_plain_int, is_plain_void}
+use Rattle.cc_state_points.specs.CcSyntax.Operators.{is_unqualified}
+use Rattle.cc_state_points.specs.CcSyntax.Values.{ValueType, NoValue, Integer, is_void, result_value, scalar_shape}
 
 -- ---- tests
 

@@ -5,10 +5,10 @@ use Rattle.std.proofs.lemmas.Bool.{cases_lt}
 use Rattle.std.proofs.lemmas.Option.{slice_get_past}
 use Rattle.cc_program.specs.declared.func.Func.{Func}
 use Rattle.cc_rules_calls.specs.Called.{sets_of}
-use Rattle.cc_state_keys.specs.Lists.{only_if, made_from}
-use Rattle.cc_state_keys.specs.Tracked.{registers}
-use Rattle.cc_syntax.specs.Registers.{is_register}
-use Rattle.cc_syntax.specs.Types.{Named}
+use Rattle.cc_state_points.specs.CcStateKeys.Lists.{only_if, made_from}
+use Rattle.cc_state_points.specs.CcStateKeys.Tracked.{registers}
+use Rattle.cc_state_points.specs.CcSyntax.Registers.{is_register}
+use Rattle.cc_state_points.specs.CcSyntax.Types.{Named}
 
 -- from one on, each above the one before
 abbrev Rise : ℕ → List ℕ → Type 0

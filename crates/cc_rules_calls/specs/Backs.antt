@@ -1,24 +1,24 @@
 -- What is asked behind a call, as the code has it.
 use Rattle.std.specs.Prelude.{◌≡◌, ◌<◌, ℕ, pos, true, List, All, ◌++◌, map, length, Option, Some, None, is_some, slice_get, slice_set}
 use Rattle.std.specs.List.{Contains}
-use Rattle.cc_places.specs.declared.abs.Abs.{Abs}
-use Rattle.cc_places.specs.declared.abs.Abs.TheVariants as abs
-use Rattle.cc_places.specs.Abstract.{AreOfOneKind, IsBelowAbs}
+use Rattle.cc_state_points.specs.CcPlaces.declared.abs.Abs.{Abs}
+use Rattle.cc_state_points.specs.CcPlaces.declared.abs.Abs.TheVariants as abs
+use Rattle.cc_state_points.specs.CcPlaces.Abstract.{AreOfOneKind, IsBelowAbs}
 use Rattle.cc_program.specs.declared.func.Func.{Func}
-use Rattle.cc_rules.specs.Rules.{ForEach, IsResult, Returned}
+use Rattle.cc_rules_asked.specs.CcRules.Rules.{ForEach, IsResult, Returned}
 use Rattle.cc_rules_asked.specs.declared.asked.Asked.{Asked}
 use Rattle.cc_rules_asked.specs.declared.asked.Asked.TheVariants as asked
 use Rattle.cc_rules_asked.specs.Asked.{all_needs}
 use Rattle.cc_rules_functions.specs.declared.functions.Function.{Function}
 use Rattle.cc_rules_functions.specs.Functions.{IsFunctionOf}
 use Rattle.cc_rules_calls.specs.Here.{fact_with}
-use Rattle.cc_rules_flows.specs.declared.after.Here.{Here}
-use Rattle.cc_rules_flows.specs.Acts.{Act, Sets, Reads, Writes, Calls, Saves, Turns, Restores, Tests, Chooses, Returns, Passes}
-use Rattle.cc_rules_needs.specs.Needs.{Needs}
-use Rattle.cc_state_facts.specs.declared.facts.PointFact.{PointFact}
-use Rattle.cc_state_facts.specs.Facts.{fact_at}
-use Rattle.cc_state_keys.specs.Tracked.{register_number}
-use Rattle.cc_state_operators.specs.Domains.{Domain}
+use Rattle.cc_state_points.specs.CcRulesFlows.declared.after.Here.{Here}
+use Rattle.cc_state_points.specs.CcRulesFlows.Acts.{Act, Sets, Reads, Writes, Calls, Saves, Turns, Restores, Tests, Chooses, Returns, Passes}
+use Rattle.cc_state_points.specs.CcRulesNeeds.Needs.{Needs}
+use Rattle.cc_state_points.specs.CcStateFacts.declared.facts.PointFact.{PointFact}
+use Rattle.cc_state_points.specs.CcStateFacts.Facts.{fact_at}
+use Rattle.cc_state_points.specs.CcStateKeys.Tracked.{register_number}
+use Rattle.cc_state_points.specs.CcStateOperators.Domains.{Domain}
 
 -- the sets of registers, where one gets another, by its position
 abbrev pub with_given : {A : Type 0} → Option (ℕ × A) → List A → List A

@@ -1,8 +1,8 @@
 -- The functions that a set of addresses has, and the sets that arguments leave in registers.
 use Rattle.std.specs.Prelude.{ℕ, List, [], ◌∷◌, option_to_list, slice_get}
 use Rattle.std.specs.List.{flat_map}
-use Rattle.cc_places.specs.declared.abs.Abs.{Abs}
-use Rattle.cc_places.specs.declared.abs.Abs.TheVariants as abs
+use Rattle.cc_state_points.specs.CcPlaces.declared.abs.Abs.{Abs}
+use Rattle.cc_state_points.specs.CcPlaces.declared.abs.Abs.TheVariants as abs
 use Rattle.cc_program.specs.declared.value.Address.{Address}
 use Rattle.cc_program.specs.declared.value.Address.TheVariants as address
 

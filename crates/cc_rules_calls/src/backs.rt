@@ -3,33 +3,33 @@
 
 ghost use Rattle.std.specs.Prelude.{◌≡◌, ◌<◌, ◌^◌, ◌++◌, ℕ, All, length, slice_get, is_some, true, Some, IfOk, IfSome, OnOk};
 ghost use Rattle.std.specs.Option.{option_copied};
-ghost use Rattle.cc_places.specs.declared.abs.Abs.{Abs};
-ghost use Rattle.cc_places.specs.Abstract.{AreOfOneKind};
-ghost use Rattle.cc_rules.specs.Constraints.{Back as BackRule};
+ghost use Rattle.cc_state_points.specs.CcPlaces.declared.abs.Abs.{Abs};
+ghost use Rattle.cc_state_points.specs.CcPlaces.Abstract.{AreOfOneKind};
+ghost use Rattle.cc_rules_asked.specs.CcRules.Constraints.{Back as BackRule};
 ghost use Rattle.cc_rules_asked.specs.Asks.{AsksHere, ArePureHere};
 ghost use Rattle.cc_rules_calls.specs.Backs.{with_given, fact_behind, points_behind, IsWithZero, gets, IsResultHere, IsGivenHere, IsBehind, AskMore, AskMoreOf, EachReturns, MayGetHere};
 ghost use Rattle.cc_rules_functions.specs.Functions.{IsFunctionOf, AreFunctionsOf};
 ghost use Rattle.cc_rules_calls.specs.Here.{MayCallHere};
-ghost use Rattle.cc_rules_flows.specs.Acts.{Calls};
-ghost use Rattle.cc_rules_flows.specs.Here.{IsHere};
-ghost use Rattle.cc_rules_flows.specs.View.{act_view};
+ghost use Rattle.cc_state_points.specs.CcRulesFlows.Acts.{Calls};
+ghost use Rattle.cc_state_points.specs.CcRulesFlows.Here.{IsHere};
+ghost use Rattle.cc_state_points.specs.CcRulesFlows.View.{act_view};
 ghost use Rattle.cc_rules_functions.specs.declared.functions.Function.{Function as FunctionOf};
-ghost use Rattle.cc_state_facts.specs.Facts.{fact_at};
-ghost use Rattle.cc_state_keys.specs.Tracked.{registers as registers_of, register_number};
-ghost use Rattle.cc_state_operators.specs.Domains.{domain};
+ghost use Rattle.cc_state_points.specs.CcStateFacts.Facts.{fact_at};
+ghost use Rattle.cc_state_points.specs.CcStateKeys.Tracked.{registers as registers_of, register_number};
+ghost use Rattle.cc_state_points.specs.CcStateOperators.Domains.{domain};
 
 use crate::call::{Call, called};
 use crate::called::called_here;
 use crate::known::with_locals;
-use cc_lattice::{IntDomain, Lattice};
-use cc_num::{NoMemory, at};
-use cc_places::Abs;
+use cc_program::num::{NoMemory, at};
 use cc_rules_asked::{Asked, copied_set};
-use cc_rules_flows::{Act, Here};
 use cc_rules_functions::Function;
-use cc_state_facts::{Facts, PointFact, Shared, copied_point};
-use cc_state_keys::number_in;
-use cc_state_shared::share_all;
+use cc_state_points::lattice::{IntDomain, Lattice};
+use cc_state_points::places::Abs;
+use cc_state_points::rules_flows::{Act, Here};
+use cc_state_points::state_facts::{Facts, PointFact, Shared, copied_point};
+use cc_state_points::state_keys::number_in;
+use cc_state_points::state_shared::share_all;
 use std::alloc::Global;
 
 /// A set with 0 too.

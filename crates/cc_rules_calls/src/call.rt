@@ -2,10 +2,10 @@
 
 ghost use Rattle.std.specs.Prelude.{◌≡◌, option_map};
 ghost use Rattle.cc_rules_calls.specs.Here.{called as called_of};
-ghost use Rattle.cc_rules_flows.specs.View.{act_view};
+ghost use Rattle.cc_state_points.specs.CcRulesFlows.View.{act_view};
 
 use cc_program::Expr;
-use cc_rules_flows::Act;
+use cc_state_points::rules_flows::Act;
 
 /// A call, with the register that gets the result.
 #[derive(Clone, Copy)]

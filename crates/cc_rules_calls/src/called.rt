@@ -4,17 +4,17 @@ ghost use Rattle.std.specs.Prelude.{◌≡◌, ◌++◌, All, IfOk, OnOk};
 ghost use Rattle.std.specs.List.{AllZip};
 ghost use Rattle.cc_rules_calls.specs.Called.{function_at, functions_among as functions_among_of, functions_in as functions_in_of};
 ghost use Rattle.cc_rules_calls.specs.Here.{AreFunctionsIn};
-ghost use Rattle.cc_state_operators.specs.Domains.{domain};
-ghost use Rattle.cc_state_values.specs.Contexts.{HaveSetsIn, IsPureIn, IsValIn};
-ghost use Rattle.cc_syntax.specs.Sizes.{AreSized};
+ghost use Rattle.cc_state_points.specs.CcStateOperators.Domains.{domain};
+ghost use Rattle.cc_state_points.specs.CcStateValues.Contexts.{HaveSetsIn, IsPureIn, IsValIn};
+ghost use Rattle.cc_state_points.specs.CcSyntax.Sizes.{AreSized};
 
-use cc_lattice::IntDomain;
-use cc_num::NoMemory;
-use cc_places::Abs;
+use cc_program::num::NoMemory;
 use cc_program::{Address, Expr};
-use cc_rules_flows::Here;
-use cc_state_facts::Shared;
-use cc_state_values::value_of;
+use cc_state_points::lattice::IntDomain;
+use cc_state_points::places::Abs;
+use cc_state_points::rules_flows::Here;
+use cc_state_points::state_facts::Shared;
+use cc_state_points::state_values::value_of;
 use std::alloc::Global;
 
 /// Puts the function of which an address is behind others.

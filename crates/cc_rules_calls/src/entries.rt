@@ -3,30 +3,30 @@
 
 ghost use Rattle.std.specs.Prelude.{◌≡◌, ◌<◌, ◌^◌, ◌++◌, All, length, slice_get, is_some, true, IfOk, OnOk};
 ghost use Rattle.std.specs.Option.{option_copied, option_to_list};
-ghost use Rattle.cc_rules.specs.Constraints.{Call as CallRule};
+ghost use Rattle.cc_rules_asked.specs.CcRules.Constraints.{Call as CallRule};
 ghost use Rattle.cc_rules_asked.specs.Asks.{AsksHere, ArePureHere};
 ghost use Rattle.cc_rules_calls.specs.Called.{sets_of as sets_of_of};
 ghost use Rattle.cc_rules_functions.specs.Functions.{AreFunctionsOf};
 ghost use Rattle.cc_rules_calls.specs.Here.{MayCallHere, part_whole, parts_whole, marks_called, asked_entered, asked_of_one, asked_of_all, AreEntries};
-ghost use Rattle.cc_rules_flows.specs.Acts.{Calls};
-ghost use Rattle.cc_rules_flows.specs.Here.{IsHere};
-ghost use Rattle.cc_rules_flows.specs.View.{act_view};
-ghost use Rattle.cc_state_keys.specs.Keys.{keys_of, key_number as key_number_of};
-ghost use Rattle.cc_state_operators.specs.Domains.{domain};
+ghost use Rattle.cc_state_points.specs.CcRulesFlows.Acts.{Calls};
+ghost use Rattle.cc_state_points.specs.CcRulesFlows.Here.{IsHere};
+ghost use Rattle.cc_state_points.specs.CcRulesFlows.View.{act_view};
+ghost use Rattle.cc_state_points.specs.CcStateKeys.Keys.{keys_of, key_number as key_number_of};
+ghost use Rattle.cc_state_points.specs.CcStateOperators.Domains.{domain};
 
 use crate::call::{Call, called};
 use crate::called::{called_here, values_here};
 use crate::known::with_locals;
-use cc_lattice::IntDomain;
-use cc_num::{NoMemory, at};
-use cc_places::Abs;
 use cc_program::Program;
+use cc_program::num::{NoMemory, at};
 use cc_rules_asked::{Asked, copied_set, levels, mark};
-use cc_rules_flows::{Act, Here};
 use cc_rules_functions::Function;
-use cc_rules_needs::{Part, Slot};
-use cc_state_facts::{Key, Shared};
-use cc_state_keys::key_number;
+use cc_state_points::lattice::IntDomain;
+use cc_state_points::places::Abs;
+use cc_state_points::rules_flows::{Act, Here};
+use cc_state_points::rules_needs::{Part, Slot};
+use cc_state_points::state_facts::{Key, Shared};
+use cc_state_points::state_keys::key_number;
 use std::alloc::Global;
 
 /// Puts a set behind others, with one more owner, where there is one.

@@ -3,11 +3,11 @@
 ghost use Rattle.std.specs.Prelude.{◌≡◌, IfOk};
 ghost use Rattle.cc_rules_calls.specs.Here.{fact_with};
 
-use cc_lattice::IntDomain;
-use cc_num::{List, NoMemory};
-use cc_places::Abs;
-use cc_state_facts::{PointFact, Shared};
-use cc_state_shared::share_all;
+use cc_program::num::{List, NoMemory};
+use cc_state_points::lattice::IntDomain;
+use cc_state_points::places::Abs;
+use cc_state_points::state_facts::{PointFact, Shared};
+use cc_state_points::state_shared::share_all;
 use std::alloc::Global;
 
 /// What is known of the flag and the tracked cells at a point, with the sets of other registers. No register is known to equal a cell. The

@@ -1,17 +1,17 @@
 ghost use Rattle.std.specs.Prelude.{◌≡◌, ℕ, List, Some, slice_get};
-ghost use Rattle.cc_rules.specs.Rules.{act_at};
+ghost use Rattle.cc_rules_asked.specs.CcRules.Rules.{act_at};
 ghost use Rattle.cc_rules_calls.specs.Backs.{gets, MayGetHere};
 ghost use Rattle.cc_rules_calls.specs.Here.{MayCallHere};
-ghost use Rattle.cc_rules_flows.specs.declared.after.Here.{Here as HereOf};
-ghost use Rattle.cc_rules_flows.specs.Here.{IsHere};
-ghost use Rattle.cc_rules_flows.specs.Nexts.{IsPoint, statement_of};
+ghost use Rattle.cc_state_points.specs.CcRulesFlows.declared.after.Here.{Here as HereOf};
+ghost use Rattle.cc_state_points.specs.CcRulesFlows.Here.{IsHere};
+ghost use Rattle.cc_state_points.specs.CcRulesFlows.Nexts.{IsPoint, statement_of};
 ghost use Rattle.cc_rules_functions.specs.declared.functions.Function.{Function as FunctionOf};
 ghost use Rattle.cc_rules_functions.specs.Functions.{AreFunctionsOf};
-ghost use Rattle.cc_state.specs.Shape.{HaveShape};
-ghost use Rattle.cc_state_operators.specs.Domains.{domain};
-ghost use Rattle.cc_syntax.specs.Normal.{IsNormal};
+ghost use Rattle.cc_state_points.specs.CcState.Shape.{HaveShape};
+ghost use Rattle.cc_state_points.specs.CcStateOperators.Domains.{domain};
+ghost use Rattle.cc_state_points.specs.CcSyntax.Normal.{IsNormal};
 
-use cc_lattice::IntDomain;
+use cc_state_points::lattice::IntDomain;
 
 /// What holds of calls where a program is in normal form and facts are of its shape. The call does nothing.
 pub fn laws<I: IntDomain>()

@@ -3,14 +3,14 @@ use Rattle.std.proofs.Common.{arith, All, inl, inr, ◌↔◌, ◌≡◌, ◌+�
 use Rattle.std.specs.List.{list_any}
 use Rattle.std.specs.Option.{IfSome}
 use Rattle.std.proofs.lemmas.Option.{slice_get-get_or, slice_get_within}
-use Rattle.cc_lattice.specs.Domains.{AreEnds}
-use Rattle.cc_places.specs.declared.abs.Abs.{Abs}
+use Rattle.cc_rules_flows.specs.CcLattice.Domains.{AreEnds}
+use Rattle.cc_rules_flows.specs.CcPlaces.declared.abs.Abs.{Abs}
 use Rattle.cc_rules_flows.specs.declared.after.Here.{Here}
 use Rattle.cc_rules_flows.specs.Flows.{equal_to, equals}
 use Rattle.cc_rules_flows.specs.Here.{IsHere}
 use Rattle.cc_rules_flows.proofs.ShapeLemmas.{keeps}
 use Rattle.cc_rules_flows.specs.Tests.{IsLeft, IsLeftBy, IsOfRegister}
-use Rattle.cc_rules_needs.specs.Flowing.{of_fact}
+use Rattle.cc_rules_flows.specs.CcRulesNeeds.Flowing.{of_fact}
 use Rattle.cc_rules_sides.specs.Refined.{AreLeft, AreRowsLeft, AreWorkedOf, IsCellLeft, IsLeftByIn, IsOneEmptied, equal_from}
 use Rattle.cc_rules_choices.specs.Sided.{AreMembersWorked, HasLeft, IsLike, IsSideHere}
 use Rattle.cc_rules_choices.proofs.Kept.{all_keep, rows_alike, rows_long, sets_alike}
@@ -19,15 +19,15 @@ use Rattle.cc_rules_sides.proofs.Emptied.{something_left}
 use Rattle.cc_rules_choices.proofs.Numbered.{register_numbered}
 use Rattle.cc_rules_tests.specs.declared.tested.Tested.{Tested}
 use Rattle.cc_rules_tests.specs.Tested.{IsExplicitIn, IsLeftIn, IsOfRegisterIn, IsValWith, IsWorkedAt, test_of}
-use Rattle.cc_state_facts.specs.declared.facts.PointFact.{PointFact}
-use Rattle.cc_state_facts.specs.declared.facts.Row.{Row}
-use Rattle.cc_state_facts.specs.Facts.{cell_of, has_pair, local_of, row_length}
-use Rattle.cc_state_keys.specs.Tracked.{registers, register_number}
-use Rattle.cc_state_facts.specs.Orders.{Ascend}
-use Rattle.cc_state_operators.specs.Domains.{Domain, IsHull}
-use Rattle.cc_state_reads.specs.Reads.{registers_at}
-use Rattle.cc_state_values.specs.declared.context.Context.{Context}
-use Rattle.cc_state_values.specs.Contexts.{set_in}
+use Rattle.cc_rules_flows.specs.CcStateFacts.declared.facts.PointFact.{PointFact}
+use Rattle.cc_rules_flows.specs.CcStateFacts.declared.facts.Row.{Row}
+use Rattle.cc_rules_flows.specs.CcStateFacts.Facts.{cell_of, has_pair, local_of, row_length}
+use Rattle.cc_rules_flows.specs.CcStateKeys.Tracked.{registers, register_number}
+use Rattle.cc_rules_flows.specs.CcStateFacts.Orders.{Ascend}
+use Rattle.cc_rules_flows.specs.CcStateOperators.Domains.{Domain, IsHull}
+use Rattle.cc_rules_flows.specs.CcStateReads.Reads.{registers_at}
+use Rattle.cc_rules_flows.specs.CcStateValues.declared.context.Context.{Context}
+use Rattle.cc_rules_flows.specs.CcStateValues.Contexts.{set_in}
 
 numbered : (cell : ℕ) → row_length * (cell / row_length) + cell % row_length ≡ cell
 numbered cell = omega arith

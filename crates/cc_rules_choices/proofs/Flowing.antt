@@ -3,10 +3,10 @@ use Rattle.std.proofs.Common.{◌≡◌, ℕ, All, List, [], ◌∷◌, map, Som
 use Rattle.std.specs.List.{Contains}
 use Rattle.std.proofs.lemmas.List.Elements.{All-contains, All-weaker}
 use Rattle.std.proofs.lemmas.Option.{same_Some}
-use Rattle.cc_places.specs.Abstract.{AreOfOneKind}
-use Rattle.cc_places.specs.declared.abs.Abs.{Abs}
-use Rattle.cc_places.specs.declared.abs.Abs.TheVariants as abs
-use Rattle.cc_places.specs.laws.ListLaws.{behind_head, cons_cases, at_head, none_in}
+use Rattle.cc_rules_flows.specs.CcPlaces.Abstract.{AreOfOneKind}
+use Rattle.cc_rules_flows.specs.CcPlaces.declared.abs.Abs.{Abs}
+use Rattle.cc_rules_flows.specs.CcPlaces.declared.abs.Abs.TheVariants as abs
+use Rattle.cc_rules_flows.specs.CcPlaces.laws.ListLaws.{behind_head, cons_cases, at_head, none_in}
 use Rattle.cc_program.specs.declared.expr.Expr.{Expr}
 use Rattle.cc_rules_choices.specs.Choices.{AreTestsWorkedHere, choice_of, choices_of}
 use Rattle.cc_rules_choices.specs.declared.choices.Choice.{Choice}
@@ -18,12 +18,12 @@ use Rattle.cc_rules_flows.specs.Here.{DoesFlow, KeepsShapeHere}
 use Rattle.cc_rules_flows.specs.Joins.{AreAlikeAt}
 use Rattle.cc_rules_flows.specs.Tests.{Test}
 use Rattle.cc_rules_tests.specs.Tested.{test_of}
-use Rattle.cc_state_facts.specs.declared.facts.PointFact.{PointFact}
-use Rattle.cc_state_facts.specs.declared.facts.Row.{Row}
-use Rattle.cc_state_facts.specs.laws.OrderLaws.{point_back}
-use Rattle.cc_state_facts.specs.laws.Places.{zip_through}
-use Rattle.cc_state_facts.specs.Orders.{ArePointsAlike, AreRowsAlike}
-use Rattle.cc_state_operators.specs.Domains.{Domain}
+use Rattle.cc_rules_flows.specs.CcStateFacts.declared.facts.PointFact.{PointFact}
+use Rattle.cc_rules_flows.specs.CcStateFacts.declared.facts.Row.{Row}
+use Rattle.cc_rules_flows.specs.CcStateFacts.laws.OrderLaws.{point_back}
+use Rattle.cc_rules_flows.specs.CcStateFacts.laws.Places.{zip_through}
+use Rattle.cc_rules_flows.specs.CcStateFacts.Orders.{ArePointsAlike, AreRowsAlike}
+use Rattle.cc_rules_flows.specs.CcStateOperators.Domains.{Domain}
 
 in_map : {A B : Type 0} (f : A → B) (xs : List A) (y : B) → Contains (map f xs) y → (x : A) × Contains xs x × (f x ≡ y)
 in_map f [] y h = absurd (none_in y h)

@@ -1,20 +1,20 @@
 -- Each register of a point that is reached is tested by a set that it may have, and the cells of its rows have numbers.
 use Rattle.std.proofs.Common.{arith, ◌≡◌, ◌==◌, ◌<◌, ◌^◌, ℕ, true, length, Some, option_and_then, position, slice_get, ap, sym, subst, ◌∙◌}
 use Rattle.std.proofs.lemmas.Option.{same_Some}
-use Rattle.cc_places.specs.declared.abs.Abs.{Abs}
+use Rattle.cc_rules_flows.specs.CcPlaces.declared.abs.Abs.{Abs}
 use Rattle.cc_rules_choices.proofs.Numbered.{register_is, register_numbered}
 use Rattle.cc_rules_flows.specs.declared.after.Here.{Here}
 use Rattle.cc_rules_flows.specs.Here.{IsHere}
-use Rattle.cc_rules_needs.specs.Points.{IsFactOf}
+use Rattle.cc_rules_flows.specs.CcRulesNeeds.Points.{IsFactOf}
 use Rattle.cc_rules_sides.specs.Refined.{AreHeld, AreNumbered, AreRegisters}
 use Rattle.cc_rules_tests.proofs.Registers.{may_have}
 use Rattle.cc_rules_tests.specs.declared.tested.Tested.{Tested}
-use Rattle.cc_state_keys.specs.Tracked.{registers}
-use Rattle.cc_state_operators.specs.Domains.{Domain}
-use Rattle.cc_state_operators.specs.Types.{AreOf}
-use Rattle.cc_state_values.specs.declared.context.Context.{Context}
-use Rattle.cc_state_values.specs.Contexts.{HaveSetsIn, set_in}
-use Rattle.cc_syntax.specs.Registers.{is_register}
+use Rattle.cc_rules_flows.specs.CcStateKeys.Tracked.{registers}
+use Rattle.cc_rules_flows.specs.CcStateOperators.Domains.{Domain}
+use Rattle.cc_rules_flows.specs.CcStateOperators.Types.{AreOf}
+use Rattle.cc_rules_flows.specs.CcStateValues.declared.context.Context.{Context}
+use Rattle.cc_rules_flows.specs.CcStateValues.Contexts.{HaveSetsIn, set_in}
+use Rattle.cc_rules_flows.specs.CcSyntax.Registers.{is_register}
 
 module _ {I : Type 0} (d : Domain I) (here : Here I) (h : IsHere d here) where
   set_there : (number r : ℕ) (y : Abs I) → slice_get (registers here.context.func.now) number ≡ Some r → slice_get here.fact.now.locals number ≡ Some y → set_in here.context r ≡ Some y

@@ -2,19 +2,19 @@
 use Rattle.std.proofs.Common.{arith, ◌≡◌, ℕ, zero, suc, List, [], ◌∷◌, length, get_or, Some, slice_get, refl, sym, subst, ◌∙◌}
 use Rattle.std.specs.List.{AllZip}
 use Rattle.std.proofs.lemmas.Option.{slice_get-get_or, slice_get_within}
-use Rattle.cc_places.specs.Abstract.{AreOfOneKind}
-use Rattle.cc_places.specs.declared.abs.Abs.{Abs}
-use Rattle.cc_places.specs.declared.abs.Abs.TheVariants as abs
+use Rattle.cc_rules_flows.specs.CcPlaces.Abstract.{AreOfOneKind}
+use Rattle.cc_rules_flows.specs.CcPlaces.declared.abs.Abs.{Abs}
+use Rattle.cc_rules_flows.specs.CcPlaces.declared.abs.Abs.TheVariants as abs
 use Rattle.cc_rules_flows.specs.Kept.{AreAsLong}
 use Rattle.cc_rules_flows.specs.Tests.{Alike, Unlike}
 use Rattle.cc_rules_sides.specs.Refined.{AllKeepAddresses, AreCellsLeft, AreLeft, AreRowsLeft, IsLeftByIn, KeepsAddresses}
 use Rattle.cc_rules_sides.proofs.Emptied.{kept_by_test}
 use Rattle.cc_rules_tests.specs.declared.tested.Tested.{Tested}
 use Rattle.cc_rules_tests.specs.Tested.{IsLeftAlikeIn}
-use Rattle.cc_state_facts.specs.declared.facts.PointFact.{PointFact}
-use Rattle.cc_state_facts.specs.declared.facts.Row.{Row}
-use Rattle.cc_state_facts.specs.Orders.{AreRowsAlike}
-use Rattle.cc_state_operators.specs.Domains.{Domain}
+use Rattle.cc_rules_flows.specs.CcStateFacts.declared.facts.PointFact.{PointFact}
+use Rattle.cc_rules_flows.specs.CcStateFacts.declared.facts.Row.{Row}
+use Rattle.cc_rules_flows.specs.CcStateFacts.Orders.{AreRowsAlike}
+use Rattle.cc_rules_flows.specs.CcStateOperators.Domains.{Domain}
 
 -- place by place
 pub zip_by : {A B : Type 0} (R : A → B → Type 0) (xs : List A) (ys : List B) → length ys ≡ length xs → ((n : ℕ) (x : A) (y : B) → slice_get xs n ≡ Some x → slice_get ys n ≡ Some y → R x y) → AllZip R xs ys

@@ -5,8 +5,8 @@ use Rattle.std.proofs.lemmas.List.Elements.{Contains-append_cases, Contains-appe
 use Rattle.cc_flow.specs.Next.{reached}
 use Rattle.cc_flow.specs.Points.{total_of}
 use Rattle.cc_flow.specs.View.{total_of_cases}
-use Rattle.cc_lattice.specs.Domains.{IsIntValue}
-use Rattle.cc_places.specs.laws.ListLaws.{at_head, behind_head, cons_cases, none_in}
+use Rattle.cc_rules_flows.specs.CcLattice.Domains.{IsIntValue}
+use Rattle.cc_rules_flows.specs.CcPlaces.laws.ListLaws.{at_head, behind_head, cons_cases, none_in}
 use Rattle.cc_program.specs.declared.stmt.Case.{Case}
 use Rattle.cc_program.specs.declared.stmt.Stmt.{Stmt}
 use Rattle.cc_rules_choices.specs.Choices.{choice_of, choices_of}

@@ -6,9 +6,9 @@ use Rattle.std.proofs.lemmas.Bool.{lt-ltb}
 use Rattle.std.proofs.lemmas.Bool.Decides.{nat_tests}
 use Rattle.std.proofs.lemmas.Option.{same_Some}
 use Rattle.cc_program.specs.declared.func.Func.{Func}
-use Rattle.cc_state_keys.specs.Lists.{made_from, only_if}
-use Rattle.cc_state_keys.specs.Tracked.{registers, register_number}
-use Rattle.cc_syntax.specs.Registers.{is_register}
+use Rattle.cc_rules_flows.specs.CcStateKeys.Lists.{made_from, only_if}
+use Rattle.cc_rules_flows.specs.CcStateKeys.Tracked.{registers, register_number}
+use Rattle.cc_rules_flows.specs.CcSyntax.Registers.{is_register}
 
 shifted : (n m : ℕ) → nat_lt (1 + n) (suc m) ≡ nat_lt n m
 shifted n m = grind (arith, nat_tests)

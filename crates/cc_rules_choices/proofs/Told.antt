@@ -4,8 +4,8 @@ use Rattle.std.specs.List.{AllZip}
 use Rattle.std.specs.Option.{IfSome}
 use Rattle.std.proofs.lemmas.List.{append_assoc, append-nil}
 use Rattle.std.proofs.lemmas.List.Elements.{All-cons, All-nil}
-use Rattle.cc_places.specs.declared.abs.Abs.{Abs}
-use Rattle.cc_places.specs.declared.abs.Abs.TheVariants as abs
+use Rattle.cc_rules_flows.specs.CcPlaces.declared.abs.Abs.{Abs}
+use Rattle.cc_rules_flows.specs.CcPlaces.declared.abs.Abs.TheVariants as abs
 use Rattle.cc_program.specs.declared.expr.Expr.{Expr}
 use Rattle.cc_rules_choices.specs.Sided.{AreMembersWorked, AreSidesHere, AreWorkedHere, DoFlow, IsRefined, IsSideTold, SideHere, fact_to, flow_to}
 use Rattle.cc_rules_choices.proofs.Assembled.{there}
@@ -14,14 +14,14 @@ use Rattle.cc_rules_flows.specs.Flows.{Taken, Barred, Untaken}
 use Rattle.cc_rules_flows.specs.Here.{IsHere}
 use Rattle.cc_rules_flows.specs.Known.{AreTold, Tells}
 use Rattle.cc_rules_flows.specs.Tests.{MayPass, Test}
-use Rattle.cc_rules_needs.specs.Flowing.{Flowing, of_fact}
+use Rattle.cc_rules_flows.specs.CcRulesNeeds.Flowing.{Flowing, of_fact}
 use Rattle.cc_rules_tests.specs.Passing.{MayPassIn}
-use Rattle.cc_state_facts.specs.declared.facts.PointFact.{PointFact}
-use Rattle.cc_state_operators.specs.Domains.{Domain}
-use Rattle.cc_state_reads.specs.Reads.{registers_at}
-use Rattle.cc_state_values.proofs.Same.{IsOrdered, same_value}
-use Rattle.cc_state_values.specs.Contexts.{IsValIn}
-use Rattle.cc_state_values.specs.Values.{IsVal}
+use Rattle.cc_rules_flows.specs.CcStateFacts.declared.facts.PointFact.{PointFact}
+use Rattle.cc_rules_flows.specs.CcStateOperators.Domains.{Domain}
+use Rattle.cc_rules_flows.specs.CcStateReads.Reads.{registers_at}
+use Rattle.cc_rules_flows.proofs.CcStateValues.Same.{IsOrdered, same_value}
+use Rattle.cc_rules_flows.specs.CcStateValues.Contexts.{IsValIn}
+use Rattle.cc_rules_flows.specs.CcStateValues.Values.{IsVal}
 
 zip_append : {A B : Type 0} (R : A → B → Type 0) (xs more : List A) (ys rest : List B) → AllZip R xs ys → AllZip R more rest → AllZip R (xs ++ more) (ys ++ rest)
 zip_append R [] more [] rest h k = k

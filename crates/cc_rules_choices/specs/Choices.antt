@@ -3,7 +3,7 @@ use Rattle.std.specs.Prelude.{◌≡◌, ◌<◌, ◌+◌, ◌^◌, ℕ, ℤ, Li
 use Rattle.std.specs.List.{Contains}
 use Rattle.cc_flow.specs.Points.{total_of}
 use Rattle.cc_flow.specs.View.{total_of_cases}
-use Rattle.cc_lattice.specs.Domains.{IsIntValue}
+use Rattle.cc_rules_flows.specs.CcLattice.Domains.{IsIntValue}
 use Rattle.cc_program.specs.declared.expr.Expr.{Expr}
 use Rattle.cc_program.specs.declared.stmt.Case.{Case}
 use Rattle.cc_program.specs.declared.stmt.Stmt.{Stmt}
@@ -15,7 +15,7 @@ use Rattle.cc_rules_flows.specs.Nexts.{all_constants}
 use Rattle.cc_rules_flows.specs.Tests.{Test}
 use Rattle.cc_rules_flows.specs.Worked.{AreWorked}
 use Rattle.cc_rules_tests.specs.Tested.{test_of}
-use Rattle.cc_state_operators.specs.Domains.{Domain}
+use Rattle.cc_rules_flows.specs.CcStateOperators.Domains.{Domain}
 
 abbrev pub choice_of : Choice → Test × ℕ
 choice_of c = (test_of c.test, c.point)

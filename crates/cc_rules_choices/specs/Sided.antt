@@ -1,7 +1,7 @@
 -- A test at a point that is reached, as the code has it, and what then flows.
 use Rattle.std.specs.Prelude.{◌≡◌, ℕ, ℤ, List, [], ◌∷◌, length, Option, Some, None, slice_get}
-use Rattle.cc_places.specs.Abstract.{HasValue}
-use Rattle.cc_places.specs.declared.abs.Abs.{Abs}
+use Rattle.cc_rules_flows.specs.CcPlaces.Abstract.{HasValue}
+use Rattle.cc_rules_flows.specs.CcPlaces.declared.abs.Abs.{Abs}
 use Rattle.cc_program.specs.declared.expr.Expr.{Expr}
 use Rattle.cc_program.specs.declared.value.Value.{Value}
 use Rattle.cc_rules_flows.specs.declared.after.Here.{Here}
@@ -10,15 +10,15 @@ use Rattle.cc_rules_flows.specs.Here.{KeepsShapeHere}
 use Rattle.cc_rules_flows.specs.Known.{AreTold}
 use Rattle.cc_rules_flows.specs.Tests.{Test}
 use Rattle.cc_rules_flows.specs.Worked.{AreWorked, IsMember}
-use Rattle.cc_rules_needs.specs.Flowing.{Flowing, of_fact}
-use Rattle.cc_rules_needs.specs.Points.{IsFactOf}
+use Rattle.cc_rules_flows.specs.CcRulesNeeds.Flowing.{Flowing, of_fact}
+use Rattle.cc_rules_flows.specs.CcRulesNeeds.Points.{IsFactOf}
 use Rattle.cc_rules_tests.specs.Tested.{IsValWith}
-use Rattle.cc_state_facts.specs.declared.facts.PointFact.{PointFact}
-use Rattle.cc_state_facts.specs.Facts.{local_of}
-use Rattle.cc_state_facts.specs.Orders.{ArePointsAlike}
-use Rattle.cc_state_keys.specs.Tracked.{registers}
-use Rattle.cc_state_operators.specs.Domains.{Domain, IsHull}
-use Rattle.cc_state_values.specs.Contexts.{IsPureIn}
+use Rattle.cc_rules_flows.specs.CcStateFacts.declared.facts.PointFact.{PointFact}
+use Rattle.cc_rules_flows.specs.CcStateFacts.Facts.{local_of}
+use Rattle.cc_rules_flows.specs.CcStateFacts.Orders.{ArePointsAlike}
+use Rattle.cc_rules_flows.specs.CcStateKeys.Tracked.{registers}
+use Rattle.cc_rules_flows.specs.CcStateOperators.Domains.{Domain, IsHull}
+use Rattle.cc_rules_flows.specs.CcStateValues.Contexts.{IsPureIn}
 
 -- what flows to a point, if anything does
 abbrev pub flow_to : {I : Type 0} → ℕ → Option (PointFact I) → List (ℕ × Flowing I)

@@ -6,19 +6,19 @@ ghost use Rattle.cc_rules_choices.specs.Sided.{MayTest};
 ghost use Rattle.cc_rules_flows.specs.Acts.{Chooses, Tests};
 ghost use Rattle.cc_rules_flows.specs.Here.{DoesFlow, IsHere, KeepsShapeHere};
 ghost use Rattle.cc_rules_flows.specs.Joins.{AreAlikeAt};
-ghost use Rattle.cc_state_facts.specs.declared.facts.PointFact.{PointFact as PointFactOf};
-ghost use Rattle.cc_state_operators.specs.Domains.{domain};
+ghost use Rattle.cc_rules_flows.specs.CcStateFacts.declared.facts.PointFact.{PointFact as PointFactOf};
+ghost use Rattle.cc_rules_flows.specs.CcStateOperators.Domains.{domain};
 
 use crate::choices::{Choice, all_constants, choices};
 use crate::counts::size;
 use crate::sides::sides;
 use crate::starts::{behind_in, reached};
-use cc_lattice::IntDomain;
-use cc_num::NoMemory;
+use cc_program::num::NoMemory;
 use cc_program::{Case, Expr, Stmt};
 use cc_rules_flows::Here;
+use cc_rules_flows::lattice::IntDomain;
+use cc_rules_flows::state_facts::PointFact;
 use cc_rules_tests::Test;
-use cc_state_facts::PointFact;
 use std::alloc::Global;
 
 /// What flows from an `if`: to its first list where the condition may be true, and to its second one where it may be false,

@@ -10,8 +10,8 @@ ghost use Rattle.cc_rules_tests.specs.Tested.{test_of};
 
 use crate::counts::size_of_cases;
 use crate::starts::{behind_in, starts};
-use cc_num::NoMemory;
 use cc_program::Case;
+use cc_program::num::NoMemory;
 use cc_rules_tests::Test;
 use std::alloc::Global;
 

@@ -2,24 +2,24 @@
 
 ghost use Rattle.std.specs.Prelude.{◌≡◌, ◌++◌, ℕ, ℤ, All, length, IfOk, IfSome, OnOk};
 ghost use Rattle.std.specs.List.{Contains};
-ghost use Rattle.cc_lattice.specs.Domains.{IsIntValue};
+ghost use Rattle.cc_rules_flows.specs.CcLattice.Domains.{IsIntValue};
 ghost use Rattle.cc_rules_choices.specs.Choices.{choices_of};
 ghost use Rattle.cc_rules_choices.specs.declared.choices.Choice.{Choice as ChoiceOf};
 ghost use Rattle.cc_rules_choices.specs.Sided.{AreMembersWorked, AreWorkedHere, DoFlow, IsLike, IsRefined, IsSideTold, MayTest, fact_to};
 ghost use Rattle.cc_rules_flows.specs.Here.{IsHere};
 ghost use Rattle.cc_rules_tests.specs.Tested.{IsTested, labels_of, test_of};
 ghost use Rattle.cc_rules_tests.specs.Trials.{IsTrialOf};
-ghost use Rattle.cc_state_facts.specs.declared.facts.PointFact.{PointFact as PointFactOf};
-ghost use Rattle.cc_state_operators.specs.Domains.{domain};
+ghost use Rattle.cc_rules_flows.specs.CcStateFacts.declared.facts.PointFact.{PointFact as PointFactOf};
+ghost use Rattle.cc_rules_flows.specs.CcStateOperators.Domains.{domain};
 
 use crate::choices::Choice;
-use cc_lattice::IntDomain;
-use cc_num::{List, NoMemory};
 use cc_program::Expr;
+use cc_program::num::{List, NoMemory};
 use cc_rules_flows::Here;
+use cc_rules_flows::lattice::IntDomain;
+use cc_rules_flows::state_facts::PointFact;
 use cc_rules_sides::{is_one_emptied, left_locals, left_rows};
 use cc_rules_tests::{Test, Tested, Trial, passes};
-use cc_state_facts::PointFact;
 use std::alloc::Global;
 
 /// What is known at the point, each set as a test leaves it. None where a register with a value has none left.

@@ -8,8 +8,8 @@ ghost use Rattle.cc_rules_choices.specs.Starts.{AreStarted};
 ghost use Rattle.cc_rules_flows.specs.Nexts.{behind_in as behind_of};
 
 use crate::counts::size;
-use cc_num::NoMemory;
 use cc_program::Case;
+use cc_program::num::NoMemory;
 use std::alloc::Global;
 
 /// Of the next points of a statement of so many points the one that is not inside it.

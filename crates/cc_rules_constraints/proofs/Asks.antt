@@ -3,21 +3,21 @@
 use Rattle.std.proofs.Common.{◌≡◌, ℕ, List, [], Option, Some, None, refl, ap, sym, subst, slice_get, ◌∙◌}
 use Rattle.std.proofs.lemmas.List.Elements.{All-nil, All-same}
 use Rattle.std.proofs.lemmas.Option.{same_Some}
-use Rattle.cc_flow.specs.declared.types.Point.{Point}
+use Rattle.cc_rules_asked.specs.CcFlow.declared.types.Point.{Point}
 use Rattle.cc_program.specs.declared.expr.Expr.{Expr}
 use Rattle.cc_program.specs.declared.func.Func.{Func}
 use Rattle.cc_program.specs.declared.program.Program.{Program}
-use Rattle.cc_rules.specs.Constraints.{Rule, Initial, Start, Flow, Write, Touch, Call, Back, Return, Handler, Stability, Constraint as ConstraintOf, at_point, constraints}
-use Rattle.cc_rules.specs.Rules.{AreFirstSets, IsStarted, AskedIn, IsAsked, act_at}
+use Rattle.cc_rules_asked.specs.CcRules.Constraints.{Rule, Initial, Start, Flow, Write, Touch, Call, Back, Return, Handler, Stability, Constraint as ConstraintOf, at_point, constraints}
+use Rattle.cc_rules_asked.specs.CcRules.Rules.{AreFirstSets, IsStarted, AskedIn, IsAsked, act_at}
 use Rattle.cc_rules_asked.specs.declared.asked.Asked.{Asked}
 use Rattle.cc_rules_asked.specs.Asked.{all_needs}
 use Rattle.cc_rules_choices.specs.Choices.{AreTestsWorkedHere}
 use Rattle.cc_rules_constraints.specs.Asking.{IsAskedHere, IsAskedAt, IsAskedBy}
-use Rattle.cc_rules_flows.specs.declared.after.Here.{Here}
-use Rattle.cc_rules_flows.specs.Flows.{tests_of}
-use Rattle.cc_rules_flows.specs.Nexts.{IsPoint, statement_of}
-use Rattle.cc_rules_flows.specs.Tests.{Test}
-use Rattle.cc_rules_flows.specs.Worked.{AreWorked}
+use Rattle.cc_rules_asked.specs.CcRulesFlows.declared.after.Here.{Here}
+use Rattle.cc_rules_asked.specs.CcRulesFlows.Flows.{tests_of}
+use Rattle.cc_rules_asked.specs.CcRulesFlows.Nexts.{IsPoint, statement_of}
+use Rattle.cc_rules_asked.specs.CcRulesFlows.Tests.{Test}
+use Rattle.cc_rules_asked.specs.CcRulesFlows.Worked.{AreWorked}
 use Rattle.cc_rules_grow.specs.Grown.{AreTestsWorked}
 use Rattle.cc_rules_here.specs.HereAt.{IsHereAt}
 use Rattle.cc_rules_layout.specs.Raisable.{IsRaisable, AreRaisable}
@@ -25,11 +25,11 @@ use Rattle.cc_rules_numbered.specs.declared.constraints.Constraint.{Constraint}
 use Rattle.cc_rules_numbered.specs.declared.constraints.Rule.{Rule as RuleOf}
 use Rattle.cc_rules_numbered.specs.declared.constraints.Rule.TheVariants as rule
 use Rattle.cc_rules_numbered.specs.Numbered.{rule_view, constraint_view}
-use Rattle.cc_state_facts.specs.declared.facts.Facts.{Facts}
-use Rattle.cc_state_facts.specs.declared.facts.PointFact.{PointFact}
-use Rattle.cc_state_facts.specs.Facts.{fact_at}
-use Rattle.cc_state_keys.specs.Keys.{keys_of}
-use Rattle.cc_state_operators.specs.Domains.{Domain}
+use Rattle.cc_rules_asked.specs.CcStateFacts.declared.facts.Facts.{Facts}
+use Rattle.cc_rules_asked.specs.CcStateFacts.declared.facts.PointFact.{PointFact}
+use Rattle.cc_rules_asked.specs.CcStateFacts.Facts.{fact_at}
+use Rattle.cc_rules_asked.specs.CcStateKeys.Keys.{keys_of}
+use Rattle.cc_rules_asked.specs.CcStateOperators.Domains.{Domain}
 
 -- a number is that of one point, of one function
 one_point : (p : Program) (n : ℕ) (id other : ℕ) (f g : Func) (point next : Point) → IsPoint p n id f point → IsPoint p n other g next → (id ≡ other) × (f ≡ g) × (point ≡ next)

@@ -3,19 +3,19 @@ use Rattle.std.proofs.Common.{arith, ◌≡◌, ◌<◌, ◌≤◌, ◌+◌, ℕ
 use Rattle.std.proofs.lemmas.Option.{slice_get_within}
 use borrow.Author.Count.{below_none, below_more}
 use Rattle.cc_program.specs.declared.program.Program.{Program}
-use Rattle.cc_rules.specs.Broken.{IsFirstBroken, FirstBroken}
-use Rattle.cc_rules.specs.Constraints.{Constraint, constraints}
-use Rattle.cc_rules.specs.Rules.{IsAsked, IsMet}
+use Rattle.cc_rules_asked.specs.CcRules.Broken.{IsFirstBroken, FirstBroken}
+use Rattle.cc_rules_asked.specs.CcRules.Constraints.{Constraint, constraints}
+use Rattle.cc_rules_asked.specs.CcRules.Rules.{IsAsked, IsMet}
 use Rattle.cc_rules_constraints.proofs.Lists.{split_at, in_front, there}
 use Rattle.cc_rules_constraints.specs.declared.broken.Broken.{Broken}
 use Rattle.cc_rules_constraints.specs.Broken.{broken_view, Lacks, IsBrokenAt}
 use Rattle.cc_rules_lacking.specs.First.{IsFirst}
-use Rattle.cc_rules_needs.specs.declared.needs.Part.{Part}
-use Rattle.cc_rules_needs.specs.declared.needs.Slot.{Slot}
-use Rattle.cc_rules_needs.specs.Needs.{Needs, HasAll}
-use Rattle.cc_state.proofs.Lists.{at_contained}
-use Rattle.cc_state_facts.specs.declared.facts.Facts.{Facts}
-use Rattle.cc_state_operators.specs.Domains.{Domain}
+use Rattle.cc_rules_asked.specs.CcRulesNeeds.declared.needs.Part.{Part}
+use Rattle.cc_rules_asked.specs.CcRulesNeeds.declared.needs.Slot.{Slot}
+use Rattle.cc_rules_asked.specs.CcRulesNeeds.Needs.{Needs, HasAll}
+use Rattle.cc_rules_grow.proofs.CcState.Lists.{at_contained}
+use Rattle.cc_rules_asked.specs.CcStateFacts.declared.facts.Facts.{Facts}
+use Rattle.cc_rules_asked.specs.CcStateOperators.Domains.{Domain}
 
 module _ {I : Type 0} (d : Domain I) (p : Program) (facts : Facts I) where
   -- ---- one constraint

@@ -2,7 +2,7 @@
 use Rattle.std.proofs.Common.{◌≡◌, ◌⊎◌, inl, inr, List, [], All, refl, sym, subst}
 use Rattle.std.specs.Prelude.{if◌then◌else◌}
 use Rattle.std.proofs.lemmas.List.Elements.{All-nil, All-same}
-use Rattle.cc_rules.specs.Constraints.{Rule, Initial, Start, Flow, Write, Touch, Call, Back, Return, Handler, Stability}
+use Rattle.cc_rules_asked.specs.CcRules.Constraints.{Rule, Initial, Start, Flow, Write, Touch, Call, Back, Return, Handler, Stability}
 use Rattle.cc_rules_asked.specs.declared.asked.Asked.{Asked}
 use Rattle.cc_rules_asked.specs.Asks.{AsksHere}
 use Rattle.cc_rules_asked.specs.Handlers.{asked_of_all}
@@ -11,8 +11,8 @@ use Rattle.cc_rules_calls.specs.Here.{AreEntries}
 use Rattle.cc_rules_choices.specs.Choices.{AreTestsWorkedHere}
 use Rattle.cc_rules_constraints.specs.Asking.{IsAskedHere}
 use Rattle.cc_rules_constraints.specs.Ready.{IsReady}
-use Rattle.cc_rules_flows.specs.Acts.{Act}
-use Rattle.cc_rules_flows.specs.declared.after.Here.{Here}
+use Rattle.cc_rules_asked.specs.CcRulesFlows.Acts.{Act}
+use Rattle.cc_rules_asked.specs.CcRulesFlows.declared.after.Here.{Here}
 use Rattle.cc_rules_layout.specs.Raisable.{IsRaisable, AreRaisable}
 use Rattle.cc_rules_made.specs.declared.rules.Rules.{Rules}
 use Rattle.cc_rules_nexts.specs.Told.{IsOnward}
@@ -21,7 +21,7 @@ use Rattle.cc_rules_numbered.specs.declared.constraints.Rule.TheVariants as rule
 use Rattle.cc_rules_numbered.specs.Numbered.{rule_view}
 use Rattle.cc_rules_raisable.proofs.Parts.{write_raisable, touch_raisable, return_raisable, stability_raisable}
 use Rattle.cc_rules_raisable.proofs.Raisable.{handlers_raisable, entries_raisable, behind_raisable, onward_raisable}
-use Rattle.cc_state_operators.specs.Domains.{Domain}
+use Rattle.cc_rules_asked.specs.CcStateOperators.Domains.{Domain}
 
 module _ {I : Type 0} (d : Domain I) (here : Here I) (act : Act) (list : List (Asked I)) where
   -- ---- rules of no point that is reached

@@ -6,9 +6,9 @@ use Rattle.cc_program.specs.declared.program.Program.{Program}
 use Rattle.cc_rules_constraints.proofs.Lists.{there}
 use Rattle.cc_rules_functions.specs.declared.functions.Function.{Function}
 use Rattle.cc_rules_functions.specs.Functions.{AreFunctionsOf}
-use Rattle.cc_syntax.proofs.NameRules.{sound-typed}
-use Rattle.cc_syntax.specs.Normal.{IsNormal}
-use Rattle.cc_syntax.specs.Sound.{is_main_there}
+use Rattle.cc_rules_asked.proofs.CcSyntax.NameRules.{sound-typed}
+use Rattle.cc_rules_asked.specs.CcSyntax.Normal.{IsNormal}
+use Rattle.cc_rules_asked.specs.CcSyntax.Sound.{is_main_there}
 
 main_by : (p : Program) (x : Option Func) → slice_get p.funcs p.main ≡ x → is_main_there x ≡ true → p.main < length p.funcs
 main_by p None e h = absurd (cc)

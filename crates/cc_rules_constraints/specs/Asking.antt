@@ -2,19 +2,19 @@
 -- were worked.
 use Rattle.std.specs.Prelude.{◌≡◌, ℕ, List}
 use Rattle.cc_program.specs.declared.program.Program.{Program}
-use Rattle.cc_rules.specs.Constraints.{Rule, Flow, Constraint}
-use Rattle.cc_rules.specs.Rules.{AskedIn, IsAsked}
+use Rattle.cc_rules_asked.specs.CcRules.Constraints.{Rule, Flow, Constraint}
+use Rattle.cc_rules_asked.specs.CcRules.Rules.{AskedIn, IsAsked}
 use Rattle.cc_rules_asked.specs.declared.asked.Asked.{Asked}
 use Rattle.cc_rules_asked.specs.Asked.{all_needs}
 use Rattle.cc_rules_asked.specs.Asks.{AsksHere}
 use Rattle.cc_rules_choices.specs.Choices.{AreTestsWorkedHere}
-use Rattle.cc_rules_flows.specs.Acts.{Act}
-use Rattle.cc_rules_flows.specs.declared.after.Here.{Here}
+use Rattle.cc_rules_asked.specs.CcRulesFlows.Acts.{Act}
+use Rattle.cc_rules_asked.specs.CcRulesFlows.declared.after.Here.{Here}
 use Rattle.cc_rules_grow.specs.Grown.{AreTestsWorked, IsWorked}
 use Rattle.cc_rules_layout.specs.Raisable.{AreRaisable}
-use Rattle.cc_state_facts.specs.declared.facts.Facts.{Facts}
-use Rattle.cc_state_facts.specs.Facts.{fact_at}
-use Rattle.cc_state_operators.specs.Domains.{Domain}
+use Rattle.cc_rules_asked.specs.CcStateFacts.declared.facts.Facts.{Facts}
+use Rattle.cc_rules_asked.specs.CcStateFacts.Facts.{fact_at}
+use Rattle.cc_rules_asked.specs.CcStateOperators.Domains.{Domain}
 
 -- by a rule at a point that is reached, whose statement does this
 pub record IsAskedHere {I : Type 0} (d : Domain I) (here : Here I) (rule : Rule) (act : Act) (list : List (Asked I)) : Type 0 where

@@ -1,15 +1,15 @@
 -- The first constraint that facts break, as the code has it.
 use Rattle.std.specs.Prelude.{◌≡◌, ℕ, ◌∷◌, ◌++◌, Option, Some, None, slice_get}
 use Rattle.cc_program.specs.declared.program.Program.{Program}
-use Rattle.cc_rules.specs.Constraints.{Constraint, constraints}
-use Rattle.cc_rules.specs.Rules.{IsAsked, IsMet}
+use Rattle.cc_rules_asked.specs.CcRules.Constraints.{Constraint, constraints}
+use Rattle.cc_rules_asked.specs.CcRules.Rules.{IsAsked, IsMet}
 use Rattle.cc_rules_constraints.specs.declared.broken.Broken.{Broken}
 use Rattle.cc_rules_numbered.specs.Numbered.{constraint_view}
-use Rattle.cc_rules_needs.specs.declared.needs.Part.{Part}
-use Rattle.cc_rules_needs.specs.declared.needs.Slot.{Slot}
-use Rattle.cc_rules_needs.specs.Needs.{Needs, get, IsBelowPart, HasAll}
-use Rattle.cc_state_facts.specs.declared.facts.Facts.{Facts}
-use Rattle.cc_state_operators.specs.Domains.{Domain}
+use Rattle.cc_rules_asked.specs.CcRulesNeeds.declared.needs.Part.{Part}
+use Rattle.cc_rules_asked.specs.CcRulesNeeds.declared.needs.Slot.{Slot}
+use Rattle.cc_rules_asked.specs.CcRulesNeeds.Needs.{Needs, get, IsBelowPart, HasAll}
+use Rattle.cc_rules_asked.specs.CcStateFacts.declared.facts.Facts.{Facts}
+use Rattle.cc_rules_asked.specs.CcStateOperators.Domains.{Domain}
 
 abbrev pub broken_view : {I : Type 0} → Broken I → Constraint × Slot × Part I
 broken_view b = (constraint_view b.constraint, b.slot, b.part)

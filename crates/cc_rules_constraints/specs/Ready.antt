@@ -3,16 +3,16 @@ use Rattle.std.specs.Prelude.{◌≡◌, ◌<◌, ◌^◌, ℕ, All, length, Som
 use Rattle.cc_rules_asked.specs.Asks.{ArePureHere}
 use Rattle.cc_rules_calls.specs.Backs.{gets, MayGetHere}
 use Rattle.cc_rules_calls.specs.Here.{MayCallHere}
-use Rattle.cc_rules_flows.specs.Acts.{Act}
-use Rattle.cc_rules_flows.specs.declared.after.Here.{Here}
-use Rattle.cc_rules_flows.specs.Here.{IsHere, MayDo}
-use Rattle.cc_rules_flows.specs.Nexts.{IsPoint}
+use Rattle.cc_rules_asked.specs.CcRulesFlows.Acts.{Act}
+use Rattle.cc_rules_asked.specs.CcRulesFlows.declared.after.Here.{Here}
+use Rattle.cc_rules_asked.specs.CcRulesFlows.Here.{IsHere, MayDo}
+use Rattle.cc_rules_asked.specs.CcRulesFlows.Nexts.{IsPoint}
 use Rattle.cc_rules_functions.specs.declared.functions.Function.{Function}
 use Rattle.cc_rules_made.specs.declared.rules.Rules.{Rules}
 use Rattle.cc_rules_made.specs.Rules.{AreOf}
 use Rattle.cc_rules_onward.specs.Fits.{FitTests}
-use Rattle.cc_state.specs.Shape.{HaveShape}
-use Rattle.cc_state_operators.specs.Domains.{Domain}
+use Rattle.cc_rules_grow.specs.CcState.Shape.{HaveShape}
+use Rattle.cc_rules_asked.specs.CcStateOperators.Domains.{Domain}
 
 pub record IsReady {I : Type 0} (d : Domain I) (rules : Rules) (here : Here I) (act : Act) : Type 0 where
   pub shape : HaveShape d here.context.program.now here.facts.now

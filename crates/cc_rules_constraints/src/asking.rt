@@ -1,9 +1,9 @@
 //! What each constraint asks of facts, by its number.
 
 ghost use Rattle.std.specs.Prelude.{◌≡◌, ◌<◌, ◌≤◌, ◌^◌, length, slice_get, Some, IfOk};
-ghost use Rattle.cc_flow.specs.Points.{count_of};
-ghost use Rattle.cc_rules.specs.Constraints.{Constraint as ConstraintOf, constraints};
-ghost use Rattle.cc_rules.specs.Rules.{IsAsked};
+ghost use Rattle.cc_rules_asked.specs.CcFlow.Points.{count_of};
+ghost use Rattle.cc_rules_asked.specs.CcRules.Constraints.{Constraint as ConstraintOf, constraints};
+ghost use Rattle.cc_rules_asked.specs.CcRules.Rules.{IsAsked};
 ghost use Rattle.cc_rules_asked.specs.Asked.{all_needs};
 ghost use Rattle.cc_rules_constraints.specs.Asking.{IsAskedAt, IsAskedBy};
 ghost use Rattle.cc_rules_functions.specs.Functions.{IsFunctionOf};
@@ -11,23 +11,23 @@ ghost use Rattle.cc_rules_grow.specs.Grown.{IsWorked};
 ghost use Rattle.cc_rules_layout.specs.Raisable.{AreRaisable};
 ghost use Rattle.cc_rules_made.specs.Rules.{AreOf};
 ghost use Rattle.cc_rules_numbered.specs.Numbered.{rule_view, constraint_view};
-ghost use Rattle.cc_state.specs.Shape.{HaveShape};
-ghost use Rattle.cc_state_keys.specs.Keys.{keys_of};
-ghost use Rattle.cc_state_operators.specs.Domains.{domain};
-ghost use Rattle.cc_syntax.specs.Normal.{IsNormal};
+ghost use Rattle.cc_rules_grow.specs.CcState.Shape.{HaveShape};
+ghost use Rattle.cc_rules_asked.specs.CcStateKeys.Keys.{keys_of};
+ghost use Rattle.cc_rules_asked.specs.CcStateOperators.Domains.{domain};
+ghost use Rattle.cc_rules_asked.specs.CcSyntax.Normal.{IsNormal};
 
 use crate::here::asked_by_here;
-use cc_lattice::IntDomain;
-use cc_num::{NoMemory, at};
+use cc_program::num::{NoMemory, at};
 use cc_rules_asked::Asked;
+use cc_rules_asked::lattice::IntDomain;
+use cc_rules_asked::rules_flows::Here;
+use cc_rules_asked::state_facts::Facts;
+use cc_rules_asked::state_values::Context;
 use cc_rules_firsts::{asked_by_firsts, asked_by_start};
-use cc_rules_flows::Here;
 use cc_rules_functions::Function;
 use cc_rules_here::here_at;
 use cc_rules_made::Rules;
 use cc_rules_numbered::{Constraint, Rule, constraint_at};
-use cc_state_facts::Facts;
-use cc_state_values::Context;
 use std::alloc::Global;
 
 /// The function main.

@@ -1,25 +1,25 @@
 //! The first constraint that facts break, and there the first slot that has too little.
 
 ghost use Rattle.std.specs.Prelude.{◌≡◌, ◌<◌, ◌≤◌, ◌^◌, length, option_map, IfOk};
-ghost use Rattle.cc_flow.specs.Points.{count_of};
-ghost use Rattle.cc_rules.specs.Broken.{FirstBroken};
-ghost use Rattle.cc_rules.specs.Constraints.{constraints};
+ghost use Rattle.cc_rules_asked.specs.CcFlow.Points.{count_of};
+ghost use Rattle.cc_rules_asked.specs.CcRules.Broken.{FirstBroken};
+ghost use Rattle.cc_rules_asked.specs.CcRules.Constraints.{constraints};
 ghost use Rattle.cc_rules_constraints.specs.Broken.{broken_view, IsBrokenAt};
 ghost use Rattle.cc_rules_made.specs.Rules.{AreOf};
-ghost use Rattle.cc_state.specs.Shape.{HaveShape};
-ghost use Rattle.cc_state_keys.specs.Keys.{keys_of};
-ghost use Rattle.cc_state_keys.specs.Tracked.{tracked};
-ghost use Rattle.cc_state_operators.specs.Domains.{domain};
-ghost use Rattle.cc_syntax.specs.Normal.{IsNormal};
+ghost use Rattle.cc_rules_grow.specs.CcState.Shape.{HaveShape};
+ghost use Rattle.cc_rules_asked.specs.CcStateKeys.Keys.{keys_of};
+ghost use Rattle.cc_rules_asked.specs.CcStateKeys.Tracked.{tracked};
+ghost use Rattle.cc_rules_asked.specs.CcStateOperators.Domains.{domain};
+ghost use Rattle.cc_rules_asked.specs.CcSyntax.Normal.{IsNormal};
 
 use crate::asking::asked;
-use cc_lattice::IntDomain;
-use cc_num::NoMemory;
+use cc_program::num::NoMemory;
+use cc_rules_asked::lattice::IntDomain;
+use cc_rules_asked::rules_needs::{Part, Slot};
+use cc_rules_asked::state_facts::Facts;
 use cc_rules_lacking::first_lacking_asked;
 use cc_rules_made::Rules;
-use cc_rules_needs::{Part, Slot};
 use cc_rules_numbered::{Constraint, constraint_at, constraint_count};
-use cc_state_facts::Facts;
 use std::alloc::Global;
 
 /// A constraint that facts break, with the first slot that has too little, and what it needs.

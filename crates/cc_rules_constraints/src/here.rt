@@ -1,26 +1,26 @@
 //! What the rules ask at a point that is reached.
 
 ghost use Rattle.std.specs.Prelude.{◌<◌, ◌≤◌, ◌^◌, length, IfOk};
-ghost use Rattle.cc_flow.specs.Points.{count_of};
-ghost use Rattle.cc_rules.specs.Rules.{act_at};
+ghost use Rattle.cc_rules_asked.specs.CcFlow.Points.{count_of};
+ghost use Rattle.cc_rules_asked.specs.CcRules.Rules.{act_at};
 ghost use Rattle.cc_rules_constraints.specs.Asking.{IsAskedHere};
 ghost use Rattle.cc_rules_constraints.specs.Ready.{IsReady};
-ghost use Rattle.cc_rules_flows.specs.Here.{IsHere};
-ghost use Rattle.cc_rules_flows.specs.Nexts.{IsPoint, statement_of};
-ghost use Rattle.cc_rules_flows.specs.View.{act_view};
+ghost use Rattle.cc_rules_asked.specs.CcRulesFlows.Here.{IsHere};
+ghost use Rattle.cc_rules_asked.specs.CcRulesFlows.Nexts.{IsPoint, statement_of};
+ghost use Rattle.cc_rules_asked.specs.CcRulesFlows.View.{act_view};
 ghost use Rattle.cc_rules_made.specs.Rules.{AreOf};
 ghost use Rattle.cc_rules_numbered.specs.Numbered.{rule_view};
-ghost use Rattle.cc_state.specs.Shape.{HaveShape};
-ghost use Rattle.cc_state_operators.specs.Domains.{domain};
-ghost use Rattle.cc_syntax.specs.Normal.{IsNormal};
+ghost use Rattle.cc_rules_grow.specs.CcState.Shape.{HaveShape};
+ghost use Rattle.cc_rules_asked.specs.CcStateOperators.Domains.{domain};
+ghost use Rattle.cc_rules_asked.specs.CcSyntax.Normal.{IsNormal};
 
-use cc_lattice::IntDomain;
-use cc_num::NoMemory;
+use cc_program::num::NoMemory;
+use cc_rules_asked::lattice::IntDomain;
+use cc_rules_asked::rules_flows::{Act, Here};
 use cc_rules_asked::{
     Asked, asked_by_handlers, asked_by_return, asked_by_stability, asked_by_touch, asked_by_write,
 };
 use cc_rules_calls::{asked_by_back, asked_by_call, laws as call_laws};
-use cc_rules_flows::{Act, Here};
 use cc_rules_here::act_here;
 use cc_rules_made::Rules;
 use cc_rules_numbered::Rule;

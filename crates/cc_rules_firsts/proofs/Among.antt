@@ -2,10 +2,10 @@
 use Rattle.std.proofs.Common.{arith, ◌≡◌, ◌<◌, ◌≤◌, ◌+◌, ◌⊎◌, inl, inr, ℕ, zero, suc, List, length, Option, Some, None, slice_get, refl, ap, sym, ◌∙◌}
 use Rattle.std.specs.Prelude.{option_and_then}
 use Rattle.std.proofs.lemmas.Option.{same_Some, slice_get_within}
-use Rattle.cc_cells.specs.Cells.{scalar_in}
+use Rattle.cc_rules_asked.specs.CcCells.Cells.{scalar_in}
 use Rattle.cc_program.specs.declared.value.Value.{Value}
 use Rattle.cc_rules_firsts.specs.Firsts.{IsOwn, IsAmong, IsFirstIn}
-use Rattle.cc_state_facts.specs.declared.facts.Key.{Key}
+use Rattle.cc_rules_asked.specs.CcStateFacts.declared.facts.Key.{Key}
 
 pub below_or_last : (n i : ℕ) → n < i + 1 → (n < i) ⊎ (n ≡ i)
 below_or_last zero zero h = inr refl

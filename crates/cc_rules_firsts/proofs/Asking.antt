@@ -1,21 +1,21 @@
 -- What the lists of a program and the sets of its facts give is what is asked.
 use Rattle.std.proofs.Common.{◌≡◌, List, map, Some, slice_get, subst}
-use Rattle.cc_places.specs.declared.abs.Abs.{Abs}
+use Rattle.cc_rules_asked.specs.CcPlaces.declared.abs.Abs.{Abs}
 use Rattle.cc_program.specs.declared.program.Program.{Program}
 use Rattle.cc_program.specs.declared.value.Value.{Value}
-use Rattle.cc_rules.specs.Rules.{AreFirstSets}
+use Rattle.cc_rules_asked.specs.CcRules.Rules.{AreFirstSets}
 use Rattle.cc_rules_asked.specs.Asked.{all_needs}
 use Rattle.cc_rules_firsts.proofs.Listed.{first_sets}
 use Rattle.cc_rules_firsts.proofs.Typed.{fits, listed, is_first}
 use Rattle.cc_rules_firsts.specs.Firsts.{MayGetAll, AreLeastOf, asked_of_sets, IsFirstIn}
-use Rattle.cc_state.specs.Shape.{HaveShape}
-use Rattle.cc_state_facts.specs.declared.facts.Facts.{Facts}
-use Rattle.cc_state_facts.specs.declared.facts.Key.{Key}
-use Rattle.cc_state_keys.specs.Keys.{keys_of}
-use Rattle.cc_state_operators.specs.Domains.{Domain}
+use Rattle.cc_rules_grow.specs.CcState.Shape.{HaveShape}
+use Rattle.cc_rules_asked.specs.CcStateFacts.declared.facts.Facts.{Facts}
+use Rattle.cc_rules_asked.specs.CcStateFacts.declared.facts.Key.{Key}
+use Rattle.cc_rules_asked.specs.CcStateKeys.Keys.{keys_of}
+use Rattle.cc_rules_asked.specs.CcStateOperators.Domains.{Domain}
 use Rattle.cc_state_scalars.specs.Listed.{AreStaticKeys}
-use Rattle.cc_steps.specs.State.{first_values}
-use Rattle.cc_syntax.specs.Sound.{IsTypedProgram}
+use Rattle.cc_rules_asked.specs.CcSteps.State.{first_values}
+use Rattle.cc_rules_asked.specs.CcSyntax.Sound.{IsTypedProgram}
 
 module _ {I : Type 0} (d : Domain I) (p : Program) (typed : IsTypedProgram p) (facts : Facts I) (shape : HaveShape d p facts) (all : List Key) (kinds : List (Abs I)) (lists : List (List Key)) (values : List (List Value)) (all_is : all ≡ keys_of p) (kinds_are : kinds ≡ facts.whole) (are : AreStaticKeys p p.objects lists) (values_are : values ≡ map (first_values p) p.objects) where
   pub may_stand : MayGetAll all (IsFirstIn lists values) kinds

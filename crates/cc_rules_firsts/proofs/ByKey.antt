@@ -3,19 +3,19 @@ use Rattle.std.proofs.Common.{arith, ◌≡◌, ◌<◌, ◌≤◌, ◌+◌, ◌
 use Rattle.std.proofs.lemmas.Bool.{cases_lt}
 use Rattle.std.proofs.lemmas.List.{length-set}
 use Rattle.std.proofs.lemmas.Option.{same_Some, none-some, get_or_from_slice_get, slice_get-get_or, slice_get_within}
-use Rattle.cc_places.specs.declared.abs.Abs.{Abs}
+use Rattle.cc_rules_asked.specs.CcPlaces.declared.abs.Abs.{Abs}
 use Rattle.cc_program.specs.declared.program.Program.{Program}
 use Rattle.cc_program.specs.declared.value.Value.{Value}
 use Rattle.cc_rules_firsts.proofs.Least.{kind_kept, then_more, none_more, same_more, least_of}
 use Rattle.cc_rules_firsts.proofs.RowLemmas.{pushed, longer}
 use Rattle.cc_rules_firsts.specs.Firsts.{IsNoneOf, IsWith, IsPutAt, AreNoneOf, MayGetAll, AreWith, AreLeastOf, IsOwn}
 use Rattle.cc_rules_grow.proofs.Elements.{some_within}
-use Rattle.cc_state.proofs.Numbered.{key_at, key_numbered}
-use Rattle.cc_state_facts.specs.declared.facts.Key.{Key}
-use Rattle.cc_state_facts.specs.declared.facts.Key.TheVariants as key
-use Rattle.cc_state_keys.proofs.Orders.{keys_ascend}
-use Rattle.cc_state_keys.specs.Keys.{keys_of, key_number}
-use Rattle.cc_state_keys.specs.Order.{is_pair_before, is_before}
+use Rattle.cc_rules_grow.proofs.CcState.Numbered.{key_at, key_numbered}
+use Rattle.cc_rules_asked.specs.CcStateFacts.declared.facts.Key.{Key}
+use Rattle.cc_rules_asked.specs.CcStateFacts.declared.facts.Key.TheVariants as key
+use Rattle.cc_rules_asked.proofs.CcStateKeys.Orders.{keys_ascend}
+use Rattle.cc_rules_asked.specs.CcStateKeys.Keys.{keys_of, key_number}
+use Rattle.cc_rules_asked.specs.CcStateKeys.Order.{is_pair_before, is_before}
 
 -- ---- lists with another element at a place
 

@@ -4,21 +4,21 @@ use Rattle.std.specs.List.{Contains}
 use Rattle.std.specs.Prelude.{◌↔◌}
 use Rattle.std.specs.Int.{w128}
 use Rattle.std.proofs.lemmas.Int.{ints}
-use Rattle.cc_lattice.specs.Domains.{IsIntValue}
-use Rattle.cc_lattice.specs.Orders.{IsLeastUpperBound}
-use Rattle.cc_places.specs.declared.abs.Abs.{Abs}
-use Rattle.cc_places.specs.declared.abs.Abs.TheVariants as abs
-use Rattle.cc_places.specs.declared.addrs.Addrs.{Addrs}
-use Rattle.cc_places.specs.Abstract.{AreOfOneKind, IsBelowAbs, HasValue}
-use Rattle.cc_places.specs.Kept.{member_for}
-use Rattle.cc_places.specs.laws.SetLaws.{set_has, set_in}
-use Rattle.cc_places.specs.Sets.{HasAddress, IsWithin}
+use Rattle.cc_rules_asked.specs.CcLattice.Domains.{IsIntValue}
+use Rattle.cc_rules_asked.specs.CcLattice.Orders.{IsLeastUpperBound}
+use Rattle.cc_rules_asked.specs.CcPlaces.declared.abs.Abs.{Abs}
+use Rattle.cc_rules_asked.specs.CcPlaces.declared.abs.Abs.TheVariants as abs
+use Rattle.cc_rules_asked.specs.CcPlaces.declared.addrs.Addrs.{Addrs}
+use Rattle.cc_rules_asked.specs.CcPlaces.Abstract.{AreOfOneKind, IsBelowAbs, HasValue}
+use Rattle.cc_rules_asked.specs.CcPlaces.Kept.{member_for}
+use Rattle.cc_rules_asked.specs.CcPlaces.laws.SetLaws.{set_has, set_in}
+use Rattle.cc_rules_asked.specs.CcPlaces.Sets.{HasAddress, IsWithin}
 use Rattle.cc_program.specs.declared.value.Address.{Address}
 use Rattle.cc_program.specs.declared.value.Value.{Value}
 use Rattle.cc_program.specs.declared.value.Value.TheVariants as value
 use Rattle.cc_rules_firsts.specs.Firsts.{IsOfKindOf, IsLeastWith, IsNoneOf, IsWith, IsLeastOf}
-use Rattle.cc_state.proofs.Lists.{no_member}
-use Rattle.cc_state_operators.specs.Addresses.{IsOnly}
+use Rattle.cc_rules_grow.proofs.CcState.Lists.{no_member}
+use Rattle.cc_rules_asked.specs.CcStateOperators.Addresses.{IsOnly}
 
 -- a number, as the code has it
 pub exact : (v : ℤ) → IsIntValue v → to_z w128 (of_z w128 v) ≡ v

@@ -4,15 +4,15 @@ use Rattle.std.specs.List.{flat_map}
 use Rattle.std.specs.Prelude.{min, option_and_then}
 use Rattle.std.proofs.lemmas.Bool.{cases_lt}
 use Rattle.std.proofs.lemmas.Option.{same_Some, none-some, slice_get_within}
-use Rattle.cc_places.specs.declared.abs.Abs.{Abs}
+use Rattle.cc_rules_asked.specs.CcPlaces.declared.abs.Abs.{Abs}
 use Rattle.cc_program.specs.declared.program.Program.{Program}
 use Rattle.cc_program.specs.declared.value.Value.{Value}
 use Rattle.cc_rules_firsts.proofs.Among.{below_or_last}
 use Rattle.cc_rules_firsts.specs.Rows.{IsFirstOf, HasCell, AreFrom, IsRowSize, IsRowFrom, AreFirstRows}
 use Rattle.cc_rules_grow.proofs.Elements.{some_within}
-use Rattle.cc_state.specs.Shape.{AreRows}
-use Rattle.cc_state_facts.specs.declared.facts.Row.{Row}
-use Rattle.cc_state_operators.specs.Domains.{Domain}
+use Rattle.cc_rules_grow.specs.CcState.Shape.{AreRows}
+use Rattle.cc_rules_asked.specs.CcStateFacts.declared.facts.Row.{Row}
+use Rattle.cc_rules_asked.specs.CcStateOperators.Domains.{Domain}
 
 -- ---- lists with one more behind
 

@@ -3,21 +3,21 @@ use Rattle.std.proofs.Common.{arith, ◌≡◌, ◌+◌, ℕ, true, false, ◌&&
 use Rattle.std.specs.Prelude.{option_and_then}
 use Rattle.std.specs.List.{Contains, list_any}
 use Rattle.std.proofs.lemmas.List.Elements.{All-contains, All-from_recursion}
-use Rattle.cc_flow.proofs.Inside.{body_inside}
-use Rattle.cc_flow.proofs.Paths.{body_counted}
-use Rattle.cc_flow.specs.declared.types.Point.{Point}
-use Rattle.cc_flow.specs.Laws.{IsIn}
-use Rattle.cc_flow.specs.Points.{body_count, body_points, flow_of}
-use Rattle.cc_flow_sound.proofs.Numbered.{point_of}
-use Rattle.cc_flow_sound.specs.Moves.{entry}
-use Rattle.cc_lattice.proofs.IntValues.{value_is_int}
-use Rattle.cc_num.proofs.ResultLaws.{value_from_test}
-use Rattle.cc_places.specs.declared.abs.Abs.{Abs}
+use Rattle.cc_rules_asked.proofs.CcFlow.Inside.{body_inside}
+use Rattle.cc_rules_asked.proofs.CcFlow.Paths.{body_counted}
+use Rattle.cc_rules_asked.specs.CcFlow.declared.types.Point.{Point}
+use Rattle.cc_rules_asked.specs.CcFlow.Laws.{IsIn}
+use Rattle.cc_rules_asked.specs.CcFlow.Points.{body_count, body_points, flow_of}
+use Rattle.cc_rules_asked.proofs.CcFlowSound.Numbered.{point_of}
+use Rattle.cc_rules_asked.specs.CcFlowSound.Moves.{entry}
+use Rattle.cc_rules_asked.proofs.CcLattice.IntValues.{value_is_int}
+use Rattle.cc_program.proofs.CcNum.ResultLaws.{value_from_test}
+use Rattle.cc_rules_asked.specs.CcPlaces.declared.abs.Abs.{Abs}
 use Rattle.cc_program.specs.declared.func.Func.{Func}
 use Rattle.cc_program.specs.declared.program.Program.{Program}
 use Rattle.cc_program.specs.declared.value.Value.{Value}
 use Rattle.cc_program.specs.declared.value.Value.TheVariants as value
-use Rattle.cc_rules.specs.Rules.{NeedsAt, IsStart, IsStarted, AtStart, Elsewhere}
+use Rattle.cc_rules_asked.specs.CcRules.Rules.{NeedsAt, IsStart, IsStarted, AtStart, Elsewhere}
 use Rattle.cc_rules_asked.specs.declared.asked.Asked.{Asked}
 use Rattle.cc_rules_asked.specs.declared.asked.Asked.TheVariants as asked
 use Rattle.cc_rules_asked.specs.Asked.{all_needs}
@@ -25,29 +25,29 @@ use Rattle.cc_rules_firsts.proofs.Typed.{no_void}
 use Rattle.cc_rules_firsts.specs.Firsts.{MayStand}
 use Rattle.cc_rules_firsts.specs.Rows.{HaveFirsts}
 use Rattle.cc_rules_firsts.specs.Starts.{IsFirstFact}
-use Rattle.cc_rules_flows.specs.Nexts.{IsPoint}
+use Rattle.cc_rules_asked.specs.CcRulesFlows.Nexts.{IsPoint}
 use Rattle.cc_rules_functions.specs.declared.functions.Function.{Function}
 use Rattle.cc_rules_functions.specs.Functions.{IsFunctionOf}
 use Rattle.cc_rules_grow.proofs.Elements.{some_within}
 use Rattle.cc_rules_grow.proofs.Firsts.{tracked_scalar, some_is}
 use Rattle.cc_rules_layout.specs.Raisable.{IsLaidOutAt, IsRaisable, AreRaisable}
-use Rattle.cc_rules_needs.specs.Flowing.{of_fact, needs_at}
-use Rattle.cc_rules_needs.specs.declared.needs.Part.TheVariants.{Mark, LevelSet}
-use Rattle.cc_rules_needs.specs.declared.needs.Slot.TheVariants.{ByMain, Levels}
-use Rattle.cc_rules_needs.specs.Needs.{Needs}
-use Rattle.cc_state.proofs.Lists.{contains_at, no_member}
-use Rattle.cc_state.specs.Shape.{AreRows}
-use Rattle.cc_state_facts.specs.declared.facts.Facts.{Facts}
-use Rattle.cc_state_facts.specs.declared.facts.PointFact.{PointFact}
-use Rattle.cc_state_facts.specs.Levels.{only_level}
-use Rattle.cc_state_keys.specs.Tracked.{registers, tracked}
-use Rattle.cc_state_operators.specs.Domains.{Domain}
-use Rattle.cc_states.proofs.StartLemmas.{start_state}
-use Rattle.cc_states.specs.Typed.{HasType}
-use Rattle.cc_steps.specs.State.{first_values}
-use Rattle.cc_syntax.proofs.NameRules.{sound-typed}
-use Rattle.cc_syntax.specs.Normal.{IsNormal}
-use Rattle.cc_syntax.specs.Values.{ValueType, NoValue, Integer, ToObject, ToFunction, ObjectPlace, scalar_value}
+use Rattle.cc_rules_asked.specs.CcRulesNeeds.Flowing.{of_fact, needs_at}
+use Rattle.cc_rules_asked.specs.CcRulesNeeds.declared.needs.Part.TheVariants.{Mark, LevelSet}
+use Rattle.cc_rules_asked.specs.CcRulesNeeds.declared.needs.Slot.TheVariants.{ByMain, Levels}
+use Rattle.cc_rules_asked.specs.CcRulesNeeds.Needs.{Needs}
+use Rattle.cc_rules_grow.proofs.CcState.Lists.{contains_at, no_member}
+use Rattle.cc_rules_grow.specs.CcState.Shape.{AreRows}
+use Rattle.cc_rules_asked.specs.CcStateFacts.declared.facts.Facts.{Facts}
+use Rattle.cc_rules_asked.specs.CcStateFacts.declared.facts.PointFact.{PointFact}
+use Rattle.cc_rules_asked.specs.CcStateFacts.Levels.{only_level}
+use Rattle.cc_rules_asked.specs.CcStateKeys.Tracked.{registers, tracked}
+use Rattle.cc_rules_asked.specs.CcStateOperators.Domains.{Domain}
+use Rattle.cc_rules_asked.proofs.CcStates.StartLemmas.{start_state}
+use Rattle.cc_rules_asked.specs.CcStates.Typed.{HasType}
+use Rattle.cc_rules_asked.specs.CcSteps.State.{first_values}
+use Rattle.cc_rules_asked.proofs.CcSyntax.NameRules.{sound-typed}
+use Rattle.cc_rules_asked.specs.CcSyntax.Normal.{IsNormal}
+use Rattle.cc_rules_asked.specs.CcSyntax.Values.{ValueType, NoValue, Integer, ToObject, ToFunction, ObjectPlace, scalar_value}
 
 -- ---- the first values of tracked cells
 

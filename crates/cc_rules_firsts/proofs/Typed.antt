@@ -2,13 +2,13 @@
 use Rattle.std.proofs.Common.{◌≡◌, ◌<◌, ℕ, List, [], map, Option, Some, None, slice_get, refl, ap, sym, subst, ◌∙◌}
 use Rattle.std.specs.Prelude.{option_map, option_and_then}
 use Rattle.std.proofs.lemmas.Option.{same_Some, slice_get-map, slice_get_within}
-use Rattle.cc_cells.specs.Cells.{scalar_in}
-use Rattle.cc_cells.specs.Scalars.{position}
-use Rattle.cc_eval.specs.Context.{object_type}
-use Rattle.cc_lattice.proofs.IntValues.{value_is_int}
-use Rattle.cc_num.proofs.ResultLaws.{value_from_test}
-use Rattle.cc_places.specs.declared.abs.Abs.{Abs}
-use Rattle.cc_places.specs.declared.abs.Abs.TheVariants as abs
+use Rattle.cc_rules_asked.specs.CcCells.Cells.{scalar_in}
+use Rattle.cc_rules_asked.specs.CcCells.Scalars.{position}
+use Rattle.cc_rules_asked.specs.CcEval.Context.{object_type}
+use Rattle.cc_rules_asked.proofs.CcLattice.IntValues.{value_is_int}
+use Rattle.cc_program.proofs.CcNum.ResultLaws.{value_from_test}
+use Rattle.cc_rules_asked.specs.CcPlaces.declared.abs.Abs.{Abs}
+use Rattle.cc_rules_asked.specs.CcPlaces.declared.abs.Abs.TheVariants as abs
 use Rattle.cc_program.specs.declared.object.Object.{Object}
 use Rattle.cc_program.specs.declared.program.Program.{Program}
 use Rattle.cc_program.specs.declared.types.CType.{CType}
@@ -19,24 +19,24 @@ use Rattle.cc_program.specs.declared.value.Part.{Part}
 use Rattle.cc_program.specs.declared.value.Root.TheVariants as root
 use Rattle.cc_program.specs.declared.value.Value.{Value}
 use Rattle.cc_program.specs.declared.value.Value.TheVariants as value
-use Rattle.cc_rules.specs.Rules.{IsFirstValue}
+use Rattle.cc_rules_asked.specs.CcRules.Rules.{IsFirstValue}
 use Rattle.cc_rules_firsts.specs.Firsts.{FitsIn, IsFirstIn}
 use Rattle.cc_rules_grow.proofs.Elements.{some_within}
-use Rattle.cc_state.proofs.CellTypes.{one_type, IsHeld, IsTyped, read_held, key_held}
-use Rattle.cc_state.specs.Shape.{IsCellType, ctype_of, IsSetIn, HaveShape}
-use Rattle.cc_state_facts.specs.declared.facts.Facts.{Facts}
-use Rattle.cc_state_facts.specs.declared.facts.Key.{Key}
-use Rattle.cc_state_keys.specs.Keys.{keys_of, cell_key}
-use Rattle.cc_state_keys.specs.Paths.{LeadsTo}
-use Rattle.cc_state_operators.specs.Domains.{Domain}
+use Rattle.cc_rules_grow.proofs.CcState.CellTypes.{one_type, IsHeld, IsTyped, read_held, key_held}
+use Rattle.cc_rules_grow.specs.CcState.Shape.{IsCellType, ctype_of, IsSetIn, HaveShape}
+use Rattle.cc_rules_asked.specs.CcStateFacts.declared.facts.Facts.{Facts}
+use Rattle.cc_rules_asked.specs.CcStateFacts.declared.facts.Key.{Key}
+use Rattle.cc_rules_asked.specs.CcStateKeys.Keys.{keys_of, cell_key}
+use Rattle.cc_rules_asked.specs.CcStateKeys.Paths.{LeadsTo}
+use Rattle.cc_rules_asked.specs.CcStateOperators.Domains.{Domain}
 use Rattle.cc_state_scalars.specs.Listed.{AreStaticKeys}
-use Rattle.cc_states.proofs.StartLemmas.{start_state}
-use Rattle.cc_states.specs.Typed.{HasType}
-use Rattle.cc_steps.specs.State.{first_values}
-use Rattle.cc_syntax.specs.Expressions.{of_one}
-use Rattle.cc_syntax.specs.Initial.{place_at}
-use Rattle.cc_syntax.specs.Sound.{IsTypedProgram}
-use Rattle.cc_syntax.specs.Values.{ValueType, NoValue, Integer, ToObject, ToFunction, PlaceType, DevicePlace, ObjectPlace, FunctionPlace, object_place, pointer_shape, scalar_shape, read_from}
+use Rattle.cc_rules_asked.proofs.CcStates.StartLemmas.{start_state}
+use Rattle.cc_rules_asked.specs.CcStates.Typed.{HasType}
+use Rattle.cc_rules_asked.specs.CcSteps.State.{first_values}
+use Rattle.cc_rules_asked.specs.CcSyntax.Expressions.{of_one}
+use Rattle.cc_rules_asked.specs.CcSyntax.Initial.{place_at}
+use Rattle.cc_rules_asked.specs.CcSyntax.Sound.{IsTypedProgram}
+use Rattle.cc_rules_asked.specs.CcSyntax.Values.{ValueType, NoValue, Integer, ToObject, ToFunction, PlaceType, DevicePlace, ObjectPlace, FunctionPlace, object_place, pointer_shape, scalar_shape, read_from}
 
 -- ---- what is read is a scalar
 

@@ -1,17 +1,17 @@
 -- Sets of first values: the least ones of a kind that have some values, and one for each of some keys.
 use Rattle.std.specs.Prelude.{◌≡◌, ℕ, suc, ℤ, List, [], ◌∷◌, length, Option, Some, slice_get, slice_set}
-use Rattle.cc_cells.specs.Cells.{scalar_in}
-use Rattle.cc_lattice.specs.Domains.{IsIntValue}
-use Rattle.cc_places.specs.declared.abs.Abs.{Abs}
-use Rattle.cc_places.specs.declared.abs.Abs.TheVariants as abs
-use Rattle.cc_places.specs.Abstract.{AreOfOneKind, IsBelowAbs, HasValue}
+use Rattle.cc_rules_asked.specs.CcCells.Cells.{scalar_in}
+use Rattle.cc_rules_asked.specs.CcLattice.Domains.{IsIntValue}
+use Rattle.cc_rules_asked.specs.CcPlaces.declared.abs.Abs.{Abs}
+use Rattle.cc_rules_asked.specs.CcPlaces.declared.abs.Abs.TheVariants as abs
+use Rattle.cc_rules_asked.specs.CcPlaces.Abstract.{AreOfOneKind, IsBelowAbs, HasValue}
 use Rattle.cc_program.specs.declared.value.Value.{Value}
 use Rattle.cc_program.specs.declared.value.Value.TheVariants as value
 use Rattle.cc_rules_asked.specs.declared.asked.Asked.{Asked}
 use Rattle.cc_rules_asked.specs.declared.asked.Asked.TheVariants as asked
-use Rattle.cc_rules_needs.specs.declared.needs.Part.TheVariants.{Values}
-use Rattle.cc_rules_needs.specs.declared.needs.Slot.TheVariants.{Whole}
-use Rattle.cc_state_facts.specs.declared.facts.Key.{Key}
+use Rattle.cc_rules_asked.specs.CcRulesNeeds.declared.needs.Part.TheVariants.{Values}
+use Rattle.cc_rules_asked.specs.CcRulesNeeds.declared.needs.Slot.TheVariants.{Whole}
+use Rattle.cc_rules_asked.specs.CcStateFacts.declared.facts.Key.{Key}
 
 -- of numbers, those of C's types may stand in a set
 abbrev pub MayStand : Value → Type 0

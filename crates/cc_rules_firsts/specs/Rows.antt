@@ -1,11 +1,11 @@
 -- Tracked cells with their first values, in rows of 16.
 use Rattle.std.specs.Prelude.{◌≡◌, ◌<◌, ◌≤◌, ◌+◌, ◌-◌, ◌/◌, ◌%◌, min, ℕ, ℤ, List, length, Option, Some, option_and_then, slice_get}
-use Rattle.cc_cells.specs.Cells.{scalar_in}
-use Rattle.cc_places.specs.declared.abs.Abs.{Abs}
+use Rattle.cc_rules_asked.specs.CcCells.Cells.{scalar_in}
+use Rattle.cc_rules_asked.specs.CcPlaces.declared.abs.Abs.{Abs}
 use Rattle.cc_program.specs.declared.value.Value.{Value}
 use Rattle.cc_rules_firsts.specs.Firsts.{IsLeastWith, MayStand}
-use Rattle.cc_state_facts.specs.declared.facts.Row.{Row}
-use Rattle.cc_state_facts.specs.Facts.{row_length}
+use Rattle.cc_rules_asked.specs.CcStateFacts.declared.facts.Row.{Row}
+use Rattle.cc_rules_asked.specs.CcStateFacts.Facts.{row_length}
 
 -- the tracked objects have first values that may stand in sets
 abbrev pub HaveFirsts : List (List Value) → List ℕ → Type 0

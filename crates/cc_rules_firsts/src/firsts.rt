@@ -2,27 +2,27 @@
 
 ghost use Rattle.std.specs.Prelude.{◌≡◌, ◌<◌, ◌≤◌, ◌^◌, length, slice_get, Some, IfOk, OnOk};
 ghost use Rattle.std.specs.Option.{option_copied};
-ghost use Rattle.cc_places.specs.declared.abs.Abs.{Abs as AbsOf};
-ghost use Rattle.cc_rules.specs.Rules.{AreFirstSets};
+ghost use Rattle.cc_rules_asked.specs.CcPlaces.declared.abs.Abs.{Abs as AbsOf};
+ghost use Rattle.cc_rules_asked.specs.CcRules.Rules.{AreFirstSets};
 ghost use Rattle.cc_rules_asked.specs.Asked.{all_needs};
 ghost use Rattle.cc_rules_firsts.specs.Firsts.{FitsIn, IsPutAt, AreNoneOf, MayGetAll, AreWith, AreLeastOf, asked_of_sets as asked_of_sets_of, IsOwn, IsAmong, IsFirstIn};
 ghost use Rattle.cc_rules_layout.specs.Raisable.{AreRaisable};
-ghost use Rattle.cc_state.specs.Shape.{HaveShape};
-ghost use Rattle.cc_state_facts.specs.declared.facts.Facts.{Facts as FactsOf};
-ghost use Rattle.cc_state_keys.specs.Keys.{keys_of};
-ghost use Rattle.cc_state_operators.specs.Domains.{domain};
-ghost use Rattle.cc_syntax.specs.Sound.{IsTypedProgram};
+ghost use Rattle.cc_rules_grow.specs.CcState.Shape.{HaveShape};
+ghost use Rattle.cc_rules_asked.specs.CcStateFacts.declared.facts.Facts.{Facts as FactsOf};
+ghost use Rattle.cc_rules_asked.specs.CcStateKeys.Keys.{keys_of};
+ghost use Rattle.cc_rules_asked.specs.CcStateOperators.Domains.{domain};
+ghost use Rattle.cc_rules_asked.specs.CcSyntax.Sound.{IsTypedProgram};
 
 use crate::initial::all_first_values;
 use crate::sets::{none_of, with_value};
-use cc_lattice::IntDomain;
-use cc_num::{List, NoMemory, at};
-use cc_places::Abs;
+use cc_program::num::{List, NoMemory, at};
 use cc_program::{Program, Value};
 use cc_rules_asked::Asked;
-use cc_rules_needs::{Part, Slot};
-use cc_state_facts::{Facts, Key};
-use cc_state_keys::key_number;
+use cc_rules_asked::lattice::IntDomain;
+use cc_rules_asked::places::Abs;
+use cc_rules_asked::rules_needs::{Part, Slot};
+use cc_rules_asked::state_facts::{Facts, Key};
+use cc_rules_asked::state_keys::key_number;
 use cc_state_scalars::static_keys;
 use std::alloc::Global;
 

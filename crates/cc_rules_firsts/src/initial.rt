@@ -1,12 +1,12 @@
 //! The first values of static objects.
 
 ghost use Rattle.std.specs.Prelude.{◌≡◌, IfOk, map};
-ghost use Rattle.cc_steps.specs.State.{first_value as first_value_of, first_values as first_values_of};
-ghost use Rattle.cc_steps.specs.Whole.{values_over};
+ghost use Rattle.cc_rules_asked.specs.CcSteps.State.{first_value as first_value_of, first_values as first_values_of};
+ghost use Rattle.cc_rules_asked.specs.CcSteps.Whole.{values_over};
 
-use cc_cells::{structure_zeros, zeros_over};
-use cc_num::{List, NoMemory};
+use cc_program::num::{List, NoMemory};
 use cc_program::{Leaf, Object, Program, Value};
+use cc_rules_asked::cells::{structure_zeros, zeros_over};
 use std::alloc::Global;
 
 fn first_value(alloc: Global, leaf: &Leaf) -> Result<Value, NoMemory>

@@ -2,20 +2,20 @@
 
 ghost use Rattle.std.specs.Prelude.{◌≡◌, ◌<◌, ◌≤◌, ◌+◌, ◌*◌, ℕ, length, Some, IfOk};
 ghost use Rattle.std.specs.Option.{option_copied};
-ghost use Rattle.cc_cells.specs.Cells.{scalar_in};
+ghost use Rattle.cc_rules_asked.specs.CcCells.Cells.{scalar_in};
 ghost use Rattle.cc_program.specs.declared.program.Program.{Program};
 ghost use Rattle.cc_program.specs.declared.value.Value.{Value as ValueOf};
 ghost use Rattle.cc_rules_firsts.specs.Firsts.{MayStand};
 ghost use Rattle.cc_rules_firsts.specs.Rows.{HaveFirsts, IsFirstOf, IsRowSize, IsRowFrom, AreFirstRows};
-ghost use Rattle.cc_state.specs.Shape.{AreRows};
-ghost use Rattle.cc_state_operators.specs.Domains.{domain};
+ghost use Rattle.cc_rules_grow.specs.CcState.Shape.{AreRows};
+ghost use Rattle.cc_rules_asked.specs.CcStateOperators.Domains.{domain};
 
 use crate::sets::one_value;
-use cc_lattice::IntDomain;
-use cc_num::{List, NoMemory, at};
-use cc_places::Abs;
 use cc_program::Value;
-use cc_state_facts::{Row, Shared};
+use cc_program::num::{List, NoMemory, at};
+use cc_rules_asked::lattice::IntDomain;
+use cc_rules_asked::places::Abs;
+use cc_rules_asked::state_facts::{Row, Shared};
 use std::alloc::Global;
 
 /// How many cells a row has, where it is not the last.

@@ -1,15 +1,15 @@
 //! Sets of one value, of none, and with one more value.
 
 ghost use Rattle.std.specs.Prelude.{◌≡◌, IfOk};
-ghost use Rattle.cc_lattice.specs.Domains.{IsIntValue};
+ghost use Rattle.cc_rules_asked.specs.CcLattice.Domains.{IsIntValue};
 ghost use Rattle.cc_program.specs.declared.value.Value.TheVariants as value;
 ghost use Rattle.cc_rules_firsts.specs.Firsts.{MayStand, FitsIn, IsLeastWith, IsNoneOf, IsWith};
 
-use cc_lattice::{IntDomain, Lattice};
-use cc_num::NoMemory;
-use cc_places::{Abs, Addrs};
+use cc_program::num::NoMemory;
 use cc_program::{Address, Value};
-use cc_state_operators::only;
+use cc_rules_asked::lattice::{IntDomain, Lattice};
+use cc_rules_asked::places::{Abs, Addrs};
+use cc_rules_asked::state_operators::only;
 use std::alloc::Global;
 
 fn one_number<I: IntDomain>(alloc: Global, n: &i128) -> Abs<I>

@@ -1,29 +1,29 @@
 //! What is asked where main is entered: that main reaches it, at level 0, with the flag off and with the first values of tracked cells.
 
 ghost use Rattle.std.specs.Prelude.{◌≡◌, ◌≢◌, ◌<◌, ◌^◌, map, length, true, false, [], ◌∷◌, IfOk, Some};
-ghost use Rattle.cc_flow_sound.specs.Moves.{entry};
-ghost use Rattle.cc_rules.specs.Rules.{IsStarted};
+ghost use Rattle.cc_rules_asked.specs.CcFlowSound.Moves.{entry};
+ghost use Rattle.cc_rules_asked.specs.CcRules.Rules.{IsStarted};
 ghost use Rattle.cc_rules_asked.specs.Asked.{all_needs};
 ghost use Rattle.cc_rules_firsts.specs.Rows.{AreFirstRows};
 ghost use Rattle.cc_rules_firsts.specs.Starts.{IsFirstFact};
 ghost use Rattle.cc_rules_functions.specs.Functions.{IsFunctionOf};
 ghost use Rattle.cc_rules_layout.specs.Raisable.{AreRaisable};
-ghost use Rattle.cc_state.specs.Shape.{AreRows};
-ghost use Rattle.cc_state_facts.specs.declared.facts.Facts.{Facts as FactsOf};
-ghost use Rattle.cc_state_keys.specs.Tracked.{tracked as tracked_of};
-ghost use Rattle.cc_state_operators.specs.Domains.{domain};
-ghost use Rattle.cc_steps.specs.State.{first_values};
-ghost use Rattle.cc_syntax.specs.Normal.{IsNormal};
+ghost use Rattle.cc_rules_grow.specs.CcState.Shape.{AreRows};
+ghost use Rattle.cc_rules_asked.specs.CcStateFacts.declared.facts.Facts.{Facts as FactsOf};
+ghost use Rattle.cc_rules_asked.specs.CcStateKeys.Tracked.{tracked as tracked_of};
+ghost use Rattle.cc_rules_asked.specs.CcStateOperators.Domains.{domain};
+ghost use Rattle.cc_rules_asked.specs.CcSteps.State.{first_values};
+ghost use Rattle.cc_rules_asked.specs.CcSyntax.Normal.{IsNormal};
 
 use crate::initial::all_first_values;
 use crate::rows::first_rows;
-use cc_lattice::IntDomain;
-use cc_num::{List, NoMemory};
 use cc_program::Program;
+use cc_program::num::{List, NoMemory};
+use cc_rules_asked::lattice::IntDomain;
+use cc_rules_asked::rules_needs::{Part, Slot};
+use cc_rules_asked::state_facts::PointFact;
 use cc_rules_asked::{Asked, only_level};
 use cc_rules_functions::Function;
-use cc_rules_needs::{Part, Slot};
-use cc_state_facts::PointFact;
 use std::alloc::Global;
 
 /// What is known where main is entered.

@@ -2,8 +2,8 @@
 use Rattle.std.proofs.Common.{arith, ◌≡◌, ◌<◌, ℕ, Bool, true, false, not, ◌||◌, cond, All, List, [], ◌∷◌, map, length, Option, Some, None, IfSome, is_some, option_and_then, ◌==◌, position, slice_get, refl, ap, sym, subst, ◌∙◌}
 use Rattle.std.proofs.lemmas.List.Elements.{All-nil, All-cons, All-same}
 use Rattle.std.proofs.lemmas.List.Quantifiers.{position-Some}
-use Rattle.cc_places.specs.declared.abs.Abs.{Abs}
-use Rattle.cc_places.specs.declared.abs.Abs.TheVariants as abs
+use Rattle.cc_state_reads.specs.CcPlaces.declared.abs.Abs.{Abs}
+use Rattle.cc_state_reads.specs.CcPlaces.declared.abs.Abs.TheVariants as abs
 use Rattle.cc_program.specs.declared.expr.Expr.{Expr}
 use Rattle.cc_program.specs.declared.expr.Expr.TheOpen as one
 use Rattle.cc_program.specs.declared.expr.Place.{Place, out-Place}
@@ -16,14 +16,14 @@ use Rattle.cc_rules_flows.specs.Kept.{KeepsShape}
 use Rattle.cc_rules_flows.specs.Known.{Tells, AreTold}
 use Rattle.cc_rules_flows.proofs.ShapeLemmas.{kept_itself, kept_through}
 use Rattle.cc_rules_needs.specs.Flowing.{Flowing, of_fact, with_local, with_pair, with_cell, with_flags}
-use Rattle.cc_state_facts.specs.declared.facts.PointFact.{PointFact}
-use Rattle.cc_state_facts.specs.Facts.{fact_at, cell_at, cell_of, local_of}
-use Rattle.cc_state_keys.specs.Tracked.{registers, register_number, tracked}
-use Rattle.cc_state_operators.specs.Domains.{Domain, IsHull, MayBe}
+use Rattle.cc_state_reads.specs.CcStateFacts.declared.facts.PointFact.{PointFact}
+use Rattle.cc_state_reads.specs.CcStateFacts.Facts.{fact_at, cell_at, cell_of, local_of}
+use Rattle.cc_state_reads.specs.CcStateKeys.Tracked.{registers, register_number, tracked}
+use Rattle.cc_state_reads.specs.CcStateOperators.Domains.{Domain, IsHull, MayBe}
 use Rattle.cc_state_reads.specs.Contexts.{IsReadIn}
 use Rattle.cc_state_reads.specs.Reads.{IsRead, object_in, registers_at, tracked_in}
-use Rattle.cc_state_values.specs.Contexts.{IsValIn, set_in}
-use Rattle.cc_state_values.specs.Values.{IsVal}
+use Rattle.cc_state_reads.specs.CcStateValues.Contexts.{IsValIn, set_in}
+use Rattle.cc_state_reads.specs.CcStateValues.Values.{IsVal}
 
 pub itself : {I : Type 0} (fact : PointFact I) → Tells fact (of_fact fact)
 itself fact = record { off = refl; on = refl; locals = λ r. refl; cells = λ j. refl; pairs = λ r j. refl }

@@ -1,7 +1,7 @@
 -- A position in the bodies of cases, one after the other.
 use Rattle.std.proofs.Common.{arith, ◌≡◌, ◌<◌, ◌≤◌, ◌+◌, ◌-◌, ℕ, zero, suc, List, [], ◌∷◌, ◌++◌, length, drop, get_or, refl, ap, sym, subst, ◌∙◌, slice_get}
 use Rattle.std.proofs.lemmas.List.{drop_more}
-use Rattle.cc_control.specs.Control.{bodies}
+use Rattle.cc_flow_sound.specs.CcControl.Control.{bodies}
 use Rattle.cc_program.specs.declared.stmt.Case.{Case}
 use Rattle.cc_program.specs.declared.stmt.Stmt.{Stmt}
 

@@ -1,8 +1,8 @@
 -- The least sets of the numbers that the flag may be.
 use Rattle.std.proofs.Common.{◌≡◌, ◌⊎◌, inl, inr, ℤ, pos, Bool, true, false, true≢false, refl, sym, subst}
-use Rattle.cc_lattice.specs.Orders.{IsLeastUpperBound}
+use Rattle.cc_state_reads.specs.CcLattice.Orders.{IsLeastUpperBound}
 use Rattle.cc_rules_flows.specs.Flag.{IsFlagOf}
-use Rattle.cc_state_operators.specs.Domains.{Domain, IsHull}
+use Rattle.cc_state_reads.specs.CcStateOperators.Domains.{Domain, IsHull}
 
 module _ {I : Type 0} (d : Domain I) where
   pub as_told : (off on a b : Bool) (x : I) → off ≡ a → on ≡ b → IsHull d (IsFlagOf a b) x → IsHull d (IsFlagOf off on) x

@@ -6,25 +6,25 @@ use Rattle.std.proofs.lemmas.List.{take_more}
 use Rattle.std.proofs.lemmas.List.Elements.{Contains-append_left, Contains-get_or, Contains-push, Contains-push_cases, All-filter, All-same, filter-append}
 use Rattle.std.proofs.lemmas.List.Folds.{list_all-append, list_any-append}
 use Rattle.std.proofs.lemmas.Map.Views.{any-filter_same}
-use Rattle.cc_lattice.specs.Orders.{IsLeastUpperBound}
-use Rattle.cc_lattice.specs.Tables.{AreJoins}
-use Rattle.cc_places.specs.declared.abs.Abs.{Abs}
-use Rattle.cc_places.specs.declared.abs.Abs.TheVariants as abs
-use Rattle.cc_places.specs.Abstract.{AreOfOneKind, IsBelowAbs}
-use Rattle.cc_places.specs.laws.AbstractLaws.{kind_back}
+use Rattle.cc_state_reads.specs.CcLattice.Orders.{IsLeastUpperBound}
+use Rattle.cc_state_reads.specs.CcLattice.Tables.{AreJoins}
+use Rattle.cc_state_reads.specs.CcPlaces.declared.abs.Abs.{Abs}
+use Rattle.cc_state_reads.specs.CcPlaces.declared.abs.Abs.TheVariants as abs
+use Rattle.cc_state_reads.specs.CcPlaces.Abstract.{AreOfOneKind, IsBelowAbs}
+use Rattle.cc_state_reads.specs.CcPlaces.laws.AbstractLaws.{kind_back}
 use Rattle.cc_rules_flows.specs.Joins.{flows_to, AreAlikeAt, IsWithTold, IsTogether, IsAsThoseAt}
 use Rattle.cc_rules_flows.specs.Kept.{AreAsLong, KeepsShape}
 use Rattle.cc_rules_flows.specs.Known.{Tells, AreTold}
 use Rattle.cc_rules_flows.proofs.ShapeLemmas.{keeps}
 use Rattle.cc_rules_needs.specs.Flowing.{Flowing, of_fact, IsUpper, IsLeastOver, IsJoined}
 use Rattle.cc_rules_needs.specs.Points.{IsFactOf, IsWithFlow}
-use Rattle.cc_state_facts.specs.declared.facts.PointFact.{PointFact}
-use Rattle.cc_state_facts.specs.declared.facts.Row.{Row}
-use Rattle.cc_state_facts.specs.Facts.{cell_of, local_of, has_pair, row_length}
-use Rattle.cc_state_facts.specs.Orders.{AreRowsAlike, ArePointsAlike, AreOrderly, Ascend, is_same, IsJoin, IsRowJoin, IsPointJoin}
-use Rattle.cc_state_facts.specs.laws.OrderLaws.{kind_itself, point_back}
-use Rattle.cc_state_facts.specs.laws.Pairs.{kept_ascend}
-use Rattle.cc_state_facts.specs.laws.Places.{zip_itself, zip_through}
+use Rattle.cc_state_reads.specs.CcStateFacts.declared.facts.PointFact.{PointFact}
+use Rattle.cc_state_reads.specs.CcStateFacts.declared.facts.Row.{Row}
+use Rattle.cc_state_reads.specs.CcStateFacts.Facts.{cell_of, local_of, has_pair, row_length}
+use Rattle.cc_state_reads.specs.CcStateFacts.Orders.{AreRowsAlike, ArePointsAlike, AreOrderly, Ascend, is_same, IsJoin, IsRowJoin, IsPointJoin}
+use Rattle.cc_state_reads.specs.CcStateFacts.laws.OrderLaws.{kind_itself, point_back}
+use Rattle.cc_state_reads.specs.CcStateFacts.laws.Pairs.{kept_ascend}
+use Rattle.cc_state_reads.specs.CcStateFacts.laws.Places.{zip_itself, zip_through}
 
 -- ---- of one kind
 

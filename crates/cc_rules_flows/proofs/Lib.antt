@@ -6,3 +6,14 @@ pub mod KnownLemmas
 pub mod PairLemmas
 pub mod Paths
 pub mod ShapeLemmas
+pub mod CcFlow
+pub mod CcFlowSound
+pub mod CcLattice
+pub mod CcRulesNeeds
+pub mod CcStateFacts
+pub mod CcStateKeys
+pub mod CcStateReads
+pub mod CcStateValues
+pub mod CcStates
+pub mod CcSteps
+pub mod CcSyntax

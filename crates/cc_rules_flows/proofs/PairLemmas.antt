@@ -5,10 +5,10 @@ use Rattle.std.proofs.lemmas.Map.Views.{any-filter_same}
 use Rattle.cc_rules_flows.proofs.KnownLemmas.{agree}
 use Rattle.cc_rules_flows.specs.Known.{Tells, comes_before, with_between}
 use Rattle.cc_rules_needs.specs.Flowing.{Flowing, with_pair}
-use Rattle.cc_places.specs.declared.abs.Abs.{Abs}
-use Rattle.cc_state_facts.specs.declared.facts.PointFact.{PointFact}
-use Rattle.cc_state_facts.specs.declared.facts.Row.{Row}
-use Rattle.cc_state_facts.specs.Facts.{row_length}
+use Rattle.cc_state_reads.specs.CcPlaces.declared.abs.Abs.{Abs}
+use Rattle.cc_state_reads.specs.CcStateFacts.declared.facts.PointFact.{PointFact}
+use Rattle.cc_state_reads.specs.CcStateFacts.declared.facts.Row.{Row}
+use Rattle.cc_state_reads.specs.CcStateFacts.Facts.{row_length}
 
 abbrev is_in : List (ℕ × ℕ) → ℕ → ℕ → Bool
 is_in pairs q j = list_any (λ pair. nat_eq pair.0 q && nat_eq pair.1 j) pairs

@@ -2,16 +2,16 @@
 use Rattle.std.proofs.Common.{arith, ◌≡◌, ◌⊎◌, inl, inr, ◌<◌, ◌+◌, ◌*◌, ◌≤◌, ℕ, zero, suc, Bool, true, false, true≢false, cond, ◌&&◌, ◌||◌, nat_eq, nat_lt, All, List, [], ◌∷◌, ◌++◌, length, Option, Some, None, slice_get, slice_set, refl, ap, sym, subst, ◌∙◌}
 use Rattle.std.specs.List.{AllByRecursion, AllZip, filter}
 use Rattle.std.proofs.lemmas.List.Elements.{All-cons, All-append, All-filter, All-same}
-use Rattle.cc_places.specs.declared.abs.Abs.{Abs}
+use Rattle.cc_state_reads.specs.CcPlaces.declared.abs.Abs.{Abs}
 use Rattle.cc_rules_flows.specs.Kept.{AreAsLong, IsAsLarge, KeepsShape}
 use Rattle.cc_rules_flows.specs.Known.{comes_before, with_between}
 use Rattle.cc_rules_needs.specs.Points.{IsFactOf}
-use Rattle.cc_state_facts.specs.declared.facts.PointFact.{PointFact}
-use Rattle.cc_state_facts.specs.declared.facts.Row.{Row}
-use Rattle.cc_state_facts.specs.Facts.{row_length}
-use Rattle.cc_state_facts.specs.Orders.{IsBefore, Ascend, AreOrderly}
-use Rattle.cc_state_facts.specs.laws.Pairs.{kept_ascend}
-use Rattle.cc_state_facts.specs.laws.Places.{zip_itself, zip_through}
+use Rattle.cc_state_reads.specs.CcStateFacts.declared.facts.PointFact.{PointFact}
+use Rattle.cc_state_reads.specs.CcStateFacts.declared.facts.Row.{Row}
+use Rattle.cc_state_reads.specs.CcStateFacts.Facts.{row_length}
+use Rattle.cc_state_reads.specs.CcStateFacts.Orders.{IsBefore, Ascend, AreOrderly}
+use Rattle.cc_state_reads.specs.CcStateFacts.laws.Pairs.{kept_ascend}
+use Rattle.cc_state_reads.specs.CcStateFacts.laws.Places.{zip_itself, zip_through}
 
 -- ---- lists that are as long
 

@@ -2,10 +2,10 @@
 -- the exits of the functions that may be called.
 use Rattle.std.specs.Prelude.{◌≡◌, ◌⊎◌, ℕ, ◌==◌, ℤ, pos, Bool, true, false, not, ◌&&◌, ◌||◌, List, [], ◌∷◌, ◌++◌, map, Option, Some, None, slice_get, if◌then◌else◌}
 use Rattle.std.specs.List.{filter}
-use Rattle.cc_flow.specs.declared.types.Point.{Point}
-use Rattle.cc_places.specs.declared.abs.Abs.{Abs}
-use Rattle.cc_places.specs.declared.abs.Abs.TheVariants as abs
-use Rattle.cc_places.specs.Abstract.{HasValue}
+use Rattle.cc_flow_sound.specs.CcFlow.declared.types.Point.{Point}
+use Rattle.cc_state_reads.specs.CcPlaces.declared.abs.Abs.{Abs}
+use Rattle.cc_state_reads.specs.CcPlaces.declared.abs.Abs.TheVariants as abs
+use Rattle.cc_state_reads.specs.CcPlaces.Abstract.{HasValue}
 use Rattle.cc_program.specs.declared.expr.Expr.{Expr}
 use Rattle.cc_program.specs.declared.expr.Expr.TheOpen as one
 use Rattle.cc_program.specs.declared.expr.Place.{Place, out-Place}
@@ -16,13 +16,13 @@ use Rattle.cc_rules_flows.specs.Acts.{Act, Sets, Reads, Writes, Calls, Saves, Tu
 use Rattle.cc_rules_flows.specs.Nexts.{sides, choices}
 use Rattle.cc_rules_flows.specs.Tests.{Test, MayPass, IsLeft, IsLeftBy}
 use Rattle.cc_rules_needs.specs.Flowing.{Flowing, of_fact, with_local, with_pair, with_cell, with_flags}
-use Rattle.cc_state_facts.specs.declared.facts.Facts.{Facts}
-use Rattle.cc_state_facts.specs.declared.facts.PointFact.{PointFact}
-use Rattle.cc_state_facts.specs.Facts.{cell_of, local_of, has_pair}
-use Rattle.cc_state_keys.specs.Tracked.{registers, register_number}
-use Rattle.cc_state_operators.specs.Domains.{Domain, IsHull, MayBe}
+use Rattle.cc_state_reads.specs.CcStateFacts.declared.facts.Facts.{Facts}
+use Rattle.cc_state_reads.specs.CcStateFacts.declared.facts.PointFact.{PointFact}
+use Rattle.cc_state_reads.specs.CcStateFacts.Facts.{cell_of, local_of, has_pair}
+use Rattle.cc_state_reads.specs.CcStateKeys.Tracked.{registers, register_number}
+use Rattle.cc_state_reads.specs.CcStateOperators.Domains.{Domain, IsHull, MayBe}
 use Rattle.cc_state_reads.specs.Reads.{IsRead, registers_at, tracked_in}
-use Rattle.cc_state_values.specs.Values.{IsVal}
+use Rattle.cc_state_reads.specs.CcStateValues.Values.{IsVal}
 
 -- the expression that a statement tests, and its tests, each with the point to which control goes where it passes
 abbrev pub tests_of : ℕ → List ℕ → Act → Option (Expr × List (Test × ℕ))

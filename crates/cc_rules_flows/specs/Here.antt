@@ -8,13 +8,13 @@ use Rattle.cc_rules_flows.specs.Flows.{Flows}
 use Rattle.cc_rules_flows.specs.Kept.{KeepsShape}
 use Rattle.cc_rules_flows.specs.Known.{Tells, AreTold}
 use Rattle.cc_rules_needs.specs.Flowing.{Flowing, of_fact, with_flags}
-use Rattle.cc_state_facts.specs.declared.facts.PointFact.{PointFact}
-use Rattle.cc_state_facts.specs.Facts.{fact_at, cell_of}
-use Rattle.cc_state_keys.specs.Keys.{keys_of}
-use Rattle.cc_state_keys.specs.Tracked.{registers, register_number, tracked}
-use Rattle.cc_state_operators.specs.Domains.{Domain}
+use Rattle.cc_state_reads.specs.CcStateFacts.declared.facts.PointFact.{PointFact}
+use Rattle.cc_state_reads.specs.CcStateFacts.Facts.{fact_at, cell_of}
+use Rattle.cc_state_reads.specs.CcStateKeys.Keys.{keys_of}
+use Rattle.cc_state_reads.specs.CcStateKeys.Tracked.{registers, register_number, tracked}
+use Rattle.cc_state_reads.specs.CcStateOperators.Domains.{Domain}
 use Rattle.cc_state_reads.specs.Contexts.{HaveKind, ReadsScalar}
-use Rattle.cc_state_values.specs.Contexts.{HaveSetsIn, IsPureIn, IsPurePlaceIn}
+use Rattle.cc_state_reads.specs.CcStateValues.Contexts.{HaveSetsIn, IsPureIn, IsPurePlaceIn}
 use Rattle.cc_syntax.specs.Sizes.{AreSized}
 
 module _ {I : Type 0} (d : Domain I) (here : Here I) where

@@ -3,8 +3,8 @@ use Rattle.std.specs.Prelude.{◌≡◌, ℕ, ◌==◌, List, [], ◌∷◌, map
 use Rattle.std.specs.List.{Contains, filter}
 use Rattle.cc_rules_needs.specs.Flowing.{Flowing, of_fact, IsJoined}
 use Rattle.cc_rules_needs.specs.Points.{IsFactOf, IsWithFlow}
-use Rattle.cc_state_facts.specs.declared.facts.PointFact.{PointFact}
-use Rattle.cc_state_facts.specs.Orders.{ArePointsAlike, AreOrderly}
+use Rattle.cc_state_reads.specs.CcStateFacts.declared.facts.PointFact.{PointFact}
+use Rattle.cc_state_reads.specs.CcStateFacts.Orders.{ArePointsAlike, AreOrderly}
 
 module _ {I : Type 0} where
   abbrev pub flows_to : ℕ → List (ℕ × Flowing I) → List (Flowing I)

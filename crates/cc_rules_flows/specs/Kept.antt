@@ -2,9 +2,9 @@
 use Rattle.std.specs.Prelude.{◌≡◌, ℕ, List, length}
 use Rattle.std.specs.List.{AllZip}
 use Rattle.cc_rules_needs.specs.Points.{IsFactOf}
-use Rattle.cc_state_facts.specs.declared.facts.PointFact.{PointFact}
-use Rattle.cc_state_facts.specs.declared.facts.Row.{Row}
-use Rattle.cc_state_facts.specs.Orders.{AreOrderly}
+use Rattle.cc_state_reads.specs.CcStateFacts.declared.facts.PointFact.{PointFact}
+use Rattle.cc_state_reads.specs.CcStateFacts.declared.facts.Row.{Row}
+use Rattle.cc_state_reads.specs.CcStateFacts.Orders.{AreOrderly}
 
 module _ {I : Type 0} where
   abbrev pub AreAsLong : Row I → Row I → Type 0

@@ -2,8 +2,8 @@
 use Rattle.std.specs.Prelude.{◌≡◌, ◌==◌, not, ◌&&◌, ◌||◌, nat_eq, nat_lt, ℕ, Bool, List, ◌∷◌, ◌++◌}
 use Rattle.std.specs.List.{AllZip, filter}
 use Rattle.cc_rules_needs.specs.Flowing.{Flowing}
-use Rattle.cc_state_facts.specs.declared.facts.PointFact.{PointFact}
-use Rattle.cc_state_facts.specs.Facts.{cell_of, local_of, has_pair}
+use Rattle.cc_state_reads.specs.CcStateFacts.declared.facts.PointFact.{PointFact}
+use Rattle.cc_state_reads.specs.CcStateFacts.Facts.{cell_of, local_of, has_pair}
 
 -- flag, sets and pairs of the one are those of the other
 pub record Tells {I : Type 0} (fact : PointFact I) (flow : Flowing I) : Type 0 where

@@ -1,11 +1,11 @@
 -- Points with their statements, and where control goes from a test.
 use Rattle.std.specs.Prelude.{◌≡◌, ℕ, ◌+◌, ℤ, Bool, true, false, ◌||◌, nat_le, List, [], ◌∷◌, ◌++◌, map, Option, Some, None, is_none, slice_get, if◌then◌else◌}
 use Rattle.std.specs.List.{flat_map, list_any}
-use Rattle.cc_flow.specs.declared.types.Point.{Point}
-use Rattle.cc_flow.specs.Laws.{starts}
-use Rattle.cc_flow.specs.Next.{reached}
-use Rattle.cc_flow.specs.Points.{flow_of, total_of}
-use Rattle.cc_flow.specs.View.{case_total, total_of_cases}
+use Rattle.cc_flow_sound.specs.CcFlow.declared.types.Point.{Point}
+use Rattle.cc_flow_sound.specs.CcFlow.Laws.{starts}
+use Rattle.cc_flow_sound.specs.CcFlow.Next.{reached}
+use Rattle.cc_flow_sound.specs.CcFlow.Points.{flow_of, total_of}
+use Rattle.cc_flow_sound.specs.CcFlow.View.{case_total, total_of_cases}
 use Rattle.cc_flow_sound.specs.Moves.{entry}
 use Rattle.cc_flow_sound.specs.Statements.{statement_at}
 use Rattle.cc_program.specs.declared.func.Func.{Func}

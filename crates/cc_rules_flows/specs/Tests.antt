@@ -2,15 +2,15 @@
 -- refined at once, from the sets at the point.
 use Rattle.std.specs.Prelude.{◌≡◌, ◌⊎◌, ℕ, ◌==◌, ℤ, Bool, true, false, List, [], ◌∷◌, Option, Some, None, slice_get, if◌then◌else◌}
 use Rattle.std.specs.List.{Contains}
-use Rattle.cc_num.specs.declared.int_type.IntType.{IntType}
-use Rattle.cc_num.specs.declared.op.BinOp.{BinOp}
-use Rattle.cc_num.specs.declared.op.BinOp.TheVariants as op
-use Rattle.cc_lattice.specs.Domains.{is_comparison}
-use Rattle.cc_num.specs.Integers.{IsValueOf}
-use Rattle.cc_places.specs.declared.abs.Abs.{Abs}
-use Rattle.cc_places.specs.declared.abs.Abs.TheVariants as abs
-use Rattle.cc_places.specs.declared.addrs.Addrs.{Addrs}
-use Rattle.cc_places.specs.Abstract.{HasValue}
+use Rattle.cc_program.specs.CcNum.declared.int_type.IntType.{IntType}
+use Rattle.cc_program.specs.CcNum.declared.op.BinOp.{BinOp}
+use Rattle.cc_program.specs.CcNum.declared.op.BinOp.TheVariants as op
+use Rattle.cc_state_reads.specs.CcLattice.Domains.{is_comparison}
+use Rattle.cc_program.specs.CcNum.Integers.{IsValueOf}
+use Rattle.cc_state_reads.specs.CcPlaces.declared.abs.Abs.{Abs}
+use Rattle.cc_state_reads.specs.CcPlaces.declared.abs.Abs.TheVariants as abs
+use Rattle.cc_state_reads.specs.CcPlaces.declared.addrs.Addrs.{Addrs}
+use Rattle.cc_state_reads.specs.CcPlaces.Abstract.{HasValue}
 use Rattle.cc_program.specs.declared.expr.Expr.{Expr, out-Expr}
 use Rattle.cc_program.specs.declared.expr.Expr.TheOpen as one
 use Rattle.cc_program.specs.declared.expr.Place.{Place}
@@ -18,13 +18,13 @@ use Rattle.cc_program.specs.declared.func.Func.{Func}
 use Rattle.cc_program.specs.declared.program.Program.{Program}
 use Rattle.cc_program.specs.declared.value.Value.{Value}
 use Rattle.cc_program.specs.declared.value.Value.TheVariants as value
-use Rattle.cc_state_operators.specs.Domains.{Domain, IsHull}
-use Rattle.cc_state_operators.specs.Types.{AreOf}
-use Rattle.cc_state_values.specs.Values.{IsVal}
+use Rattle.cc_state_reads.specs.CcStateOperators.Domains.{Domain, IsHull}
+use Rattle.cc_state_reads.specs.CcStateOperators.Types.{AreOf}
+use Rattle.cc_state_reads.specs.CcStateValues.Values.{IsVal}
 use Rattle.cc_syntax.specs.Effects.{place_effects_of}
 use Rattle.cc_syntax.specs.Types.{Named}
 use Rattle.cc_syntax.specs.Values.{ValueType, scalar_value}
-use Rattle.cc_values.specs.Values.{is_true}
+use Rattle.cc_state_reads.specs.CcValues.Values.{is_true}
 
 -- of the value of an `if`'s condition: that it is true, or false; of that of a `switch`: that it equals a label, or, for `default`, none of all
 pub data Test : Type 0 where

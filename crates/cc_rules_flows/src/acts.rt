@@ -2,13 +2,13 @@
 
 ghost use Rattle.std.specs.Prelude.{◌≡◌, option_copied};
 ghost use Rattle.cc_program.specs.declared.expr.Expr.{out-Expr};
-ghost use Rattle.cc_registers.specs.Kept.{AreKept};
+ghost use Rattle.cc_state_reads.specs.CcRegisters.Kept.{AreKept};
 ghost use Rattle.cc_rules_flows.specs.Acts.{act_of as act_of_stmt, does, gets, assigns as assigned, intrinsic as intrinsic_of};
 ghost use Rattle.cc_rules_flows.specs.View.{act_view};
 ghost use Rattle.cc_syntax.specs.Effects.{place_effects_of};
 ghost use Rattle.cc_syntax.specs.Registers.{is_register as is_register_of};
 
-use cc_num::{Boxed, at};
+use cc_program::num::{Boxed, at};
 use cc_program::{Case, Expr, Func, Intr, Place, Stmt};
 
 /// What a statement in normal form does.

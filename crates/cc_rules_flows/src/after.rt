@@ -6,24 +6,24 @@ ghost use Rattle.cc_rules_flows.specs.Here.{IsHere, IsRegister, MayDo, DoesFlow,
 ghost use Rattle.cc_rules_flows.specs.Known.{Tells};
 ghost use Rattle.cc_rules_flows.specs.View.{act_view};
 ghost use Rattle.cc_rules_needs.specs.Flowing.{of_fact, with_flags};
-ghost use Rattle.cc_state_facts.specs.declared.facts.PointFact.{PointFact};
-ghost use Rattle.cc_state_keys.specs.Tracked.{register_number};
-ghost use Rattle.cc_state_operators.specs.Domains.{domain};
+ghost use Rattle.cc_state_reads.specs.CcStateFacts.declared.facts.PointFact.{PointFact};
+ghost use Rattle.cc_state_reads.specs.CcStateKeys.Tracked.{register_number};
+ghost use Rattle.cc_state_reads.specs.CcStateOperators.Domains.{domain};
 ghost use Rattle.cc_state_reads.specs.Reads.{tracked_in};
 
 use crate::acts::Act;
 use crate::flag::flag_set;
 use crate::known::{add_pair, set_cell, set_flags, set_local};
-use cc_flow::Point;
-use cc_lattice::IntDomain;
-use cc_num::NoMemory;
-use cc_places::Abs;
+use cc_flow_sound::flow::Point;
+use cc_program::num::NoMemory;
 use cc_program::{Expr, Place};
-use cc_state_facts::{Facts, PointFact, copied_point};
-use cc_state_keys::number_in;
-use cc_state_operators::may_be;
+use cc_state_reads::lattice::IntDomain;
+use cc_state_reads::places::Abs;
 use cc_state_reads::read_of;
-use cc_state_values::{Context, value_of};
+use cc_state_reads::state_facts::{Facts, PointFact, copied_point};
+use cc_state_reads::state_keys::number_in;
+use cc_state_reads::state_operators::may_be;
+use cc_state_reads::state_values::{Context, value_of};
 use std::alloc::Global;
 
 /// A point that is reached.

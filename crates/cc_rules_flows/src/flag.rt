@@ -2,10 +2,10 @@
 
 ghost use Rattle.cc_rules_flows.specs.Flag.{IsFlagOf};
 ghost use Rattle.std.specs.Prelude.{IfOk};
-ghost use Rattle.cc_state_operators.specs.Domains.{domain, IsHull};
+ghost use Rattle.cc_state_reads.specs.CcStateOperators.Domains.{domain, IsHull};
 
-use cc_lattice::{IntDomain, Lattice};
-use cc_num::NoMemory;
+use cc_program::num::NoMemory;
+use cc_state_reads::lattice::{IntDomain, Lattice};
 use std::alloc::Global;
 
 /// 0 where the flag may be off, and 1 where it may be on.

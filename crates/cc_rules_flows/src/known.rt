@@ -5,13 +5,13 @@ ghost use Rattle.std.specs.List.{filter};
 ghost use Rattle.cc_rules_flows.specs.Kept.{KeepsShape};
 ghost use Rattle.cc_rules_flows.specs.Known.{Tells, is_of_other_register, is_of_other_cell, comes_before};
 ghost use Rattle.cc_rules_needs.specs.Flowing.{Flowing, with_local, with_pair, with_cell, with_flags};
-ghost use Rattle.cc_state_facts.specs.Facts.{cell_of, row_length};
+ghost use Rattle.cc_state_reads.specs.CcStateFacts.Facts.{cell_of, row_length};
 
-use cc_lattice::IntDomain;
-use cc_num::{List, NoMemory, at};
-use cc_places::Abs;
-use cc_state_facts::{PointFact, Row, Shared};
-use cc_state_shared::share_all;
+use cc_program::num::{List, NoMemory, at};
+use cc_state_reads::lattice::IntDomain;
+use cc_state_reads::places::Abs;
+use cc_state_reads::state_facts::{PointFact, Row, Shared};
+use cc_state_reads::state_shared::share_all;
 use std::alloc::Global;
 use std::mem;
 

@@ -1,12 +1,12 @@
 //! The statement at a point.
 
 ghost use Rattle.std.specs.Prelude.{◌≡◌, ◌++◌, option_copied, slice_get};
-ghost use Rattle.cc_control.specs.Control.{bodies};
+ghost use Rattle.cc_flow_sound.specs.CcControl.Control.{bodies};
 ghost use Rattle.cc_flow_sound.specs.Statements.{inside as inside_of, statement_at as statement_of};
 ghost use Rattle.cc_program.specs.declared.stmt.Stmt.{out-Stmt};
 ghost use Rattle.cc_rules_flows.specs.Descents.{descended};
 
-use cc_num::at;
+use cc_program::num::at;
 use cc_program::{Case, Stmt};
 
 /// The statement at a position of the bodies of some cases, one after the other.

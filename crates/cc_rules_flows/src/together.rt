@@ -5,11 +5,11 @@ ghost use Rattle.cc_rules_flows.specs.Joins.{AreAlikeAt, IsWithTold, IsTogether,
 ghost use Rattle.cc_rules_flows.specs.Known.{AreTold};
 ghost use Rattle.cc_rules_needs.specs.Flowing.{Flowing};
 ghost use Rattle.cc_rules_needs.specs.Points.{IsWithFlow};
-ghost use Rattle.cc_state_facts.specs.Orders.{ArePointsAlike};
+ghost use Rattle.cc_state_reads.specs.CcStateFacts.Orders.{ArePointsAlike};
 
-use cc_lattice::IntDomain;
-use cc_num::NoMemory;
-use cc_state_facts::{PointFact, copied_point, joined_point};
+use cc_program::num::NoMemory;
+use cc_state_reads::lattice::IntDomain;
+use cc_state_reads::state_facts::{PointFact, copied_point, joined_point};
 use std::alloc::Global;
 
 /// A fact with another one, where there is one already.

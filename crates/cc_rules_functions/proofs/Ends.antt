@@ -2,9 +2,9 @@
 use Rattle.std.proofs.Common.{arith, ◌≡◌, ◌≤◌, ◌<◌, ◌+◌, ℕ, zero, suc, List, [], ◌∷◌, length, Some, slice_get, unwrap_or, ap, ◌∙◌}
 use Rattle.std.proofs.lemmas.List.Sums.{sum_by-cons}
 use Rattle.std.proofs.lemmas.Option.{unwrap_or-slice_get}
-use Rattle.cc_flow.proofs.Paths.{all_counted}
-use Rattle.cc_flow.specs.Points.{flow_of, count_of, count_in, firsts_in, body_count}
-use Rattle.cc_flow_sound.specs.Moves.{entry}
+use Rattle.cc_rules_flows.proofs.CcFlow.Paths.{all_counted}
+use Rattle.cc_rules_flows.specs.CcFlow.Points.{flow_of, count_of, count_in, firsts_in, body_count}
+use Rattle.cc_rules_flows.specs.CcFlowSound.Moves.{entry}
 use Rattle.cc_program.specs.declared.func.Func.{Func}
 use Rattle.cc_program.specs.declared.program.Program.{Program}
 use Rattle.cc_rules_flows.specs.Nexts.{exit_of}

@@ -1,8 +1,8 @@
 -- Elements of lists, and of those with one more behind; functions by their places.
 use Rattle.std.proofs.Common.{arith, ◌≡◌, ◌≤◌, ◌<◌, ◌^◌, ◌+◌, ◌==◌, ◌&&◌, not, ◌⊎◌, inl, inr, ℕ, zero, suc, List, [], ◌∷◌, ◌++◌, length, get_or, Some, slice_get, unwrap_or, refl, ap, sym, subst, ◌∙◌}
 use Rattle.std.proofs.lemmas.Option.{slice_get-get_or}
-use Rattle.cc_flow.specs.declared.types.Flow.{Flow}
-use Rattle.cc_flow.specs.Points.{flow_of}
+use Rattle.cc_rules_flows.specs.CcFlow.declared.types.Flow.{Flow}
+use Rattle.cc_rules_flows.specs.CcFlow.Points.{flow_of}
 use Rattle.cc_program.specs.declared.func.Func.{Func}
 use Rattle.cc_program.specs.declared.program.Program.{Program}
 use Rattle.cc_rules_flows.specs.Nexts.{exit_of}
@@ -10,9 +10,9 @@ use Rattle.cc_rules_functions.specs.declared.functions.Function.{Function}
 use Rattle.cc_rules_functions.specs.Ends.{end_at}
 use Rattle.cc_rules_functions.specs.Functions.{IsFunctionOf, AreFunctionsOf}
 use Rattle.cc_rules_functions.proofs.Ends.{is_entry, is_exit}
-use Rattle.cc_state_keys.proofs.FactCounts.{few_registers}
-use Rattle.cc_state_keys.specs.Tracked.{registers}
-use Rattle.cc_steps.specs.Step.{gives_nothing}
+use Rattle.cc_rules_flows.proofs.CcStateKeys.FactCounts.{few_registers}
+use Rattle.cc_rules_flows.specs.CcStateKeys.Tracked.{registers}
+use Rattle.cc_rules_flows.specs.CcSteps.Step.{gives_nothing}
 
 -- what a list has at a place, by another name of the list
 pub stands : {A : Type 0} (items xs : List A) (i : ℕ) (x : A) → items ≡ xs → i < length items → x ≡ get_or items i x → slice_get xs i ≡ Some x

@@ -1,11 +1,11 @@
 -- The functions of a program, as the code has them for calls.
 use Rattle.std.specs.Prelude.{◌≡◌, ◌<◌, ◌^◌, ◌==◌, ◌&&◌, not, ℕ, List, length, Some, slice_get}
-use Rattle.cc_flow_sound.specs.Moves.{entry}
+use Rattle.cc_rules_flows.specs.CcFlowSound.Moves.{entry}
 use Rattle.cc_program.specs.declared.program.Program.{Program}
 use Rattle.cc_rules_functions.specs.declared.functions.Function.{Function}
 use Rattle.cc_rules_flows.specs.Nexts.{exit_of}
-use Rattle.cc_state_keys.specs.Tracked.{registers}
-use Rattle.cc_steps.specs.Step.{gives_nothing}
+use Rattle.cc_rules_flows.specs.CcStateKeys.Tracked.{registers}
+use Rattle.cc_rules_flows.specs.CcSteps.Step.{gives_nothing}
 
 pub record IsFunctionOf (p : Program) (id : ℕ) (f : Function) : Type 0 where
   pub func : slice_get p.funcs id ≡ Some f.func.now

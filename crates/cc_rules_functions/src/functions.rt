@@ -1,16 +1,16 @@
 //! The functions of a program, with their registers and the numbers of their first points and exits.
 
 ghost use Rattle.std.specs.Prelude.{◌≡◌, ◌≤◌, ◌<◌, ◌^◌, ◌+◌, ◌==◌, ◌&&◌, not, All, Some, length, slice_get, unwrap_or, IfOk};
-ghost use Rattle.cc_flow.specs.Points.{flow_of, count_of};
+ghost use Rattle.cc_rules_flows.specs.CcFlow.Points.{flow_of, count_of};
 ghost use Rattle.cc_rules_functions.specs.Functions.{IsFunctionOf, AreFunctionsOf};
 ghost use Rattle.cc_rules_functions.specs.Ends.{end_at};
-ghost use Rattle.cc_steps.specs.Step.{gives_nothing};
+ghost use Rattle.cc_rules_flows.specs.CcSteps.Step.{gives_nothing};
 
-use cc_flow::Flow;
-use cc_num::{List, NoMemory, at};
+use cc_program::num::{List, NoMemory, at};
 use cc_program::{Func, Program};
-use cc_state_keys::registers;
-use cc_typed::is_void;
+use cc_rules_flows::flow::Flow;
+use cc_rules_flows::state_keys::registers;
+use cc_rules_flows::typed::is_void;
 use std::alloc::Global;
 
 /// A function, with what calls of it want.

@@ -1,20 +1,20 @@
 -- A place that a statement in normal form accesses has a type.
 use Rattle.std.proofs.Common.{◌≡◌, ◌⊎◌, inl, inr, ℕ, List, Option, Some, None, refl, slice_get, subst}
-use Rattle.cc_flow.specs.declared.types.Point.{Point}
-use Rattle.cc_flow_sound.specs.Statements.{statement_at}
+use Rattle.cc_rules.specs.CcFlow.declared.types.Point.{Point}
+use Rattle.cc_rules.specs.CcFlowSound.Statements.{statement_at}
 use Rattle.cc_program.specs.declared.expr.Expr.{Expr}
 use Rattle.cc_program.specs.declared.expr.Place.{Place}
 use Rattle.cc_program.specs.declared.func.Func.{Func}
 use Rattle.cc_program.specs.declared.program.Program.{Program}
 use Rattle.cc_program.specs.declared.stmt.Stmt.{Stmt}
 use Rattle.cc_rules.specs.Rules.{act_at}
-use Rattle.cc_rules_flows.specs.Acts.{Act, Reads, Writes}
-use Rattle.cc_rules_flows.specs.Nexts.{IsPoint, statement_of}
+use Rattle.cc_rules.specs.CcRulesFlows.Acts.{Act, Reads, Writes}
+use Rattle.cc_rules.specs.CcRulesFlows.Nexts.{IsPoint, statement_of}
 use Rattle.cc_state_points.proofs.Acting.{operands_at}
 use Rattle.cc_state_points.specs.Operands.{AreOperands}
-use Rattle.cc_syntax.specs.Normal.{IsNormal}
-use Rattle.cc_syntax.specs.Programs.{place_type}
-use Rattle.cc_syntax.specs.Values.{PlaceType}
+use Rattle.cc_rules.specs.CcSyntax.Normal.{IsNormal}
+use Rattle.cc_rules.specs.CcSyntax.Programs.{place_type}
+use Rattle.cc_rules.specs.CcSyntax.Values.{PlaceType}
 
 operands_there : (p : Program) → IsNormal p → (id : ℕ) (f : Func) → slice_get p.funcs id ≡ Some f → (path : List ℕ) (o : Option Stmt) → statement_at f.body path ≡ o → AreOperands p f (act_at o f)
 operands_there p normal id f function path None e = tt

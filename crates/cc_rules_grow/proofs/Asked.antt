@@ -2,21 +2,21 @@
 use Rattle.std.proofs.Common.{◌≡◌, ◌⊎◌, inl, inr, ℕ, Bool, true, false, true≢false, not, length, Option, Some, None, slice_get, refl, ap, sym, ◌∙◌, subst}
 use Rattle.std.specs.Prelude.{option_and_then}
 use Rattle.std.proofs.lemmas.Option.{same_Some}
-use Rattle.cc_flow.specs.declared.types.Point.{Point}
-use Rattle.cc_flow.specs.Points.{flow_of}
-use Rattle.cc_num.specs.declared.int_type.IntType.{IntType}
-use Rattle.cc_places.specs.Abstract.{IsBelowAbs}
-use Rattle.cc_places.specs.declared.abs.Abs.{Abs}
+use Rattle.cc_rules.specs.CcFlow.declared.types.Point.{Point}
+use Rattle.cc_rules.specs.CcFlow.Points.{flow_of}
+use Rattle.cc_program.specs.CcNum.declared.int_type.IntType.{IntType}
+use Rattle.cc_rules.specs.CcPlaces.Abstract.{IsBelowAbs}
+use Rattle.cc_rules.specs.CcPlaces.declared.abs.Abs.{Abs}
 use Rattle.cc_program.specs.declared.expr.Expr.{Expr}
 use Rattle.cc_program.specs.declared.expr.Place.{Place}
 use Rattle.cc_program.specs.declared.func.Func.{Func}
 use Rattle.cc_program.specs.declared.program.Program.{Program}
 use Rattle.cc_rules.specs.Constraints.{Rule, Initial, Start, Flow, Write, Touch, Call, Back, Return, Handler, Stability, Constraint}
 use Rattle.cc_rules.specs.Rules.{act_at, AskedHere, AskedIn, IsAsked}
-use Rattle.cc_rules_flows.specs.Acts.{Act, Sets, Reads, Writes, Calls, Saves, Turns, Restores, Tests, Chooses, Returns, Passes}
-use Rattle.cc_rules_flows.specs.Nexts.{IsPoint, statement_of, exit_of}
-use Rattle.cc_rules_flows.specs.Tests.{Test}
-use Rattle.cc_rules_flows.specs.Worked.{AreWorked}
+use Rattle.cc_rules.specs.CcRulesFlows.Acts.{Act, Sets, Reads, Writes, Calls, Saves, Turns, Restores, Tests, Chooses, Returns, Passes}
+use Rattle.cc_rules.specs.CcRulesFlows.Nexts.{IsPoint, statement_of, exit_of}
+use Rattle.cc_rules.specs.CcRulesFlows.Tests.{Test}
+use Rattle.cc_rules.specs.CcRulesFlows.Worked.{AreWorked}
 use Rattle.cc_rules_grow.proofs.Accesses.{place_typed}
 use Rattle.cc_rules_grow.proofs.Asking.{NamedMore, PlacesMore, written_grows, touched_grows, given_grows, handlers_more, stability_more}
 use Rattle.cc_rules_grow.proofs.Below.{AreSomeBelow, IsFactBelow, Had}
@@ -29,27 +29,27 @@ use Rattle.cc_rules_grow.proofs.Flowed.{flows_as, acts_below, comes_to_each}
 use Rattle.cc_rules_grow.proofs.Kept.{IsKept, ValuesGrow}
 use Rattle.cc_rules_grow.proofs.Starting.{first_sets_grow, started_grows}
 use Rattle.cc_rules_grow.specs.Grown.{AreTestsWorked, IsWorked}
-use Rattle.cc_rules_needs.specs.declared.needs.Part.TheVariants.{Flags}
-use Rattle.cc_rules_needs.specs.declared.needs.Slot.TheVariants.{LocalAt, CellAt, Flag, Apart}
-use Rattle.cc_rules_needs.specs.Needs.{flags_in, apart_in, Needs, AreValuesBelow, IsBelowPart, Has, HasAll, IsBelow}
-use Rattle.cc_state.proofs.Sets.{its_shape, registers_point}
-use Rattle.cc_state.specs.Shape.{IsPointFact, HaveShape}
-use Rattle.cc_state_facts.specs.declared.facts.Facts.{Facts}
-use Rattle.cc_state_facts.specs.declared.facts.PointFact.{PointFact}
-use Rattle.cc_state_facts.specs.Facts.{fact_at, cell_of, local_of, local_at, cell_at, has_pair}
-use Rattle.cc_state_keys.specs.Keys.{keys_of}
-use Rattle.cc_state_keys.specs.Tracked.{registers, register_number, tracked}
-use Rattle.cc_state_operators.specs.Domains.{Domain, IsWhole}
-use Rattle.cc_state_reads.specs.Reads.{IsRead, registers_at}
-use Rattle.cc_state_values.proofs.Same.{IsOrdered}
-use Rattle.cc_state_values.specs.Values.{IsVal}
-use Rattle.cc_state_values_grow.proofs.Growing.{value_more}
-use Rattle.cc_state_values_grow.proofs.Images.{IsOrder}
-use Rattle.cc_state_values_grow.proofs.Leading.{leads_somewhere}
-use Rattle.cc_state_values_grow.specs.Growth.{AreRegistersBelow, LeadSomewhere, RegistersPoint}
-use Rattle.cc_syntax.specs.Normal.{IsNormal}
-use Rattle.cc_syntax.specs.Programs.{place_type}
-use Rattle.cc_syntax.specs.Values.{PlaceType}
+use Rattle.cc_rules.specs.CcRulesNeeds.declared.needs.Part.TheVariants.{Flags}
+use Rattle.cc_rules.specs.CcRulesNeeds.declared.needs.Slot.TheVariants.{LocalAt, CellAt, Flag, Apart}
+use Rattle.cc_rules.specs.CcRulesNeeds.Needs.{flags_in, apart_in, Needs, AreValuesBelow, IsBelowPart, Has, HasAll, IsBelow}
+use Rattle.cc_state_points.proofs.CcState.Sets.{its_shape, registers_point}
+use Rattle.cc_state_points.specs.CcState.Shape.{IsPointFact, HaveShape}
+use Rattle.cc_rules.specs.CcStateFacts.declared.facts.Facts.{Facts}
+use Rattle.cc_rules.specs.CcStateFacts.declared.facts.PointFact.{PointFact}
+use Rattle.cc_rules.specs.CcStateFacts.Facts.{fact_at, cell_of, local_of, local_at, cell_at, has_pair}
+use Rattle.cc_rules.specs.CcStateKeys.Keys.{keys_of}
+use Rattle.cc_rules.specs.CcStateKeys.Tracked.{registers, register_number, tracked}
+use Rattle.cc_rules.specs.CcStateOperators.Domains.{Domain, IsWhole}
+use Rattle.cc_rules.specs.CcStateReads.Reads.{IsRead, registers_at}
+use Rattle.cc_rules.proofs.CcStateValues.Same.{IsOrdered}
+use Rattle.cc_rules.specs.CcStateValues.Values.{IsVal}
+use Rattle.cc_state_points.proofs.CcStateValuesGrow.Growing.{value_more}
+use Rattle.cc_state_points.proofs.CcStateValuesGrow.Images.{IsOrder}
+use Rattle.cc_state_points.proofs.CcStateValuesGrow.Leading.{leads_somewhere}
+use Rattle.cc_state_points.specs.CcStateValuesGrow.Growth.{AreRegistersBelow, LeadSomewhere, RegistersPoint}
+use Rattle.cc_rules.specs.CcSyntax.Normal.{IsNormal}
+use Rattle.cc_rules.specs.CcSyntax.Programs.{place_type}
+use Rattle.cc_rules.specs.CcSyntax.Values.{PlaceType}
 
 -- ---- one point, of one function
 

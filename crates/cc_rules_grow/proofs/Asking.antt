@@ -4,38 +4,38 @@ use Rattle.std.proofs.Common.{◌≡◌, inl, inr, ℕ, Bool, true, false, true�
 use Rattle.std.specs.Prelude.{◌==◌, option_and_then, if◌then◌else◌}
 use Rattle.std.specs.List.{filter}
 use Rattle.std.proofs.lemmas.Option.{same_Some}
-use Rattle.cc_flow.specs.declared.types.Point.{Point}
-use Rattle.cc_flow_sound.specs.Moves.{entry}
-use Rattle.cc_places.specs.Abstract.{IsBelowAbs}
-use Rattle.cc_places.specs.declared.abs.Abs.{Abs}
-use Rattle.cc_places.specs.laws.ListLaws.{cons_cases, at_head, behind_head, none_in}
+use Rattle.cc_rules.specs.CcFlow.declared.types.Point.{Point}
+use Rattle.cc_rules.specs.CcFlowSound.Moves.{entry}
+use Rattle.cc_rules.specs.CcPlaces.Abstract.{IsBelowAbs}
+use Rattle.cc_rules.specs.CcPlaces.declared.abs.Abs.{Abs}
+use Rattle.cc_rules.specs.CcPlaces.laws.ListLaws.{cons_cases, at_head, behind_head, none_in}
 use Rattle.cc_program.specs.declared.expr.Expr.{Expr}
 use Rattle.cc_program.specs.declared.expr.Place.{Place}
 use Rattle.cc_program.specs.declared.func.Func.{Func}
 use Rattle.cc_program.specs.declared.program.Program.{Program}
 use Rattle.cc_rules.specs.Rules.{IsValue, AreNumbers, AreKeys, Written, OfWrite, OfNone, reads, writes, Touched, ByRead, ByWrite, ByNone, ForEach, Given, OfReturn, OfNoValue, handlers, entry_levels, at_handler, interrupted, entering, whole_number, is_written, is_unstable, unstable_cell, unstable, HandlersAsk}
-use Rattle.cc_rules_flows.specs.Acts.{Act, Sets, Reads, Writes, Calls, Saves, Turns, Restores, Tests, Chooses, Returns, Passes}
+use Rattle.cc_rules.specs.CcRulesFlows.Acts.{Act, Sets, Reads, Writes, Calls, Saves, Turns, Restores, Tests, Chooses, Returns, Passes}
 use Rattle.cc_rules_grow.proofs.Below.{IsFactBelow, IsFlowBelow, values_of, Had, part_had, flow_had}
 use Rattle.cc_rules_grow.proofs.Elements.{Each, each_append, each_split, each_map, each_at, in_map, in_filter}
 use Rattle.cc_rules_grow.proofs.Kept.{IsKept}
 use Rattle.cc_rules_grow.proofs.Levels.{enters_more, one_enters_more}
-use Rattle.cc_rules_needs.specs.Flowing.{numbers, each_pair}
-use Rattle.cc_rules_needs.specs.declared.needs.Part.{Part}
-use Rattle.cc_rules_needs.specs.declared.needs.Part.TheVariants.{Mark, LevelSet, Values}
-use Rattle.cc_rules_needs.specs.declared.needs.Slot.{Slot}
-use Rattle.cc_rules_needs.specs.declared.needs.Slot.TheVariants.{Whole, HandlerReads, HandlerWrites, ReadLevels, WriteLevels, Result, ByHandler, Levels, From, CellAt, Apart}
-use Rattle.cc_rules_needs.specs.Needs.{Needs, AreValuesBelow, Has, IsBelow}
-use Rattle.cc_state.proofs.Lists.{from_filter}
-use Rattle.cc_state_facts.specs.declared.facts.Facts.{Facts}
-use Rattle.cc_state_facts.specs.declared.facts.Key.{Key}
-use Rattle.cc_state_facts.specs.declared.facts.PointFact.{PointFact}
-use Rattle.cc_state_facts.specs.Facts.{cell_of, mark_of, levels_of}
-use Rattle.cc_state_facts.specs.Levels.{only_level, may_enter, AreLevelsWithin}
-use Rattle.cc_state_keys.specs.Keys.{key_number}
-use Rattle.cc_state_keys.specs.Tracked.{registers, tracked}
-use Rattle.cc_state_operators.specs.Domains.{Domain}
-use Rattle.cc_state_reads.specs.Reads.{AreNamed, registers_at}
-use Rattle.cc_steps.specs.Turn.{level_of}
+use Rattle.cc_rules.specs.CcRulesNeeds.Flowing.{numbers, each_pair}
+use Rattle.cc_rules.specs.CcRulesNeeds.declared.needs.Part.{Part}
+use Rattle.cc_rules.specs.CcRulesNeeds.declared.needs.Part.TheVariants.{Mark, LevelSet, Values}
+use Rattle.cc_rules.specs.CcRulesNeeds.declared.needs.Slot.{Slot}
+use Rattle.cc_rules.specs.CcRulesNeeds.declared.needs.Slot.TheVariants.{Whole, HandlerReads, HandlerWrites, ReadLevels, WriteLevels, Result, ByHandler, Levels, From, CellAt, Apart}
+use Rattle.cc_rules.specs.CcRulesNeeds.Needs.{Needs, AreValuesBelow, Has, IsBelow}
+use Rattle.cc_state_points.proofs.CcState.Lists.{from_filter}
+use Rattle.cc_rules.specs.CcStateFacts.declared.facts.Facts.{Facts}
+use Rattle.cc_rules.specs.CcStateFacts.declared.facts.Key.{Key}
+use Rattle.cc_rules.specs.CcStateFacts.declared.facts.PointFact.{PointFact}
+use Rattle.cc_rules.specs.CcStateFacts.Facts.{cell_of, mark_of, levels_of}
+use Rattle.cc_rules.specs.CcStateFacts.Levels.{only_level, may_enter, AreLevelsWithin}
+use Rattle.cc_rules.specs.CcStateKeys.Keys.{key_number}
+use Rattle.cc_rules.specs.CcStateKeys.Tracked.{registers, tracked}
+use Rattle.cc_rules.specs.CcStateOperators.Domains.{Domain}
+use Rattle.cc_rules.specs.CcStateReads.Reads.{AreNamed, registers_at}
+use Rattle.cc_rules.specs.CcSteps.Turn.{level_of}
 
 -- two of what is made of those that pass
 

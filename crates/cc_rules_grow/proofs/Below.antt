@@ -2,21 +2,21 @@
 use Rattle.std.proofs.Common.{arith, ◌≡◌, ℕ, ◌<◌, Bool, true, false, true≢false, not, ◌&&◌, ◌||◌, [], ◌∷◌, ◌++◌, map, Option, Some, None, refl, sym, subst, ◌∙◌}
 use Rattle.std.specs.Prelude.{◌==◌, if◌then◌else◌}
 use Rattle.std.specs.List.{flat_map}
-use Rattle.cc_places.specs.Abstract.{IsBelowAbs}
-use Rattle.cc_places.specs.declared.abs.Abs.{Abs}
+use Rattle.cc_rules.specs.CcPlaces.Abstract.{IsBelowAbs}
+use Rattle.cc_rules.specs.CcPlaces.declared.abs.Abs.{Abs}
 use Rattle.cc_rules_grow.proofs.Elements.{Each, each_append, each_split, each_number, each_flat}
 use Rattle.cc_rules_grow.proofs.Kept.{IsKept, abs_itself, abs_through}
-use Rattle.cc_rules_needs.proofs.Through.{part_through}
-use Rattle.cc_rules_needs.specs.Flowing.{Flowing, of_fact, with_local, with_pair, with_cell, with_flags, numbers, each_pair, need_apart, need_local, need_cell, needs_at}
-use Rattle.cc_rules_needs.specs.declared.needs.Part.{Part}
-use Rattle.cc_rules_needs.specs.declared.needs.Part.TheVariants.{Mark, Flags, Values}
-use Rattle.cc_rules_needs.specs.declared.needs.Slot.{Slot}
-use Rattle.cc_rules_needs.specs.declared.needs.Slot.TheVariants.{Flag, Apart}
-use Rattle.cc_rules_needs.specs.Needs.{Needs, get, AreValuesBelow, IsBelowPart, Has}
-use Rattle.cc_state_facts.specs.declared.facts.Facts.{Facts}
-use Rattle.cc_state_facts.specs.declared.facts.PointFact.{PointFact}
-use Rattle.cc_state_facts.specs.Facts.{cell_of, local_of, has_pair}
-use Rattle.cc_state_operators.specs.Domains.{Domain}
+use Rattle.cc_rules.proofs.CcRulesNeeds.Through.{part_through}
+use Rattle.cc_rules.specs.CcRulesNeeds.Flowing.{Flowing, of_fact, with_local, with_pair, with_cell, with_flags, numbers, each_pair, need_apart, need_local, need_cell, needs_at}
+use Rattle.cc_rules.specs.CcRulesNeeds.declared.needs.Part.{Part}
+use Rattle.cc_rules.specs.CcRulesNeeds.declared.needs.Part.TheVariants.{Mark, Flags, Values}
+use Rattle.cc_rules.specs.CcRulesNeeds.declared.needs.Slot.{Slot}
+use Rattle.cc_rules.specs.CcRulesNeeds.declared.needs.Slot.TheVariants.{Flag, Apart}
+use Rattle.cc_rules.specs.CcRulesNeeds.Needs.{Needs, get, AreValuesBelow, IsBelowPart, Has}
+use Rattle.cc_rules.specs.CcStateFacts.declared.facts.Facts.{Facts}
+use Rattle.cc_rules.specs.CcStateFacts.declared.facts.PointFact.{PointFact}
+use Rattle.cc_rules.specs.CcStateFacts.Facts.{cell_of, local_of, has_pair}
+use Rattle.cc_rules.specs.CcStateOperators.Domains.{Domain}
 
 module _ {I : Type 0} (d : Domain I) where
   -- sets that are both there

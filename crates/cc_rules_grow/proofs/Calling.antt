@@ -3,10 +3,10 @@ use Rattle.std.proofs.Common.{◌≡◌, ◌⊎◌, inl, inr, ℕ, suc, ◌<◌,
 use Rattle.std.specs.Prelude.{option_and_then}
 use Rattle.std.specs.List.{AllZip}
 use Rattle.std.proofs.lemmas.Option.{same_Some}
-use Rattle.cc_flow.specs.declared.types.Point.{Point}
-use Rattle.cc_flow_sound.specs.Moves.{entry}
-use Rattle.cc_places.specs.Abstract.{IsBelowAbs}
-use Rattle.cc_places.specs.declared.abs.Abs.{Abs}
+use Rattle.cc_rules.specs.CcFlow.declared.types.Point.{Point}
+use Rattle.cc_rules.specs.CcFlowSound.Moves.{entry}
+use Rattle.cc_rules.specs.CcPlaces.Abstract.{IsBelowAbs}
+use Rattle.cc_rules.specs.CcPlaces.declared.abs.Abs.{Abs}
 use Rattle.cc_program.specs.declared.expr.Expr.{Expr}
 use Rattle.cc_program.specs.declared.func.Func.{Func}
 use Rattle.cc_program.specs.declared.program.Program.{Program}
@@ -14,25 +14,25 @@ use Rattle.cc_program.specs.declared.value.Address.TheVariants as address
 use Rattle.cc_program.specs.declared.value.Value.{Value}
 use Rattle.cc_program.specs.declared.value.Value.TheVariants as value
 use Rattle.cc_rules.specs.Rules.{NeedsAt, IsOnly, AreValues, AreCalled, ForEach, parameter, at_entry, need_whole, other_parameters, Entered, IsResult, OfMain, OfOther, of_exit, IsGiven, ToRegister, ToNone, Returned, FromExit, NoExit, CallAsks, OfEntries, OfReturns, OfNoCall}
-use Rattle.cc_rules_flows.specs.Acts.{Act, Calls}
-use Rattle.cc_rules_flows.specs.Nexts.{exit_of}
+use Rattle.cc_rules.specs.CcRulesFlows.Acts.{Act, Calls}
+use Rattle.cc_rules.specs.CcRulesFlows.Nexts.{exit_of}
 use Rattle.cc_rules_grow.proofs.Asking.{ValuesMore, for_each_more}
 use Rattle.cc_rules_grow.proofs.Below.{IsFactBelow, IsFlowBelow, IsFullBelow, values_of, fact_flows, less_full, local_below, Had, part_had, flow_had}
 use Rattle.cc_rules_grow.proofs.Elements.{each_append, each_split, each_flat}
 use Rattle.cc_rules_grow.proofs.Kept.{IsKept, abs_through, kind_through, value_grows}
-use Rattle.cc_rules_needs.proofs.Zips.{AreSome, some_at}
-use Rattle.cc_rules_needs.specs.Flowing.{Flowing, of_fact, with_local}
-use Rattle.cc_rules_needs.specs.declared.needs.Part.TheVariants.{Mark, LevelSet, Flags, Values}
-use Rattle.cc_rules_needs.specs.declared.needs.Slot.TheVariants.{Whole, Result, ByMain, ByHandler, Levels, From, CellAt, Flag}
-use Rattle.cc_rules_needs.specs.Needs.{flags_in, Needs, AreValuesBelow, IsBelowPart, Has, IsBelow}
-use Rattle.cc_state_facts.specs.declared.facts.Facts.{Facts}
-use Rattle.cc_state_facts.specs.declared.facts.Key.TheVariants as key
-use Rattle.cc_state_facts.specs.declared.facts.PointFact.{PointFact}
-use Rattle.cc_state_facts.specs.Facts.{fact_at, cell_of, cell_at, mark_of, levels_of}
-use Rattle.cc_state_keys.specs.Keys.{key_number}
-use Rattle.cc_state_keys.specs.Tracked.{registers, register_number, tracked}
-use Rattle.cc_state_operators.specs.Domains.{Domain}
-use Rattle.cc_state_values_grow.proofs.Images.{kind_below}
+use Rattle.cc_rules.proofs.CcRulesNeeds.Zips.{AreSome, some_at}
+use Rattle.cc_rules.specs.CcRulesNeeds.Flowing.{Flowing, of_fact, with_local}
+use Rattle.cc_rules.specs.CcRulesNeeds.declared.needs.Part.TheVariants.{Mark, LevelSet, Flags, Values}
+use Rattle.cc_rules.specs.CcRulesNeeds.declared.needs.Slot.TheVariants.{Whole, Result, ByMain, ByHandler, Levels, From, CellAt, Flag}
+use Rattle.cc_rules.specs.CcRulesNeeds.Needs.{flags_in, Needs, AreValuesBelow, IsBelowPart, Has, IsBelow}
+use Rattle.cc_rules.specs.CcStateFacts.declared.facts.Facts.{Facts}
+use Rattle.cc_rules.specs.CcStateFacts.declared.facts.Key.TheVariants as key
+use Rattle.cc_rules.specs.CcStateFacts.declared.facts.PointFact.{PointFact}
+use Rattle.cc_rules.specs.CcStateFacts.Facts.{fact_at, cell_of, cell_at, mark_of, levels_of}
+use Rattle.cc_rules.specs.CcStateKeys.Keys.{key_number}
+use Rattle.cc_rules.specs.CcStateKeys.Tracked.{registers, register_number, tracked}
+use Rattle.cc_rules.specs.CcStateOperators.Domains.{Domain}
+use Rattle.cc_state_points.proofs.CcStateValuesGrow.Images.{kind_below}
 
 one_result : (r s : Option ℕ) (g h : Expr) (xs ys : List Expr) → Calls r g xs ≡ Calls s h ys → (r ≡ s) × (g ≡ h) × (xs ≡ ys)
 one_result r s g h xs ys e = (cc, cc, cc)

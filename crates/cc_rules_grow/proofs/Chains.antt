@@ -2,21 +2,21 @@
 -- greater facts: each register leaves no more than there was.
 use Rattle.std.proofs.Common.{◌≡◌, ℕ, Bool, true, false, true≢false, cond, List, [], ◌∷◌, ◌++◌, Option, refl, sym, ◌∙◌, append_assoc, subst}
 use Rattle.std.specs.List.{filter}
-use Rattle.cc_num.specs.declared.target.Target.{Target}
-use Rattle.cc_places.specs.Abstract.{IsBelowAbs}
-use Rattle.cc_places.specs.declared.abs.Abs.{Abs}
-use Rattle.cc_places.specs.declared.abs.Abs.TheVariants as abs
+use Rattle.cc_program.specs.CcNum.declared.target.Target.{Target}
+use Rattle.cc_rules.specs.CcPlaces.Abstract.{IsBelowAbs}
+use Rattle.cc_rules.specs.CcPlaces.declared.abs.Abs.{Abs}
+use Rattle.cc_rules.specs.CcPlaces.declared.abs.Abs.TheVariants as abs
 use Rattle.cc_program.specs.declared.expr.Expr.{Expr}
 use Rattle.cc_program.specs.declared.func.Func.{Func}
 use Rattle.cc_program.specs.declared.program.Program.{Program}
-use Rattle.cc_rules_flows.specs.Tests.{Test, IsOfRegister, IsLeftAlike, Alike, Unlike, IsLeftBy}
+use Rattle.cc_rules.specs.CcRulesFlows.Tests.{Test, IsOfRegister, IsLeftAlike, Alike, Unlike, IsLeftBy}
 use Rattle.cc_rules_grow.proofs.Kept.{IsKept, ValuesGrow, abs_through}
 use Rattle.cc_rules_grow.proofs.Leaving.{AreWorkedAt, left_grows, left_below}
-use Rattle.cc_state_operators.specs.Domains.{Domain}
-use Rattle.cc_state_operators.specs.Types.{AreOf}
-use Rattle.cc_state_values.proofs.Same.{IsOrdered}
-use Rattle.cc_state_values_grow.specs.Growth.{AreRegistersBelow, RegistersPoint}
-use Rattle.cc_syntax.specs.Values.{ValueType, NoValue, Integer, ToObject, ToFunction}
+use Rattle.cc_rules.specs.CcStateOperators.Domains.{Domain}
+use Rattle.cc_rules.specs.CcStateOperators.Types.{AreOf}
+use Rattle.cc_rules.proofs.CcStateValues.Same.{IsOrdered}
+use Rattle.cc_state_points.specs.CcStateValuesGrow.Growth.{AreRegistersBelow, RegistersPoint}
+use Rattle.cc_rules.specs.CcSyntax.Values.{ValueType, NoValue, Integer, ToObject, ToFunction}
 
 are_of_less : {I : Type 0} (d : Domain I) (k : IsKept d) (target : Target) (t : ValueType) (x y : Abs I) → IsBelowAbs d.below x y → AreOf d target t y → AreOf d target t x
 are_of_less d k target NoValue x y h l = absurd l

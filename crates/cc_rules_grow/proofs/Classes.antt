@@ -6,16 +6,16 @@ use Rattle.std.specs.List.{flat_map}
 use Rattle.std.proofs.lemmas.Bool.{ltb-true, lt-ltb}
 use Rattle.std.proofs.lemmas.List.Elements.{Contains-append_left, Contains-append_right}
 use Rattle.std.proofs.lemmas.Option.{same_Some}
-use Rattle.cc_eval.specs.Context.{object_type}
-use Rattle.cc_num.specs.declared.int_type.IntType.{IntType}
-use Rattle.cc_places.specs.Abstract.{AreOfOneKind, IsBelowAbs}
-use Rattle.cc_places.specs.declared.abs.Abs.{Abs}
-use Rattle.cc_places.specs.declared.abs.Abs.TheVariants as abs
-use Rattle.cc_places.specs.declared.addrs.Addrs.{Addrs}
-use Rattle.cc_places.specs.Kept.{kept_root, starred_part, member_for}
-use Rattle.cc_places.specs.laws.ListLaws.{cons_cases, none_in, any_at, any_from}
-use Rattle.cc_places.specs.laws.SetLaws.{has_member}
-use Rattle.cc_places.specs.Sets.{IsWithin}
+use Rattle.cc_rules.specs.CcEval.Context.{object_type}
+use Rattle.cc_program.specs.CcNum.declared.int_type.IntType.{IntType}
+use Rattle.cc_rules.specs.CcPlaces.Abstract.{AreOfOneKind, IsBelowAbs}
+use Rattle.cc_rules.specs.CcPlaces.declared.abs.Abs.{Abs}
+use Rattle.cc_rules.specs.CcPlaces.declared.abs.Abs.TheVariants as abs
+use Rattle.cc_rules.specs.CcPlaces.declared.addrs.Addrs.{Addrs}
+use Rattle.cc_rules.specs.CcPlaces.Kept.{kept_root, starred_part, member_for}
+use Rattle.cc_rules.specs.CcPlaces.laws.ListLaws.{cons_cases, none_in, any_at, any_from}
+use Rattle.cc_rules.specs.CcPlaces.laws.SetLaws.{has_member}
+use Rattle.cc_rules.specs.CcPlaces.Sets.{IsWithin}
 use Rattle.cc_program.specs.declared.expr.Expr.{Expr}
 use Rattle.cc_program.specs.declared.expr.Expr.TheOpen as one
 use Rattle.cc_program.specs.declared.expr.Place.{Place as PlaceOf, out-Place}
@@ -31,27 +31,27 @@ use Rattle.cc_program.specs.declared.value.Root.{Root}
 use Rattle.cc_program.specs.declared.value.Root.TheVariants as root
 use Rattle.cc_rules_grow.proofs.Elements.{in_filter}
 use Rattle.cc_rules_grow.proofs.Kept.{IsKept, ValuesGrow, abs_through, kind_through}
-use Rattle.cc_rules_needs.specs.declared.needs.Slot.TheVariants.{Whole, CellAt}
-use Rattle.cc_rules_needs.specs.Needs.{AreValuesBelow, IsBelow}
-use Rattle.cc_state.proofs.Lists.{from_filter, from_flat}
-use Rattle.cc_state_facts.specs.declared.facts.Facts.{Facts}
-use Rattle.cc_state_facts.specs.declared.facts.Key.{Key}
-use Rattle.cc_state_facts.specs.declared.facts.Key.TheVariants as key
-use Rattle.cc_state_facts.specs.Facts.{cell_at}
-use Rattle.cc_state_keys.specs.Keys.{key_of_step, key_along, cell_key, root_key, keys_of, key_number, is_key}
-use Rattle.cc_state_operators.specs.Domains.{Domain, IsWhole}
-use Rattle.cc_state_reads.specs.Named.{target_class, member_class, is_among, AreClasses, OfLocal, OfStatic, OfDevice, OfElement, OfMember, OfTarget}
-use Rattle.cc_state_reads.specs.Reads.{whole_of, device_number, tracked_in, IsOfKind, IsOfKeys, IsOfDevice, AreNamed, IsByKeys, IsRead, OfTracked, OfDevice as OfDeviceRead, OfOther}
-use Rattle.cc_state_values.proofs.Parts.{place_typed_as}
-use Rattle.cc_state_values.proofs.Rules.{two_there}
-use Rattle.cc_state_values.specs.Values.{IsVal, AtTarget}
-use Rattle.cc_state_values_grow.specs.Growth.{AreRegistersBelow, LeadSomewhere, RegistersPoint}
-use Rattle.cc_state_values_sound.specs.Steps.{IsReal}
-use Rattle.cc_syntax.specs.Expressions.{of_one}
-use Rattle.cc_syntax.specs.Initial.{bound_of, is_below, place_at, step_into}
-use Rattle.cc_syntax.specs.Operators.{subscript_type}
-use Rattle.cc_syntax.specs.Programs.{type_of, place_type}
-use Rattle.cc_syntax.specs.Values.{ValueType, PlaceType, element_of, read_from}
+use Rattle.cc_rules.specs.CcRulesNeeds.declared.needs.Slot.TheVariants.{Whole, CellAt}
+use Rattle.cc_rules.specs.CcRulesNeeds.Needs.{AreValuesBelow, IsBelow}
+use Rattle.cc_state_points.proofs.CcState.Lists.{from_filter, from_flat}
+use Rattle.cc_rules.specs.CcStateFacts.declared.facts.Facts.{Facts}
+use Rattle.cc_rules.specs.CcStateFacts.declared.facts.Key.{Key}
+use Rattle.cc_rules.specs.CcStateFacts.declared.facts.Key.TheVariants as key
+use Rattle.cc_rules.specs.CcStateFacts.Facts.{cell_at}
+use Rattle.cc_rules.specs.CcStateKeys.Keys.{key_of_step, key_along, cell_key, root_key, keys_of, key_number, is_key}
+use Rattle.cc_rules.specs.CcStateOperators.Domains.{Domain, IsWhole}
+use Rattle.cc_rules.specs.CcStateReads.Named.{target_class, member_class, is_among, AreClasses, OfLocal, OfStatic, OfDevice, OfElement, OfMember, OfTarget}
+use Rattle.cc_rules.specs.CcStateReads.Reads.{whole_of, device_number, tracked_in, IsOfKind, IsOfKeys, IsOfDevice, AreNamed, IsByKeys, IsRead, OfTracked, OfDevice as OfDeviceRead, OfOther}
+use Rattle.cc_rules.proofs.CcStateValues.Parts.{place_typed_as}
+use Rattle.cc_rules.proofs.CcStateValues.Rules.{two_there}
+use Rattle.cc_rules.specs.CcStateValues.Values.{IsVal, AtTarget}
+use Rattle.cc_state_points.specs.CcStateValuesGrow.Growth.{AreRegistersBelow, LeadSomewhere, RegistersPoint}
+use Rattle.cc_state_points.specs.CcStateValuesSound.Steps.{IsReal}
+use Rattle.cc_rules.specs.CcSyntax.Expressions.{of_one}
+use Rattle.cc_rules.specs.CcSyntax.Initial.{bound_of, is_below, place_at, step_into}
+use Rattle.cc_rules.specs.CcSyntax.Operators.{subscript_type}
+use Rattle.cc_rules.specs.CcSyntax.Programs.{type_of, place_type}
+use Rattle.cc_rules.specs.CcSyntax.Values.{ValueType, PlaceType, element_of, read_from}
 
 -- ---- of an address and of its place
 

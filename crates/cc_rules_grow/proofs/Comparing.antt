@@ -4,16 +4,16 @@ use Rattle.std.specs.Ordering.{int_eq}
 use Rattle.std.proofs.lemmas.Bool.Decides.{Decides-int_eq}
 use Rattle.std.proofs.lemmas.Int.{ints}
 use Rattle.std.proofs.lemmas.Option.{same_Some}
-use Rattle.cc_lattice.proofs.IntValues.{passing as comparison_is}
-use Rattle.cc_lattice.specs.Domains.{is_comparison, passes}
-use Rattle.cc_num.specs.declared.int_type.IntType.{IntType}
-use Rattle.cc_num.specs.declared.op.BinOp.{BinOp}
-use Rattle.cc_num.specs.declared.op.BinOp.TheVariants as op
-use Rattle.cc_num.specs.declared.target.Target.{Target}
-use Rattle.cc_num.specs.Results.{one_if, result_of}
+use Rattle.cc_rules.proofs.CcLattice.IntValues.{passing as comparison_is}
+use Rattle.cc_rules.specs.CcLattice.Domains.{is_comparison, passes}
+use Rattle.cc_program.specs.CcNum.declared.int_type.IntType.{IntType}
+use Rattle.cc_program.specs.CcNum.declared.op.BinOp.{BinOp}
+use Rattle.cc_program.specs.CcNum.declared.op.BinOp.TheVariants as op
+use Rattle.cc_program.specs.CcNum.declared.target.Target.{Target}
+use Rattle.cc_program.specs.CcNum.Results.{one_if, result_of}
 use Rattle.cc_program.specs.declared.value.Value.TheVariants.{Int}
-use Rattle.cc_rules_flows.specs.Tests.{turned, passing}
-use Rattle.cc_values.specs.Values.{is_true}
+use Rattle.cc_rules.specs.CcRulesFlows.Tests.{turned, passing}
+use Rattle.cc_rules.specs.CcValues.Values.{is_true}
 
 not_less : (a b : ℤ) → int_lt a b ≡ false → int_le b a ≡ true
 not_less a b h = grind (arith, ints, h)

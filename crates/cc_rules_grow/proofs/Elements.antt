@@ -2,9 +2,9 @@
 use Rattle.std.proofs.Common.{arith, ◌≡◌, inl, inr, ℕ, zero, suc, ◌+◌, ◌<◌, Bool, true, false, List, [], ◌∷◌, ◌++◌, map, length, cond, All, Contains, Some, slice_get, refl, sym, ap, subst, ◌∙◌}
 use Rattle.std.specs.List.{AllByRecursion, filter, flat_map}
 use Rattle.std.proofs.lemmas.List.Elements.{All-head, All-tail, All-from_recursion, Contains-append_right}
-use Rattle.cc_places.specs.laws.ListLaws.{cons_cases, at_head, behind_head}
-use Rattle.cc_rules_needs.specs.Flowing.{numbers}
-use Rattle.cc_state.proofs.Lists.{no_member}
+use Rattle.cc_rules.specs.CcPlaces.laws.ListLaws.{cons_cases, at_head, behind_head}
+use Rattle.cc_rules.specs.CcRulesNeeds.Flowing.{numbers}
+use Rattle.cc_state_points.proofs.CcState.Lists.{no_member}
 
 abbrev pub Each : {A : Type 0} → (A → Type 0) → List A → Type 0
 Each P xs = AllByRecursion P xs

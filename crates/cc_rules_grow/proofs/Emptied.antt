@@ -1,25 +1,25 @@
 -- Where a test passes though a register has no member, it leaves a member of each greater set of that register: it passes with any, and no
 -- operand of its comparison is the register.
 use Rattle.std.proofs.Common.{◌≡◌, ◌⊎◌, inl, inr, ℕ, ℤ, Bool, true, List, Option, Some, None, refl, sym, ◌∙◌, subst}
-use Rattle.cc_lattice.specs.Domains.{IsAtMostOne, is_comparison}
-use Rattle.cc_num.specs.declared.int_type.IntType.{IntType}
-use Rattle.cc_num.specs.declared.op.BinOp.{BinOp}
-use Rattle.cc_places.specs.Abstract.{HasValue}
-use Rattle.cc_places.specs.declared.abs.Abs.{Abs}
-use Rattle.cc_places.specs.declared.abs.Abs.TheVariants as abs
+use Rattle.cc_rules.specs.CcLattice.Domains.{IsAtMostOne, is_comparison}
+use Rattle.cc_program.specs.CcNum.declared.int_type.IntType.{IntType}
+use Rattle.cc_program.specs.CcNum.declared.op.BinOp.{BinOp}
+use Rattle.cc_rules.specs.CcPlaces.Abstract.{HasValue}
+use Rattle.cc_rules.specs.CcPlaces.declared.abs.Abs.{Abs}
+use Rattle.cc_rules.specs.CcPlaces.declared.abs.Abs.TheVariants as abs
 use Rattle.cc_program.specs.declared.expr.Expr.{Expr, out-Expr}
 use Rattle.cc_program.specs.declared.expr.Expr.TheOpen as one
 use Rattle.cc_program.specs.declared.func.Func.{Func}
 use Rattle.cc_program.specs.declared.program.Program.{Program}
 use Rattle.cc_program.specs.declared.value.Value.{Value}
 use Rattle.cc_program.specs.declared.value.Value.TheVariants.{Int, Place}
-use Rattle.cc_rules_flows.specs.Tests.{Test, Is, Passes, turned, passing, HasPassing, Stays, IsOperand, IsCutAs, Cut, Uncut, IsCut, ByComparison, ByLabel, ByLabels, IsLeft}
+use Rattle.cc_rules.specs.CcRulesFlows.Tests.{Test, Is, Passes, turned, passing, HasPassing, Stays, IsOperand, IsCutAs, Cut, Uncut, IsCut, ByComparison, ByLabel, ByLabels, IsLeft}
 use Rattle.cc_rules_grow.proofs.Kept.{IsKept, ValuesGrow, value_grows}
 use Rattle.cc_rules_grow.proofs.Leaving.{LeftIn, With, empty_below, operand_is, passed_by, left_as, ints_same}
-use Rattle.cc_state_operators.specs.Domains.{Domain}
-use Rattle.cc_state_values.proofs.Same.{IsOrdered, value_at}
-use Rattle.cc_state_values.specs.Values.{IsVal}
-use Rattle.cc_state_values_grow.specs.Growth.{AreRegistersBelow, RegistersPoint}
+use Rattle.cc_rules.specs.CcStateOperators.Domains.{Domain}
+use Rattle.cc_rules.proofs.CcStateValues.Same.{IsOrdered, value_at}
+use Rattle.cc_rules.specs.CcStateValues.Values.{IsVal}
+use Rattle.cc_state_points.specs.CcStateValuesGrow.Growth.{AreRegistersBelow, RegistersPoint}
 
 module _ {I : Type 0} (d : Domain I) (o : IsOrdered d) (k : IsKept d) (p : Program) (id : ℕ) (f : Func) (grown : ValuesGrow d p id f) (register more : ℕ → Option (Abs I))
     (points : RegistersPoint p f register) (below : AreRegistersBelow d.below register more) (e : Expr) (test : Test)

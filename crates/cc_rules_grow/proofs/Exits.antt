@@ -1,18 +1,18 @@
 -- The exit of a function is a point of it.
 use Rattle.std.proofs.Common.{arith, ◌≡◌, ◌+◌, ℕ, Some, slice_get, ap, ◌∙◌}
 use Rattle.std.proofs.lemmas.List.Elements.{All-contains}
-use Rattle.cc_flow.proofs.Inside.{body_inside}
-use Rattle.cc_flow.proofs.Paths.{body_counted}
-use Rattle.cc_flow.specs.declared.types.Point.{Point}
-use Rattle.cc_flow.specs.Laws.{IsIn}
-use Rattle.cc_flow.specs.Points.{total_of, body_count, body_points, flow_of}
-use Rattle.cc_flow_sound.proofs.Numbered.{point_of}
-use Rattle.cc_flow_sound.specs.Moves.{entry}
+use Rattle.cc_rules.proofs.CcFlow.Inside.{body_inside}
+use Rattle.cc_rules.proofs.CcFlow.Paths.{body_counted}
+use Rattle.cc_rules.specs.CcFlow.declared.types.Point.{Point}
+use Rattle.cc_rules.specs.CcFlow.Laws.{IsIn}
+use Rattle.cc_rules.specs.CcFlow.Points.{total_of, body_count, body_points, flow_of}
+use Rattle.cc_rules.proofs.CcFlowSound.Numbered.{point_of}
+use Rattle.cc_rules.specs.CcFlowSound.Moves.{entry}
 use Rattle.cc_program.specs.declared.func.Func.{Func}
 use Rattle.cc_program.specs.declared.program.Program.{Program}
-use Rattle.cc_rules_flows.specs.Nexts.{exit_of}
+use Rattle.cc_rules.specs.CcRulesFlows.Nexts.{exit_of}
 use Rattle.cc_rules_grow.proofs.Elements.{some_within}
-use Rattle.cc_state.proofs.Lists.{contains_at}
+use Rattle.cc_state_points.proofs.CcState.Lists.{contains_at}
 
 pub exit_there : (p : Program) (id : ℕ) (f : Func) → slice_get p.funcs id ≡ Some f → (q : Point) × (slice_get (flow_of p).points (exit_of p id f) ≡ Some q) × (slice_get p.funcs q.func ≡ Some f)
 exit_there p id f function =

@@ -2,18 +2,18 @@
 use Rattle.std.proofs.Common.{arith, ◌≡◌, ◌+◌, ℕ, zero, suc, Bool, true, false, true≢false, ◌&&◌, List, [], ◌∷◌, ◌++◌, map, take, Option, Some, None, slice_get, refl, ap, sym, ◌∙◌, subst}
 use Rattle.std.specs.Prelude.{is_some, option_and_then}
 use Rattle.std.proofs.lemmas.Option.{same_Some, none-some}
-use Rattle.cc_cells.specs.Cells.{scalar_in}
+use Rattle.cc_rules.specs.CcCells.Cells.{scalar_in}
 use Rattle.cc_program.specs.declared.object.Object.{Object}
 use Rattle.cc_program.specs.declared.program.Program.{Program}
 use Rattle.cc_program.specs.declared.value.Value.{Value}
-use Rattle.cc_state_keys.specs.Addressed.{taken_keys}
-use Rattle.cc_state_keys.specs.Lists.{only_if, made_from}
-use Rattle.cc_state_keys.specs.Tracked.{numbers, most_tracked, may_be_tracked, tracked}
-use Rattle.cc_states.proofs.StartLemmas.{start_state}
-use Rattle.cc_steps.specs.State.{first_values}
-use Rattle.cc_syntax.proofs.NameRules.{sound-typed}
-use Rattle.cc_syntax.specs.Normal.{IsNormal}
-use Rattle.cc_syntax.specs.Values.{scalar_value}
+use Rattle.cc_rules.specs.CcStateKeys.Addressed.{taken_keys}
+use Rattle.cc_rules.specs.CcStateKeys.Lists.{only_if, made_from}
+use Rattle.cc_rules.specs.CcStateKeys.Tracked.{numbers, most_tracked, may_be_tracked, tracked}
+use Rattle.cc_rules.proofs.CcStates.StartLemmas.{start_state}
+use Rattle.cc_rules.specs.CcSteps.State.{first_values}
+use Rattle.cc_rules.proofs.CcSyntax.NameRules.{sound-typed}
+use Rattle.cc_rules.specs.CcSyntax.Normal.{IsNormal}
+use Rattle.cc_rules.specs.CcSyntax.Values.{scalar_value}
 
 -- ---- the numbers of things that pass
 

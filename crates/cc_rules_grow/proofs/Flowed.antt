@@ -2,36 +2,36 @@
 use Rattle.std.proofs.Common.{arith, ◌≡◌, inl, inr, ℕ, ◌<◌, ℤ, Bool, true, false, true≢false, not, ◌||◌, List, [], ◌∷◌, length, Contains, Some, None, refl, sym, ◌∙◌, subst}
 use Rattle.std.specs.Prelude.{if◌then◌else◌}
 use Rattle.std.proofs.lemmas.Option.{same_Some}
-use Rattle.cc_flow.specs.declared.types.Point.{Point}
-use Rattle.cc_places.specs.Abstract.{IsBelowAbs}
-use Rattle.cc_places.specs.declared.abs.Abs.{Abs}
-use Rattle.cc_places.specs.declared.abs.Abs.TheVariants as abs
+use Rattle.cc_rules.specs.CcFlow.declared.types.Point.{Point}
+use Rattle.cc_rules.specs.CcPlaces.Abstract.{IsBelowAbs}
+use Rattle.cc_rules.specs.CcPlaces.declared.abs.Abs.{Abs}
+use Rattle.cc_rules.specs.CcPlaces.declared.abs.Abs.TheVariants as abs
 use Rattle.cc_program.specs.declared.expr.Expr.{Expr}
 use Rattle.cc_program.specs.declared.expr.Place.{Place, out-Place}
 use Rattle.cc_program.specs.declared.func.Func.{Func}
 use Rattle.cc_program.specs.declared.program.Program.{Program}
 use Rattle.cc_rules.specs.Rules.{flows_to, ComesTo, ComesToEach}
-use Rattle.cc_rules_flows.specs.Acts.{Act, Sets, Reads, Writes, Calls, Saves, Turns, Restores, Tests, Chooses, Returns, Passes}
-use Rattle.cc_rules_flows.specs.Flows.{tests_of, to_all, FlagValue, Says, AreSides, Flows, OfSets, OfReads, OfWrites, OfTurns, OfSaves, OfSavesAlone, OfRestores, OfTests, OfReturns, OfPasses, OfCalls}
-use Rattle.cc_rules_flows.specs.Nexts.{sides, choices}
-use Rattle.cc_rules_flows.specs.Tests.{Test}
-use Rattle.cc_rules_flows.specs.Worked.{AreWorked}
+use Rattle.cc_rules.specs.CcRulesFlows.Acts.{Act, Sets, Reads, Writes, Calls, Saves, Turns, Restores, Tests, Chooses, Returns, Passes}
+use Rattle.cc_rules.specs.CcRulesFlows.Flows.{tests_of, to_all, FlagValue, Says, AreSides, Flows, OfSets, OfReads, OfWrites, OfTurns, OfSaves, OfSavesAlone, OfRestores, OfTests, OfReturns, OfPasses, OfCalls}
+use Rattle.cc_rules.specs.CcRulesFlows.Nexts.{sides, choices}
+use Rattle.cc_rules.specs.CcRulesFlows.Tests.{Test}
+use Rattle.cc_rules.specs.CcRulesFlows.Worked.{AreWorked}
 use Rattle.cc_rules_grow.proofs.Below.{IsFactBelow, IsFullBelow, fact_flows, local_below, pair_below, cell_below, flags_below, Had, flow_had}
 use Rattle.cc_rules_grow.proofs.Elements.{Each, each_append, each_split, each_map, in_map}
 use Rattle.cc_rules_grow.proofs.Joined.{AreBelow, AreAllBelow, joined_below, going_below}
 use Rattle.cc_rules_grow.proofs.Kept.{IsKept, ValuesGrow, abs_through, value_grows}
 use Rattle.cc_rules_grow.proofs.Sides.{sides_below}
-use Rattle.cc_rules_needs.specs.Flowing.{Flowing, of_fact, with_local, with_pair, with_cell, with_flags}
-use Rattle.cc_rules_needs.specs.Needs.{Needs, Has}
-use Rattle.cc_state_facts.specs.declared.facts.Facts.{Facts}
-use Rattle.cc_state_facts.specs.declared.facts.PointFact.{PointFact}
-use Rattle.cc_state_facts.specs.Facts.{fact_at}
-use Rattle.cc_state_keys.specs.Tracked.{registers, register_number, tracked}
-use Rattle.cc_state_operators.specs.Domains.{Domain, IsHull, MayBe}
-use Rattle.cc_state_reads.specs.Reads.{IsRead, registers_at, tracked_in}
-use Rattle.cc_state_values.proofs.Same.{IsOrdered}
-use Rattle.cc_state_values.specs.Values.{IsVal}
-use Rattle.cc_state_values_grow.specs.Growth.{AreRegistersBelow, RegistersPoint}
+use Rattle.cc_rules.specs.CcRulesNeeds.Flowing.{Flowing, of_fact, with_local, with_pair, with_cell, with_flags}
+use Rattle.cc_rules.specs.CcRulesNeeds.Needs.{Needs, Has}
+use Rattle.cc_rules.specs.CcStateFacts.declared.facts.Facts.{Facts}
+use Rattle.cc_rules.specs.CcStateFacts.declared.facts.PointFact.{PointFact}
+use Rattle.cc_rules.specs.CcStateFacts.Facts.{fact_at}
+use Rattle.cc_rules.specs.CcStateKeys.Tracked.{registers, register_number, tracked}
+use Rattle.cc_rules.specs.CcStateOperators.Domains.{Domain, IsHull, MayBe}
+use Rattle.cc_rules.specs.CcStateReads.Reads.{IsRead, registers_at, tracked_in}
+use Rattle.cc_rules.proofs.CcStateValues.Same.{IsOrdered}
+use Rattle.cc_rules.specs.CcStateValues.Values.{IsVal}
+use Rattle.cc_state_points.specs.CcStateValuesGrow.Growth.{AreRegistersBelow, RegistersPoint}
 
 -- ---- what flows, by what the statement does
 

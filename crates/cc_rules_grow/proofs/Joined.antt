@@ -3,15 +3,15 @@ use Rattle.std.proofs.Common.{◌≡◌, ℕ, Bool, true, false, List, [], ◌�
 use Rattle.std.specs.Prelude.{◌==◌}
 use Rattle.std.specs.List.{filter, list_all, list_any}
 use Rattle.std.proofs.lemmas.Option.{same_Some}
-use Rattle.cc_places.specs.Abstract.{IsBelowAbs}
-use Rattle.cc_places.specs.declared.abs.Abs.{Abs}
-use Rattle.cc_places.specs.laws.ListLaws.{all_at, all_from, any_at, any_from}
+use Rattle.cc_rules.specs.CcPlaces.Abstract.{IsBelowAbs}
+use Rattle.cc_rules.specs.CcPlaces.declared.abs.Abs.{Abs}
+use Rattle.cc_rules.specs.CcPlaces.laws.ListLaws.{all_at, all_from, any_at, any_from}
 use Rattle.cc_rules_grow.proofs.Below.{AreSomeBelow, IsFullBelow, IsFlowBelow}
 use Rattle.cc_rules_grow.proofs.Elements.{Each, each_at, in_map, map_contained, in_filter}
-use Rattle.cc_rules_needs.specs.Flowing.{Flowing, IsUpper, IsLeastOver, IsJoined}
-use Rattle.cc_rules_needs.specs.Needs.{AreValuesBelow}
-use Rattle.cc_state_operators.specs.Domains.{Domain}
-use Rattle.cc_state_values_grow.proofs.Images.{kind_below}
+use Rattle.cc_rules.specs.CcRulesNeeds.Flowing.{Flowing, IsUpper, IsLeastOver, IsJoined}
+use Rattle.cc_rules.specs.CcRulesNeeds.Needs.{AreValuesBelow}
+use Rattle.cc_rules.specs.CcStateOperators.Domains.{Domain}
+use Rattle.cc_state_points.proofs.CcStateValuesGrow.Images.{kind_below}
 
 module _ {I : Type 0} (d : Domain I) (through : (x y z : Abs I) → IsBelowAbs d.below x y → IsBelowAbs d.below y z → IsBelowAbs d.below x z) (registers cells : ℕ) where
   abbrev FullBelow : Flowing I → Flowing I → Type 0

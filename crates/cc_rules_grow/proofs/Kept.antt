@@ -1,23 +1,23 @@
 -- What the laws of a domain say of tests, and that what an expression may give grows with the sets of the registers.
 use Rattle.std.proofs.Common.{◌≡◌, ◌⊎◌, inl, inr, ℕ, ℤ, true, List, Contains, Option, Some, None, refl, sym, subst}
 use Rattle.std.specs.Prelude.{◌↔◌, IfSome}
-use Rattle.cc_lattice.specs.Domains.{AreOperands, IsAtMostOne, AreMatched, AreEnds, IsResultOf, is_comparison, is_order, passes}
-use Rattle.cc_num.specs.declared.int_type.IntType.{IntType}
-use Rattle.cc_num.specs.declared.op.BinOp.{BinOp}
-use Rattle.cc_num.specs.declared.target.Target.{Target}
-use Rattle.cc_num.specs.Integers.{IsValueOf}
-use Rattle.cc_places.specs.Abstract.{AreOfOneKind, IsBelowAbs, HasValue}
-use Rattle.cc_places.specs.declared.abs.Abs.{Abs}
-use Rattle.cc_places.specs.declared.abs.Abs.TheVariants as abs
-use Rattle.cc_places.specs.laws.SetLaws.{within_itself, within_through}
+use Rattle.cc_rules.specs.CcLattice.Domains.{AreOperands, IsAtMostOne, AreMatched, AreEnds, IsResultOf, is_comparison, is_order, passes}
+use Rattle.cc_program.specs.CcNum.declared.int_type.IntType.{IntType}
+use Rattle.cc_program.specs.CcNum.declared.op.BinOp.{BinOp}
+use Rattle.cc_program.specs.CcNum.declared.target.Target.{Target}
+use Rattle.cc_program.specs.CcNum.Integers.{IsValueOf}
+use Rattle.cc_rules.specs.CcPlaces.Abstract.{AreOfOneKind, IsBelowAbs, HasValue}
+use Rattle.cc_rules.specs.CcPlaces.declared.abs.Abs.{Abs}
+use Rattle.cc_rules.specs.CcPlaces.declared.abs.Abs.TheVariants as abs
+use Rattle.cc_rules.specs.CcPlaces.laws.SetLaws.{within_itself, within_through}
 use Rattle.cc_program.specs.declared.expr.Expr.{Expr}
 use Rattle.cc_program.specs.declared.func.Func.{Func}
 use Rattle.cc_program.specs.declared.program.Program.{Program}
 use Rattle.cc_program.specs.declared.value.Value.{Value}
 use Rattle.cc_program.specs.declared.value.Value.TheVariants.{Int, Place}
-use Rattle.cc_state_operators.specs.Domains.{Domain, IsHull}
-use Rattle.cc_state_values.specs.Values.{IsVal}
-use Rattle.cc_state_values_grow.specs.Growth.{AreRegistersBelow, RegistersPoint}
+use Rattle.cc_rules.specs.CcStateOperators.Domains.{Domain, IsHull}
+use Rattle.cc_rules.specs.CcStateValues.Values.{IsVal}
+use Rattle.cc_state_points.specs.CcStateValuesGrow.Growth.{AreRegistersBelow, RegistersPoint}
 
 pub record IsKept {I : Type 0} (d : Domain I) : Type 0 where
   pub itself : (x : I) → d.below x x

@@ -5,14 +5,14 @@ use Rattle.std.specs.Prelude.{◌==◌, if◌then◌else◌}
 use Rattle.std.proofs.lemmas.Bool.{eqb-true, eq-eqb}
 use Rattle.std.proofs.lemmas.List.Elements.{Contains-append_right}
 use Rattle.std.proofs.lemmas.Option.{same_Some}
-use Rattle.cc_lattice.specs.Domains.{AreOperands, IsAtMostOne, is_comparison, passes}
-use Rattle.cc_num.specs.declared.int_type.IntType.{IntType}
-use Rattle.cc_num.specs.declared.op.BinOp.{BinOp}
-use Rattle.cc_num.specs.declared.op.BinOp.TheVariants as op
-use Rattle.cc_places.specs.Abstract.{IsBelowAbs, HasValue}
-use Rattle.cc_places.specs.declared.abs.Abs.{Abs}
-use Rattle.cc_places.specs.declared.abs.Abs.TheVariants as abs
-use Rattle.cc_places.specs.declared.addrs.Addrs.{Addrs}
+use Rattle.cc_rules.specs.CcLattice.Domains.{AreOperands, IsAtMostOne, is_comparison, passes}
+use Rattle.cc_program.specs.CcNum.declared.int_type.IntType.{IntType}
+use Rattle.cc_program.specs.CcNum.declared.op.BinOp.{BinOp}
+use Rattle.cc_program.specs.CcNum.declared.op.BinOp.TheVariants as op
+use Rattle.cc_rules.specs.CcPlaces.Abstract.{IsBelowAbs, HasValue}
+use Rattle.cc_rules.specs.CcPlaces.declared.abs.Abs.{Abs}
+use Rattle.cc_rules.specs.CcPlaces.declared.abs.Abs.TheVariants as abs
+use Rattle.cc_rules.specs.CcPlaces.declared.addrs.Addrs.{Addrs}
 use Rattle.cc_program.specs.declared.expr.Expr.{Expr, out-Expr}
 use Rattle.cc_program.specs.declared.expr.Expr.TheOpen as one
 use Rattle.cc_program.specs.declared.expr.Place.{Place as PlaceOf}
@@ -21,14 +21,14 @@ use Rattle.cc_program.specs.declared.program.Program.{Program}
 use Rattle.cc_program.specs.declared.value.Address.{Address}
 use Rattle.cc_program.specs.declared.value.Value.{Value}
 use Rattle.cc_program.specs.declared.value.Value.TheVariants.{Int, Place}
-use Rattle.cc_rules_flows.specs.Tests.{Test, Is, Equals, Differs, Passes, turned, passing, HasPassing, with_member, Stays, IsRead as IsReadOf, IsOperand, IsCutAs, Cut, Uncut, IsCutBy, ByNone, ByFirst, IsCut, ByComparison, ByLabel, ByLabels, Compares, IsLeft, OfMembers, OfRange, OfOther, OfAddresses}
+use Rattle.cc_rules.specs.CcRulesFlows.Tests.{Test, Is, Equals, Differs, Passes, turned, passing, HasPassing, with_member, Stays, IsRead as IsReadOf, IsOperand, IsCutAs, Cut, Uncut, IsCutBy, ByNone, ByFirst, IsCut, ByComparison, ByLabel, ByLabels, Compares, IsLeft, OfMembers, OfRange, OfOther, OfAddresses}
 use Rattle.cc_rules_grow.proofs.Comparing.{equal_itself, different, passing_compares, passes_as, turned_compares, turned_passes, truth_is}
 use Rattle.cc_rules_grow.proofs.Kept.{IsKept, ValuesGrow, abs_itself, value_grows, one_alone}
-use Rattle.cc_state_operators.specs.Domains.{Domain, IsHull}
-use Rattle.cc_state_values.proofs.Same.{IsOrdered, value_at}
-use Rattle.cc_state_values.specs.Values.{IsVal}
-use Rattle.cc_state_values_grow.specs.Growth.{AreRegistersBelow, RegistersPoint, MayPoint}
-use Rattle.cc_values.specs.Values.{is_true}
+use Rattle.cc_rules.specs.CcStateOperators.Domains.{Domain, IsHull}
+use Rattle.cc_rules.proofs.CcStateValues.Same.{IsOrdered, value_at}
+use Rattle.cc_rules.specs.CcStateValues.Values.{IsVal}
+use Rattle.cc_state_points.specs.CcStateValuesGrow.Growth.{AreRegistersBelow, RegistersPoint, MayPoint}
+use Rattle.cc_rules.specs.CcValues.Values.{is_true}
 
 abbrev of_ints : {I : Type 0} → I → Abs I
 of_ints x = abs.Ints x

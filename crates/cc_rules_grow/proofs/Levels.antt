@@ -1,7 +1,7 @@
 -- More handlers may enter where there are more running levels, and more levels of handlers.
 use Rattle.std.proofs.Common.{◌≡◌, ℕ, Bool, true, false, ◌&&◌, ◌||◌, nat_eq, nat_lt, refl}
-use Rattle.cc_places.specs.laws.ListLaws.{both_true, and_true, any_at, any_from}
-use Rattle.cc_state_facts.specs.Levels.{has_level, all_levels, is_above_least, may_enter, one_may_enter, AreLevelsWithin}
+use Rattle.cc_rules.specs.CcPlaces.laws.ListLaws.{both_true, and_true, any_at, any_from}
+use Rattle.cc_rules.specs.CcStateFacts.Levels.{has_level, all_levels, is_above_least, may_enter, one_may_enter, AreLevelsWithin}
 
 or_more : (a b c : Bool) → (b ≡ true → c ≡ true) → (a || b) ≡ true → (a || c) ≡ true
 or_more true b c h e = refl

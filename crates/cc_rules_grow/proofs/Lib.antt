@@ -18,3 +18,13 @@ pub mod Levels
 pub mod Places
 pub mod Sides
 pub mod Starting
+pub mod CcFlow
+pub mod CcFlowSound
+pub mod CcRulesNeeds
+pub mod CcState
+pub mod CcStateFacts
+pub mod CcStateKeys
+pub mod CcStatePoints
+pub mod CcStateValues
+pub mod CcStates
+pub mod CcSyntax

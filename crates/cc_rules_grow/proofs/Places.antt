@@ -2,11 +2,11 @@
 use Rattle.std.proofs.Common.{arith, ◌≡◌, ◌≤◌, ◌+◌, ℕ, zero, suc, Bool, true, false, List, [], ◌∷◌, ◌++◌, Some, slice_get, refl, ap, ◌∙◌}
 use Rattle.std.proofs.lemmas.Option.{same_Some}
 use Rattle.cc_program.specs.declared.func.Func.{Func}
-use Rattle.cc_state.proofs.Lists.{number_at, number_there}
-use Rattle.cc_state_keys.specs.Lists.{only_if, made_from}
-use Rattle.cc_state_keys.specs.Tracked.{registers, register_number}
-use Rattle.cc_syntax.specs.Registers.{is_register}
-use Rattle.cc_syntax.specs.Types.{Named}
+use Rattle.cc_state_points.proofs.CcState.Lists.{number_at, number_there}
+use Rattle.cc_rules.specs.CcStateKeys.Lists.{only_if, made_from}
+use Rattle.cc_rules.specs.CcStateKeys.Tracked.{registers, register_number}
+use Rattle.cc_rules.specs.CcSyntax.Registers.{is_register}
+use Rattle.cc_rules.specs.CcSyntax.Types.{Named}
 
 -- ---- the numbers of things that pass
 

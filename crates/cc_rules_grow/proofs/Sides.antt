@@ -3,18 +3,18 @@ use Rattle.std.proofs.Common.{arith, ◌≡◌, inl, inr, ℕ, ◌<◌, Bool, tr
 use Rattle.std.specs.Prelude.{option_and_then}
 use Rattle.std.specs.List.{filter}
 use Rattle.std.proofs.lemmas.Option.{same_Some, slice_get_within}
-use Rattle.cc_flow.specs.declared.types.Point.{Point}
-use Rattle.cc_places.specs.Abstract.{IsBelowAbs, HasValue}
-use Rattle.cc_places.specs.declared.abs.Abs.{Abs}
-use Rattle.cc_places.specs.declared.abs.Abs.TheVariants as abs
+use Rattle.cc_rules.specs.CcFlow.declared.types.Point.{Point}
+use Rattle.cc_rules.specs.CcPlaces.Abstract.{IsBelowAbs, HasValue}
+use Rattle.cc_rules.specs.CcPlaces.declared.abs.Abs.{Abs}
+use Rattle.cc_rules.specs.CcPlaces.declared.abs.Abs.TheVariants as abs
 use Rattle.cc_program.specs.declared.expr.Expr.{Expr}
 use Rattle.cc_program.specs.declared.func.Func.{Func}
 use Rattle.cc_program.specs.declared.program.Program.{Program}
 use Rattle.cc_program.specs.declared.value.Value.{Value}
 use Rattle.cc_program.specs.declared.value.Value.TheVariants.{Int}
-use Rattle.cc_rules_flows.specs.Flows.{equals, IsSide, IsTaken, Side, Taken, Barred, Untaken, AreSides}
-use Rattle.cc_rules_flows.specs.Tests.{Test, MayPass, IsLeft}
-use Rattle.cc_rules_flows.specs.Worked.{AreWorked}
+use Rattle.cc_rules.specs.CcRulesFlows.Flows.{equals, IsSide, IsTaken, Side, Taken, Barred, Untaken, AreSides}
+use Rattle.cc_rules.specs.CcRulesFlows.Tests.{Test, MayPass, IsLeft}
+use Rattle.cc_rules.specs.CcRulesFlows.Worked.{AreWorked}
 use Rattle.cc_rules_grow.proofs.Below.{AreSomeBelow, IsFactBelow, IsFullBelow}
 use Rattle.cc_rules_grow.proofs.Chains.{WorkedBy, chain_grows, worked_by}
 use Rattle.cc_rules_grow.proofs.Elements.{Each, each_append, in_middle, some_within}
@@ -22,17 +22,17 @@ use Rattle.cc_rules_grow.proofs.Emptied.{something_left}
 use Rattle.cc_rules_grow.proofs.Kept.{IsKept, ValuesGrow, value_grows}
 use Rattle.cc_rules_grow.proofs.Leaving.{AreWorkedAt, left_as, left_grows}
 use Rattle.cc_rules_grow.proofs.Places.{register_at}
-use Rattle.cc_rules_needs.specs.Flowing.{Flowing}
-use Rattle.cc_state.proofs.Lists.{at_contained, from_filter}
-use Rattle.cc_state_facts.specs.declared.facts.Facts.{Facts}
-use Rattle.cc_state_facts.specs.declared.facts.PointFact.{PointFact}
-use Rattle.cc_state_facts.specs.Facts.{fact_at, cell_of, local_of}
-use Rattle.cc_state_keys.specs.Tracked.{registers, register_number, tracked}
-use Rattle.cc_state_operators.specs.Domains.{Domain}
-use Rattle.cc_state_reads.specs.Reads.{registers_at}
-use Rattle.cc_state_values.proofs.Same.{IsOrdered}
-use Rattle.cc_state_values_grow.specs.Growth.{AreRegistersBelow, RegistersPoint}
-use Rattle.cc_places.specs.laws.ListLaws.{at_head}
+use Rattle.cc_rules.specs.CcRulesNeeds.Flowing.{Flowing}
+use Rattle.cc_state_points.proofs.CcState.Lists.{at_contained, from_filter}
+use Rattle.cc_rules.specs.CcStateFacts.declared.facts.Facts.{Facts}
+use Rattle.cc_rules.specs.CcStateFacts.declared.facts.PointFact.{PointFact}
+use Rattle.cc_rules.specs.CcStateFacts.Facts.{fact_at, cell_of, local_of}
+use Rattle.cc_rules.specs.CcStateKeys.Tracked.{registers, register_number, tracked}
+use Rattle.cc_rules.specs.CcStateOperators.Domains.{Domain}
+use Rattle.cc_rules.specs.CcStateReads.Reads.{registers_at}
+use Rattle.cc_rules.proofs.CcStateValues.Same.{IsOrdered}
+use Rattle.cc_state_points.specs.CcStateValuesGrow.Growth.{AreRegistersBelow, RegistersPoint}
+use Rattle.cc_rules.specs.CcPlaces.laws.ListLaws.{at_head}
 use Rattle.std.proofs.lemmas.List.Elements.{Contains-append_left, Contains-append_right}
 
 module _ {I : Type 0} (d : Domain I) (o : IsOrdered d) (k : IsKept d) (p : Program) (id : ℕ) (f : Func) (grown : ValuesGrow d p id f) (facts others : Facts I) (point : Point) (n : ℕ) (fact other : PointFact I)

@@ -1,9 +1,9 @@
 -- What keys and the entry of main are asked to have is the same for all facts.
 use Rattle.std.proofs.Common.{◌≡◌, ℕ, suc, true, false, List, [], ◌∷◌, map, length, Option, Some, None, slice_get, sym, ◌∙◌, subst}
 use Rattle.std.proofs.lemmas.Option.{same_Some}
-use Rattle.cc_cells.specs.Cells.{scalar_in}
-use Rattle.cc_places.specs.Abstract.{IsBelowAbs}
-use Rattle.cc_places.specs.declared.abs.Abs.{Abs}
+use Rattle.cc_rules.specs.CcCells.Cells.{scalar_in}
+use Rattle.cc_rules.specs.CcPlaces.Abstract.{IsBelowAbs}
+use Rattle.cc_rules.specs.CcPlaces.declared.abs.Abs.{Abs}
 use Rattle.cc_program.specs.declared.func.Func.{Func}
 use Rattle.cc_program.specs.declared.program.Program.{Program}
 use Rattle.cc_program.specs.declared.value.Value.{Value}
@@ -11,16 +11,16 @@ use Rattle.cc_rules.specs.Rules.{NeedsAt, IsFirstSet, AreFirstSets, IsOnly, IsSt
 use Rattle.cc_rules_grow.proofs.Below.{IsFlowBelow, Had, part_had, flow_had}
 use Rattle.cc_rules_grow.proofs.Elements.{some_within}
 use Rattle.cc_rules_grow.proofs.Kept.{IsKept, kind_through}
-use Rattle.cc_rules_needs.specs.Flowing.{Flowing}
-use Rattle.cc_rules_needs.specs.declared.needs.Part.TheVariants.{Values}
-use Rattle.cc_rules_needs.specs.declared.needs.Slot.TheVariants.{Whole}
-use Rattle.cc_rules_needs.specs.Needs.{Needs, AreValuesBelow, IsBelow}
-use Rattle.cc_state_facts.specs.declared.facts.Facts.{Facts}
-use Rattle.cc_state_facts.specs.declared.facts.Key.{Key}
-use Rattle.cc_state_keys.specs.Tracked.{registers, tracked}
-use Rattle.cc_state_operators.specs.Domains.{Domain}
-use Rattle.cc_state_values_grow.proofs.Images.{kind_below}
-use Rattle.cc_steps.specs.State.{first_values}
+use Rattle.cc_rules.specs.CcRulesNeeds.Flowing.{Flowing}
+use Rattle.cc_rules.specs.CcRulesNeeds.declared.needs.Part.TheVariants.{Values}
+use Rattle.cc_rules.specs.CcRulesNeeds.declared.needs.Slot.TheVariants.{Whole}
+use Rattle.cc_rules.specs.CcRulesNeeds.Needs.{Needs, AreValuesBelow, IsBelow}
+use Rattle.cc_rules.specs.CcStateFacts.declared.facts.Facts.{Facts}
+use Rattle.cc_rules.specs.CcStateFacts.declared.facts.Key.{Key}
+use Rattle.cc_rules.specs.CcStateKeys.Tracked.{registers, tracked}
+use Rattle.cc_rules.specs.CcStateOperators.Domains.{Domain}
+use Rattle.cc_state_points.proofs.CcStateValuesGrow.Images.{kind_below}
+use Rattle.cc_rules.specs.CcSteps.State.{first_values}
 
 module _ {I : Type 0} (d : Domain I) (k : IsKept d) (p : Program) (facts others holder : Facts I) (less : IsBelow d.below facts others) where
   abbrev AreHad : Needs I → Type 0

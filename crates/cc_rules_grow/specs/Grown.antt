@@ -1,20 +1,20 @@
 -- What is worked where a constraint is asked on what flows from a point: the values of the tests of its statement.
 use Rattle.std.specs.Prelude.{◌≡◌, ℕ, List, Some}
 use Rattle.std.specs.List.{Contains}
-use Rattle.cc_flow.specs.declared.types.Point.{Point}
+use Rattle.cc_rules.specs.CcFlow.declared.types.Point.{Point}
 use Rattle.cc_program.specs.declared.expr.Expr.{Expr}
 use Rattle.cc_program.specs.declared.func.Func.{Func}
 use Rattle.cc_program.specs.declared.program.Program.{Program}
 use Rattle.cc_rules.specs.Constraints.{Flow, Constraint}
 use Rattle.cc_rules.specs.Rules.{act_at}
-use Rattle.cc_rules_flows.specs.Flows.{tests_of}
-use Rattle.cc_rules_flows.specs.Nexts.{IsPoint, statement_of}
-use Rattle.cc_rules_flows.specs.Tests.{Test}
-use Rattle.cc_rules_flows.specs.Worked.{AreWorked}
-use Rattle.cc_state_facts.specs.declared.facts.Facts.{Facts}
-use Rattle.cc_state_facts.specs.declared.facts.PointFact.{PointFact}
-use Rattle.cc_state_facts.specs.Facts.{fact_at}
-use Rattle.cc_state_operators.specs.Domains.{Domain}
+use Rattle.cc_rules.specs.CcRulesFlows.Flows.{tests_of}
+use Rattle.cc_rules.specs.CcRulesFlows.Nexts.{IsPoint, statement_of}
+use Rattle.cc_rules.specs.CcRulesFlows.Tests.{Test}
+use Rattle.cc_rules.specs.CcRulesFlows.Worked.{AreWorked}
+use Rattle.cc_rules.specs.CcStateFacts.declared.facts.Facts.{Facts}
+use Rattle.cc_rules.specs.CcStateFacts.declared.facts.PointFact.{PointFact}
+use Rattle.cc_rules.specs.CcStateFacts.Facts.{fact_at}
+use Rattle.cc_rules.specs.CcStateOperators.Domains.{Domain}
 
 -- the values that each test of the statement at a point works
 abbrev pub AreTestsWorked : {I : Type 0} → Domain I → Program → Facts I → ℕ → Type 0

@@ -2,14 +2,14 @@ ghost use Rattle.cc_program.specs.declared.program.Program.{Program};
 ghost use Rattle.cc_rules.specs.Constraints.{Constraint, constraints};
 ghost use Rattle.cc_rules.specs.Rules.{IsAsked, Asks, IsSolution};
 ghost use Rattle.cc_rules_grow.specs.Grown.{IsWorked};
-ghost use Rattle.cc_rules_needs.specs.Needs.{Needs, HasAll, IsBelow};
-ghost use Rattle.cc_state.specs.Shape.{HaveShape};
-ghost use Rattle.cc_state_facts.specs.declared.facts.Facts.{Facts};
-ghost use Rattle.cc_state_operators.specs.Domains.{domain};
-ghost use Rattle.cc_syntax.specs.Normal.{IsNormal};
+ghost use Rattle.cc_rules.specs.CcRulesNeeds.Needs.{Needs, HasAll, IsBelow};
+ghost use Rattle.cc_state_points.specs.CcState.Shape.{HaveShape};
+ghost use Rattle.cc_rules.specs.CcStateFacts.declared.facts.Facts.{Facts};
+ghost use Rattle.cc_rules.specs.CcStateOperators.Domains.{domain};
+ghost use Rattle.cc_rules.specs.CcSyntax.Normal.{IsNormal};
 ghost use Rattle.std.specs.List.{Contains};
 
-use cc_lattice::IntDomain;
+use cc_rules::lattice::IntDomain;
 
 /// What constraints ask of facts, and of greater ones. The call does nothing.
 pub fn laws<I: IntDomain>()

@@ -3,4 +3,6 @@
 
 mod law;
 
+pub use cc_rules::{flow, lattice, state_facts};
+pub use cc_state_points::state;
 pub use law::laws;

@@ -1,24 +1,24 @@
 -- What the statement at a point does, in a program in normal form: its operands are pure, and what gets a value as a register is one.
 use Rattle.std.proofs.Common.{◌≡◌, ℕ, List, Option, Some, None, refl, ap, sym, subst, slice_get, ◌∙◌}
-use Rattle.cc_flow_sound.specs.Statements.{statement_at}
+use Rattle.cc_state_points.specs.CcFlowSound.Statements.{statement_at}
 use Rattle.cc_program.specs.declared.expr.Place.{Place}
 use Rattle.cc_program.specs.declared.stmt.Stmt.{Stmt}
-use Rattle.cc_rules.specs.Rules.{act_at}
+use Rattle.cc_rules_asked.specs.CcRules.Rules.{act_at}
 use Rattle.cc_rules_asked.specs.Asks.{ArePureHere}
-use Rattle.cc_rules_flows.specs.declared.after.Here.{Here}
-use Rattle.cc_rules_flows.specs.Acts.{Act, Sets, Reads, Writes, Calls, Saves, Turns, Restores, Tests, Chooses, Returns, Passes}
-use Rattle.cc_rules_flows.specs.Here.{IsHere, MayDo}
-use Rattle.cc_rules_flows.specs.Nexts.{IsPoint, statement_of}
-use Rattle.cc_state.proofs.Contexts.{context_kinds}
-use Rattle.cc_state.proofs.KeyKinds.{kinds_at}
-use Rattle.cc_state.proofs.Sets.{sets_there}
-use Rattle.cc_state.specs.Points.{IsContextAt}
-use Rattle.cc_state.specs.Shape.{HaveShape}
-use Rattle.cc_state_operators.specs.Domains.{Domain}
+use Rattle.cc_state_points.specs.CcRulesFlows.declared.after.Here.{Here}
+use Rattle.cc_state_points.specs.CcRulesFlows.Acts.{Act, Sets, Reads, Writes, Calls, Saves, Turns, Restores, Tests, Chooses, Returns, Passes}
+use Rattle.cc_state_points.specs.CcRulesFlows.Here.{IsHere, MayDo}
+use Rattle.cc_state_points.specs.CcRulesFlows.Nexts.{IsPoint, statement_of}
+use Rattle.cc_state_points.proofs.CcState.Contexts.{context_kinds}
+use Rattle.cc_state_points.proofs.CcState.KeyKinds.{kinds_at}
+use Rattle.cc_state_points.proofs.CcState.Sets.{sets_there}
+use Rattle.cc_state_points.specs.CcState.Points.{IsContextAt}
+use Rattle.cc_state_points.specs.CcState.Shape.{HaveShape}
+use Rattle.cc_state_points.specs.CcStateOperators.Domains.{Domain}
 use Rattle.cc_state_points.proofs.Acting.{operands_at}
 use Rattle.cc_state_points.specs.Operands.{AreOperands}
-use Rattle.cc_state_reads.specs.Contexts.{HaveKind}
-use Rattle.cc_syntax.specs.Normal.{IsNormal}
+use Rattle.cc_state_points.specs.CcStateReads.Contexts.{HaveKind}
+use Rattle.cc_state_points.specs.CcSyntax.Normal.{IsNormal}
 
 module _ {I : Type 0} (d : Domain I) (here : Here I) where
   pure_by : (act : Act) → AreOperands here.context.program.now here.context.func.now act → ArePureHere d here act

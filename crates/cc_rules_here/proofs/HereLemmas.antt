@@ -1,25 +1,25 @@
 -- A point that is reached, by the shape of facts.
 use Rattle.std.proofs.Common.{arith, ◌≡◌, ◌≤◌, ◌<◌, ◌^◌, ℕ, true, List, length, Some, is_some, slice_get, refl, ap, sym, subst, ◌∙◌}
-use Rattle.cc_flow.specs.declared.types.Point.{Point}
-use Rattle.cc_flow.specs.Points.{flow_of}
+use Rattle.cc_state_points.specs.CcFlow.declared.types.Point.{Point}
+use Rattle.cc_state_points.specs.CcFlow.Points.{flow_of}
 use Rattle.cc_program.specs.declared.program.Program.{Program}
-use Rattle.cc_rules_flows.specs.declared.after.Here.{Here}
+use Rattle.cc_state_points.specs.CcRulesFlows.declared.after.Here.{Here}
 use Rattle.cc_rules_functions.specs.declared.functions.Function.{Function}
 use Rattle.cc_rules_functions.specs.Functions.{IsFunctionOf, AreFunctionsOf}
 use Rattle.cc_rules_here.proofs.Owned.{owned, within_some}
 use Rattle.cc_rules_here.specs.HereAt.{IsHereAt}
-use Rattle.cc_state.specs.Points.{IsPointOf, IsContextAt}
-use Rattle.cc_state.specs.Shape.{HaveShape}
-use Rattle.cc_state.proofs.Contexts.{context_sets}
-use Rattle.cc_state.proofs.Sets.{its_shape, cells_there, sets_at, sets_there, normal_sized}
-use Rattle.cc_state_facts.specs.declared.facts.Facts.{Facts}
-use Rattle.cc_state_facts.specs.Facts.{fact_at}
-use Rattle.cc_state_keys.proofs.FactCounts.{few_tracked}
-use Rattle.cc_state_keys.specs.Keys.{keys_of}
-use Rattle.cc_state_keys.specs.Tracked.{registers as registers_of, tracked}
-use Rattle.cc_state_operators.specs.Domains.{Domain}
-use Rattle.cc_syntax.specs.Normal.{IsNormal}
-use Rattle.cc_syntax.specs.Sizes.{AreSized}
+use Rattle.cc_state_points.specs.CcState.Points.{IsPointOf, IsContextAt}
+use Rattle.cc_state_points.specs.CcState.Shape.{HaveShape}
+use Rattle.cc_state_points.proofs.CcState.Contexts.{context_sets}
+use Rattle.cc_state_points.proofs.CcState.Sets.{its_shape, cells_there, sets_at, sets_there, normal_sized}
+use Rattle.cc_state_points.specs.CcStateFacts.declared.facts.Facts.{Facts}
+use Rattle.cc_state_points.specs.CcStateFacts.Facts.{fact_at}
+use Rattle.cc_state_points.proofs.CcStateKeys.FactCounts.{few_tracked}
+use Rattle.cc_state_points.specs.CcStateKeys.Keys.{keys_of}
+use Rattle.cc_state_points.specs.CcStateKeys.Tracked.{registers as registers_of, tracked}
+use Rattle.cc_state_points.specs.CcStateOperators.Domains.{Domain}
+use Rattle.cc_state_points.specs.CcSyntax.Normal.{IsNormal}
+use Rattle.cc_state_points.specs.CcSyntax.Sizes.{AreSized}
 
 -- its function is one of the program's
 pub function_there : (p : Program) (n : ℕ) (q : Point) (functions : List Function) → slice_get (flow_of p).points n ≡ Some q → AreFunctionsOf p functions → is_some (slice_get functions q.func) ≡ true

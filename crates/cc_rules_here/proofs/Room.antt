@@ -3,18 +3,18 @@ use Rattle.std.proofs.Common.{arith, ◌≡◌, ◌⊎◌, inl, inr, ◌≤◌, 
 use Rattle.std.proofs.lemmas.List.{length-append, length-map}
 use Rattle.std.proofs.lemmas.List.Sums.{sum_by-cons}
 use Rattle.std.proofs.lemmas.Option.{none-some, same_Some}
-use Rattle.cc_control.specs.Control.{bodies}
-use Rattle.cc_flow.proofs.Inside.{body_inside}
-use Rattle.cc_flow.proofs.Paths.{body_counted}
-use Rattle.cc_flow.specs.declared.next.Site.{Site}
-use Rattle.cc_flow.specs.declared.types.Point.{Point}
-use Rattle.cc_flow.specs.Laws.{IsIn}
-use Rattle.cc_flow.specs.Next.{reached}
-use Rattle.cc_flow.specs.Points.{Piece, CasePiece, total, list_points, case_points, point, flow_step, piece_of, pieces, size_of, total_of, body_site, body_points, body_count, count_in, count_of, points_in, flow_of}
-use Rattle.cc_flow_sound.proofs.Opened.{folded, folded_cases, piece_level, form_size, size_at, total-append, total-bodies}
-use Rattle.cc_flow_sound.proofs.Segments.{all_counted, flat}
-use Rattle.cc_flow_sound.specs.Sites.{loop_site, switch_site}
-use Rattle.cc_flow_sound.specs.Statements.{inside, statement_at}
+use Rattle.cc_state_points.specs.CcControl.Control.{bodies}
+use Rattle.cc_state_points.proofs.CcFlow.Inside.{body_inside}
+use Rattle.cc_state_points.proofs.CcFlow.Paths.{body_counted}
+use Rattle.cc_state_points.specs.CcFlow.declared.next.Site.{Site}
+use Rattle.cc_state_points.specs.CcFlow.declared.types.Point.{Point}
+use Rattle.cc_state_points.specs.CcFlow.Laws.{IsIn}
+use Rattle.cc_state_points.specs.CcFlow.Next.{reached}
+use Rattle.cc_state_points.specs.CcFlow.Points.{Piece, CasePiece, total, list_points, case_points, point, flow_step, piece_of, pieces, size_of, total_of, body_site, body_points, body_count, count_in, count_of, points_in, flow_of}
+use Rattle.cc_state_points.proofs.CcFlowSound.Opened.{folded, folded_cases, piece_level, form_size, size_at, total-append, total-bodies}
+use Rattle.cc_state_points.proofs.CcFlowSound.Segments.{all_counted, flat}
+use Rattle.cc_state_points.specs.CcFlowSound.Sites.{loop_site, switch_site}
+use Rattle.cc_state_points.specs.CcFlowSound.Statements.{inside, statement_at}
 use Rattle.cc_program.proofs.Each.{Each, each_of}
 use Rattle.cc_program.proofs.StmtInduction.{StmtParts, CaseParts, by_stmt}
 use Rattle.cc_program.specs.declared.func.Func.{Func}
@@ -22,10 +22,10 @@ use Rattle.cc_program.specs.declared.program.Program.{Program}
 use Rattle.cc_program.specs.declared.stmt.Case.{Case, out-Case, roll-Case, out-roll-Case}
 use Rattle.cc_program.specs.declared.stmt.Stmt.{Stmt, out-Stmt, roll-Stmt, out-roll-Stmt, map-Stmt}
 use Rattle.cc_program.specs.declared.stmt.Stmt.TheOpen as is
-use Rattle.cc_rules_flows.proofs.Paths.{leads}
-use Rattle.cc_rules_flows.specs.Descents.{descended}
+use Rattle.cc_state_points.proofs.CcRulesFlows.Paths.{leads}
+use Rattle.cc_state_points.specs.CcRulesFlows.Descents.{descended}
 use Rattle.cc_rules_here.proofs.Owned.{all_there, owned_in}
-use Rattle.cc_syntax.specs.Expressions.{of_one}
+use Rattle.cc_state_points.specs.CcSyntax.Expressions.{of_one}
 
 -- ---- lists
 

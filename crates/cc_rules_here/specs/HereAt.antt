@@ -1,12 +1,12 @@
 -- A point of a program that is reached, as the code has it.
 use Rattle.std.specs.Prelude.{◌≡◌, ℕ, Option, Some, None}
 use Rattle.cc_program.specs.declared.program.Program.{Program}
-use Rattle.cc_rules_flows.specs.declared.after.Here.{Here}
-use Rattle.cc_rules_flows.specs.Here.{IsHere}
-use Rattle.cc_rules_flows.specs.Nexts.{IsPoint}
-use Rattle.cc_state_facts.specs.declared.facts.Facts.{Facts}
-use Rattle.cc_state_facts.specs.Facts.{fact_at}
-use Rattle.cc_state_operators.specs.Domains.{Domain}
+use Rattle.cc_state_points.specs.CcRulesFlows.declared.after.Here.{Here}
+use Rattle.cc_state_points.specs.CcRulesFlows.Here.{IsHere}
+use Rattle.cc_state_points.specs.CcRulesFlows.Nexts.{IsPoint}
+use Rattle.cc_state_points.specs.CcStateFacts.declared.facts.Facts.{Facts}
+use Rattle.cc_state_points.specs.CcStateFacts.Facts.{fact_at}
+use Rattle.cc_state_points.specs.CcStateOperators.Domains.{Domain}
 
 module _ {I : Type 0} (d : Domain I) (p : Program) (known : Facts I) (n : ℕ) where
   -- it is that point of the program, by these facts

@@ -1,22 +1,22 @@
 //! What the statement at a point does.
 
 ghost use Rattle.std.specs.Prelude.{◌≡◌, is_some, true, Some, slice_get};
-ghost use Rattle.cc_registers.specs.Kept.{AreKept};
-ghost use Rattle.cc_rules.specs.Rules.{act_at};
+ghost use Rattle.cc_state_points.specs.CcRegisters.Kept.{AreKept};
+ghost use Rattle.cc_rules_asked.specs.CcRules.Rules.{act_at};
 ghost use Rattle.cc_rules_asked.specs.Asks.{ArePureHere};
-ghost use Rattle.cc_rules_flows.specs.Here.{IsHere, MayDo};
-ghost use Rattle.cc_rules_flows.specs.Nexts.{IsPoint, statement_of};
-ghost use Rattle.cc_rules_flows.specs.View.{act_view};
+ghost use Rattle.cc_state_points.specs.CcRulesFlows.Here.{IsHere, MayDo};
+ghost use Rattle.cc_state_points.specs.CcRulesFlows.Nexts.{IsPoint, statement_of};
+ghost use Rattle.cc_state_points.specs.CcRulesFlows.View.{act_view};
 ghost use Rattle.cc_rules_here.specs.Marks.{AreMarksOf};
-ghost use Rattle.cc_state.specs.Shape.{HaveShape};
-ghost use Rattle.cc_state_operators.specs.Domains.{domain};
-ghost use Rattle.cc_syntax.specs.Normal.{IsNormal};
+ghost use Rattle.cc_state_points.specs.CcState.Shape.{HaveShape};
+ghost use Rattle.cc_state_points.specs.CcStateOperators.Domains.{domain};
+ghost use Rattle.cc_state_points.specs.CcSyntax.Normal.{IsNormal};
 
-use cc_flow::Point;
-use cc_lattice::IntDomain;
-use cc_num::{List, at};
 use cc_program::Func;
-use cc_rules_flows::{Act, Body, Here, statement_at};
+use cc_program::num::{List, at};
+use cc_state_points::flow::Point;
+use cc_state_points::lattice::IntDomain;
+use cc_state_points::rules_flows::{Act, Body, Here, statement_at};
 
 /// The marks of a function.
 fn marks_at(marks: &[List<bool>], id: u32) -> &[bool]

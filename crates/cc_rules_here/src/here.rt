@@ -2,23 +2,23 @@
 
 ghost use Rattle.std.specs.Option.{option_copied};
 ghost use Rattle.std.specs.Prelude.{◌≡◌, is_some, true, Some, slice_get};
-ghost use Rattle.cc_flow.specs.Points.{flow_of};
+ghost use Rattle.cc_state_points.specs.CcFlow.Points.{flow_of};
 ghost use Rattle.cc_rules_functions.specs.Functions.{IsFunctionOf, AreFunctionsOf};
 ghost use Rattle.cc_rules_here.specs.HereAt.{IsHereOf, IsHereAt};
-ghost use Rattle.cc_state.specs.Shape.{HaveShape};
-ghost use Rattle.cc_state_facts.specs.Facts.{fact_at};
-ghost use Rattle.cc_state_keys.specs.Tracked.{tracked as tracked_of};
-ghost use Rattle.cc_state_operators.specs.Domains.{domain};
-ghost use Rattle.cc_syntax.specs.Normal.{IsNormal};
+ghost use Rattle.cc_state_points.specs.CcState.Shape.{HaveShape};
+ghost use Rattle.cc_state_points.specs.CcStateFacts.Facts.{fact_at};
+ghost use Rattle.cc_state_points.specs.CcStateKeys.Tracked.{tracked as tracked_of};
+ghost use Rattle.cc_state_points.specs.CcStateOperators.Domains.{domain};
+ghost use Rattle.cc_state_points.specs.CcSyntax.Normal.{IsNormal};
 
-use cc_flow::Point;
-use cc_lattice::IntDomain;
-use cc_num::at;
 use cc_program::Program;
-use cc_rules_flows::Here;
+use cc_program::num::at;
 use cc_rules_functions::Function;
-use cc_state_facts::{Facts, PointFact};
-use cc_state_values::Context;
+use cc_state_points::flow::Point;
+use cc_state_points::lattice::IntDomain;
+use cc_state_points::rules_flows::Here;
+use cc_state_points::state_facts::{Facts, PointFact};
+use cc_state_points::state_values::Context;
 
 /// What is known at a point.
 fn known<I>(facts: &Facts<I>, number: u32) -> Option<&PointFact<I>>

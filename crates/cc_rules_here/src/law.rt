@@ -1,10 +1,10 @@
 ghost use Rattle.std.specs.Prelude.{◌≡◌, ◌<◌, ◌≤◌, ◌+◌, ℕ, Some, length, slice_get};
-ghost use Rattle.cc_flow.specs.declared.types.Point.{Point};
-ghost use Rattle.cc_flow.specs.Points.{count_of, flow_of, size_of};
+ghost use Rattle.cc_state_points.specs.CcFlow.declared.types.Point.{Point};
+ghost use Rattle.cc_state_points.specs.CcFlow.Points.{count_of, flow_of, size_of};
 ghost use Rattle.cc_program.specs.declared.func.Func.{Func};
 ghost use Rattle.cc_program.specs.declared.program.Program.{Program};
 ghost use Rattle.cc_program.specs.declared.stmt.Stmt.{Stmt};
-ghost use Rattle.cc_rules_flows.specs.Nexts.{statement_of};
+ghost use Rattle.cc_state_points.specs.CcRulesFlows.Nexts.{statement_of};
 
 /// What holds of the points of all programs. The call does nothing.
 pub fn laws()

@@ -3,19 +3,19 @@ use Rattle.std.proofs.Common.{arith, ◌≡◌, ◌<◌, ◌+◌, ◌-◌, ℕ, 
 use Rattle.std.specs.List.{flat_map, list_all}
 use Rattle.std.proofs.lemmas.List.Elements.{All-nil, All-cons, All-append}
 use Rattle.std.proofs.lemmas.Option.{same_Some, none-some, slice_get-get_or}
-use Rattle.cc_rules_needs.specs.declared.needs.Part.{Part}
-use Rattle.cc_rules_needs.specs.declared.needs.Part.TheVariants.{Mark}
-use Rattle.cc_rules_needs.specs.declared.needs.Slot.{Slot}
-use Rattle.cc_rules_needs.specs.declared.needs.Slot.TheVariants.{Apart}
-use Rattle.cc_rules_needs.specs.Flowing.{each_pair, need_apart, numbers}
-use Rattle.cc_rules_needs.proofs.AtPoint.{each_passes, none_of}
-use Rattle.cc_rules_needs.specs.Needs.{Needs, apart_in, Has, HasAll}
+use Rattle.cc_rules_asked.specs.CcRulesNeeds.declared.needs.Part.{Part}
+use Rattle.cc_rules_asked.specs.CcRulesNeeds.declared.needs.Part.TheVariants.{Mark}
+use Rattle.cc_rules_asked.specs.CcRulesNeeds.declared.needs.Slot.{Slot}
+use Rattle.cc_rules_asked.specs.CcRulesNeeds.declared.needs.Slot.TheVariants.{Apart}
+use Rattle.cc_rules_asked.specs.CcRulesNeeds.Flowing.{each_pair, need_apart, numbers}
+use Rattle.cc_rules_asked.proofs.CcRulesNeeds.AtPoint.{each_passes, none_of}
+use Rattle.cc_rules_asked.specs.CcRulesNeeds.Needs.{Needs, apart_in, Has, HasAll}
 use Rattle.cc_rules_lacking.specs.First.{IsFirst, LacksFirst}
-use Rattle.cc_state_facts.specs.declared.facts.Facts.{Facts}
-use Rattle.cc_state_facts.specs.declared.facts.PointFact.{PointFact}
-use Rattle.cc_state_facts.specs.Facts.{fact_at, has_pair}
-use Rattle.cc_state_facts.specs.Orders.{is_same}
-use Rattle.cc_state_keys.proofs.Grown.{flat-next}
+use Rattle.cc_rules_asked.specs.CcStateFacts.declared.facts.Facts.{Facts}
+use Rattle.cc_rules_asked.specs.CcStateFacts.declared.facts.PointFact.{PointFact}
+use Rattle.cc_rules_asked.specs.CcStateFacts.Facts.{fact_at, has_pair}
+use Rattle.cc_rules_asked.specs.CcStateFacts.Orders.{is_same}
+use Rattle.cc_rules_asked.proofs.CcStateKeys.Grown.{flat-next}
 
 -- ---- lists
 

@@ -1,9 +1,9 @@
 -- The first of some needs that facts lack.
 use Rattle.std.specs.Prelude.{◌≡◌, ◌∷◌, ◌++◌, Option, Some, None}
-use Rattle.cc_rules_needs.specs.declared.needs.Part.{Part}
-use Rattle.cc_rules_needs.specs.declared.needs.Slot.{Slot}
-use Rattle.cc_rules_needs.specs.Needs.{Needs, Has, HasAll}
-use Rattle.cc_state_facts.specs.declared.facts.Facts.{Facts}
+use Rattle.cc_rules_asked.specs.CcRulesNeeds.declared.needs.Part.{Part}
+use Rattle.cc_rules_asked.specs.CcRulesNeeds.declared.needs.Slot.{Slot}
+use Rattle.cc_rules_asked.specs.CcRulesNeeds.Needs.{Needs, Has, HasAll}
+use Rattle.cc_rules_asked.specs.CcStateFacts.declared.facts.Facts.{Facts}
 
 module _ {I : Type 0} (below : I → I → Type 0) where
   -- behind those that they have

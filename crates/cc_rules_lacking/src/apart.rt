@@ -4,15 +4,15 @@ ghost use Rattle.std.specs.Prelude.{◌≡◌, ◌↔◌, ℕ, true, false, Matc
 ghost use Rattle.std.specs.List.{flat_map, list_all};
 ghost use Rattle.std.specs.Option.{option_copied};
 ghost use Rattle.cc_rules_lacking.specs.First.{IsFirst, LacksFirst};
-ghost use Rattle.cc_rules_needs.specs.Flowing.{each_pair, need_apart, numbers};
-ghost use Rattle.cc_rules_needs.specs.Needs.{Has, HasAll};
-ghost use Rattle.cc_state_facts.specs.Facts.{fact_at, has_pair};
-ghost use Rattle.cc_state_facts.specs.Orders.{is_same};
+ghost use Rattle.cc_rules_asked.specs.CcRulesNeeds.Flowing.{each_pair, need_apart, numbers};
+ghost use Rattle.cc_rules_asked.specs.CcRulesNeeds.Needs.{Has, HasAll};
+ghost use Rattle.cc_rules_asked.specs.CcStateFacts.Facts.{fact_at, has_pair};
+ghost use Rattle.cc_rules_asked.specs.CcStateFacts.Orders.{is_same};
 
-use cc_lattice::IntDomain;
-use cc_num::at;
-use cc_rules_needs::{Need, Part, Slot, has};
-use cc_state_facts::{Facts, PointFact, is_pair};
+use cc_program::num::at;
+use cc_rules_asked::lattice::IntDomain;
+use cc_rules_asked::rules_needs::{Need, Part, Slot, has};
+use cc_rules_asked::state_facts::{Facts, PointFact, is_pair};
 
 /// Whether a register and a tracked cell are to be apart, and are not.
 fn lacks_apart<I: IntDomain>(

@@ -4,15 +4,15 @@ ghost use Rattle.std.specs.Prelude.{◌≡◌, [], ◌∷◌, length, IfOk};
 ghost use Rattle.cc_program.specs.declared.program.Program.{Program};
 ghost use Rattle.cc_rules_asked.specs.Asked.{all_needs, needs_of};
 ghost use Rattle.cc_rules_lacking.specs.First.{LacksFirst};
-ghost use Rattle.cc_state_keys.specs.Tracked.{tracked};
+ghost use Rattle.cc_rules_asked.specs.CcStateKeys.Tracked.{tracked};
 
 use crate::points::lacking_at;
 use crate::values::copied_part;
-use cc_lattice::IntDomain;
-use cc_num::NoMemory;
+use cc_program::num::NoMemory;
 use cc_rules_asked::Asked;
-use cc_rules_needs::{Need, Part, Slot, has};
-use cc_state_facts::Facts;
+use cc_rules_asked::lattice::IntDomain;
+use cc_rules_asked::rules_needs::{Need, Part, Slot, has};
+use cc_rules_asked::state_facts::Facts;
 use std::alloc::Global;
 
 /// Of a part of a slot.

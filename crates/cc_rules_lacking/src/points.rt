@@ -3,16 +3,16 @@
 ghost use Rattle.std.specs.Prelude.{◌≡◌, ◌↔◌, ◌++◌, IsTrue, map, IfOk};
 ghost use Rattle.std.specs.List.{flat_map};
 ghost use Rattle.cc_rules_lacking.specs.First.{LacksFirst};
-ghost use Rattle.cc_rules_needs.specs.Flowing.{of_fact, each_pair, need_apart, need_cell, need_local, needs_at, numbers};
-ghost use Rattle.cc_rules_needs.specs.Needs.{Has};
-ghost use Rattle.cc_state_facts.specs.Facts.{has_pair};
+ghost use Rattle.cc_rules_asked.specs.CcRulesNeeds.Flowing.{of_fact, each_pair, need_apart, need_cell, need_local, needs_at, numbers};
+ghost use Rattle.cc_rules_asked.specs.CcRulesNeeds.Needs.{Has};
+ghost use Rattle.cc_rules_asked.specs.CcStateFacts.Facts.{has_pair};
 
 use crate::apart::lacking_apart;
 use crate::sets::{lacking_cell, lacking_local};
-use cc_lattice::IntDomain;
-use cc_num::NoMemory;
-use cc_rules_needs::{Need, Part, Slot, has};
-use cc_state_facts::{Facts, PointFact};
+use cc_program::num::NoMemory;
+use cc_rules_asked::lattice::IntDomain;
+use cc_rules_asked::rules_needs::{Need, Part, Slot, has};
+use cc_rules_asked::state_facts::{Facts, PointFact};
 use std::alloc::Global;
 
 /// Of tracked cells, and of pairs.

@@ -3,16 +3,16 @@
 ghost use Rattle.std.specs.Prelude.{◌≡◌, ◌↔◌, IsTrue, IfOk, MatchOption, map};
 ghost use Rattle.std.specs.Option.{option_copied};
 ghost use Rattle.cc_rules_lacking.specs.First.{IsFirst, LacksFirst};
-ghost use Rattle.cc_rules_needs.specs.Flowing.{of_fact, need_local, need_cell, numbers};
-ghost use Rattle.cc_rules_needs.specs.Needs.{Has, HasAll};
-ghost use Rattle.cc_state_facts.specs.Facts.{local_of as local_of_fact};
+ghost use Rattle.cc_rules_asked.specs.CcRulesNeeds.Flowing.{of_fact, need_local, need_cell, numbers};
+ghost use Rattle.cc_rules_asked.specs.CcRulesNeeds.Needs.{Has, HasAll};
+ghost use Rattle.cc_rules_asked.specs.CcStateFacts.Facts.{local_of as local_of_fact};
 
 use crate::values::{copied_values, has_values};
-use cc_lattice::IntDomain;
-use cc_num::{NoMemory, at};
-use cc_places::Abs;
-use cc_rules_needs::{Need, Part, Slot};
-use cc_state_facts::{Facts, PointFact};
+use cc_program::num::{NoMemory, at};
+use cc_rules_asked::lattice::IntDomain;
+use cc_rules_asked::places::Abs;
+use cc_rules_asked::rules_needs::{Need, Part, Slot};
+use cc_rules_asked::state_facts::{Facts, PointFact};
 use std::alloc::Global;
 
 /// The set of a register.

@@ -2,14 +2,14 @@
 
 ghost use Rattle.std.specs.Prelude.{◌≡◌, ◌↔◌, IsTrue, IfOk};
 ghost use Rattle.std.specs.Option.{option_copied};
-ghost use Rattle.cc_places.specs.Abstract.{IsBelowAbs};
-ghost use Rattle.cc_rules_needs.specs.Needs.{AreValuesBelow};
+ghost use Rattle.cc_rules_asked.specs.CcPlaces.Abstract.{IsBelowAbs};
+ghost use Rattle.cc_rules_asked.specs.CcRulesNeeds.Needs.{AreValuesBelow};
 
-use cc_lattice::{IntDomain, Lattice};
-use cc_num::NoMemory;
-use cc_places::Abs;
+use cc_program::num::NoMemory;
 use cc_rules_asked::copied_set;
-use cc_rules_needs::Part;
+use cc_rules_asked::lattice::{IntDomain, Lattice};
+use cc_rules_asked::places::Abs;
+use cc_rules_asked::rules_needs::Part;
 use std::alloc::Global;
 
 /// Whether all values of a set are in another one, which is of the same kind.

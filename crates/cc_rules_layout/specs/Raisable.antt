@@ -2,21 +2,21 @@
 -- out as those of their functions are.
 use Rattle.std.specs.Prelude.{◌≡◌, ◌<◌, ◌≤◌, ℕ, true, is_some, List, All, length, Some}
 use Rattle.std.specs.List.{AllPairs, Contains}
-use Rattle.cc_flow.specs.declared.types.Point.{Point}
-use Rattle.cc_places.specs.declared.abs.Abs.{Abs}
+use Rattle.cc_rules_asked.specs.CcFlow.declared.types.Point.{Point}
+use Rattle.cc_rules_asked.specs.CcPlaces.declared.abs.Abs.{Abs}
 use Rattle.cc_program.specs.declared.func.Func.{Func}
 use Rattle.cc_program.specs.declared.program.Program.{Program}
 use Rattle.cc_rules_asked.specs.declared.asked.Asked.{Asked}
 use Rattle.cc_rules_asked.specs.declared.asked.Asked.TheVariants as asked
-use Rattle.cc_rules_flows.specs.Nexts.{IsPoint}
-use Rattle.cc_rules_needs.specs.declared.needs.Slot.{Slot}
-use Rattle.cc_rules_needs.specs.declared.needs.Slot.TheVariants.{Flag, LocalAt, CellAt, Apart}
+use Rattle.cc_rules_asked.specs.CcRulesFlows.Nexts.{IsPoint}
+use Rattle.cc_rules_asked.specs.CcRulesNeeds.declared.needs.Slot.{Slot}
+use Rattle.cc_rules_asked.specs.CcRulesNeeds.declared.needs.Slot.TheVariants.{Flag, LocalAt, CellAt, Apart}
 use Rattle.cc_state.specs.Shape.{AreRows, IsBefore}
-use Rattle.cc_state_facts.specs.declared.facts.Facts.{Facts}
-use Rattle.cc_state_facts.specs.declared.facts.PointFact.{PointFact}
-use Rattle.cc_state_facts.specs.Facts.{cell_of, fact_at}
-use Rattle.cc_state_keys.specs.Tracked.{registers, tracked}
-use Rattle.cc_state_operators.specs.Domains.{Domain}
+use Rattle.cc_rules_asked.specs.CcStateFacts.declared.facts.Facts.{Facts}
+use Rattle.cc_rules_asked.specs.CcStateFacts.declared.facts.PointFact.{PointFact}
+use Rattle.cc_rules_asked.specs.CcStateFacts.Facts.{cell_of, fact_at}
+use Rattle.cc_rules_asked.specs.CcStateKeys.Tracked.{registers, tracked}
+use Rattle.cc_rules_asked.specs.CcStateOperators.Domains.{Domain}
 
 module _ {I : Type 0} (d : Domain I) (p : Program) where
   -- what flows to a point of a function is laid out as the function has it, but that it may tell of the first registers alone

@@ -6,16 +6,16 @@ use Rattle.std.proofs.lemmas.List.{take_more}
 use Rattle.std.proofs.lemmas.Option.{get_or_from_slice_get}
 use Rattle.cc_program.specs.declared.func.Func.{Func}
 use Rattle.cc_program.specs.declared.program.Program.{Program}
-use Rattle.cc_rules.specs.Rules.{handlers_from}
+use Rattle.cc_rules_asked.specs.CcRules.Rules.{handlers_from}
 use Rattle.cc_rules_asked.specs.declared.handlers.Handler.{Handler}
 use Rattle.cc_rules_asked.specs.Handlers.{IsHandlerOf, AreHandlersOf}
 use Rattle.cc_rules_functions.specs.declared.functions.Function.{Function}
 use Rattle.cc_rules_functions.specs.Functions.{IsFunctionOf, AreFunctionsOf}
 use Rattle.cc_rules_functions.proofs.Gets.{stands}
-use Rattle.cc_state_keys.specs.Lists.{only_if}
-use Rattle.cc_steps.specs.Turn.{named_level, level_in}
-use Rattle.cc_words.specs.Names.{is_name}
-use Rattle.cc_syntax.specs.Operators.{is_handler}
+use Rattle.cc_rules_asked.specs.CcStateKeys.Lists.{only_if}
+use Rattle.cc_rules_asked.specs.CcSteps.Turn.{named_level, level_in}
+use Rattle.cc_program.specs.CcWords.Names.{is_name}
+use Rattle.cc_rules_asked.specs.CcSyntax.Operators.{is_handler}
 
 -- ---- one more function
 

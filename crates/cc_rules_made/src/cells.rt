@@ -1,13 +1,13 @@
 //! The numbers of the keys of tracked cells.
 
 ghost use Rattle.std.specs.Prelude.{◌≡◌, ◌<◌, ◌^◌, map, length, IfOk};
-ghost use Rattle.cc_state_keys.specs.Keys.{keys_of, key_number as key_number_of};
-ghost use Rattle.cc_syntax.specs.Sound.{IsTypedProgram};
+ghost use Rattle.cc_rules_asked.specs.CcStateKeys.Keys.{keys_of, key_number as key_number_of};
+ghost use Rattle.cc_rules_asked.specs.CcSyntax.Sound.{IsTypedProgram};
 
-use cc_num::NoMemory;
 use cc_program::Program;
-use cc_state_facts::Key;
-use cc_state_keys::{key_number, keys};
+use cc_program::num::NoMemory;
+use cc_rules_asked::state_facts::Key;
+use cc_rules_asked::state_keys::{key_number, keys};
 use std::alloc::Global;
 
 /// The number of an object's key, where it has one.

@@ -5,11 +5,11 @@ ghost use Rattle.std.specs.Prelude.{◌≡◌, ◌<◌, ◌^◌, ◌++◌, ℕ, 
 ghost use Rattle.std.specs.Str.{bytes_eq};
 ghost use Rattle.cc_rules_asked.specs.Handlers.{IsHandlerOf, AreHandlersOf};
 ghost use Rattle.cc_rules_functions.specs.Functions.{IsFunctionOf, AreFunctionsOf};
-ghost use Rattle.cc_state_keys.specs.Lists.{only_if};
-ghost use Rattle.cc_steps.specs.Turn.{named_level as named_level_of, level_in};
-ghost use Rattle.cc_syntax.specs.Operators.{is_handler as is_handler_of};
+ghost use Rattle.cc_rules_asked.specs.CcStateKeys.Lists.{only_if};
+ghost use Rattle.cc_rules_asked.specs.CcSteps.Turn.{named_level as named_level_of, level_in};
+ghost use Rattle.cc_rules_asked.specs.CcSyntax.Operators.{is_handler as is_handler_of};
 
-use cc_num::{Name, NoMemory};
+use cc_program::num::{Name, NoMemory};
 use cc_program::{Func, Program};
 use cc_rules_asked::Handler;
 use cc_rules_functions::Function;

@@ -2,11 +2,11 @@
 
 ghost use Rattle.std.specs.List.{AllZip};
 ghost use Rattle.std.specs.Prelude.{IfOk};
-ghost use Rattle.cc_registers.specs.Kept.{AreKept};
+ghost use Rattle.cc_rules_asked.specs.CcRegisters.Kept.{AreKept};
 
-use cc_num::{List, NoMemory};
 use cc_program::Func;
-use cc_registers::registers_of;
+use cc_program::num::{List, NoMemory};
+use cc_rules_asked::registers::registers_of;
 use std::alloc::Global;
 
 /// Of each of some functions, which locals are registers.

@@ -1,20 +1,20 @@
 //! What constraints want of a program.
 
 ghost use Rattle.std.specs.Prelude.{◌≡◌, ◌≤◌, ◌<◌, ◌^◌, length, IfOk};
-ghost use Rattle.cc_flow.specs.Points.{flow_of, count_of};
+ghost use Rattle.cc_rules_asked.specs.CcFlow.Points.{flow_of, count_of};
 ghost use Rattle.cc_rules_made.specs.Rules.{AreOf};
-ghost use Rattle.cc_state_keys.specs.Keys.{keys_of};
-ghost use Rattle.cc_syntax.specs.Sound.{IsTypedProgram};
+ghost use Rattle.cc_rules_asked.specs.CcStateKeys.Keys.{keys_of};
+ghost use Rattle.cc_rules_asked.specs.CcSyntax.Sound.{IsTypedProgram};
 
 use crate::cells::keys_of_cells;
 use crate::handlers::handlers_of;
 use crate::marks::marks_of;
-use cc_flow::Flow;
-use cc_num::{List, NoMemory};
 use cc_program::Program;
+use cc_program::num::{List, NoMemory};
 use cc_rules_asked::Handler;
+use cc_rules_asked::flow::Flow;
+use cc_rules_asked::state_keys::tracked;
 use cc_rules_functions::{Function, functions_of};
-use cc_state_keys::tracked;
 use std::alloc::Global;
 
 /// What constraints want of a program, once for all points.

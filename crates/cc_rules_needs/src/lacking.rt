@@ -8,8 +8,8 @@ ghost use Rattle.cc_state_facts.specs.Facts.{fact_at, mark_of, levels_of};
 
 use crate::needs::{Need, Part, Slot};
 use cc_lattice::{IntDomain, Lattice};
-use cc_num::at;
 use cc_places::Abs;
+use cc_program::num::at;
 use cc_state_facts::{Facts, PointFact, are_levels_within, is_pair};
 
 /// Whether all values of a set are in another one, which is of the same kind.

@@ -8,7 +8,7 @@ ghost use Rattle.cc_state_facts.specs.Facts.{fact_at};
 use crate::lacking::fact;
 use crate::raise::set;
 use cc_lattice::IntDomain;
-use cc_num::NoMemory;
+use cc_program::num::NoMemory;
 use cc_state_facts::{Facts, PointFact, copied_point, is_point_below, joined_point};
 use std::alloc::Global;
 

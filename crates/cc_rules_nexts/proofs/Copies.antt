@@ -1,11 +1,11 @@
 -- Flows that are all the same are joined by the same.
 use Rattle.std.proofs.Common.{arith, ◌≡◌, ◌<◌, ℕ, zero, suc, Bool, true, false, ◌&&◌, ◌||◌, List, [], ◌∷◌, map, length, get_or, Contains, Option, Some, None, refl, ap, sym, subst, ◌∙◌}
 use Rattle.std.specs.List.{list_all, list_any}
-use Rattle.cc_places.specs.declared.abs.Abs.{Abs}
-use Rattle.cc_places.specs.Abstract.{AreOfOneKind, IsBelowAbs}
-use Rattle.cc_rules_flows.specs.Known.{Tells}
-use Rattle.cc_rules_needs.specs.Flowing.{Flowing, of_fact, IsJoined, IsLeastOver}
-use Rattle.cc_state_facts.specs.declared.facts.PointFact.{PointFact}
+use Rattle.cc_rules_asked.specs.CcPlaces.declared.abs.Abs.{Abs}
+use Rattle.cc_rules_asked.specs.CcPlaces.Abstract.{AreOfOneKind, IsBelowAbs}
+use Rattle.cc_rules_asked.specs.CcRulesFlows.Known.{Tells}
+use Rattle.cc_rules_asked.specs.CcRulesNeeds.Flowing.{Flowing, of_fact, IsJoined, IsLeastOver}
+use Rattle.cc_rules_asked.specs.CcStateFacts.declared.facts.PointFact.{PointFact}
 
 -- each is that one
 abbrev pub Same : {A : Type 0} → A → List A → Type 0

@@ -1,19 +1,19 @@
 -- What is asked of next points, one by one.
 use Rattle.std.proofs.Common.{◌≡◌, ◌<◌, ◌+◌, ℕ, List, [], ◌∷◌, ◌++◌, length, take, get_or, append-nil, append_assoc, Option, Some, None, refl, ap, sym, subst, ◌∙◌}
 use Rattle.std.proofs.lemmas.List.{take_more}
-use Rattle.cc_rules.specs.Rules.{ComesToEach}
+use Rattle.cc_rules_asked.specs.CcRules.Rules.{ComesToEach}
 use Rattle.cc_rules_asked.specs.declared.asked.Asked.{Asked}
 use Rattle.cc_rules_asked.specs.declared.asked.Asked.TheVariants as asked
 use Rattle.cc_rules_asked.specs.Asked.{all_needs}
 use Rattle.cc_rules_asked.proofs.Listed.{parts_behind}
-use Rattle.cc_rules_flows.specs.declared.after.Here.{Here}
-use Rattle.cc_rules_flows.specs.Joins.{flows_to, IsTogether}
-use Rattle.cc_rules_needs.specs.Flowing.{Flowing, needs_at, of_fact}
-use Rattle.cc_rules_needs.specs.Needs.{Needs}
+use Rattle.cc_rules_asked.specs.CcRulesFlows.declared.after.Here.{Here}
+use Rattle.cc_rules_asked.specs.CcRulesFlows.Joins.{flows_to, IsTogether}
+use Rattle.cc_rules_asked.specs.CcRulesNeeds.Flowing.{Flowing, needs_at, of_fact}
+use Rattle.cc_rules_asked.specs.CcRulesNeeds.Needs.{Needs}
 use Rattle.cc_rules_nexts.specs.Told.{ComesToHere, AskMore, ComeToEachHere}
-use Rattle.cc_state_facts.specs.declared.facts.PointFact.{PointFact}
-use Rattle.cc_state_keys.specs.Tracked.{registers, tracked}
-use Rattle.cc_state_operators.specs.Domains.{Domain}
+use Rattle.cc_rules_asked.specs.CcStateFacts.declared.facts.PointFact.{PointFact}
+use Rattle.cc_rules_asked.specs.CcStateKeys.Tracked.{registers, tracked}
+use Rattle.cc_rules_asked.specs.CcStateOperators.Domains.{Domain}
 
 module _ {I : Type 0} (d : Domain I) (here : Here I) where
   abbrev told_at : ℕ → ℕ → PointFact I → Needs I

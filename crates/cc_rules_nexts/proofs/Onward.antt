@@ -3,15 +3,15 @@ use Rattle.std.proofs.Common.{arith, ◌≡◌, ◌==◌, ℕ, Bool, true, false
 use Rattle.std.specs.Prelude.{IfSome}
 use Rattle.std.specs.List.{AllZip, filter}
 use Rattle.std.proofs.lemmas.List.Elements.{All-contains, length_all_zip}
-use Rattle.cc_places.specs.Abstract.{AreOfOneKind}
-use Rattle.cc_places.specs.laws.ListLaws.{at_head, behind_head}
-use Rattle.cc_rules_flows.specs.Joins.{flows_to, IsTogether, IsAsThoseAt}
-use Rattle.cc_rules_flows.specs.Kept.{AreAsLong, KeepsShape}
-use Rattle.cc_rules_flows.specs.Known.{Tells, AreTold}
-use Rattle.cc_rules_needs.specs.Flowing.{Flowing, of_fact}
-use Rattle.cc_state_facts.specs.declared.facts.PointFact.{PointFact}
-use Rattle.cc_state_facts.specs.declared.facts.Row.{Row}
-use Rattle.cc_state_facts.specs.Orders.{AreRowsAlike, ArePointsAlike}
+use Rattle.cc_rules_asked.specs.CcPlaces.Abstract.{AreOfOneKind}
+use Rattle.cc_rules_asked.specs.CcPlaces.laws.ListLaws.{at_head, behind_head}
+use Rattle.cc_rules_asked.specs.CcRulesFlows.Joins.{flows_to, IsTogether, IsAsThoseAt}
+use Rattle.cc_rules_asked.specs.CcRulesFlows.Kept.{AreAsLong, KeepsShape}
+use Rattle.cc_rules_asked.specs.CcRulesFlows.Known.{Tells, AreTold}
+use Rattle.cc_rules_asked.specs.CcRulesNeeds.Flowing.{Flowing, of_fact}
+use Rattle.cc_rules_asked.specs.CcStateFacts.declared.facts.PointFact.{PointFact}
+use Rattle.cc_rules_asked.specs.CcStateFacts.declared.facts.Row.{Row}
+use Rattle.cc_rules_asked.specs.CcStateFacts.Orders.{AreRowsAlike, ArePointsAlike}
 
 eq_of : (m n : ℕ) → (m == n) ≡ true → m ≡ n
 eq_of m n h = grind arith

@@ -3,30 +3,30 @@ use Rattle.std.proofs.Common.{◌≡◌, ◌⊎◌, inl, inr, ◌==◌, ◌<◌,
 use Rattle.std.specs.List.{filter}
 use Rattle.std.proofs.lemmas.Bool.{eq-eqb}
 use Rattle.std.proofs.lemmas.List.Elements.{All-nil, All-cons, All-head, All-tail, All-same}
-use Rattle.cc_places.specs.declared.abs.Abs.{Abs}
-use Rattle.cc_places.specs.declared.abs.Abs.TheVariants as abs
-use Rattle.cc_places.specs.Abstract.{AreOfOneKind, IsBelowAbs}
-use Rattle.cc_places.specs.laws.ListLaws.{at_head, behind_head}
+use Rattle.cc_rules_asked.specs.CcPlaces.declared.abs.Abs.{Abs}
+use Rattle.cc_rules_asked.specs.CcPlaces.declared.abs.Abs.TheVariants as abs
+use Rattle.cc_rules_asked.specs.CcPlaces.Abstract.{AreOfOneKind, IsBelowAbs}
+use Rattle.cc_rules_asked.specs.CcPlaces.laws.ListLaws.{at_head, behind_head}
 use Rattle.cc_program.specs.declared.expr.Place.{out-Place}
-use Rattle.cc_rules.specs.Constraints.{Flow}
-use Rattle.cc_rules.specs.Rules.{ComesToEach}
+use Rattle.cc_rules_asked.specs.CcRules.Constraints.{Flow}
+use Rattle.cc_rules_asked.specs.CcRules.Rules.{ComesToEach}
 use Rattle.cc_rules_asked.specs.declared.asked.Asked.{Asked}
 use Rattle.cc_rules_asked.specs.Asked.{all_needs}
 use Rattle.cc_rules_asked.specs.Asks.{AsksHere}
-use Rattle.cc_rules_flows.specs.declared.after.Here.{Here}
-use Rattle.cc_rules_flows.specs.Acts.{Act}
-use Rattle.cc_rules_flows.specs.Flows.{tests_of, OfSets, OfReads, OfWrites, OfTurns, OfSaves, OfSavesAlone, OfRestores, OfTests, OfReturns, OfPasses, OfCalls}
-use Rattle.cc_rules_flows.specs.Here.{FlowsHere, DoesFlow, KeepsShapeHere}
-use Rattle.cc_rules_flows.specs.Joins.{flows_to}
-use Rattle.cc_rules_flows.specs.Known.{Tells, AreTold}
-use Rattle.cc_rules_needs.specs.Flowing.{Flowing, needs_at, of_fact, with_local, with_pair, with_cell, with_flags}
-use Rattle.cc_rules_needs.specs.Needs.{Needs}
+use Rattle.cc_rules_asked.specs.CcRulesFlows.declared.after.Here.{Here}
+use Rattle.cc_rules_asked.specs.CcRulesFlows.Acts.{Act}
+use Rattle.cc_rules_asked.specs.CcRulesFlows.Flows.{tests_of, OfSets, OfReads, OfWrites, OfTurns, OfSaves, OfSavesAlone, OfRestores, OfTests, OfReturns, OfPasses, OfCalls}
+use Rattle.cc_rules_asked.specs.CcRulesFlows.Here.{FlowsHere, DoesFlow, KeepsShapeHere}
+use Rattle.cc_rules_asked.specs.CcRulesFlows.Joins.{flows_to}
+use Rattle.cc_rules_asked.specs.CcRulesFlows.Known.{Tells, AreTold}
+use Rattle.cc_rules_asked.specs.CcRulesNeeds.Flowing.{Flowing, needs_at, of_fact, with_local, with_pair, with_cell, with_flags}
+use Rattle.cc_rules_asked.specs.CcRulesNeeds.Needs.{Needs}
 use Rattle.cc_rules_nexts.specs.Told.{point_told, ComesToHere, IsOnward}
 use Rattle.cc_rules_nexts.proofs.Copies.{Same, joined_same}
-use Rattle.cc_state_facts.specs.declared.facts.PointFact.{PointFact}
-use Rattle.cc_state_keys.specs.Tracked.{registers, tracked}
-use Rattle.cc_state_operators.specs.Domains.{Domain}
-use Rattle.cc_state_reads.specs.Reads.{tracked_in}
+use Rattle.cc_rules_asked.specs.CcStateFacts.declared.facts.PointFact.{PointFact}
+use Rattle.cc_rules_asked.specs.CcStateKeys.Tracked.{registers, tracked}
+use Rattle.cc_rules_asked.specs.CcStateOperators.Domains.{Domain}
+use Rattle.cc_rules_asked.specs.CcStateReads.Reads.{tracked_in}
 
 -- ---- one flow to many points
 

@@ -1,17 +1,17 @@
 -- What is asked of next points by what is told to flow there.
 use Rattle.std.specs.Prelude.{◌≡◌, ℕ, List, ◌++◌, length}
 use Rattle.std.specs.List.{Contains}
-use Rattle.cc_rules.specs.Rules.{ComesTo, ComesToEach}
+use Rattle.cc_rules_asked.specs.CcRules.Rules.{ComesTo, ComesToEach}
 use Rattle.cc_rules_asked.specs.declared.asked.Asked.{Asked}
 use Rattle.cc_rules_asked.specs.declared.asked.Asked.TheVariants as asked
 use Rattle.cc_rules_asked.specs.Asked.{all_needs}
-use Rattle.cc_rules_flows.specs.declared.after.Here.{Here}
-use Rattle.cc_rules_flows.specs.Here.{KeepsShapeHere}
-use Rattle.cc_rules_flows.specs.Joins.{flows_to}
-use Rattle.cc_rules_needs.specs.Flowing.{Flowing}
-use Rattle.cc_rules_needs.specs.Needs.{Needs}
-use Rattle.cc_state_facts.specs.declared.facts.PointFact.{PointFact}
-use Rattle.cc_state_operators.specs.Domains.{Domain}
+use Rattle.cc_rules_asked.specs.CcRulesFlows.declared.after.Here.{Here}
+use Rattle.cc_rules_asked.specs.CcRulesFlows.Here.{KeepsShapeHere}
+use Rattle.cc_rules_asked.specs.CcRulesFlows.Joins.{flows_to}
+use Rattle.cc_rules_asked.specs.CcRulesNeeds.Flowing.{Flowing}
+use Rattle.cc_rules_asked.specs.CcRulesNeeds.Needs.{Needs}
+use Rattle.cc_rules_asked.specs.CcStateFacts.declared.facts.PointFact.{PointFact}
+use Rattle.cc_rules_asked.specs.CcStateOperators.Domains.{Domain}
 
 -- of a point of a function with so many registers
 abbrev pub point_told : {I : Type 0} → ℕ → ℕ × PointFact I → Asked I

@@ -2,22 +2,22 @@
 
 ghost use Rattle.std.specs.Prelude.{◌≡◌, ◌<◌, ◌^◌, ℕ, List, All, length, IfOk, OnOk};
 ghost use Rattle.std.specs.List.{Contains};
-ghost use Rattle.cc_rules.specs.Constraints.{Flow as FlowRule};
+ghost use Rattle.cc_rules_asked.specs.CcRules.Constraints.{Flow as FlowRule};
 ghost use Rattle.cc_rules_asked.specs.Asks.{AsksHere};
-ghost use Rattle.cc_rules_flows.specs.Acts.{Act as ActOf};
-ghost use Rattle.cc_rules_flows.specs.Here.{IsHere, FlowsHere, KeepsShapeHere};
-ghost use Rattle.cc_rules_flows.specs.Joins.{AreAlikeAt};
-ghost use Rattle.cc_rules_flows.specs.Known.{AreTold};
-ghost use Rattle.cc_rules_needs.specs.Flowing.{Flowing};
+ghost use Rattle.cc_rules_asked.specs.CcRulesFlows.Acts.{Act as ActOf};
+ghost use Rattle.cc_rules_asked.specs.CcRulesFlows.Here.{IsHere, FlowsHere, KeepsShapeHere};
+ghost use Rattle.cc_rules_asked.specs.CcRulesFlows.Joins.{AreAlikeAt};
+ghost use Rattle.cc_rules_asked.specs.CcRulesFlows.Known.{AreTold};
+ghost use Rattle.cc_rules_asked.specs.CcRulesNeeds.Flowing.{Flowing};
 ghost use Rattle.cc_rules_nexts.specs.Told.{AskMore, ComeToEachHere, IsOnward};
-ghost use Rattle.cc_state_facts.specs.declared.facts.PointFact.{PointFact as PointFactOf};
-ghost use Rattle.cc_state_operators.specs.Domains.{domain};
+ghost use Rattle.cc_rules_asked.specs.CcStateFacts.declared.facts.PointFact.{PointFact as PointFactOf};
+ghost use Rattle.cc_rules_asked.specs.CcStateOperators.Domains.{domain};
 
-use cc_lattice::IntDomain;
-use cc_num::NoMemory;
+use cc_program::num::NoMemory;
 use cc_rules_asked::Asked;
-use cc_rules_flows::{Here, joined};
-use cc_state_facts::PointFact;
+use cc_rules_asked::lattice::IntDomain;
+use cc_rules_asked::rules_flows::{Here, joined};
+use cc_rules_asked::state_facts::PointFact;
 use std::alloc::Global;
 
 /// Asks of a point all that is told to flow there.

@@ -1,19 +1,19 @@
 //! What is asked of the next points where nothing is tested: to each of them the same flows.
 
 ghost use Rattle.std.specs.Prelude.{◌≡◌, map, All, IfOk, None};
-ghost use Rattle.cc_rules.specs.Constraints.{Flow as FlowRule};
+ghost use Rattle.cc_rules_asked.specs.CcRules.Constraints.{Flow as FlowRule};
 ghost use Rattle.cc_rules_asked.specs.Asks.{AsksHere};
-ghost use Rattle.cc_rules_flows.specs.Flows.{tests_of};
-ghost use Rattle.cc_rules_flows.specs.Here.{IsHere, MayDo};
-ghost use Rattle.cc_rules_flows.specs.View.{act_view};
+ghost use Rattle.cc_rules_asked.specs.CcRulesFlows.Flows.{tests_of};
+ghost use Rattle.cc_rules_asked.specs.CcRulesFlows.Here.{IsHere, MayDo};
+ghost use Rattle.cc_rules_asked.specs.CcRulesFlows.View.{act_view};
 ghost use Rattle.cc_rules_nexts.specs.Told.{point_told, IsOnward};
-ghost use Rattle.cc_state_operators.specs.Domains.{domain};
+ghost use Rattle.cc_rules_asked.specs.CcStateOperators.Domains.{domain};
 
-use cc_lattice::IntDomain;
-use cc_num::NoMemory;
+use cc_program::num::NoMemory;
 use cc_rules_asked::Asked;
-use cc_rules_flows::{Act, Here};
-use cc_state_facts::PointFact;
+use cc_rules_asked::lattice::IntDomain;
+use cc_rules_asked::rules_flows::{Act, Here};
+use cc_rules_asked::state_facts::PointFact;
 use std::alloc::Global;
 
 /// Asks of each point what is told to flow there.

@@ -3,10 +3,10 @@ use Rattle.std.proofs.Common.{arith, ◌≡◌, ◌<◌, ◌+◌, ◌*◌, ℕ, 
 use Rattle.std.specs.List.{flat_map}
 use Rattle.std.proofs.lemmas.List.{length-map}
 use Rattle.std.proofs.lemmas.Option.{slice_get-map}
-use Rattle.cc_flow.specs.Points.{count_of}
+use Rattle.cc_rules.specs.CcFlow.Points.{count_of}
 use Rattle.cc_program.specs.declared.program.Program.{Program}
 use Rattle.cc_rules.specs.Constraints.{Rule, Constraint, at_point, rules_at, constraints, Initial}
-use Rattle.cc_rules_needs.specs.Flowing.{numbers}
+use Rattle.cc_rules.specs.CcRulesNeeds.Flowing.{numbers}
 
 get_front : {A : Type 0} (xs ys : List A) (i : ℕ) → i < length xs → slice_get (xs ++ ys) i ≡ slice_get xs i
 get_front [] ys i l = absurd (omega (arith, l))

@@ -1,7 +1,7 @@
 //! The constraints of a program, by their numbers.
 
 ghost use Rattle.std.specs.Prelude.{◌≡◌, ◌<◌, ◌≤◌, length, slice_get, Some};
-ghost use Rattle.cc_flow.specs.Points.{count_of};
+ghost use Rattle.cc_rules.specs.CcFlow.Points.{count_of};
 ghost use Rattle.cc_program.specs.declared.program.Program.{Program};
 ghost use Rattle.cc_rules.specs.Constraints.{constraints, rules_at};
 ghost use Rattle.cc_rules_numbered.specs.Numbered.{rule_view, constraint_view};

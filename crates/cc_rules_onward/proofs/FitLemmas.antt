@@ -1,9 +1,9 @@
 -- A statement in normal form that tests fits what is asked of it.
 use Rattle.std.proofs.Common.{arith, ◌≡◌, ◌≤◌, ◌<◌, ◌^◌, ℕ, ◌+◌, List, length, Option, Some, None, slice_get, refl, ap, sym, subst, ◌∙◌}
-use Rattle.cc_flow.specs.Points.{size_of, total_of, count_of}
-use Rattle.cc_flow.specs.View.{total_of_cases}
-use Rattle.cc_flow_sound.proofs.Opened.{form_size, size_at}
-use Rattle.cc_flow_sound.specs.Statements.{statement_at}
+use Rattle.cc_state_points.specs.CcFlow.Points.{size_of, total_of, count_of}
+use Rattle.cc_state_points.specs.CcFlow.View.{total_of_cases}
+use Rattle.cc_state_points.proofs.CcFlowSound.Opened.{form_size, size_at}
+use Rattle.cc_state_points.specs.CcFlowSound.Statements.{statement_at}
 use Rattle.cc_program.specs.declared.expr.Expr.{Expr, out-Expr}
 use Rattle.cc_program.specs.declared.expr.Expr.TheOpen as one
 use Rattle.cc_program.specs.declared.expr.Intr.{Intr}
@@ -12,27 +12,27 @@ use Rattle.cc_program.specs.declared.expr.Place.{Place}
 use Rattle.cc_program.specs.declared.stmt.Case.{Case}
 use Rattle.cc_program.specs.declared.stmt.Stmt.{Stmt, out-Stmt}
 use Rattle.cc_program.specs.declared.stmt.Stmt.TheOpen as is
-use Rattle.cc_rules.specs.Rules.{act_at}
+use Rattle.cc_rules_asked.specs.CcRules.Rules.{act_at}
 use Rattle.cc_rules_choices.specs.Choices.{FitsIf, FitsSwitch}
 use Rattle.cc_rules_choices.specs.Sided.{MayTest}
-use Rattle.cc_rules_flows.specs.Acts.{loads, intrinsic, gets, assigns, does, acts}
-use Rattle.cc_rules_flows.specs.declared.after.Here.{Here}
-use Rattle.cc_rules_flows.specs.Here.{IsHere}
-use Rattle.cc_rules_flows.specs.Nexts.{IsPoint, statement_of}
+use Rattle.cc_state_points.specs.CcRulesFlows.Acts.{loads, intrinsic, gets, assigns, does, acts}
+use Rattle.cc_state_points.specs.CcRulesFlows.declared.after.Here.{Here}
+use Rattle.cc_state_points.specs.CcRulesFlows.Here.{IsHere}
+use Rattle.cc_state_points.specs.CcRulesFlows.Nexts.{IsPoint, statement_of}
 use Rattle.cc_rules_here.proofs.Room.{room}
-use Rattle.cc_rules_needs.specs.Points.{IsFactOf}
+use Rattle.cc_state_points.specs.CcRulesNeeds.Points.{IsFactOf}
 use Rattle.cc_rules_onward.proofs.Labels.{switch_labels}
 use Rattle.cc_rules_onward.specs.Fits.{FitTests}
-use Rattle.cc_state.proofs.Sets.{its_shape}
-use Rattle.cc_state.specs.Points.{IsPointOf}
-use Rattle.cc_state.specs.Shape.{HaveShape}
-use Rattle.cc_state_keys.specs.Tracked.{tracked}
-use Rattle.cc_state_operators.specs.Domains.{Domain}
+use Rattle.cc_state_points.proofs.CcState.Sets.{its_shape}
+use Rattle.cc_state_points.specs.CcState.Points.{IsPointOf}
+use Rattle.cc_state_points.specs.CcState.Shape.{HaveShape}
+use Rattle.cc_state_points.specs.CcStateKeys.Tracked.{tracked}
+use Rattle.cc_state_points.specs.CcStateOperators.Domains.{Domain}
 use Rattle.cc_state_points.proofs.Acting.{operands_at}
 use Rattle.cc_state_points.specs.Operands.{AreOperands}
 use Rattle.cc_state_shape.proofs.Alike.{fact_of}
-use Rattle.cc_syntax.specs.Effects.{place_effects_of}
-use Rattle.cc_syntax.specs.Normal.{IsNormal}
+use Rattle.cc_state_points.specs.CcSyntax.Effects.{place_effects_of}
+use Rattle.cc_state_points.specs.CcSyntax.Normal.{IsNormal}
 
 module _ {I : Type 0} (d : Domain I) (here : Here I) where
   -- ---- what tests nothing

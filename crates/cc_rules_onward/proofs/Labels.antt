@@ -3,28 +3,28 @@ use Rattle.std.proofs.Common.{◌≡◌, inl, inr, ℕ, ℤ, Bool, true, ◌&&�
 use Rattle.std.specs.List.{flat_map, list_all}
 use Rattle.std.proofs.lemmas.List.Elements.{Contains-append_cases}
 use Rattle.std.proofs.lemmas.List.Folds.{list_all-append}
-use Rattle.cc_flow_sound.specs.Statements.{statement_at}
-use Rattle.cc_lattice.proofs.IntValues.{value_is_int}
-use Rattle.cc_lattice.specs.Domains.{IsIntValue}
-use Rattle.cc_num.proofs.ResultLaws.{value_from_test}
-use Rattle.cc_num.specs.declared.int_type.IntType.{IntType}
-use Rattle.cc_num.specs.declared.target.Target.{Target}
-use Rattle.cc_places.specs.laws.ListLaws.{cons_cases, none_in}
+use Rattle.cc_state_points.specs.CcFlowSound.Statements.{statement_at}
+use Rattle.cc_state_points.proofs.CcLattice.IntValues.{value_is_int}
+use Rattle.cc_state_points.specs.CcLattice.Domains.{IsIntValue}
+use Rattle.cc_program.proofs.CcNum.ResultLaws.{value_from_test}
+use Rattle.cc_program.specs.CcNum.declared.int_type.IntType.{IntType}
+use Rattle.cc_program.specs.CcNum.declared.target.Target.{Target}
+use Rattle.cc_state_points.specs.CcPlaces.laws.ListLaws.{cons_cases, none_in}
 use Rattle.cc_program.specs.declared.expr.Expr.{Expr}
 use Rattle.cc_program.specs.declared.func.Func.{Func}
 use Rattle.cc_program.specs.declared.program.Program.{Program}
 use Rattle.cc_program.specs.declared.stmt.Case.{Case, out-Case, fold_out-Case}
 use Rattle.cc_program.specs.declared.stmt.Stmt.{Stmt, out-Stmt}
 use Rattle.cc_program.specs.declared.stmt.Stmt.TheOpen as is
-use Rattle.cc_rules_flows.specs.Nexts.{constants, all_constants}
+use Rattle.cc_state_points.specs.CcRulesFlows.Nexts.{constants, all_constants}
 use Rattle.cc_state_points.proofs.Sound.{its_sound, sound_level}
-use Rattle.cc_states.proofs.SoundLemmas.{labelled, parts}
-use Rattle.cc_syntax.proofs.Prefixes.{both_true}
-use Rattle.cc_syntax.specs.Normal.{IsNormal}
-use Rattle.cc_syntax.specs.Operators.{is_promoted}
-use Rattle.cc_syntax.specs.Programs.{sound_step, type_of}
-use Rattle.cc_syntax.specs.Statements.{SoundWhere, Labelled, are_apart, has_label, label_fits, labels_fit, sound_case}
-use Rattle.cc_syntax.specs.Values.{ValueType, Integer}
+use Rattle.cc_state_points.proofs.CcStates.SoundLemmas.{labelled, parts}
+use Rattle.cc_state_points.proofs.CcSyntax.Prefixes.{both_true}
+use Rattle.cc_state_points.specs.CcSyntax.Normal.{IsNormal}
+use Rattle.cc_state_points.specs.CcSyntax.Operators.{is_promoted}
+use Rattle.cc_state_points.specs.CcSyntax.Programs.{sound_step, type_of}
+use Rattle.cc_state_points.specs.CcSyntax.Statements.{SoundWhere, Labelled, are_apart, has_label, label_fits, labels_fit, sound_case}
+use Rattle.cc_state_points.specs.CcSyntax.Values.{ValueType, Integer}
 
 module _ (target : Target) (t : IntType) where
   fits_value : (n : ℤ) → label_fits target t (Some n) ≡ true → IsIntValue n

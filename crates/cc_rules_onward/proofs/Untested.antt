@@ -7,13 +7,13 @@ use Rattle.cc_program.specs.declared.expr.Expr.{Expr}
 use Rattle.cc_program.specs.declared.stmt.Case.{Case}
 use Rattle.cc_program.specs.declared.stmt.Stmt.{Stmt}
 use Rattle.cc_rules_choices.specs.Choices.{AreTestsWorkedHere}
-use Rattle.cc_rules_flows.specs.Acts.{Act}
-use Rattle.cc_rules_flows.specs.declared.acts.Act.{Act as CodeAct}
-use Rattle.cc_rules_flows.specs.declared.acts.Act.TheVariants as act
-use Rattle.cc_rules_flows.specs.declared.after.Here.{Here}
-use Rattle.cc_rules_flows.specs.Flows.{tests_of}
-use Rattle.cc_rules_flows.specs.View.{act_view}
-use Rattle.cc_state_operators.specs.Domains.{Domain}
+use Rattle.cc_state_points.specs.CcRulesFlows.Acts.{Act}
+use Rattle.cc_state_points.specs.CcRulesFlows.declared.acts.Act.{Act as CodeAct}
+use Rattle.cc_state_points.specs.CcRulesFlows.declared.acts.Act.TheVariants as act
+use Rattle.cc_state_points.specs.CcRulesFlows.declared.after.Here.{Here}
+use Rattle.cc_state_points.specs.CcRulesFlows.Flows.{tests_of}
+use Rattle.cc_state_points.specs.CcRulesFlows.View.{act_view}
+use Rattle.cc_state_points.specs.CcStateOperators.Domains.{Domain}
 
 pub tests_none : (a : CodeAct) (n : ℕ) (next : List ℕ) → ((e : Bor Expr) (these those : Bor (List Stmt)) → a ≡ act.Tests e these those → ⊥) → ((e : Bor Expr) (cases : Bor (List Case)) → a ≡ act.Chooses e cases → ⊥) →
     tests_of n next (act_view a) ≡ None

@@ -1,24 +1,24 @@
 //! What is asked of the next points by what flows there.
 
 ghost use Rattle.std.specs.Prelude.{All, IfOk};
-ghost use Rattle.cc_rules.specs.Constraints.{Flow as FlowRule};
+ghost use Rattle.cc_rules_asked.specs.CcRules.Constraints.{Flow as FlowRule};
 ghost use Rattle.cc_rules_asked.specs.Asks.{AsksHere};
 ghost use Rattle.cc_rules_choices.specs.Choices.{FitsIf, FitsSwitch, AreTestsWorkedHere};
 ghost use Rattle.cc_rules_choices.specs.Sided.{MayTest};
-ghost use Rattle.cc_rules_flows.specs.Acts.{Tests, Chooses};
-ghost use Rattle.cc_rules_flows.specs.Here.{IsHere, MayDo};
-ghost use Rattle.cc_rules_flows.specs.View.{act_view};
+ghost use Rattle.cc_state_points.specs.CcRulesFlows.Acts.{Tests, Chooses};
+ghost use Rattle.cc_state_points.specs.CcRulesFlows.Here.{IsHere, MayDo};
+ghost use Rattle.cc_state_points.specs.CcRulesFlows.View.{act_view};
 ghost use Rattle.cc_rules_nexts.specs.Told.{IsOnward};
 ghost use Rattle.cc_rules_onward.specs.Fits.{FitTests};
-ghost use Rattle.cc_state_operators.specs.Domains.{domain};
+ghost use Rattle.cc_state_points.specs.CcStateOperators.Domains.{domain};
 
-use cc_lattice::IntDomain;
-use cc_num::NoMemory;
+use cc_program::num::NoMemory;
 use cc_program::{Case, Expr, Stmt};
 use cc_rules_asked::Asked;
 use cc_rules_choices::{after_if, after_switch};
-use cc_rules_flows::{Act, Here};
 use cc_rules_nexts::{asked_by_flow, asked_of_told};
+use cc_state_points::lattice::IntDomain;
+use cc_state_points::rules_flows::{Act, Here};
 use std::alloc::Global;
 
 /// What is asked of the sides of an `if`.

@@ -1,15 +1,15 @@
 ghost use Rattle.std.specs.Prelude.{◌<◌, ◌^◌};
-ghost use Rattle.cc_flow.specs.Points.{count_of};
-ghost use Rattle.cc_rules.specs.Rules.{act_at};
-ghost use Rattle.cc_rules_flows.specs.declared.after.Here.{Here};
-ghost use Rattle.cc_rules_flows.specs.Here.{IsHere};
-ghost use Rattle.cc_rules_flows.specs.Nexts.{IsPoint, statement_of};
+ghost use Rattle.cc_state_points.specs.CcFlow.Points.{count_of};
+ghost use Rattle.cc_rules_asked.specs.CcRules.Rules.{act_at};
+ghost use Rattle.cc_state_points.specs.CcRulesFlows.declared.after.Here.{Here};
+ghost use Rattle.cc_state_points.specs.CcRulesFlows.Here.{IsHere};
+ghost use Rattle.cc_state_points.specs.CcRulesFlows.Nexts.{IsPoint, statement_of};
 ghost use Rattle.cc_rules_onward.specs.Fits.{FitTests};
-ghost use Rattle.cc_state.specs.Shape.{HaveShape};
-ghost use Rattle.cc_state_operators.specs.Domains.{domain};
-ghost use Rattle.cc_syntax.specs.Normal.{IsNormal};
+ghost use Rattle.cc_state_points.specs.CcState.Shape.{HaveShape};
+ghost use Rattle.cc_state_points.specs.CcStateOperators.Domains.{domain};
+ghost use Rattle.cc_state_points.specs.CcSyntax.Normal.{IsNormal};
 
-use cc_lattice::IntDomain;
+use cc_state_points::lattice::IntDomain;
 
 /// What normal form says of the statements that test, over facts of a program's shape. The call does nothing.
 pub fn laws<I: IntDomain>()

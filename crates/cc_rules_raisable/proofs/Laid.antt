@@ -5,22 +5,22 @@ use Rattle.std.specs.List.{AllZip, flat_map}
 use Rattle.std.proofs.lemmas.List.Elements.{All-contains, All-from_recursion}
 use Rattle.std.proofs.lemmas.List.Kept.{AllPairs-cons}
 use Rattle.std.proofs.lemmas.Option.{none-some, same_Some, slice_get_within}
-use Rattle.cc_places.specs.declared.abs.Abs.{Abs}
+use Rattle.cc_rules_asked.specs.CcPlaces.declared.abs.Abs.{Abs}
 use Rattle.cc_program.specs.declared.func.Func.{Func}
 use Rattle.cc_program.specs.declared.program.Program.{Program}
-use Rattle.cc_rules_flows.specs.Kept.{AreAsLong, KeepsShape}
+use Rattle.cc_rules_asked.specs.CcRulesFlows.Kept.{AreAsLong, KeepsShape}
 use Rattle.cc_rules_grow.proofs.Elements.{some_within}
 use Rattle.cc_rules_layout.specs.Raisable.{IsLaidOutFor}
-use Rattle.cc_rules_needs.specs.Points.{IsFactOf}
-use Rattle.cc_state.proofs.Lists.{no_member}
-use Rattle.cc_state.specs.Shape.{AreRows, IsBefore, IsPointFact}
-use Rattle.cc_state_facts.specs.declared.facts.PointFact.{PointFact}
-use Rattle.cc_state_facts.specs.declared.facts.Row.{Row}
-use Rattle.cc_state_facts.specs.Facts.{row_length, cell_of}
-use Rattle.cc_state_facts.specs.laws.Places.{zip_back}
-use Rattle.cc_state_facts.specs.Orders.{Ascend}
-use Rattle.cc_state_keys.specs.Tracked.{registers, tracked}
-use Rattle.cc_state_operators.specs.Domains.{Domain}
+use Rattle.cc_rules_asked.specs.CcRulesNeeds.Points.{IsFactOf}
+use Rattle.cc_rules_grow.proofs.CcState.Lists.{no_member}
+use Rattle.cc_rules_grow.specs.CcState.Shape.{AreRows, IsBefore, IsPointFact}
+use Rattle.cc_rules_asked.specs.CcStateFacts.declared.facts.PointFact.{PointFact}
+use Rattle.cc_rules_asked.specs.CcStateFacts.declared.facts.Row.{Row}
+use Rattle.cc_rules_asked.specs.CcStateFacts.Facts.{row_length, cell_of}
+use Rattle.cc_rules_asked.specs.CcStateFacts.laws.Places.{zip_back}
+use Rattle.cc_rules_asked.specs.CcStateFacts.Orders.{Ascend}
+use Rattle.cc_rules_asked.specs.CcStateKeys.Tracked.{registers, tracked}
+use Rattle.cc_rules_asked.specs.CcStateOperators.Domains.{Domain}
 use Rattle.cc_state_shape.proofs.Alike.{ascends, fact_of}
 
 then_there : {A B : Type 0} (f : A → Option B) (a : Option A) (w : B) → option_and_then f a ≡ Some w → (x : A) × (a ≡ Some x) × (f x ≡ Some w)

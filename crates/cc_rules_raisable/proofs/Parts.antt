@@ -3,27 +3,27 @@ use Rattle.std.proofs.Common.{◌≡◌, ℕ, Bool, true, false, cond, List, [],
 use Rattle.std.specs.List.{filter}
 use Rattle.std.proofs.lemmas.List.Elements.{All-nil, All-cons}
 use Rattle.cc_program.specs.declared.program.Program.{Program}
-use Rattle.cc_rules.specs.Constraints.{Write, Touch, Return, Stability}
-use Rattle.cc_rules.specs.Rules.{OfWrite, OfNone, ByRead, ByWrite, ByNone, OfReturn, OfNoValue, is_unstable, unstable_cell}
+use Rattle.cc_rules_asked.specs.CcRules.Constraints.{Write, Touch, Return, Stability}
+use Rattle.cc_rules_asked.specs.CcRules.Rules.{OfWrite, OfNone, ByRead, ByWrite, ByNone, OfReturn, OfNoValue, is_unstable, unstable_cell}
 use Rattle.cc_rules_asked.specs.declared.asked.Asked.{Asked}
 use Rattle.cc_rules_asked.specs.declared.asked.Asked.TheVariants as asked
 use Rattle.cc_rules_asked.specs.Asked.{needs_of, all_needs}
 use Rattle.cc_rules_asked.specs.Asks.{AsksHere}
-use Rattle.cc_rules_flows.specs.declared.after.Here.{Here}
-use Rattle.cc_rules_flows.specs.Acts.{Act}
-use Rattle.cc_rules_flows.specs.Here.{IsHere}
+use Rattle.cc_rules_asked.specs.CcRulesFlows.declared.after.Here.{Here}
+use Rattle.cc_rules_asked.specs.CcRulesFlows.Acts.{Act}
+use Rattle.cc_rules_asked.specs.CcRulesFlows.Here.{IsHere}
 use Rattle.cc_rules_grow.proofs.Elements.{Each, each_all, each_append, each_map, each_split}
 use Rattle.cc_rules_layout.specs.Raisable.{IsReached, IsRaisableSlot, IsRaisable, AreRaisable}
-use Rattle.cc_rules_needs.specs.declared.needs.Part.{Part}
-use Rattle.cc_rules_needs.specs.declared.needs.Part.TheVariants.{Mark, LevelSet, Values}
-use Rattle.cc_rules_needs.specs.declared.needs.Slot.{Slot}
-use Rattle.cc_rules_needs.specs.declared.needs.Slot.TheVariants.{Whole, HandlerReads, HandlerWrites, ReadLevels, WriteLevels, Apart}
-use Rattle.cc_rules_needs.specs.Flowing.{numbers, each_pair}
-use Rattle.cc_rules_needs.specs.Needs.{Needs}
-use Rattle.cc_state_facts.specs.declared.facts.Facts.{Facts}
-use Rattle.cc_state_facts.specs.Facts.{mark_of, levels_of}
-use Rattle.cc_state_keys.specs.Tracked.{registers, tracked}
-use Rattle.cc_state_operators.specs.Domains.{Domain}
+use Rattle.cc_rules_asked.specs.CcRulesNeeds.declared.needs.Part.{Part}
+use Rattle.cc_rules_asked.specs.CcRulesNeeds.declared.needs.Part.TheVariants.{Mark, LevelSet, Values}
+use Rattle.cc_rules_asked.specs.CcRulesNeeds.declared.needs.Slot.{Slot}
+use Rattle.cc_rules_asked.specs.CcRulesNeeds.declared.needs.Slot.TheVariants.{Whole, HandlerReads, HandlerWrites, ReadLevels, WriteLevels, Apart}
+use Rattle.cc_rules_asked.specs.CcRulesNeeds.Flowing.{numbers, each_pair}
+use Rattle.cc_rules_asked.specs.CcRulesNeeds.Needs.{Needs}
+use Rattle.cc_rules_asked.specs.CcStateFacts.declared.facts.Facts.{Facts}
+use Rattle.cc_rules_asked.specs.CcStateFacts.Facts.{mark_of, levels_of}
+use Rattle.cc_rules_asked.specs.CcStateKeys.Tracked.{registers, tracked}
+use Rattle.cc_rules_asked.specs.CcStateOperators.Domains.{Domain}
 
 module _ {I : Type 0} (d : Domain I) (p : Program) (facts : Facts I) where
   abbrev pub IsRaisableNeed : Slot × Part I → Type 0

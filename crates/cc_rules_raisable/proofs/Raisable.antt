@@ -3,12 +3,12 @@ use Rattle.std.proofs.Common.{arith, ◌≡◌, ◌≤◌, ℕ, suc, Bool, true,
 use Rattle.std.specs.List.{AllZip, filter, flat_map}
 use Rattle.std.specs.Option.{option_to_list}
 use Rattle.std.proofs.lemmas.List.Elements.{All-weaker}
-use Rattle.cc_flow.specs.declared.types.Point.{Point}
-use Rattle.cc_flow_sound.specs.Moves.{entry}
-use Rattle.cc_places.specs.declared.abs.Abs.{Abs}
+use Rattle.cc_rules_asked.specs.CcFlow.declared.types.Point.{Point}
+use Rattle.cc_rules_asked.specs.CcFlowSound.Moves.{entry}
+use Rattle.cc_rules_asked.specs.CcPlaces.declared.abs.Abs.{Abs}
 use Rattle.cc_program.specs.declared.func.Func.{Func}
 use Rattle.cc_program.specs.declared.program.Program.{Program}
-use Rattle.cc_rules.specs.Rules.{handlers}
+use Rattle.cc_rules_asked.specs.CcRules.Rules.{handlers}
 use Rattle.cc_rules_asked.specs.declared.asked.Asked.{Asked}
 use Rattle.cc_rules_asked.specs.declared.asked.Asked.TheVariants as asked
 use Rattle.cc_rules_asked.specs.declared.handlers.Handler.{Handler}
@@ -17,11 +17,11 @@ use Rattle.cc_rules_calls.specs.Backs.{with_given, IsBehind}
 use Rattle.cc_rules_calls.specs.Called.{sets_of}
 use Rattle.cc_rules_calls.specs.Here.{part_whole, parts_whole, fact_with, asked_of_one, AreEntries}
 use Rattle.cc_rules_calls.specs.Here as calls
-use Rattle.cc_rules_flows.proofs.ShapeLemmas.{set_long}
-use Rattle.cc_rules_flows.specs.declared.after.Here.{Here}
-use Rattle.cc_rules_flows.specs.Here.{IsHere}
-use Rattle.cc_rules_flows.specs.Kept.{KeepsShape}
-use Rattle.cc_rules_flows.specs.Nexts.{IsPoint, exit_of}
+use Rattle.cc_rules_asked.proofs.CcRulesFlows.ShapeLemmas.{set_long}
+use Rattle.cc_rules_asked.specs.CcRulesFlows.declared.after.Here.{Here}
+use Rattle.cc_rules_asked.specs.CcRulesFlows.Here.{IsHere}
+use Rattle.cc_rules_asked.specs.CcRulesFlows.Kept.{KeepsShape}
+use Rattle.cc_rules_asked.specs.CcRulesFlows.Nexts.{IsPoint, exit_of}
 use Rattle.cc_rules_functions.specs.declared.functions.Function.{Function}
 use Rattle.cc_rules_functions.specs.Functions.{AreFunctionsOf}
 use Rattle.cc_rules_grow.proofs.Elements.{Each, all_each, each_append}
@@ -30,14 +30,14 @@ use Rattle.cc_rules_nexts.specs.Told.{IsOnward}
 use Rattle.cc_rules_raisable.proofs.Laid.{laid_as, laid_alike}
 use Rattle.cc_rules_shaped.proofs.Points.{next_there, exit_there}
 use Rattle.cc_rules_shaped.proofs.Rules.{entry_there}
-use Rattle.cc_state.proofs.Sets.{its_shape}
-use Rattle.cc_state.specs.Shape.{IsPointFact, HaveShape}
-use Rattle.cc_state_facts.specs.declared.facts.Key.TheVariants as key
-use Rattle.cc_state_facts.specs.declared.facts.PointFact.{PointFact}
-use Rattle.cc_state_facts.specs.Facts.{fact_at}
-use Rattle.cc_state_keys.specs.Keys.{key_number}
-use Rattle.cc_state_keys.specs.Tracked.{registers, tracked}
-use Rattle.cc_state_operators.specs.Domains.{Domain}
+use Rattle.cc_rules_grow.proofs.CcState.Sets.{its_shape}
+use Rattle.cc_rules_grow.specs.CcState.Shape.{IsPointFact, HaveShape}
+use Rattle.cc_rules_asked.specs.CcStateFacts.declared.facts.Key.TheVariants as key
+use Rattle.cc_rules_asked.specs.CcStateFacts.declared.facts.PointFact.{PointFact}
+use Rattle.cc_rules_asked.specs.CcStateFacts.Facts.{fact_at}
+use Rattle.cc_rules_asked.specs.CcStateKeys.Keys.{key_number}
+use Rattle.cc_rules_asked.specs.CcStateKeys.Tracked.{registers, tracked}
+use Rattle.cc_rules_asked.specs.CcStateOperators.Domains.{Domain}
 
 -- ---- as many sets as there are registers, or fewer
 

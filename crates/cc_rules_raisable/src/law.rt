@@ -1,23 +1,23 @@
 ghost use Rattle.std.specs.Prelude.{◌≡◌, List, All, if◌then◌else◌, []};
-ghost use Rattle.cc_rules.specs.Constraints.{Write, Touch, Return, Stability};
+ghost use Rattle.cc_rules_asked.specs.CcRules.Constraints.{Write, Touch, Return, Stability};
 ghost use Rattle.cc_rules_asked.specs.declared.asked.Asked.{Asked};
 ghost use Rattle.cc_rules_asked.specs.declared.handlers.Handler.{Handler};
 ghost use Rattle.cc_rules_asked.specs.Asks.{AsksHere};
 ghost use Rattle.cc_rules_asked.specs.Handlers.{AreHandlersOf, asked_of_all};
 ghost use Rattle.cc_rules_calls.specs.Backs.{IsBehind};
 ghost use Rattle.cc_rules_calls.specs.Here.{AreEntries};
-ghost use Rattle.cc_rules_flows.specs.declared.after.Here.{Here as HereOf};
-ghost use Rattle.cc_rules_flows.specs.Acts.{Act as ActOf};
-ghost use Rattle.cc_rules_flows.specs.Here.{IsHere};
-ghost use Rattle.cc_rules_flows.specs.Nexts.{IsPoint};
+ghost use Rattle.cc_rules_asked.specs.CcRulesFlows.declared.after.Here.{Here as HereOf};
+ghost use Rattle.cc_rules_asked.specs.CcRulesFlows.Acts.{Act as ActOf};
+ghost use Rattle.cc_rules_asked.specs.CcRulesFlows.Here.{IsHere};
+ghost use Rattle.cc_rules_asked.specs.CcRulesFlows.Nexts.{IsPoint};
 ghost use Rattle.cc_rules_functions.specs.declared.functions.Function.{Function};
 ghost use Rattle.cc_rules_functions.specs.Functions.{AreFunctionsOf};
 ghost use Rattle.cc_rules_layout.specs.Raisable.{AreRaisable};
 ghost use Rattle.cc_rules_nexts.specs.Told.{IsOnward};
-ghost use Rattle.cc_state.specs.Shape.{HaveShape};
-ghost use Rattle.cc_state_operators.specs.Domains.{domain};
+ghost use Rattle.cc_rules_grow.specs.CcState.Shape.{HaveShape};
+ghost use Rattle.cc_rules_asked.specs.CcStateOperators.Domains.{domain};
 
-use cc_lattice::IntDomain;
+use cc_rules_asked::lattice::IntDomain;
 
 /// What is asked at a point that is reached can be raised, where facts are of the program's shape. The call does nothing.
 pub fn laws<I: IntDomain>()

@@ -5,31 +5,31 @@ use Rattle.std.specs.Prelude.{option_and_then, is_some}
 use Rattle.std.specs.List.{filter, flat_map, list_any}
 use Rattle.std.proofs.lemmas.List.Kept.{AllPairs-filter}
 use Rattle.std.proofs.lemmas.Option.{none-some, same_Some, slice_get_within}
-use Rattle.cc_flow.specs.declared.types.Point.{Point}
-use Rattle.cc_places.specs.declared.abs.Abs.{Abs}
+use Rattle.cc_rules_asked.specs.CcFlow.declared.types.Point.{Point}
+use Rattle.cc_rules_asked.specs.CcPlaces.declared.abs.Abs.{Abs}
 use Rattle.cc_program.specs.declared.func.Func.{Func}
 use Rattle.cc_program.specs.declared.program.Program.{Program}
-use Rattle.cc_rules_flows.specs.Nexts.{IsPoint}
-use Rattle.cc_rules_needs.proofs.AtPoint.{point_has, has_below}
-use Rattle.cc_rules_needs.proofs.Others.{set_at, set_there}
-use Rattle.cc_rules_needs.specs.Flowing.{of_fact}
-use Rattle.cc_rules_needs.specs.declared.needs.Part.{Part}
-use Rattle.cc_rules_needs.specs.declared.needs.Part.TheVariants.{Mark, Flags, Values}
-use Rattle.cc_rules_needs.specs.declared.needs.Slot.TheVariants.{Flag, LocalAt, CellAt, Apart}
-use Rattle.cc_rules_needs.specs.Needs.{flags_in, apart_in, get, IsBelowPart, Has, IsBelow}
-use Rattle.cc_rules_needs.specs.Points.{HasFlow}
+use Rattle.cc_rules_asked.specs.CcRulesFlows.Nexts.{IsPoint}
+use Rattle.cc_rules_asked.proofs.CcRulesNeeds.AtPoint.{point_has, has_below}
+use Rattle.cc_rules_asked.proofs.CcRulesNeeds.Others.{set_at, set_there}
+use Rattle.cc_rules_asked.specs.CcRulesNeeds.Flowing.{of_fact}
+use Rattle.cc_rules_asked.specs.CcRulesNeeds.declared.needs.Part.{Part}
+use Rattle.cc_rules_asked.specs.CcRulesNeeds.declared.needs.Part.TheVariants.{Mark, Flags, Values}
+use Rattle.cc_rules_asked.specs.CcRulesNeeds.declared.needs.Slot.TheVariants.{Flag, LocalAt, CellAt, Apart}
+use Rattle.cc_rules_asked.specs.CcRulesNeeds.Needs.{flags_in, apart_in, get, IsBelowPart, Has, IsBelow}
+use Rattle.cc_rules_asked.specs.CcRulesNeeds.Points.{HasFlow}
 use Rattle.cc_rules_raised.proofs.NeedsAt.{AreParts, all_of, parts_of}
 use Rattle.cc_rules_raised.specs.Completed.{row_with, rows_with, fact_with_cell, is_other_pair, fact_apart}
-use Rattle.cc_state.proofs.Lists.{from_filter}
-use Rattle.cc_state.specs.Shape.{IsSetIn, AreRows, IsBefore, IsTrackedType, IsPointFact, HaveShape}
-use Rattle.cc_state_facts.specs.declared.facts.Facts.{Facts}
-use Rattle.cc_state_facts.specs.declared.facts.PointFact.{PointFact}
-use Rattle.cc_state_facts.specs.declared.facts.Row.{Row}
-use Rattle.cc_state_facts.specs.Facts.{row_length, fact_at, cell_of, local_of, has_pair}
-use Rattle.cc_state_keys.specs.Tracked.{registers, tracked}
-use Rattle.cc_state_operators.specs.Domains.{Domain}
+use Rattle.cc_rules_grow.proofs.CcState.Lists.{from_filter}
+use Rattle.cc_rules_grow.specs.CcState.Shape.{IsSetIn, AreRows, IsBefore, IsTrackedType, IsPointFact, HaveShape}
+use Rattle.cc_rules_asked.specs.CcStateFacts.declared.facts.Facts.{Facts}
+use Rattle.cc_rules_asked.specs.CcStateFacts.declared.facts.PointFact.{PointFact}
+use Rattle.cc_rules_asked.specs.CcStateFacts.declared.facts.Row.{Row}
+use Rattle.cc_rules_asked.specs.CcStateFacts.Facts.{row_length, fact_at, cell_of, local_of, has_pair}
+use Rattle.cc_rules_asked.specs.CcStateKeys.Tracked.{registers, tracked}
+use Rattle.cc_rules_asked.specs.CcStateOperators.Domains.{Domain}
 use Rattle.cc_state_shape.proofs.Alike.{points_alike, fact_of}
-use Rattle.cc_syntax.specs.Values.{ValueType}
+use Rattle.cc_rules_asked.specs.CcSyntax.Values.{ValueType}
 
 -- ---- rows, one of which has another set
 

@@ -4,20 +4,20 @@ use Rattle.std.proofs.Common.{arith, ◌≡◌, ℕ, ℤ, zero, suc, ◌+◌, �
 use Rattle.std.specs.Prelude.{option_and_then}
 use Rattle.std.specs.List.{AllZip}
 use Rattle.std.proofs.lemmas.Option.{none-some, same_Some, slice_get_within}
-use Rattle.cc_flow.specs.declared.types.Point.{Point}
-use Rattle.cc_places.specs.declared.abs.Abs.{Abs}
-use Rattle.cc_places.specs.Abstract.{IsBelowAbs}
+use Rattle.cc_rules_asked.specs.CcFlow.declared.types.Point.{Point}
+use Rattle.cc_rules_asked.specs.CcPlaces.declared.abs.Abs.{Abs}
+use Rattle.cc_rules_asked.specs.CcPlaces.Abstract.{IsBelowAbs}
 use Rattle.cc_program.specs.declared.func.Func.{Func}
 use Rattle.cc_program.specs.declared.program.Program.{Program}
-use Rattle.cc_rules_flows.specs.Nexts.{IsPoint}
-use Rattle.cc_rules_needs.proofs.AtPoint.{not_reached}
-use Rattle.cc_rules_needs.specs.Flowing.{of_fact, needs_at}
-use Rattle.cc_rules_needs.specs.declared.needs.Part.{Part}
-use Rattle.cc_rules_needs.specs.declared.needs.Part.TheVariants.{Values}
-use Rattle.cc_rules_needs.specs.declared.needs.Slot.{Slot}
-use Rattle.cc_rules_needs.specs.declared.needs.Slot.TheVariants.{LocalAt}
-use Rattle.cc_rules_needs.specs.Needs.{AreValuesBelow, Has, HasAll}
-use Rattle.cc_rules_needs.specs.Points.{HasFlow}
+use Rattle.cc_rules_asked.specs.CcRulesFlows.Nexts.{IsPoint}
+use Rattle.cc_rules_asked.proofs.CcRulesNeeds.AtPoint.{not_reached}
+use Rattle.cc_rules_asked.specs.CcRulesNeeds.Flowing.{of_fact, needs_at}
+use Rattle.cc_rules_asked.specs.CcRulesNeeds.declared.needs.Part.{Part}
+use Rattle.cc_rules_asked.specs.CcRulesNeeds.declared.needs.Part.TheVariants.{Values}
+use Rattle.cc_rules_asked.specs.CcRulesNeeds.declared.needs.Slot.{Slot}
+use Rattle.cc_rules_asked.specs.CcRulesNeeds.declared.needs.Slot.TheVariants.{LocalAt}
+use Rattle.cc_rules_asked.specs.CcRulesNeeds.Needs.{AreValuesBelow, Has, HasAll}
+use Rattle.cc_rules_asked.specs.CcRulesNeeds.Points.{HasFlow}
 use Rattle.cc_rules_raised.proofs.Change.{has_flow, flow_parts, known_shaped}
 use Rattle.cc_rules_raised.proofs.NeedsAt.{AreParts, all_of, parts_of}
 use Rattle.cc_rules_raised.proofs.Stepping.{IsOrdered, Serves}
@@ -25,17 +25,17 @@ use Rattle.cc_rules_raised.specs.Completed.{AreKinds, IsCompleted}
 use Rattle.cc_rules_layout.specs.Raisable.{IsLaidOutFor}
 use Rattle.cc_rules_shaped.proofs.Fit.{register_typed}
 use Rattle.cc_rules_shaped.specs.Shaped.{AreSomeIn, IsPointIn, Fits}
-use Rattle.cc_state.specs.Shape.{IsSetIn, IsRegisterType, IsPointFact, HaveShape}
-use Rattle.cc_state_facts.specs.declared.facts.Facts.{Facts}
-use Rattle.cc_state_facts.specs.declared.facts.PointFact.{PointFact}
-use Rattle.cc_state_facts.specs.Facts.{fact_at, cell_of, local_of}
-use Rattle.cc_state_keys.specs.Tracked.{registers, tracked}
-use Rattle.cc_state_operators.specs.Domains.{Domain}
-use Rattle.cc_state_reads.specs.Reads.{is_pointer}
+use Rattle.cc_rules_grow.specs.CcState.Shape.{IsSetIn, IsRegisterType, IsPointFact, HaveShape}
+use Rattle.cc_rules_asked.specs.CcStateFacts.declared.facts.Facts.{Facts}
+use Rattle.cc_rules_asked.specs.CcStateFacts.declared.facts.PointFact.{PointFact}
+use Rattle.cc_rules_asked.specs.CcStateFacts.Facts.{fact_at, cell_of, local_of}
+use Rattle.cc_rules_asked.specs.CcStateKeys.Tracked.{registers, tracked}
+use Rattle.cc_rules_asked.specs.CcStateOperators.Domains.{Domain}
+use Rattle.cc_rules_asked.specs.CcStateReads.Reads.{is_pointer}
 use Rattle.cc_state_shape.proofs.Alike.{same_kind}
 use Rattle.cc_state_shape.proofs.Lowering.{none_in, none_below}
 use Rattle.cc_state_shape.specs.Empty.{IsNone}
-use Rattle.cc_syntax.specs.Values.{ValueType}
+use Rattle.cc_rules_asked.specs.CcSyntax.Values.{ValueType}
 
 module _ {I : Type 0} (d : Domain I) (by_members : (x y : I) → ((n : ℤ) → d.has x n → d.has y n) → d.below x y) (p : Program) where
   one_function : (n id : ℕ) (f : Func) (point : Point) (g : Func) → IsPoint p n id f point → IsPointIn d p n g → g ≡ f

@@ -7,23 +7,23 @@ use Rattle.cc_rules_asked.specs.declared.asked.Asked.{Asked}
 use Rattle.cc_rules_asked.specs.declared.asked.Asked.TheVariants as asked
 use Rattle.cc_rules_asked.specs.Asked.{needs_of, all_needs}
 use Rattle.cc_rules_grow.proofs.Elements.{Each, each_all, all_each}
-use Rattle.cc_rules_needs.specs.Flowing.{of_fact, needs_at}
-use Rattle.cc_rules_needs.specs.declared.needs.Part.{Part}
-use Rattle.cc_rules_needs.specs.declared.needs.Slot.{Slot}
-use Rattle.cc_rules_needs.specs.declared.needs.Slot.TheVariants.{Whole, HandlerReads, HandlerWrites, ReadLevels, WriteLevels, Result, ByMain, ByHandler, Levels, From, Flag, LocalAt, CellAt, Apart}
-use Rattle.cc_rules_needs.specs.Needs.{Needs, Has, HasAll, IsBelow}
-use Rattle.cc_rules_needs.specs.Points.{IsWellFormed}
+use Rattle.cc_rules_asked.specs.CcRulesNeeds.Flowing.{of_fact, needs_at}
+use Rattle.cc_rules_asked.specs.CcRulesNeeds.declared.needs.Part.{Part}
+use Rattle.cc_rules_asked.specs.CcRulesNeeds.declared.needs.Slot.{Slot}
+use Rattle.cc_rules_asked.specs.CcRulesNeeds.declared.needs.Slot.TheVariants.{Whole, HandlerReads, HandlerWrites, ReadLevels, WriteLevels, Result, ByMain, ByHandler, Levels, From, Flag, LocalAt, CellAt, Apart}
+use Rattle.cc_rules_asked.specs.CcRulesNeeds.Needs.{Needs, Has, HasAll, IsBelow}
+use Rattle.cc_rules_asked.specs.CcRulesNeeds.Points.{IsWellFormed}
 use Rattle.cc_rules_raised.proofs.Change.{reached_later}
 use Rattle.cc_rules_layout.specs.Raisable.{IsReached, IsRaisableSlot, IsRaisable}
 use Rattle.cc_rules_raised.specs.Steps.{IsFitFor}
 use Rattle.cc_rules_shaped.proofs.Fit.{fit_more}
 use Rattle.cc_rules_shaped.specs.Shaped.{Fits, AreFitBehind, AreFit}
-use Rattle.cc_state.specs.Shape.{HaveShape}
-use Rattle.cc_state_facts.specs.declared.facts.Facts.{Facts}
-use Rattle.cc_state_facts.specs.declared.facts.PointFact.{PointFact}
-use Rattle.cc_state_facts.specs.Facts.{fact_at}
-use Rattle.cc_state_keys.specs.Tracked.{tracked}
-use Rattle.cc_state_operators.specs.Domains.{Domain}
+use Rattle.cc_rules_grow.specs.CcState.Shape.{HaveShape}
+use Rattle.cc_rules_asked.specs.CcStateFacts.declared.facts.Facts.{Facts}
+use Rattle.cc_rules_asked.specs.CcStateFacts.declared.facts.PointFact.{PointFact}
+use Rattle.cc_rules_asked.specs.CcStateFacts.Facts.{fact_at}
+use Rattle.cc_rules_asked.specs.CcStateKeys.Tracked.{tracked}
+use Rattle.cc_rules_asked.specs.CcStateOperators.Domains.{Domain}
 use Rattle.cc_state_shape.proofs.Alike.{well_formed}
 
 -- ---- lists by their beginnings

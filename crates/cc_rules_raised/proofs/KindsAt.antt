@@ -3,28 +3,28 @@ use Rattle.std.proofs.Common.{◌≡◌, ◌<◌, ◌+◌, ◌^◌, ℕ, zero, s
 use Rattle.std.proofs.lemmas.List.{length-map, map_more}
 use Rattle.std.proofs.lemmas.Option.{none-some, same_Some, slice_get_within, get_or_from_slice_get}
 use Rattle.std.specs.Prelude.{option_and_then}
-use Rattle.cc_flow.specs.declared.types.Flow.{Flow}
-use Rattle.cc_flow.specs.declared.types.Point.{Point}
-use Rattle.cc_flow.specs.Points.{flow_of}
-use Rattle.cc_places.specs.declared.abs.Abs.{Abs}
-use Rattle.cc_places.specs.declared.abs.Abs.TheVariants as abs
+use Rattle.cc_rules_asked.specs.CcFlow.declared.types.Flow.{Flow}
+use Rattle.cc_rules_asked.specs.CcFlow.declared.types.Point.{Point}
+use Rattle.cc_rules_asked.specs.CcFlow.Points.{flow_of}
+use Rattle.cc_rules_asked.specs.CcPlaces.declared.abs.Abs.{Abs}
+use Rattle.cc_rules_asked.specs.CcPlaces.declared.abs.Abs.TheVariants as abs
 use Rattle.cc_program.specs.declared.func.Func.{Func}
 use Rattle.cc_program.specs.declared.program.Program.{Program}
-use Rattle.cc_rules_flows.specs.Nexts.{IsPoint}
+use Rattle.cc_rules_asked.specs.CcRulesFlows.Nexts.{IsPoint}
 use Rattle.cc_rules_raised.specs.Completed.{AreKinds}
 use Rattle.cc_rules_raised.specs.OfAddresses.{is_set_of_addresses, local_addresses}
-use Rattle.cc_state.specs.Shape.{declared_type, IsSetIn, IsPointFact}
-use Rattle.cc_state_facts.specs.declared.facts.PointFact.{PointFact}
-use Rattle.cc_state_keys.proofs.Typed.{few-locals}
-use Rattle.cc_state_keys.specs.Tracked.{registers}
-use Rattle.cc_state_operators.specs.Domains.{Domain}
-use Rattle.cc_state_reads.specs.Reads.{is_pointer}
+use Rattle.cc_rules_grow.specs.CcState.Shape.{declared_type, IsSetIn, IsPointFact}
+use Rattle.cc_rules_asked.specs.CcStateFacts.declared.facts.PointFact.{PointFact}
+use Rattle.cc_rules_asked.proofs.CcStateKeys.Typed.{few-locals}
+use Rattle.cc_rules_asked.specs.CcStateKeys.Tracked.{registers}
+use Rattle.cc_rules_asked.specs.CcStateOperators.Domains.{Domain}
+use Rattle.cc_rules_asked.specs.CcStateReads.Reads.{is_pointer}
 use Rattle.cc_state_shape.proofs.Alike.{one_register_type}
 use Rattle.cc_state_shape.proofs.KeyKinds.{scalar_addresses}
 use Rattle.cc_state_shape.specs.Lowest.{declared_addresses}
-use Rattle.cc_syntax.proofs.NameRules.{sound-typed}
-use Rattle.cc_syntax.specs.Normal.{IsNormal}
-use Rattle.cc_syntax.specs.Values.{ValueType, NoValue, Integer, ToObject, ToFunction}
+use Rattle.cc_rules_asked.proofs.CcSyntax.NameRules.{sound-typed}
+use Rattle.cc_rules_asked.specs.CcSyntax.Normal.{IsNormal}
+use Rattle.cc_rules_asked.specs.CcSyntax.Values.{ValueType, NoValue, Integer, ToObject, ToFunction}
 
 map_at : {A B : Type 0} (f : A → B) (xs : List A) (i : ℕ) (x : A) → slice_get xs i ≡ Some x → slice_get (map f xs) i ≡ Some (f x)
 map_at f [] i x e = absurd (none-some x e)

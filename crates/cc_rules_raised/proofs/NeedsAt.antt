@@ -3,12 +3,12 @@ use Rattle.std.proofs.Common.{arith, ◌≡◌, ◌⊎◌, inl, inr, ℕ, zero, 
 use Rattle.std.specs.Prelude.{if◌then◌else◌}
 use Rattle.std.specs.List.{Contains, flat_map}
 use Rattle.cc_rules_grow.proofs.Elements.{Each, each_all, all_each, each_append, each_split, each_map}
-use Rattle.cc_rules_needs.specs.Flowing.{Flowing, numbers, each_pair, need_apart, need_local, need_cell, needs_at}
-use Rattle.cc_rules_needs.specs.declared.needs.Part.{Part}
-use Rattle.cc_rules_needs.specs.declared.needs.Part.TheVariants.{Mark, Flags}
-use Rattle.cc_rules_needs.specs.declared.needs.Slot.{Slot}
-use Rattle.cc_rules_needs.specs.declared.needs.Slot.TheVariants.{Flag, Apart}
-use Rattle.cc_rules_needs.specs.Needs.{Needs}
+use Rattle.cc_rules_asked.specs.CcRulesNeeds.Flowing.{Flowing, numbers, each_pair, need_apart, need_local, need_cell, needs_at}
+use Rattle.cc_rules_asked.specs.CcRulesNeeds.declared.needs.Part.{Part}
+use Rattle.cc_rules_asked.specs.CcRulesNeeds.declared.needs.Part.TheVariants.{Mark, Flags}
+use Rattle.cc_rules_asked.specs.CcRulesNeeds.declared.needs.Slot.{Slot}
+use Rattle.cc_rules_asked.specs.CcRulesNeeds.declared.needs.Slot.TheVariants.{Flag, Apart}
+use Rattle.cc_rules_asked.specs.CcRulesNeeds.Needs.{Needs}
 use Rattle.cc_rules_shaped.proofs.Fit.{each_flat_of, number_below, pair_below}
 
 first_or_later : (k i : ℕ) → k ≤ i → (k ≡ i) ⊎ (suc k ≤ i)

@@ -2,20 +2,20 @@
 -- other.
 use Rattle.std.proofs.Common.{arith, ◌≡◌, ℕ, zero, suc, ◌+◌, ◌<◌, ℤ, Bool, true, false, true≢false, List, [], ◌∷◌, ◌++◌, length, get_or, take, drop, Option, Some, None, Ok, Err, Result, IfOk, OnOk, OnErr, refl, sym, ap, subst, ◌∙◌}
 use Rattle.std.specs.Prelude.{IfSome}
-use Rattle.cc_lattice.specs.Orders.{IsLeastUpperBound}
-use Rattle.cc_num.specs.declared.int_type.IntType.{IntType}
-use Rattle.cc_num.specs.declared.target.Target.{Target}
-use Rattle.cc_num.specs.Integers.{IsValueOf}
-use Rattle.cc_places.specs.laws.AbstractLaws.{abs_itself, abs_through}
+use Rattle.cc_rules_asked.specs.CcLattice.Orders.{IsLeastUpperBound}
+use Rattle.cc_program.specs.CcNum.declared.int_type.IntType.{IntType}
+use Rattle.cc_program.specs.CcNum.declared.target.Target.{Target}
+use Rattle.cc_program.specs.CcNum.Integers.{IsValueOf}
+use Rattle.cc_rules_asked.specs.CcPlaces.laws.AbstractLaws.{abs_itself, abs_through}
 use Rattle.cc_program.specs.declared.program.Program.{Program}
 use Rattle.cc_rules_asked.specs.declared.asked.Asked.{Asked}
 use Rattle.cc_rules_asked.specs.Asked.{needs_of, all_needs}
-use Rattle.cc_rules_needs.proofs.ByParts.{parts_below}
-use Rattle.cc_rules_needs.specs.declared.needs.Part.{Part}
-use Rattle.cc_rules_needs.specs.declared.needs.Slot.{Slot}
-use Rattle.cc_rules_needs.specs.Flowing.{of_fact, needs_at}
-use Rattle.cc_rules_needs.specs.Needs.{Needs, Has, HasAll, IsBelow}
-use Rattle.cc_rules_needs.specs.Points.{ArePointsAlike, HasFlow, IsRaisedAt}
+use Rattle.cc_rules_asked.proofs.CcRulesNeeds.ByParts.{parts_below}
+use Rattle.cc_rules_asked.specs.CcRulesNeeds.declared.needs.Part.{Part}
+use Rattle.cc_rules_asked.specs.CcRulesNeeds.declared.needs.Slot.{Slot}
+use Rattle.cc_rules_asked.specs.CcRulesNeeds.Flowing.{of_fact, needs_at}
+use Rattle.cc_rules_asked.specs.CcRulesNeeds.Needs.{Needs, Has, HasAll, IsBelow}
+use Rattle.cc_rules_asked.specs.CcRulesNeeds.Points.{ArePointsAlike, HasFlow, IsRaisedAt}
 use Rattle.cc_rules_raised.proofs.Change.{known_shaped}
 use Rattle.cc_rules_raised.proofs.Completing.{completed_serves}
 use Rattle.cc_rules_raised.proofs.Fitting.{flat_next, flat_all, drop_first}
@@ -29,14 +29,14 @@ use Rattle.cc_rules_raised.specs.Steps.{IsStep, IsFit, AllFit}
 use Rattle.cc_rules_shaped.proofs.Fit.{point_counted}
 use Rattle.cc_rules_shaped.proofs.Joining.{JoinsTyped}
 use Rattle.cc_rules_shaped.specs.Shaped.{Fits}
-use Rattle.cc_state.specs.Shape.{HaveShape}
-use Rattle.cc_state_facts.specs.declared.facts.Facts.{Facts}
-use Rattle.cc_state_facts.specs.declared.facts.PointFact.{PointFact}
-use Rattle.cc_state_facts.specs.Facts.{fact_at}
-use Rattle.cc_state_facts.specs.laws.OrderLaws.{facts_same}
-use Rattle.cc_state_keys.specs.Tracked.{registers, tracked}
+use Rattle.cc_rules_grow.specs.CcState.Shape.{HaveShape}
+use Rattle.cc_rules_asked.specs.CcStateFacts.declared.facts.Facts.{Facts}
+use Rattle.cc_rules_asked.specs.CcStateFacts.declared.facts.PointFact.{PointFact}
+use Rattle.cc_rules_asked.specs.CcStateFacts.Facts.{fact_at}
+use Rattle.cc_rules_asked.specs.CcStateFacts.laws.OrderLaws.{facts_same}
+use Rattle.cc_rules_asked.specs.CcStateKeys.Tracked.{registers, tracked}
 use Rattle.cc_state_limits.specs.Held.{AreHeld}
-use Rattle.cc_state_operators.specs.Domains.{Domain}
+use Rattle.cc_rules_asked.specs.CcStateOperators.Domains.{Domain}
 use Rattle.cc_state_shape.proofs.Alike.{facts_alike, well_formed, points_alike}
 
 -- what the laws of a domain say of it

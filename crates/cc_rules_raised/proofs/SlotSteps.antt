@@ -2,22 +2,22 @@
 use Rattle.std.proofs.Common.{arith, ◌≡◌, ℕ, ◌<◌, true, false, true≢false, [], ◌∷◌, length, Option, Some, None, slice_get, refl, sym, ap, subst, ◌∙◌}
 use Rattle.std.specs.Prelude.{option_and_then, is_some}
 use Rattle.std.proofs.lemmas.Option.{none-some, same_Some, slice_get_within}
-use Rattle.cc_flow.specs.declared.types.Point.{Point}
-use Rattle.cc_flow.specs.Points.{count_of}
-use Rattle.cc_places.specs.declared.abs.Abs.{Abs}
-use Rattle.cc_places.specs.Abstract.{AreOfOneKind}
+use Rattle.cc_rules_asked.specs.CcFlow.declared.types.Point.{Point}
+use Rattle.cc_rules_asked.specs.CcFlow.Points.{count_of}
+use Rattle.cc_rules_asked.specs.CcPlaces.declared.abs.Abs.{Abs}
+use Rattle.cc_rules_asked.specs.CcPlaces.Abstract.{AreOfOneKind}
 use Rattle.cc_program.specs.declared.func.Func.{Func}
 use Rattle.cc_program.specs.declared.program.Program.{Program}
-use Rattle.cc_rules_flows.specs.Nexts.{IsPoint}
+use Rattle.cc_rules_asked.specs.CcRulesFlows.Nexts.{IsPoint}
 use Rattle.cc_rules_grow.proofs.Elements.{all_each}
-use Rattle.cc_rules_needs.proofs.PutLaws.{is_put_above, is_put_has, is_put_least}
-use Rattle.cc_rules_needs.specs.declared.needs.Part.{Part}
-use Rattle.cc_rules_needs.specs.declared.needs.Part.TheVariants.{Mark, LevelSet, Flags, Values}
-use Rattle.cc_rules_needs.specs.declared.needs.Slot.{Slot}
-use Rattle.cc_rules_needs.specs.declared.needs.Slot.TheVariants.{Whole, HandlerReads, HandlerWrites, ReadLevels, WriteLevels, Result, ByMain, ByHandler, Levels, From, Flag, LocalAt, CellAt, Apart}
-use Rattle.cc_rules_needs.specs.Needs.{Needs, Has, HasAll}
-use Rattle.cc_rules_needs.specs.Points.{ArePointsAlike, IsRaisedAt}
-use Rattle.cc_rules_needs.specs.Raised.{MayGet, IsPut}
+use Rattle.cc_rules_asked.proofs.CcRulesNeeds.PutLaws.{is_put_above, is_put_has, is_put_least}
+use Rattle.cc_rules_asked.specs.CcRulesNeeds.declared.needs.Part.{Part}
+use Rattle.cc_rules_asked.specs.CcRulesNeeds.declared.needs.Part.TheVariants.{Mark, LevelSet, Flags, Values}
+use Rattle.cc_rules_asked.specs.CcRulesNeeds.declared.needs.Slot.{Slot}
+use Rattle.cc_rules_asked.specs.CcRulesNeeds.declared.needs.Slot.TheVariants.{Whole, HandlerReads, HandlerWrites, ReadLevels, WriteLevels, Result, ByMain, ByHandler, Levels, From, Flag, LocalAt, CellAt, Apart}
+use Rattle.cc_rules_asked.specs.CcRulesNeeds.Needs.{Needs, Has, HasAll}
+use Rattle.cc_rules_asked.specs.CcRulesNeeds.Points.{ArePointsAlike, IsRaisedAt}
+use Rattle.cc_rules_asked.specs.CcRulesNeeds.Raised.{MayGet, IsPut}
 use Rattle.cc_rules_raised.proofs.Change.{cell_shaped, apart_shaped, known_shaped, wants_cell, wants_apart, gives_cell, gives_apart}
 use Rattle.cc_rules_raised.proofs.Stepping.{IsOrdered, Serves, raised_step, raised_gives}
 use Rattle.cc_rules_raised.specs.Completed.{fact_with_cell, fact_apart}
@@ -27,15 +27,15 @@ use Rattle.cc_rules_raised.specs.Steps.{IsStep, IsFit}
 use Rattle.cc_rules_shaped.proofs.Joining.{JoinsTyped}
 use Rattle.cc_rules_shaped.proofs.Putting.{may_get, is_put_shaped}
 use Rattle.cc_rules_shaped.specs.Shaped.{is_at_point}
-use Rattle.cc_state.specs.Shape.{IsSetIn, IsTrackedType, IsPointFact, HaveShape}
-use Rattle.cc_state_facts.specs.declared.facts.Facts.{Facts}
-use Rattle.cc_state_facts.specs.declared.facts.PointFact.{PointFact}
-use Rattle.cc_state_facts.specs.Facts.{fact_at, cell_at, cell_of}
-use Rattle.cc_state_keys.specs.Tracked.{tracked}
-use Rattle.cc_state_operators.specs.Domains.{Domain}
+use Rattle.cc_rules_grow.specs.CcState.Shape.{IsSetIn, IsTrackedType, IsPointFact, HaveShape}
+use Rattle.cc_rules_asked.specs.CcStateFacts.declared.facts.Facts.{Facts}
+use Rattle.cc_rules_asked.specs.CcStateFacts.declared.facts.PointFact.{PointFact}
+use Rattle.cc_rules_asked.specs.CcStateFacts.Facts.{fact_at, cell_at, cell_of}
+use Rattle.cc_rules_asked.specs.CcStateKeys.Tracked.{tracked}
+use Rattle.cc_rules_asked.specs.CcStateOperators.Domains.{Domain}
 use Rattle.cc_state_shape.proofs.Alike.{same_kind, points_alike, one_tracked_type}
 use Rattle.cc_state_shape.proofs.Functions.{function_at}
-use Rattle.cc_syntax.specs.Values.{ValueType}
+use Rattle.cc_rules_asked.specs.CcSyntax.Values.{ValueType}
 
 pub some_of : {A : Type 0} (o : Option A) → is_some o ≡ true → (x : A) × (o ≡ Some x)
 some_of None h = absurd (true≢false (sym h))

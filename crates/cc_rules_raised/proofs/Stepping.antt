@@ -1,25 +1,25 @@
 -- Facts that are raised step by step: each step leads to the least facts above the former ones, so all steps lead to the least ones that have
 -- what each step needs.
 use Rattle.std.proofs.Common.{◌≡◌, ℕ, ◌<◌, ◌++◌, length, subst}
-use Rattle.cc_flow.specs.declared.types.Point.{Point}
-use Rattle.cc_places.specs.declared.abs.Abs.{Abs}
-use Rattle.cc_places.specs.Abstract.{IsBelowAbs}
+use Rattle.cc_rules_asked.specs.CcFlow.declared.types.Point.{Point}
+use Rattle.cc_rules_asked.specs.CcPlaces.declared.abs.Abs.{Abs}
+use Rattle.cc_rules_asked.specs.CcPlaces.Abstract.{IsBelowAbs}
 use Rattle.cc_program.specs.declared.func.Func.{Func}
 use Rattle.cc_program.specs.declared.program.Program.{Program}
-use Rattle.cc_rules_flows.specs.Nexts.{IsPoint}
+use Rattle.cc_rules_asked.specs.CcRulesFlows.Nexts.{IsPoint}
 use Rattle.cc_rules_grow.proofs.Elements.{each_all, all_each, each_append, each_split}
-use Rattle.cc_rules_needs.proofs.RaisedPoints.{raised_above, raised_has, raised_least}
-use Rattle.cc_rules_needs.proofs.Through.{facts_itself, facts_through, has_more}
-use Rattle.cc_rules_needs.specs.Needs.{Needs, Has, HasAll, IsBelow}
-use Rattle.cc_rules_needs.specs.Points.{HasFlow, IsRaisedAt}
+use Rattle.cc_rules_asked.proofs.CcRulesNeeds.RaisedPoints.{raised_above, raised_has, raised_least}
+use Rattle.cc_rules_asked.proofs.CcRulesNeeds.Through.{facts_itself, facts_through, has_more}
+use Rattle.cc_rules_asked.specs.CcRulesNeeds.Needs.{Needs, Has, HasAll, IsBelow}
+use Rattle.cc_rules_asked.specs.CcRulesNeeds.Points.{HasFlow, IsRaisedAt}
 use Rattle.cc_rules_raised.specs.Steps.{IsStep}
 use Rattle.cc_rules_shaped.proofs.Joining.{JoinsTyped}
 use Rattle.cc_rules_shaped.proofs.Raising.{raised_shaped}
-use Rattle.cc_state.specs.Shape.{IsPointFact, HaveShape}
-use Rattle.cc_state_facts.specs.declared.facts.Facts.{Facts}
-use Rattle.cc_state_facts.specs.declared.facts.PointFact.{PointFact}
-use Rattle.cc_state_facts.specs.Facts.{fact_at}
-use Rattle.cc_state_operators.specs.Domains.{Domain}
+use Rattle.cc_rules_grow.specs.CcState.Shape.{IsPointFact, HaveShape}
+use Rattle.cc_rules_asked.specs.CcStateFacts.declared.facts.Facts.{Facts}
+use Rattle.cc_rules_asked.specs.CcStateFacts.declared.facts.PointFact.{PointFact}
+use Rattle.cc_rules_asked.specs.CcStateFacts.Facts.{fact_at}
+use Rattle.cc_rules_asked.specs.CcStateOperators.Domains.{Domain}
 
 -- the order of a domain, on sets of values
 pub record IsOrdered {I : Type 0} (d : Domain I) : Type 0 where

@@ -1,17 +1,17 @@
 -- What is told of a point by what is known there, and what it has then.
 use Rattle.std.proofs.Common.{◌≡◌, ℕ, true, true≢false, Option, Some, None, refl, sym, subst}
 use Rattle.std.specs.Prelude.{IfSome, is_some, option_and_then}
-use Rattle.cc_places.specs.declared.abs.Abs.{Abs}
-use Rattle.cc_rules_needs.specs.declared.needs.Part.{Part}
-use Rattle.cc_rules_needs.specs.declared.needs.Slot.{Slot}
-use Rattle.cc_rules_needs.specs.declared.needs.Slot.TheVariants.{Whole, HandlerReads, HandlerWrites, ReadLevels, WriteLevels, Result, ByMain, ByHandler, Levels, From, Flag, LocalAt, CellAt, Apart}
-use Rattle.cc_rules_needs.specs.Points.{HasFlow, IsRaisedAt}
-use Rattle.cc_rules_needs.specs.Raised.{MayGet, IsPut}
+use Rattle.cc_rules_asked.specs.CcPlaces.declared.abs.Abs.{Abs}
+use Rattle.cc_rules_asked.specs.CcRulesNeeds.declared.needs.Part.{Part}
+use Rattle.cc_rules_asked.specs.CcRulesNeeds.declared.needs.Slot.{Slot}
+use Rattle.cc_rules_asked.specs.CcRulesNeeds.declared.needs.Slot.TheVariants.{Whole, HandlerReads, HandlerWrites, ReadLevels, WriteLevels, Result, ByMain, ByHandler, Levels, From, Flag, LocalAt, CellAt, Apart}
+use Rattle.cc_rules_asked.specs.CcRulesNeeds.Points.{HasFlow, IsRaisedAt}
+use Rattle.cc_rules_asked.specs.CcRulesNeeds.Raised.{MayGet, IsPut}
 use Rattle.cc_rules_raised.specs.Slots.{MayRise, IsRisenBy, IsRisen}
-use Rattle.cc_state_facts.specs.declared.facts.Facts.{Facts}
-use Rattle.cc_state_facts.specs.declared.facts.PointFact.{PointFact}
-use Rattle.cc_state_facts.specs.Facts.{fact_at, cell_of, cell_at}
-use Rattle.cc_state_operators.specs.Domains.{Domain}
+use Rattle.cc_rules_asked.specs.CcStateFacts.declared.facts.Facts.{Facts}
+use Rattle.cc_rules_asked.specs.CcStateFacts.declared.facts.PointFact.{PointFact}
+use Rattle.cc_rules_asked.specs.CcStateFacts.Facts.{fact_at, cell_of, cell_at}
+use Rattle.cc_rules_asked.specs.CcStateOperators.Domains.{Domain}
 
 pub if_some : {A : Type 0} (o : Option A) (P : A → Type 0) → ((x : A) → o ≡ Some x → P x) → IfSome o P
 if_some None P h = tt

@@ -2,20 +2,20 @@
 -- another set of a cell, or without a pair.
 use Rattle.std.specs.Prelude.{◌≡◌, ◌/◌, ◌%◌, ℕ, Bool, not, ◌&&◌, nat_eq, List, length, Option, Some, None, slice_get, slice_set}
 use Rattle.std.specs.List.{filter}
-use Rattle.cc_places.specs.declared.abs.Abs.{Abs}
+use Rattle.cc_rules_asked.specs.CcPlaces.declared.abs.Abs.{Abs}
 use Rattle.cc_program.specs.declared.func.Func.{Func}
 use Rattle.cc_program.specs.declared.program.Program.{Program}
-use Rattle.cc_rules_flows.specs.Nexts.{IsPoint}
-use Rattle.cc_flow.specs.declared.types.Point.{Point}
-use Rattle.cc_state.specs.Shape.{IsRegisterType}
-use Rattle.cc_state_facts.specs.declared.facts.PointFact.{PointFact}
-use Rattle.cc_state_facts.specs.declared.facts.Row.{Row}
-use Rattle.cc_state_facts.specs.Facts.{row_length}
-use Rattle.cc_state_keys.specs.Tracked.{registers}
-use Rattle.cc_state_operators.specs.Domains.{Domain}
-use Rattle.cc_state_reads.specs.Reads.{is_pointer}
+use Rattle.cc_rules_asked.specs.CcRulesFlows.Nexts.{IsPoint}
+use Rattle.cc_rules_asked.specs.CcFlow.declared.types.Point.{Point}
+use Rattle.cc_rules_grow.specs.CcState.Shape.{IsRegisterType}
+use Rattle.cc_rules_asked.specs.CcStateFacts.declared.facts.PointFact.{PointFact}
+use Rattle.cc_rules_asked.specs.CcStateFacts.declared.facts.Row.{Row}
+use Rattle.cc_rules_asked.specs.CcStateFacts.Facts.{row_length}
+use Rattle.cc_rules_asked.specs.CcStateKeys.Tracked.{registers}
+use Rattle.cc_rules_asked.specs.CcStateOperators.Domains.{Domain}
+use Rattle.cc_rules_asked.specs.CcStateReads.Reads.{is_pointer}
 use Rattle.cc_state_shape.specs.Empty.{IsNone}
-use Rattle.cc_syntax.specs.Values.{ValueType}
+use Rattle.cc_rules_asked.specs.CcSyntax.Values.{ValueType}
 
 module _ {I : Type 0} (d : Domain I) (p : Program) where
   -- of the registers of a function, whether each holds addresses

@@ -1,17 +1,17 @@
 -- Facts that rise in one slot: of a key or a function by a part that is put there, of a point by what is known there, changed in one thing.
 use Rattle.std.specs.Prelude.{◌≡◌, ◌<◌, ℕ, true, is_some, length, Some, None}
-use Rattle.cc_places.specs.declared.abs.Abs.{Abs}
-use Rattle.cc_places.specs.Abstract.{AreOfOneKind}
-use Rattle.cc_rules_needs.specs.declared.needs.Part.{Part}
-use Rattle.cc_rules_needs.specs.declared.needs.Part.TheVariants.{Mark, Values}
-use Rattle.cc_rules_needs.specs.declared.needs.Slot.{Slot}
-use Rattle.cc_rules_needs.specs.declared.needs.Slot.TheVariants.{CellAt, Apart}
-use Rattle.cc_rules_needs.specs.Points.{ArePointsAlike, IsRaisedAt}
-use Rattle.cc_rules_needs.specs.Raised.{MayGet, IsPut}
+use Rattle.cc_rules_asked.specs.CcPlaces.declared.abs.Abs.{Abs}
+use Rattle.cc_rules_asked.specs.CcPlaces.Abstract.{AreOfOneKind}
+use Rattle.cc_rules_asked.specs.CcRulesNeeds.declared.needs.Part.{Part}
+use Rattle.cc_rules_asked.specs.CcRulesNeeds.declared.needs.Part.TheVariants.{Mark, Values}
+use Rattle.cc_rules_asked.specs.CcRulesNeeds.declared.needs.Slot.{Slot}
+use Rattle.cc_rules_asked.specs.CcRulesNeeds.declared.needs.Slot.TheVariants.{CellAt, Apart}
+use Rattle.cc_rules_asked.specs.CcRulesNeeds.Points.{ArePointsAlike, IsRaisedAt}
+use Rattle.cc_rules_asked.specs.CcRulesNeeds.Raised.{MayGet, IsPut}
 use Rattle.cc_rules_raised.specs.Completed.{fact_with_cell, fact_apart}
-use Rattle.cc_state_facts.specs.declared.facts.Facts.{Facts}
-use Rattle.cc_state_facts.specs.declared.facts.PointFact.{PointFact}
-use Rattle.cc_state_facts.specs.Facts.{fact_at, cell_at}
+use Rattle.cc_rules_asked.specs.CcStateFacts.declared.facts.Facts.{Facts}
+use Rattle.cc_rules_asked.specs.CcStateFacts.declared.facts.PointFact.{PointFact}
+use Rattle.cc_rules_asked.specs.CcStateFacts.Facts.{fact_at, cell_at}
 
 module _ {I : Type 0} where
   -- a point has a set of a cell, of the kind of some values

@@ -3,15 +3,15 @@ use Rattle.std.specs.Prelude.{All, length}
 use Rattle.cc_program.specs.declared.program.Program.{Program}
 use Rattle.cc_rules_asked.specs.declared.asked.Asked.{Asked}
 use Rattle.cc_rules_asked.specs.declared.asked.Asked.TheVariants as asked
-use Rattle.cc_rules_needs.specs.declared.needs.Part.{Part}
-use Rattle.cc_rules_needs.specs.declared.needs.Slot.{Slot}
-use Rattle.cc_rules_needs.specs.Flowing.{of_fact, needs_at}
-use Rattle.cc_rules_needs.specs.Needs.{Needs, HasAll, IsBelow}
+use Rattle.cc_rules_asked.specs.CcRulesNeeds.declared.needs.Part.{Part}
+use Rattle.cc_rules_asked.specs.CcRulesNeeds.declared.needs.Slot.{Slot}
+use Rattle.cc_rules_asked.specs.CcRulesNeeds.Flowing.{of_fact, needs_at}
+use Rattle.cc_rules_asked.specs.CcRulesNeeds.Needs.{Needs, HasAll, IsBelow}
 use Rattle.cc_rules_shaped.specs.Shaped.{Fits, AllowsLevels}
-use Rattle.cc_state.specs.Shape.{HaveShape}
-use Rattle.cc_state_facts.specs.declared.facts.Facts.{Facts}
-use Rattle.cc_state_keys.specs.Tracked.{tracked}
-use Rattle.cc_state_operators.specs.Domains.{Domain}
+use Rattle.cc_rules_grow.specs.CcState.Shape.{HaveShape}
+use Rattle.cc_rules_asked.specs.CcStateFacts.declared.facts.Facts.{Facts}
+use Rattle.cc_rules_asked.specs.CcStateKeys.Tracked.{tracked}
+use Rattle.cc_rules_asked.specs.CcStateOperators.Domains.{Domain}
 
 module _ {I : Type 0} (d : Domain I) (p : Program) where
   pub record IsStep (ns : Needs I) (f g : Facts I) : Type 0 where

@@ -3,13 +3,13 @@
 ghost use Rattle.std.specs.Prelude.{◌≡◌, ◌/◌, ◌<◌, true, is_some, length, slice_get, slice_set, Some, IfOk};
 ghost use Rattle.std.specs.List.{filter};
 ghost use Rattle.cc_rules_raised.specs.Completed.{row_with, fact_with_cell, is_other_pair, fact_apart};
-ghost use Rattle.cc_state_facts.specs.Facts.{row_length, cell_of};
+ghost use Rattle.cc_rules_asked.specs.CcStateFacts.Facts.{row_length, cell_of};
 
-use cc_lattice::IntDomain;
-use cc_num::{List, NoMemory, at};
-use cc_places::Abs;
-use cc_state_facts::{PointFact, Row, Shared, copied_point};
-use cc_state_shared::share_all;
+use cc_program::num::{List, NoMemory, at};
+use cc_rules_asked::lattice::IntDomain;
+use cc_rules_asked::places::Abs;
+use cc_rules_asked::state_facts::{PointFact, Row, Shared, copied_point};
+use cc_rules_asked::state_shared::share_all;
 use std::alloc::Global;
 use std::mem;
 

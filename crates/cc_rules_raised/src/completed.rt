@@ -1,29 +1,29 @@
 //! What flows to a point, with an empty set for each register of which it tells nothing.
 
 ghost use Rattle.std.specs.Prelude.{true, false, ◌≡◌, ◌≤◌, ◌++◌, ℕ, List as ListOf, length, map, slice_get, option_and_then, IfOk, OnOk};
-ghost use Rattle.cc_places.specs.declared.abs.Abs.{Abs as AbsOf};
+ghost use Rattle.cc_rules_asked.specs.CcPlaces.declared.abs.Abs.{Abs as AbsOf};
 ghost use Rattle.std.specs.List.{AllZip};
 ghost use Rattle.std.specs.Option.{option_copied};
-ghost use Rattle.cc_flow.specs.Points.{flow_of};
-ghost use Rattle.cc_flow.specs.declared.types.Point.{Point as PointOf};
+ghost use Rattle.cc_rules_asked.specs.CcFlow.Points.{flow_of};
+ghost use Rattle.cc_rules_asked.specs.CcFlow.declared.types.Point.{Point as PointOf};
 ghost use Rattle.cc_program.specs.declared.func.Func.{Func as FuncOf};
-ghost use Rattle.cc_rules_flows.specs.Nexts.{IsPoint};
+ghost use Rattle.cc_rules_asked.specs.CcRulesFlows.Nexts.{IsPoint};
 ghost use Rattle.cc_rules_raised.specs.Completed.{AreKindsAt, IsCompleted};
-ghost use Rattle.cc_state.specs.Shape.{HaveShape};
-ghost use Rattle.cc_state_facts.specs.Facts.{fact_at};
-ghost use Rattle.cc_state_keys.specs.Tracked.{registers as registers_of};
-ghost use Rattle.cc_state_operators.specs.Domains.{domain};
+ghost use Rattle.cc_rules_grow.specs.CcState.Shape.{HaveShape};
+ghost use Rattle.cc_rules_asked.specs.CcStateFacts.Facts.{fact_at};
+ghost use Rattle.cc_rules_asked.specs.CcStateKeys.Tracked.{registers as registers_of};
+ghost use Rattle.cc_rules_asked.specs.CcStateOperators.Domains.{domain};
 ghost use Rattle.cc_state_shape.specs.Empty.{IsNone};
 ghost use Rattle.cc_rules_raised.specs.OfAddresses.{local_addresses, is_set_of_addresses};
-ghost use Rattle.cc_syntax.specs.Normal.{IsNormal};
+ghost use Rattle.cc_rules_asked.specs.CcSyntax.Normal.{IsNormal};
 
-use cc_flow::Flow;
-use cc_lattice::IntDomain;
-use cc_num::{List, NoMemory, at};
-use cc_places::Abs;
+use cc_program::num::{List, NoMemory, at};
 use cc_program::{Func, Program};
-use cc_state_facts::{Facts, PointFact, Shared, copied_point};
-use cc_state_keys::registers;
+use cc_rules_asked::flow::Flow;
+use cc_rules_asked::lattice::IntDomain;
+use cc_rules_asked::places::Abs;
+use cc_rules_asked::state_facts::{Facts, PointFact, Shared, copied_point};
+use cc_rules_asked::state_keys::registers;
 use cc_state_shape::{holds_addresses, none_of};
 use std::alloc::Global;
 use std::mem;

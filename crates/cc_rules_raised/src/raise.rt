@@ -1,29 +1,29 @@
 //! Facts are raised by what is asked of them.
 
 ghost use Rattle.std.specs.Prelude.{◌≡◌, true, false, length, IfOk, OnOk};
-ghost use Rattle.cc_flow.specs.Points.{flow_of};
+ghost use Rattle.cc_rules_asked.specs.CcFlow.Points.{flow_of};
 ghost use Rattle.cc_rules_asked.specs.Asked.{needs_of, all_needs};
-ghost use Rattle.cc_rules_needs.specs.Flowing.{of_fact, needs_at};
-ghost use Rattle.cc_rules_needs.specs.Needs.{HasAll};
+ghost use Rattle.cc_rules_asked.specs.CcRulesNeeds.Flowing.{of_fact, needs_at};
+ghost use Rattle.cc_rules_asked.specs.CcRulesNeeds.Needs.{HasAll};
 ghost use Rattle.cc_rules_layout.specs.Raisable.{IsLaidOutAt, IsRaisable, AreRaisable};
 ghost use Rattle.cc_rules_raised.specs.Steps.{IsStep, AllFit, IsFitFor};
 ghost use Rattle.cc_rules_shaped.specs.Shaped.{AreFit};
-ghost use Rattle.cc_state.specs.Shape.{HaveShape};
-ghost use Rattle.cc_state_facts.specs.declared.facts.Facts.{Facts as FactsOf};
-ghost use Rattle.cc_state_facts.specs.Orders.{IsBelow};
-ghost use Rattle.cc_state_keys.specs.Tracked.{tracked};
+ghost use Rattle.cc_rules_grow.specs.CcState.Shape.{HaveShape};
+ghost use Rattle.cc_rules_asked.specs.CcStateFacts.declared.facts.Facts.{Facts as FactsOf};
+ghost use Rattle.cc_rules_asked.specs.CcStateFacts.Orders.{IsBelow};
+ghost use Rattle.cc_rules_asked.specs.CcStateKeys.Tracked.{tracked};
 ghost use Rattle.cc_state_limits.specs.Held.{AreHeld};
-ghost use Rattle.cc_state_operators.specs.Domains.{domain};
-ghost use Rattle.cc_syntax.specs.Normal.{IsNormal};
+ghost use Rattle.cc_rules_asked.specs.CcStateOperators.Domains.{domain};
+ghost use Rattle.cc_rules_asked.specs.CcSyntax.Normal.{IsNormal};
 
 use crate::completed::completed;
 use crate::slots::{raise_held_point, raise_slot};
-use cc_flow::Flow;
-use cc_lattice::IntDomain;
-use cc_num::NoMemory;
 use cc_program::Program;
+use cc_program::num::NoMemory;
 use cc_rules_asked::Asked;
-use cc_state_facts::{Facts, PointFact};
+use cc_rules_asked::flow::Flow;
+use cc_rules_asked::lattice::IntDomain;
+use cc_rules_asked::state_facts::{Facts, PointFact};
 use std::alloc::Global;
 
 /// Raises a point by what flows there.

@@ -1,24 +1,24 @@
 //! Facts are raised by a part of a slot: of keys, of functions, and of points.
 
 ghost use Rattle.std.specs.Prelude.{◌≡◌, ◌↔◌, ◌<◌, ℕ, true, false, is_some, length, slice_get, IfOk, IfSome, OnErr, IsTrue, Some};
-ghost use Rattle.cc_places.specs.Abstract.{AreOfOneKind};
-ghost use Rattle.cc_rules_needs.specs.Needs.{apart_in, AreValuesBelow, Has};
-ghost use Rattle.cc_rules_needs.specs.Points.{ArePointsAlike, HasFlow, IsRaisedAt};
-ghost use Rattle.cc_rules_needs.specs.Raised.{MayGet, IsPut};
+ghost use Rattle.cc_rules_asked.specs.CcPlaces.Abstract.{AreOfOneKind};
+ghost use Rattle.cc_rules_asked.specs.CcRulesNeeds.Needs.{apart_in, AreValuesBelow, Has};
+ghost use Rattle.cc_rules_asked.specs.CcRulesNeeds.Points.{ArePointsAlike, HasFlow, IsRaisedAt};
+ghost use Rattle.cc_rules_asked.specs.CcRulesNeeds.Raised.{MayGet, IsPut};
 ghost use Rattle.cc_rules_raised.specs.Completed.{fact_with_cell, fact_apart};
 ghost use Rattle.cc_rules_raised.specs.Slots.{MayGetCell, MayPart, MayRise, IsRisenBy, IsRisen};
-ghost use Rattle.cc_state_facts.specs.declared.facts.PointFact.{PointFact as PointFactOf};
-ghost use Rattle.cc_state_facts.specs.Facts.{fact_at, cell_at};
+ghost use Rattle.cc_rules_asked.specs.CcStateFacts.declared.facts.PointFact.{PointFact as PointFactOf};
+ghost use Rattle.cc_rules_asked.specs.CcStateFacts.Facts.{fact_at, cell_at};
 ghost use Rattle.cc_state_limits.specs.Held.{IsHeldSet, HaveLevels, AreHeld};
 
 use crate::changed::{with_cell, without_pair};
 use crate::completed::fact;
-use cc_lattice::{IntDomain, Lattice};
-use cc_num::{NoMemory, at};
-use cc_places::Abs;
+use cc_program::num::{NoMemory, at};
 use cc_rules_asked::copied_set;
-use cc_rules_needs::{Part, Slot, raise_part, raise_point};
-use cc_state_facts::{Facts, PointFact, is_pair};
+use cc_rules_asked::lattice::{IntDomain, Lattice};
+use cc_rules_asked::places::Abs;
+use cc_rules_asked::rules_needs::{Part, Slot, raise_part, raise_point};
+use cc_rules_asked::state_facts::{Facts, PointFact, is_pair};
 use cc_state_limits::{held_levels, held_point, held_set};
 use std::alloc::Global;
 

@@ -4,7 +4,7 @@ use Rattle.std.specs.Prelude.{◌==◌}
 use Rattle.std.specs.List.{filter}
 use Rattle.std.proofs.lemmas.List.Elements.{filter_agree}
 use Rattle.cc_rules_again.specs.Named as is
-use Rattle.cc_rules_needs.specs.Flowing.{numbers}
+use Rattle.cc_rules_asked.specs.CcRulesNeeds.Flowing.{numbers}
 use Rattle.cc_rules_readers.specs.declared.deeds.Called.{Called}
 use Rattle.cc_rules_readers.specs.declared.deeds.Called.TheVariants as called
 use Rattle.cc_rules_readers.specs.declared.deeds.Deed.{Deed}
@@ -18,8 +18,8 @@ use Rattle.cc_rules_readers.specs.Points.{on, points_that, is_of, may_call_in, i
 use Rattle.cc_rules_readers.specs.View.{named_view, calls_it, object_of, function_of, member_of}
 use Rattle.cc_rules_readers.proofs.Merging.{merged_parts}
 use Rattle.cc_rules_readers.proofs.Numbers.{either_way, none_passes, not_passed, filter_within, small_from}
-use Rattle.cc_state_facts.specs.declared.facts.Key.{Key}
-use Rattle.cc_state_facts.specs.declared.facts.Key.TheVariants as key
+use Rattle.cc_rules_asked.specs.CcStateFacts.declared.facts.Key.{Key}
+use Rattle.cc_rules_asked.specs.CcStateFacts.declared.facts.Key.TheVariants as key
 
 -- ---- bounds
 

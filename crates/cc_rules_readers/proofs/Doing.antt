@@ -4,30 +4,30 @@ use Rattle.std.specs.Prelude.{◌==◌}
 use Rattle.std.specs.List.{AllZip, filter, flat_map}
 use Rattle.std.proofs.lemmas.List.Elements.{filter_agree}
 use Rattle.std.proofs.lemmas.Option.{same_Some, none-some}
-use Rattle.cc_flow.proofs.Paths.{all_counted}
-use Rattle.cc_flow.specs.declared.types.Point.{Point}
-use Rattle.cc_flow.specs.Points.{count_of, flow_of}
+use Rattle.cc_rules_asked.proofs.CcFlow.Paths.{all_counted}
+use Rattle.cc_rules_asked.specs.CcFlow.declared.types.Point.{Point}
+use Rattle.cc_rules_asked.specs.CcFlow.Points.{count_of, flow_of}
 use Rattle.cc_program.specs.declared.expr.Expr.{Expr, out-Expr}
 use Rattle.cc_program.specs.declared.expr.Expr.TheOpen as one
 use Rattle.cc_program.specs.declared.expr.Place.{Place}
 use Rattle.cc_program.specs.declared.func.Func.{Func}
 use Rattle.cc_program.specs.declared.program.Program.{Program}
-use Rattle.cc_registers.specs.Kept.{AreKept}
-use Rattle.cc_rules.specs.Constraints.{Rule, Touch, Call, Back, Handler, Stability}
-use Rattle.cc_rules.specs.Rules.{act_at}
+use Rattle.cc_rules_asked.specs.CcRegisters.Kept.{AreKept}
+use Rattle.cc_rules_asked.specs.CcRules.Constraints.{Rule, Touch, Call, Back, Handler, Stability}
+use Rattle.cc_rules_asked.specs.CcRules.Rules.{act_at}
 use Rattle.cc_rules_again.specs.Again.{number_at, at_each, does, does_in, is_callee, may_call, is_call, read, result_readers, reach_readers}
-use Rattle.cc_rules_flows.specs.Acts.{Act, Reads, Calls}
-use Rattle.cc_rules_flows.specs.Nexts.{statement_of}
+use Rattle.cc_rules_asked.specs.CcRulesFlows.Acts.{Act, Reads, Calls}
+use Rattle.cc_rules_asked.specs.CcRulesFlows.Nexts.{statement_of}
 use Rattle.cc_rules_functions.specs.declared.functions.Function.{Function}
 use Rattle.cc_rules_functions.specs.Functions.{AreFunctionsOf}
 use Rattle.cc_rules_here.proofs.Marked.{marks_there}
 use Rattle.cc_rules_here.proofs.Owned.{owned, within_some}
-use Rattle.cc_rules_needs.specs.Flowing.{numbers}
+use Rattle.cc_rules_asked.specs.CcRulesNeeds.Flowing.{numbers}
 use Rattle.cc_rules_readers.specs.declared.deeds.Deed.{Deed}
 use Rattle.cc_rules_readers.specs.Points.{on, points_that, is_of, may_call_in, reach_numbers}
 use Rattle.cc_rules_readers.specs.View.{named_view, calls_it, is_some_call, callee_of, called_of, read_in, IsDeedBy, IsDeedAt, AreDeeds}
 use Rattle.cc_rules_readers.proofs.Numbers.{either_way}
-use Rattle.cc_state_keys.specs.Tracked.{tracked}
+use Rattle.cc_rules_asked.specs.CcStateKeys.Tracked.{tracked}
 
 -- ---- the function of a point, and its marks
 

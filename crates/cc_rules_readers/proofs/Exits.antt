@@ -3,18 +3,18 @@ use Rattle.std.proofs.Common.{arith, ◌≡◌, ◌+◌, ◌<◌, ℕ, zero, suc
 use Rattle.std.specs.Prelude.{◌==◌, nat_lt}
 use Rattle.std.specs.List.{filter, flat_map}
 use Rattle.std.proofs.lemmas.Option.{same_Some, none-some, slice_get_within}
-use Rattle.cc_flow.proofs.Inside.{body_inside}
-use Rattle.cc_flow.proofs.Paths.{body_counted}
-use Rattle.cc_flow.specs.declared.types.Point.{Point}
-use Rattle.cc_flow.specs.Laws.{IsIn}
-use Rattle.cc_flow.specs.Points.{total_of, body_count, body_points, flow_of}
-use Rattle.cc_flow_sound.proofs.Numbered.{point_of}
-use Rattle.cc_flow_sound.specs.Moves.{entry}
+use Rattle.cc_rules_asked.proofs.CcFlow.Inside.{body_inside}
+use Rattle.cc_rules_asked.proofs.CcFlow.Paths.{body_counted}
+use Rattle.cc_rules_asked.specs.CcFlow.declared.types.Point.{Point}
+use Rattle.cc_rules_asked.specs.CcFlow.Laws.{IsIn}
+use Rattle.cc_rules_asked.specs.CcFlow.Points.{total_of, body_count, body_points, flow_of}
+use Rattle.cc_rules_asked.proofs.CcFlowSound.Numbered.{point_of}
+use Rattle.cc_rules_asked.specs.CcFlowSound.Moves.{entry}
 use Rattle.cc_program.specs.declared.func.Func.{Func}
 use Rattle.cc_program.specs.declared.program.Program.{Program}
-use Rattle.cc_rules.specs.Constraints.{Back}
+use Rattle.cc_rules_asked.specs.CcRules.Constraints.{Back}
 use Rattle.cc_rules_again.specs.Again.{number_at, ids, exit_is, own, point_readers, result_readers}
-use Rattle.cc_rules_flows.specs.Nexts.{exit_of}
+use Rattle.cc_rules_asked.specs.CcRulesFlows.Nexts.{exit_of}
 use Rattle.cc_rules_functions.specs.declared.functions.Function.{Function}
 use Rattle.cc_rules_functions.specs.Functions.{AreFunctionsOf}
 use Rattle.cc_rules_here.proofs.Owned.{owned, all_there}

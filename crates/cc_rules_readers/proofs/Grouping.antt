@@ -5,11 +5,11 @@ use Rattle.std.specs.declared.alloc.Global.{Global}
 use Rattle.std.specs.List.{filter}
 use Rattle.std.proofs.lemmas.List.Elements.{filter-append}
 use Rattle.cc_rules_asked.proofs.StabilityLemmas.{numbers_put}
-use Rattle.cc_rules_needs.specs.Flowing.{numbers}
+use Rattle.cc_rules_asked.specs.CcRulesNeeds.Flowing.{numbers}
 use Rattle.cc_rules_readers.specs.declared.deeds.Deed.{Deed}
 use Rattle.cc_rules_readers.specs.declared.groups.By.{By}
 use Rattle.cc_rules_readers.specs.Points.{on, group_of, is_that, list_at}
-use Rattle.cc_state_keys.specs.Lists.{only_if}
+use Rattle.cc_rules_asked.specs.CcStateKeys.Lists.{only_if}
 
 -- an empty list more
 pub empty_behind : (lists : List (Vec ℕ Global)) (v : Vec ℕ Global) (b : ℕ) → v.items ≡ [] → list_at (lists ++ v ∷ []) b ≡ list_at lists b

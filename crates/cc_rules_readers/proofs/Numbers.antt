@@ -6,7 +6,7 @@ use Rattle.std.proofs.lemmas.Bool.{cases_eq}
 use Rattle.std.proofs.lemmas.List.{map-append}
 use Rattle.std.proofs.lemmas.List.Elements.{All-nil, All-cons, All-filter, filter_more}
 use Rattle.cc_rules_asked.proofs.StabilityLemmas.{numbers_put}
-use Rattle.cc_rules_needs.specs.Flowing.{numbers}
+use Rattle.cc_rules_asked.specs.CcRulesNeeds.Flowing.{numbers}
 
 -- a test that passes or not
 pub passes_or : (b : Bool) → (b ≡ true) ⊎ (b ≡ false)

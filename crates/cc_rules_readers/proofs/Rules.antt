@@ -5,18 +5,18 @@ use Rattle.std.specs.List.{AllZip, filter, flat_map}
 use Rattle.std.proofs.lemmas.List.{take_all, take_more, flat_map_more}
 use Rattle.std.proofs.lemmas.List.Elements.{filter_agree}
 use Rattle.std.proofs.lemmas.Option.{none-some, slice_get_within}
-use Rattle.cc_flow.specs.declared.types.Point.{Point}
-use Rattle.cc_flow.specs.Points.{flow_of}
-use Rattle.cc_flow_sound.specs.Moves.{entry}
+use Rattle.cc_rules_asked.specs.CcFlow.declared.types.Point.{Point}
+use Rattle.cc_rules_asked.specs.CcFlow.Points.{flow_of}
+use Rattle.cc_rules_asked.specs.CcFlowSound.Moves.{entry}
 use Rattle.cc_program.specs.declared.program.Program.{Program}
-use Rattle.cc_rules.specs.Constraints.{Initial, Start, Flow, Write, Touch, Call, Back, Return, Handler, Stability, at_point}
-use Rattle.cc_rules.specs.Rules.{act_at, handlers}
+use Rattle.cc_rules_asked.specs.CcRules.Constraints.{Initial, Start, Flow, Write, Touch, Call, Back, Return, Handler, Stability, at_point}
+use Rattle.cc_rules_asked.specs.CcRules.Rules.{act_at, handlers}
 use Rattle.cc_rules_again.specs.Again.{number_at, ids, may_call, point_readers, entry_readers, touch_readers, whole_readers, call_readers, result_readers, again_in, again_at, again_of}
 use Rattle.cc_rules_again.specs.Named.{EachKey}
 use Rattle.cc_rules_asked.specs.declared.handlers.Handler.{Handler as HandlerAs}
 use Rattle.cc_rules_asked.specs.Handlers.{IsHandlerOf, AreHandlersOf}
-use Rattle.cc_rules_flows.specs.Acts.{Act}
-use Rattle.cc_rules_flows.specs.Nexts.{statement_of}
+use Rattle.cc_rules_asked.specs.CcRulesFlows.Acts.{Act}
+use Rattle.cc_rules_asked.specs.CcRulesFlows.Nexts.{statement_of}
 use Rattle.cc_rules_functions.specs.declared.functions.Function.{Function}
 use Rattle.cc_rules_functions.specs.Functions.{AreFunctionsOf}
 use Rattle.cc_rules_numbered.specs.declared.constraints.Rule.{Rule}
@@ -28,9 +28,9 @@ use Rattle.cc_rules_readers.specs.Points.{points_that, may_call_in, there_called
 use Rattle.cc_rules_readers.specs.View.{named_view, calls_it, is_some_call, IsDeedAt, AreDeeds, by_rule, start_readers}
 use Rattle.cc_rules_readers.proofs.Doing.{calls_deed, some_call_deed, callers_are}
 use Rattle.cc_rules_readers.proofs.Numbers.{is_itself, are_equal, none_passes, one_passes, not_passed}
-use Rattle.cc_state_facts.specs.declared.facts.Facts.{Facts}
-use Rattle.cc_state_keys.proofs.Grown.{grown}
-use Rattle.cc_state_keys.specs.Tracked.{tracked}
+use Rattle.cc_rules_asked.specs.CcStateFacts.declared.facts.Facts.{Facts}
+use Rattle.cc_rules_asked.proofs.CcStateKeys.Grown.{grown}
+use Rattle.cc_rules_asked.specs.CcStateKeys.Tracked.{tracked}
 
 -- ---- lists
 

@@ -5,18 +5,18 @@ use Rattle.std.specs.List.{list_any}
 use Rattle.std.proofs.lemmas.List.{at_drop_more, at_drop_all}
 use Rattle.std.proofs.lemmas.List.Sums.{sum_by-cons}
 use Rattle.std.proofs.lemmas.Option.{slice_get-map, slice_get-get_or, slice_get_within}
-use Rattle.cc_flow.proofs.Paths.{all_counted}
-use Rattle.cc_flow.specs.declared.types.Point.{Point}
-use Rattle.cc_flow.specs.Points.{count_in, body_count, flow_of}
+use Rattle.cc_rules_asked.proofs.CcFlow.Paths.{all_counted}
+use Rattle.cc_rules_asked.specs.CcFlow.declared.types.Point.{Point}
+use Rattle.cc_rules_asked.specs.CcFlow.Points.{count_in, body_count, flow_of}
 use Rattle.cc_program.specs.declared.func.Func.{Func}
 use Rattle.cc_program.specs.declared.program.Program.{Program}
-use Rattle.cc_rules.specs.Constraints.{Flow, Stability}
+use Rattle.cc_rules_asked.specs.CcRules.Constraints.{Flow, Stability}
 use Rattle.cc_rules_again.specs.Again.{number_at, ids, at_each, does, does_in, read, through_pointers, is_entered, is_unstable}
 use Rattle.cc_rules_again.specs.Named as is
 use Rattle.cc_rules_asked.specs.Unstable.{AreCellKeysOf, key_at}
 use Rattle.cc_rules_made.specs.declared.rules.Rules.{Rules}
 use Rattle.cc_rules_made.specs.Rules.{AreOf}
-use Rattle.cc_rules_needs.specs.Flowing.{numbers}
+use Rattle.cc_rules_asked.specs.CcRulesNeeds.Flowing.{numbers}
 use Rattle.cc_rules_readers.specs.declared.deeds.Deed.{Deed}
 use Rattle.cc_rules_readers.specs.declared.index.Index.{Index}
 use Rattle.cc_rules_readers.specs.declared.naming.Named.{Named}
@@ -25,11 +25,11 @@ use Rattle.cc_rules_readers.specs.Points.{points_that, reads_in, is_entered_by, 
 use Rattle.cc_rules_readers.specs.View.{named_view, IsDeedAt, AreDeeds}
 use Rattle.cc_rules_readers.proofs.Doing.{as_long, at_those, read_deed}
 use Rattle.cc_rules_readers.proofs.Numbers.{none_passes}
-use Rattle.cc_state_facts.specs.declared.facts.Facts.{Facts}
-use Rattle.cc_state_facts.specs.declared.facts.Key.TheVariants as key
-use Rattle.cc_state_facts.specs.Facts.{mark_of}
-use Rattle.cc_state_keys.specs.Keys.{key_number}
-use Rattle.cc_state_keys.specs.Tracked.{tracked}
+use Rattle.cc_rules_asked.specs.CcStateFacts.declared.facts.Facts.{Facts}
+use Rattle.cc_rules_asked.specs.CcStateFacts.declared.facts.Key.TheVariants as key
+use Rattle.cc_rules_asked.specs.CcStateFacts.Facts.{mark_of}
+use Rattle.cc_rules_asked.specs.CcStateKeys.Keys.{key_number}
+use Rattle.cc_rules_asked.specs.CcStateKeys.Tracked.{tracked}
 
 -- ---- a loop that looks for one that passes
 

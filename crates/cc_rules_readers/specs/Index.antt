@@ -8,8 +8,8 @@ use Rattle.cc_rules_readers.specs.declared.naming.Named.TheVariants as named
 use Rattle.cc_rules_readers.specs.declared.picked.Test.TheVariants as test
 use Rattle.cc_rules_readers.specs.Points.{points_that, passes_in, group, group_at}
 use Rattle.cc_rules_readers.specs.View.{AreDeeds}
-use Rattle.cc_state_facts.specs.declared.facts.Key.{Key}
-use Rattle.cc_state_facts.specs.declared.facts.Key.TheVariants as key
+use Rattle.cc_rules_asked.specs.CcStateFacts.declared.facts.Key.{Key}
+use Rattle.cc_rules_asked.specs.CcStateFacts.declared.facts.Key.TheVariants as key
 
 -- its lists are those of what the statements of the points do
 pub record IsIndexed (index : Index) : Type 0 where

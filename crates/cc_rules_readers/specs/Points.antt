@@ -2,12 +2,12 @@
 use Rattle.std.specs.Prelude.{ℕ, ◌<◌, ◌^◌, suc, ◌==◌, nat_lt, Bool, true, false, List, [], ◌∷◌, ◌++◌, map, length, take, drop, Option, Some, None, slice_get, if◌then◌else◌, Vec}
 use Rattle.std.specs.declared.alloc.Global.{Global}
 use Rattle.std.specs.List.{filter, flat_map, list_any}
-use Rattle.cc_rules.specs.Constraints.{Flow, Write, Touch, Call, Back, Return, Handler, Stability}
+use Rattle.cc_rules_asked.specs.CcRules.Constraints.{Flow, Write, Touch, Call, Back, Return, Handler, Stability}
 use Rattle.cc_rules_again.specs.Again.{number_at}
 use Rattle.cc_rules_again.specs.Named as is
 use Rattle.cc_rules_functions.specs.declared.functions.Function.{Function}
 use Rattle.cc_rules_made.specs.declared.rules.Rules.{Rules}
-use Rattle.cc_rules_needs.specs.Flowing.{numbers}
+use Rattle.cc_rules_asked.specs.CcRulesNeeds.Flowing.{numbers}
 use Rattle.cc_rules_readers.specs.declared.deeds.Called.{Called}
 use Rattle.cc_rules_readers.specs.declared.deeds.Called.TheVariants as called
 use Rattle.cc_rules_readers.specs.declared.deeds.Deed.{Deed}
@@ -18,10 +18,10 @@ use Rattle.cc_rules_readers.specs.declared.naming.Named.{Named}
 use Rattle.cc_rules_readers.specs.declared.picked.Test.{Test}
 use Rattle.cc_rules_readers.specs.declared.picked.Test.TheVariants as test
 use Rattle.cc_rules_readers.specs.View.{named_view, calls_it, object_of, function_of, member_of}
-use Rattle.cc_state_facts.specs.declared.facts.Facts.{Facts}
-use Rattle.cc_state_facts.specs.declared.facts.Key.TheVariants as key
-use Rattle.cc_state_facts.specs.Facts.{mark_of, levels_of}
-use Rattle.cc_state_facts.specs.Levels.{one_may_enter}
+use Rattle.cc_rules_asked.specs.CcStateFacts.declared.facts.Facts.{Facts}
+use Rattle.cc_rules_asked.specs.CcStateFacts.declared.facts.Key.TheVariants as key
+use Rattle.cc_rules_asked.specs.CcStateFacts.Facts.{mark_of, levels_of}
+use Rattle.cc_rules_asked.specs.CcStateFacts.Levels.{one_may_enter}
 
 -- ---- points whose statements do something
 

@@ -1,19 +1,19 @@
 -- What the statement at a point does, as the code has it.
 use Rattle.std.specs.Prelude.{◌≡◌, ℕ, ◌==◌, Bool, true, false, List, [], Option, Some, None, is_none, slice_get, if◌then◌else◌}
 use Rattle.std.specs.List.{AllZip}
-use Rattle.cc_flow.specs.declared.types.Point.{Point}
-use Rattle.cc_flow.specs.Points.{flow_of}
-use Rattle.cc_flow_sound.specs.Moves.{entry}
+use Rattle.cc_rules_asked.specs.CcFlow.declared.types.Point.{Point}
+use Rattle.cc_rules_asked.specs.CcFlow.Points.{flow_of}
+use Rattle.cc_rules_asked.specs.CcFlowSound.Moves.{entry}
 use Rattle.cc_program.specs.declared.expr.Expr.{Expr, out-Expr}
 use Rattle.cc_program.specs.declared.expr.Expr.TheOpen as one
 use Rattle.cc_program.specs.declared.expr.Place.{Place, out-Place}
 use Rattle.cc_program.specs.declared.func.Func.{Func}
 use Rattle.cc_program.specs.declared.program.Program.{Program}
-use Rattle.cc_rules.specs.Rules.{act_at}
+use Rattle.cc_rules_asked.specs.CcRules.Rules.{act_at}
 use Rattle.cc_rules_again.specs.Again.{written, accessed, returns, entry_readers}
 use Rattle.cc_rules_again.specs.Named as is
-use Rattle.cc_rules_flows.specs.Acts.{Act, Reads, Calls}
-use Rattle.cc_rules_flows.specs.Nexts.{statement_of}
+use Rattle.cc_rules_asked.specs.CcRulesFlows.Acts.{Act, Reads, Calls}
+use Rattle.cc_rules_asked.specs.CcRulesFlows.Nexts.{statement_of}
 use Rattle.cc_rules_numbered.specs.declared.constraints.Rule.{Rule}
 use Rattle.cc_rules_numbered.specs.declared.constraints.Rule.TheVariants as rule
 use Rattle.cc_rules_readers.specs.declared.deeds.Called.{Called}
@@ -21,10 +21,10 @@ use Rattle.cc_rules_readers.specs.declared.deeds.Called.TheVariants as called
 use Rattle.cc_rules_readers.specs.declared.deeds.Deed.{Deed}
 use Rattle.cc_rules_readers.specs.declared.naming.Named.{Named}
 use Rattle.cc_rules_readers.specs.declared.naming.Named.TheVariants as named
-use Rattle.cc_state_facts.specs.declared.facts.Key.{Key}
-use Rattle.cc_state_facts.specs.declared.facts.Key.TheVariants as key
-use Rattle.cc_state_keys.specs.Tracked.{tracked}
-use Rattle.cc_state_reads.specs.Reads.{object_in}
+use Rattle.cc_rules_asked.specs.CcStateFacts.declared.facts.Key.{Key}
+use Rattle.cc_rules_asked.specs.CcStateFacts.declared.facts.Key.TheVariants as key
+use Rattle.cc_rules_asked.specs.CcStateKeys.Tracked.{tracked}
+use Rattle.cc_rules_asked.specs.CcStateReads.Reads.{object_in}
 
 abbrev pub named_view : Named → is.Named
 named_view named.NoKey = is.NoKey

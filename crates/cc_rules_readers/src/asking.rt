@@ -2,9 +2,9 @@
 
 ghost use Rattle.std.specs.List.{flat_map};
 ghost use Rattle.std.specs.Prelude.{◌≡◌, ◌++◌, [], Some, map, slice_get, unwrap_or, OnOk, if◌then◌else◌};
-ghost use Rattle.cc_flow.specs.Points.{flow_of};
-ghost use Rattle.cc_lattice.specs.Systems.{BeginsWith};
-ghost use Rattle.cc_rules.specs.Constraints.{Back};
+ghost use Rattle.cc_rules_asked.specs.CcFlow.Points.{flow_of};
+ghost use Rattle.cc_rules_asked.specs.CcLattice.Systems.{BeginsWith};
+ghost use Rattle.cc_rules_asked.specs.CcRules.Constraints.{Back};
 ghost use Rattle.cc_rules_again.specs.Again.{number_at, point_readers, whole_readers, again_at, again_of};
 ghost use Rattle.cc_rules_again.specs.Named.{EachKey};
 ghost use Rattle.cc_rules_made.specs.Rules.{AreOf};
@@ -20,11 +20,11 @@ use crate::naming::Named;
 use crate::points::{put_callers, put_entry_readers, put_next_readers, put_point_readers};
 use crate::stability::put_touch_readers;
 use crate::whole::put_whole_readers;
-use cc_flow::{Flow, Point};
-use cc_num::{NoMemory, at};
+use cc_program::num::{NoMemory, at};
+use cc_rules_asked::flow::{Flow, Point};
+use cc_rules_asked::state_facts::Facts;
 use cc_rules_made::Rules;
 use cc_rules_numbered::{Constraint, Rule};
-use cc_state_facts::Facts;
 use std::alloc::Global;
 
 /// Puts those that read what is known behind a call.

@@ -2,7 +2,7 @@
 
 ghost use Rattle.std.specs.List.{filter, flat_map};
 ghost use Rattle.std.specs.Prelude.{◌≡◌, ◌++◌, Some, slice_get, OnOk};
-ghost use Rattle.cc_rules.specs.Rules.{handlers as handlers_of};
+ghost use Rattle.cc_rules_asked.specs.CcRules.Rules.{handlers as handlers_of};
 ghost use Rattle.cc_rules_again.specs.Again.{ids, call_readers, entry_readers};
 ghost use Rattle.cc_rules_made.specs.Rules.{AreOf};
 ghost use Rattle.cc_rules_readers.specs.Index.{IsIndexOf};
@@ -14,9 +14,9 @@ use crate::index::Index;
 use crate::naming::Named;
 use crate::points::put_entry_readers;
 use crate::whole::put_whole_readers;
-use cc_num::{NoMemory, at};
+use cc_program::num::{NoMemory, at};
+use cc_rules_asked::state_facts::Facts;
 use cc_rules_made::Rules;
-use cc_state_facts::Facts;
 use std::alloc::Global;
 
 /// Puts those that read what a call of a function raises, where it is one.

@@ -1,27 +1,27 @@
 //! What the statement at each point does, as far as that decides which constraints are asked again.
 
 ghost use Rattle.std.specs.Prelude.{◌≡◌, ℕ, is_some, is_none, true, Some, slice_get, IfOk, if◌then◌else◌};
-ghost use Rattle.cc_flow.specs.Points.{flow_of};
+ghost use Rattle.cc_rules_asked.specs.CcFlow.Points.{flow_of};
 ghost use Rattle.cc_program.specs.declared.expr.Expr.{out-Expr};
 ghost use Rattle.cc_program.specs.declared.expr.Place.{out-Place};
-ghost use Rattle.cc_registers.specs.Kept.{AreKept};
-ghost use Rattle.cc_rules.specs.Rules.{act_at};
+ghost use Rattle.cc_rules_asked.specs.CcRegisters.Kept.{AreKept};
+ghost use Rattle.cc_rules_asked.specs.CcRules.Rules.{act_at};
 ghost use Rattle.cc_rules_again.specs.Again.{written as written_of, accessed as accessed_of, returns as returns_of};
 ghost use Rattle.cc_rules_again.specs.Named.{named as named_of};
-ghost use Rattle.cc_rules_flows.specs.Nexts.{statement_of};
-ghost use Rattle.cc_rules_flows.specs.View.{act_view};
+ghost use Rattle.cc_rules_asked.specs.CcRulesFlows.Nexts.{statement_of};
+ghost use Rattle.cc_rules_asked.specs.CcRulesFlows.View.{act_view};
 ghost use Rattle.cc_rules_made.specs.Rules.{AreOf};
 ghost use Rattle.cc_rules_readers.specs.View.{named_view, no_key, callee_of, called_of, read_in, IsDeedBy, IsDeedAt, AreDeeds};
-ghost use Rattle.cc_state_reads.specs.Reads.{object_in};
+ghost use Rattle.cc_rules_asked.specs.CcStateReads.Reads.{object_in};
 
 use crate::naming::{Named, keys_named};
-use cc_flow::Point;
-use cc_num::{List, NoMemory, at};
+use cc_program::num::{List, NoMemory, at};
 use cc_program::{Expr, Func, Place};
-use cc_rules_flows::{Act, Body, statement_at};
+use cc_rules_asked::flow::Point;
+use cc_rules_asked::rules_flows::{Act, Body, statement_at};
+use cc_rules_asked::state_keys::number_in;
 use cc_rules_functions::Function;
 use cc_rules_made::Rules;
-use cc_state_keys::number_in;
 use std::alloc::Global;
 
 /// Which functions a statement may call.

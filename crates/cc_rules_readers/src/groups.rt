@@ -2,10 +2,10 @@
 
 ghost use Rattle.std.specs.Prelude.{◌≡◌, ◌≤◌, ◌<◌, ◌++◌, ℕ, length, slice_get, option_and_then, vec_len, IfOk, OnOk};
 ghost use Rattle.cc_rules_readers.specs.Points.{list_at, group_at, group_of as group_of_deed, callee_in as callee_of, is_that, group};
-ghost use Rattle.cc_state_keys.specs.Lists.{only_if};
+ghost use Rattle.cc_rules_asked.specs.CcStateKeys.Lists.{only_if};
 
 use crate::deeds::{Called, Deed};
-use cc_num::{NoMemory, at};
+use cc_program::num::{NoMemory, at};
 use std::alloc::Global;
 
 /// By what points are put into groups.

@@ -1,7 +1,7 @@
 //! What is told once of a program: of each point what its statement does, and points by what they do.
 
 ghost use Rattle.std.specs.Prelude.{◌≡◌, ◌≤◌, length, IfOk};
-ghost use Rattle.cc_flow.specs.Points.{count_of};
+ghost use Rattle.cc_rules_asked.specs.CcFlow.Points.{count_of};
 ghost use Rattle.cc_rules_made.specs.Rules.{AreOf};
 ghost use Rattle.cc_rules_readers.specs.Index.{IsIndexed, IsIndexOf};
 
@@ -9,7 +9,7 @@ use crate::deeds::{Deed, deeds_of};
 use crate::groups::{By, Groups, grouped};
 use crate::naming::Named;
 use crate::picked::{Test, picked};
-use cc_num::{List, NoMemory};
+use cc_program::num::{List, NoMemory};
 use cc_rules_made::Rules;
 use std::alloc::Global;
 

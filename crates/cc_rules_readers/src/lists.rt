@@ -2,7 +2,7 @@
 
 ghost use Rattle.std.specs.List.{filter, All};
 ghost use Rattle.std.specs.Prelude.{◌≡◌, ◌≤◌, ◌<◌, ◌++◌, map, length, take, drop, slice_get, OnOk};
-ghost use Rattle.cc_rules.specs.Constraints.{Flow};
+ghost use Rattle.cc_rules_asked.specs.CcRules.Constraints.{Flow};
 ghost use Rattle.cc_rules_again.specs.Again.{place_of as place_of_rule, number_at as number_at_of};
 ghost use Rattle.cc_rules_numbered.specs.Numbered.{rule_view};
 ghost use Rattle.cc_rules_readers.specs.Points.{on, reads_in, own_numbers, count_below, merged};
@@ -10,7 +10,7 @@ ghost use Rattle.cc_rules_readers.specs.Points.{on, reads_in, own_numbers, count
 use crate::deeds::Deed;
 use crate::naming::Named;
 use crate::picked::{Test, passes_at};
-use cc_num::NoMemory;
+use cc_program::num::NoMemory;
 use cc_rules_numbered::Rule;
 
 /// The position of a rule among those of a point.

@@ -5,8 +5,8 @@ ghost use Rattle.cc_rules_again.specs.Named.{concerns as concerns_of, is_member 
 ghost use Rattle.cc_rules_readers.specs.View.{named_view, key_object, key_function, key_member, object_of, function_of, member_of};
 
 use cc_program::Place;
-use cc_state_facts::Key;
-use cc_state_keys::is_key;
+use cc_rules_asked::state_facts::Key;
+use cc_rules_asked::state_keys::is_key;
 
 /// The keys that a place may name.
 #[derive(Clone, Copy)]

@@ -5,7 +5,7 @@ ghost use Rattle.cc_rules_readers.specs.Points.{on, is_each_call, passes_in, poi
 
 use crate::deeds::{Called, Deed};
 use crate::naming::Named;
-use cc_num::{NoMemory, at};
+use cc_program::num::{NoMemory, at};
 use cc_rules_asked::mark;
 use std::alloc::Global;
 

@@ -2,8 +2,8 @@
 
 ghost use Rattle.std.specs.List.{flat_map};
 ghost use Rattle.std.specs.Prelude.{◌≡◌, ◌++◌, [], map, slice_get, OnOk, if◌then◌else◌};
-ghost use Rattle.cc_flow_sound.specs.Moves.{entry as entry_of};
-ghost use Rattle.cc_rules.specs.Constraints.{Back};
+ghost use Rattle.cc_rules_asked.specs.CcFlowSound.Moves.{entry as entry_of};
+ghost use Rattle.cc_rules_asked.specs.CcRules.Constraints.{Back};
 ghost use Rattle.cc_rules_again.specs.Again.{number_at, point_readers, entry_readers};
 ghost use Rattle.cc_rules_made.specs.Rules.{AreOf};
 ghost use Rattle.cc_rules_readers.specs.Index.{IsIndexed, IsIndexOf};
@@ -11,7 +11,7 @@ ghost use Rattle.cc_rules_readers.specs.Points.{points_that, is_of, may_call_in,
 
 use crate::index::Index;
 use crate::lists::{put_merged, put_own, put_rule};
-use cc_num::{NoMemory, at};
+use cc_program::num::{NoMemory, at};
 use cc_rules_functions::Function;
 use cc_rules_made::Rules;
 use cc_rules_numbered::Rule;

@@ -1,7 +1,7 @@
 //! The constraints of tracked cells that handlers which may enter may write.
 
 ghost use Rattle.std.specs.Prelude.{◌≡◌, ◌++◌, ◌&&◌, true, map, IfOk, OnOk};
-ghost use Rattle.cc_rules.specs.Constraints.{Stability};
+ghost use Rattle.cc_rules_asked.specs.CcRules.Constraints.{Stability};
 ghost use Rattle.cc_rules_again.specs.Again.{ids, at_each, is_unstable as is_unstable_of, touch_readers};
 ghost use Rattle.cc_rules_again.specs.Named.{concerns as concerns_of};
 ghost use Rattle.cc_rules_asked.specs.Unstable.{key_at as key_at_of};
@@ -14,11 +14,11 @@ use crate::index::Index;
 use crate::lists::put_rule;
 use crate::naming::Named;
 use crate::picked::{Test, picked};
-use cc_num::{NoMemory, at};
+use cc_program::num::{NoMemory, at};
 use cc_rules_asked::levels;
+use cc_rules_asked::state_facts::{Facts, Key, one_may_enter};
 use cc_rules_made::Rules;
 use cc_rules_numbered::Rule;
-use cc_state_facts::{Facts, Key, one_may_enter};
 use std::alloc::Global;
 
 /// Whether handlers that may enter over a function may write a key, by its number.

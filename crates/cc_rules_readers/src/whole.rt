@@ -1,7 +1,7 @@
 //! The constraints that read what keys have in the whole run.
 
 ghost use Rattle.std.specs.Prelude.{◌≡◌, ◌++◌, map, OnOk};
-ghost use Rattle.cc_rules.specs.Constraints.{Flow};
+ghost use Rattle.cc_rules_asked.specs.CcRules.Constraints.{Flow};
 ghost use Rattle.cc_rules_again.specs.Again.{number_at, whole_readers};
 ghost use Rattle.cc_rules_made.specs.Rules.{AreOf};
 ghost use Rattle.cc_rules_readers.specs.Index.{IsIndexed, IsIndexOf, key_candidates, candidates as candidates_of};
@@ -12,10 +12,10 @@ use crate::index::Index;
 use crate::lists::{put_reads, put_rule};
 use crate::naming::Named;
 use crate::stability::put_stability_readers;
-use cc_num::NoMemory;
+use cc_program::num::NoMemory;
+use cc_rules_asked::state_facts::{Facts, Key};
 use cc_rules_made::Rules;
 use cc_rules_numbered::Rule;
-use cc_state_facts::{Facts, Key};
 use std::alloc::Global;
 
 /// Points among which are those that read a key without a pointer.

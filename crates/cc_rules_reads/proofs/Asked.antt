@@ -2,40 +2,40 @@
 use Rattle.std.proofs.Common.{◌≡◌, ℕ, suc, ◌==◌, Bool, true, false, List, [], ◌∷◌, ◌++◌, map, length, Contains, Option, Some, None, slice_get, refl, ap, sym, ◌∙◌, subst}
 use Rattle.std.specs.Prelude.{option_and_then, if◌then◌else◌}
 use Rattle.std.specs.List.{AllZip, filter}
-use Rattle.cc_flow.specs.declared.types.Point.{Point}
-use Rattle.cc_flow_sound.specs.Moves.{entry}
-use Rattle.cc_places.specs.Abstract.{AreOfOneKind}
-use Rattle.cc_places.specs.declared.abs.Abs.{Abs}
-use Rattle.cc_places.specs.declared.abs.Abs.TheVariants as abs
-use Rattle.cc_places.specs.laws.ListLaws.{at_head, behind_head}
+use Rattle.cc_rules.specs.CcFlow.declared.types.Point.{Point}
+use Rattle.cc_rules.specs.CcFlowSound.Moves.{entry}
+use Rattle.cc_rules.specs.CcPlaces.Abstract.{AreOfOneKind}
+use Rattle.cc_rules.specs.CcPlaces.declared.abs.Abs.{Abs}
+use Rattle.cc_rules.specs.CcPlaces.declared.abs.Abs.TheVariants as abs
+use Rattle.cc_rules.specs.CcPlaces.laws.ListLaws.{at_head, behind_head}
 use Rattle.cc_program.specs.declared.expr.Expr.{Expr}
 use Rattle.cc_program.specs.declared.func.Func.{Func}
 use Rattle.cc_program.specs.declared.program.Program.{Program}
 use Rattle.cc_rules.specs.Constraints.{Rule, Initial, Start, Flow, Write, Touch, Call, Back, Return, Handler, Stability, Constraint}
 use Rattle.cc_rules.specs.Rules.{handlers, act_at, NeedsAt, AreFirstSets, IsFirstSet, IsStarted, AtStart, Elsewhere, IsStart, ComesToEach, ComesTo, flows_to, Written, OfWrite, OfNone, Touched, ByRead, ByWrite, ByNone, AreCalled, ForEach, at_entry, need_whole, other_parameters, Entered, IsResult, OfMain, OfOther, IsGiven, ToRegister, ToNone, Returned, FromExit, NoExit, CallAsks, OfEntries, OfReturns, OfNoCall, Given, OfReturn, OfNoValue, at_handler, interrupted, entering, whole_number, is_written, is_unstable, unstable_cell, unstable, HandlersAsk, AskedHere, AskedIn, IsAsked}
-use Rattle.cc_rules_flows.specs.Acts.{Act}
-use Rattle.cc_rules_flows.specs.Nexts.{statement_of, exit_of}
-use Rattle.cc_rules_needs.proofs.Zips.{AreSome, some_at}
-use Rattle.cc_rules_needs.specs.declared.needs.Part.TheVariants.{Mark, LevelSet, Values}
-use Rattle.cc_rules_needs.specs.declared.needs.Slot.{Slot}
-use Rattle.cc_rules_needs.specs.declared.needs.Slot.TheVariants.{HandlerReads, HandlerWrites, ReadLevels, WriteLevels, ByMain, ByHandler, Levels, From, CellAt, Apart}
-use Rattle.cc_rules_needs.specs.Flowing.{Flowing, each_pair, numbers}
-use Rattle.cc_rules_needs.specs.Needs.{Needs}
+use Rattle.cc_rules.specs.CcRulesFlows.Acts.{Act}
+use Rattle.cc_rules.specs.CcRulesFlows.Nexts.{statement_of, exit_of}
+use Rattle.cc_rules.proofs.CcRulesNeeds.Zips.{AreSome, some_at}
+use Rattle.cc_rules.specs.CcRulesNeeds.declared.needs.Part.TheVariants.{Mark, LevelSet, Values}
+use Rattle.cc_rules.specs.CcRulesNeeds.declared.needs.Slot.{Slot}
+use Rattle.cc_rules.specs.CcRulesNeeds.declared.needs.Slot.TheVariants.{HandlerReads, HandlerWrites, ReadLevels, WriteLevels, ByMain, ByHandler, Levels, From, CellAt, Apart}
+use Rattle.cc_rules.specs.CcRulesNeeds.Flowing.{Flowing, each_pair, numbers}
+use Rattle.cc_rules.specs.CcRulesNeeds.Needs.{Needs}
 use Rattle.cc_rules_reads.proofs.Called.{may_call}
 use Rattle.cc_rules_reads.proofs.Same.{value_same, values_same, keys_same, flows_same, filter_same}
 use Rattle.cc_rules_reads.specs.Reads.{AreSameByHandler, AreSameFrom, AreSameLevels, AreSameMarks, AreSameGiven, AreSameTracked, AreSameWhole, AreSameHere, AreSameIn, AreSameFor}
 use Rattle.cc_state.proofs.Lists.{from_filter}
-use Rattle.cc_state_facts.specs.declared.facts.Facts.{Facts}
-use Rattle.cc_state_facts.specs.declared.facts.Key.{Key}
-use Rattle.cc_state_facts.specs.declared.facts.Key.TheVariants as key
-use Rattle.cc_state_facts.specs.declared.facts.PointFact.{PointFact}
-use Rattle.cc_state_facts.specs.Facts.{fact_at, mark_of, levels_of}
-use Rattle.cc_state_facts.specs.Levels.{may_enter, one_may_enter, only_level}
-use Rattle.cc_state_keys.specs.Keys.{keys_of, key_number}
-use Rattle.cc_state_keys.specs.Tracked.{registers, tracked}
-use Rattle.cc_state_operators.specs.Domains.{Domain}
-use Rattle.cc_state_reads.proofs.Joins.{kinds_through}
-use Rattle.cc_steps.specs.Turn.{level_of}
+use Rattle.cc_rules.specs.CcStateFacts.declared.facts.Facts.{Facts}
+use Rattle.cc_rules.specs.CcStateFacts.declared.facts.Key.{Key}
+use Rattle.cc_rules.specs.CcStateFacts.declared.facts.Key.TheVariants as key
+use Rattle.cc_rules.specs.CcStateFacts.declared.facts.PointFact.{PointFact}
+use Rattle.cc_rules.specs.CcStateFacts.Facts.{fact_at, mark_of, levels_of}
+use Rattle.cc_rules.specs.CcStateFacts.Levels.{may_enter, one_may_enter, only_level}
+use Rattle.cc_rules.specs.CcStateKeys.Keys.{keys_of, key_number}
+use Rattle.cc_rules.specs.CcStateKeys.Tracked.{registers, tracked}
+use Rattle.cc_rules.specs.CcStateOperators.Domains.{Domain}
+use Rattle.cc_rules.proofs.CcStateReads.Joins.{kinds_through}
+use Rattle.cc_rules.specs.CcSteps.Turn.{level_of}
 
 map_same_in : {A B : Type 0} (f g : A → B) (xs : List A) → ((x : A) → Contains xs x → f x ≡ g x) → map f xs ≡ map g xs
 map_same_in f g [] same = refl

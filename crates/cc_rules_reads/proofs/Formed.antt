@@ -1,21 +1,21 @@
 -- Which keys a place may name and which functions a call may reach, by their form.
 use Rattle.std.proofs.Common.{◌≡◌, ℕ, true, List, Contains, Option, Some, None, refl, sym, subst}
 use Rattle.std.specs.Prelude.{option_map, option_and_then}
-use Rattle.cc_places.specs.declared.abs.Abs.{Abs}
+use Rattle.cc_rules.specs.CcPlaces.declared.abs.Abs.{Abs}
 use Rattle.cc_program.specs.declared.expr.Expr.TheOpen as one
 use Rattle.cc_program.specs.declared.expr.Place.{Place, out-Place}
 use Rattle.cc_program.specs.declared.func.Func.{Func}
 use Rattle.cc_program.specs.declared.program.Program.{Program}
 use Rattle.cc_rules_reads.specs.Reads.{MayName, ByLocal, ByStatic, ByElement, ByMember, ByTarget}
 use Rattle.cc_state.proofs.Lists.{any_there, no_member, only_one}
-use Rattle.cc_state_facts.specs.declared.facts.Key.{Key}
-use Rattle.cc_state_facts.specs.declared.facts.Key.TheVariants as key
-use Rattle.cc_state_keys.proofs.Orders.{same_key}
-use Rattle.cc_state_keys.specs.Keys.{is_key, structure_of}
-use Rattle.cc_state_keys.specs.Lists.{only}
-use Rattle.cc_state_operators.specs.Domains.{Domain}
-use Rattle.cc_state_reads.specs.Named.{is_among, AreClasses, OfLocal, OfStatic, OfDevice, OfElement, OfMember, OfTarget}
-use Rattle.cc_syntax.specs.Programs.{place_type}
+use Rattle.cc_rules.specs.CcStateFacts.declared.facts.Key.{Key}
+use Rattle.cc_rules.specs.CcStateFacts.declared.facts.Key.TheVariants as key
+use Rattle.cc_rules.proofs.CcStateKeys.Orders.{same_key}
+use Rattle.cc_rules.specs.CcStateKeys.Keys.{is_key, structure_of}
+use Rattle.cc_rules.specs.CcStateKeys.Lists.{only}
+use Rattle.cc_rules.specs.CcStateOperators.Domains.{Domain}
+use Rattle.cc_rules.specs.CcStateReads.Named.{is_among, AreClasses, OfLocal, OfStatic, OfDevice, OfElement, OfMember, OfTarget}
+use Rattle.cc_rules.specs.CcSyntax.Programs.{place_type}
 
 module _ {I : Type 0} (d : Domain I) (p : Program) (id : ℕ) (f : Func) (register : ℕ → Option (Abs I)) where
   of_member : (a b : Place) (m : ℕ) (k : Key) → out-Place a ≡ one.Member b m → (s : Option ℕ) → option_and_then structure_of (place_type p f.locals b) ≡ s → Contains (only (option_map (λ s. key.Member s m) s)) k → MayName p id f k a

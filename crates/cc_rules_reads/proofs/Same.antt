@@ -2,30 +2,30 @@
 use Rattle.std.proofs.Common.{◌≡◌, ℕ, Bool, List, [], ◌∷◌, cond, Contains, Option, Some, None, slice_get, refl, ap, sym, ◌∙◌, subst}
 use Rattle.std.specs.Prelude.{option_and_then}
 use Rattle.std.specs.List.{filter}
-use Rattle.cc_flow.specs.declared.types.Point.{Point}
-use Rattle.cc_places.specs.declared.abs.Abs.{Abs}
+use Rattle.cc_rules.specs.CcFlow.declared.types.Point.{Point}
+use Rattle.cc_rules.specs.CcPlaces.declared.abs.Abs.{Abs}
 use Rattle.cc_program.specs.declared.expr.Expr.{Expr}
 use Rattle.cc_program.specs.declared.expr.Place.{Place, out-Place}
 use Rattle.cc_program.specs.declared.func.Func.{Func}
 use Rattle.cc_program.specs.declared.program.Program.{Program}
 use Rattle.cc_rules.specs.Rules.{AreValues, AreNumbers, AreKeys}
-use Rattle.cc_rules_flows.specs.Acts.{Act}
-use Rattle.cc_rules_flows.specs.Flows.{Flows, OfSets, OfReads, OfWrites, OfTurns, OfSaves, OfSavesAlone, OfRestores, OfTests, OfReturns, OfPasses, OfCalls, Side, Taken, Barred, Untaken, IsSide, IsTaken, AreSides, equals, equal_to}
-use Rattle.cc_rules_flows.specs.Tests.{Test, MayPass, IsLeft, IsLeftBy}
-use Rattle.cc_rules_needs.specs.Flowing.{Flowing}
+use Rattle.cc_rules.specs.CcRulesFlows.Acts.{Act}
+use Rattle.cc_rules.specs.CcRulesFlows.Flows.{Flows, OfSets, OfReads, OfWrites, OfTurns, OfSaves, OfSavesAlone, OfRestores, OfTests, OfReturns, OfPasses, OfCalls, Side, Taken, Barred, Untaken, IsSide, IsTaken, AreSides, equals, equal_to}
+use Rattle.cc_rules.specs.CcRulesFlows.Tests.{Test, MayPass, IsLeft, IsLeftBy}
+use Rattle.cc_rules.specs.CcRulesNeeds.Flowing.{Flowing}
 use Rattle.cc_rules_reads.specs.Reads.{MayName, AreSameRead}
 use Rattle.cc_rules_reads.proofs.Formed.{named_formed}
 use Rattle.cc_state.proofs.Lists.{from_filter}
-use Rattle.cc_state_facts.specs.declared.facts.Facts.{Facts}
-use Rattle.cc_state_facts.specs.declared.facts.Key.{Key}
-use Rattle.cc_state_facts.specs.declared.facts.PointFact.{PointFact}
-use Rattle.cc_state_facts.specs.Facts.{fact_at, cell_of, local_of}
-use Rattle.cc_state_keys.specs.Keys.{keys_of, key_number}
-use Rattle.cc_state_keys.specs.Tracked.{registers, register_number}
-use Rattle.cc_state_operators.specs.Domains.{Domain, IsUnion}
-use Rattle.cc_state_reads.specs.Named.{is_among}
-use Rattle.cc_state_reads.specs.Reads.{registers_at, whole_of, tracked_in, IsOfKeys, AreNamed, IsByKeys, IsRead, OfTracked, OfDevice, OfOther}
-use Rattle.cc_state_values.specs.Values.{IsVal}
+use Rattle.cc_rules.specs.CcStateFacts.declared.facts.Facts.{Facts}
+use Rattle.cc_rules.specs.CcStateFacts.declared.facts.Key.{Key}
+use Rattle.cc_rules.specs.CcStateFacts.declared.facts.PointFact.{PointFact}
+use Rattle.cc_rules.specs.CcStateFacts.Facts.{fact_at, cell_of, local_of}
+use Rattle.cc_rules.specs.CcStateKeys.Keys.{keys_of, key_number}
+use Rattle.cc_rules.specs.CcStateKeys.Tracked.{registers, register_number}
+use Rattle.cc_rules.specs.CcStateOperators.Domains.{Domain, IsUnion}
+use Rattle.cc_rules.specs.CcStateReads.Named.{is_among}
+use Rattle.cc_rules.specs.CcStateReads.Reads.{registers_at, whole_of, tracked_in, IsOfKeys, AreNamed, IsByKeys, IsRead, OfTracked, OfDevice, OfOther}
+use Rattle.cc_rules.specs.CcStateValues.Values.{IsVal}
 
 pub filter_same : {A : Type 0} (test other : A → Bool) (xs : List A) → ((x : A) → test x ≡ other x) → filter test xs ≡ filter other xs
 filter_same test other [] same = refl

@@ -1,8 +1,8 @@
 -- What a constraint reads of facts. Facts that are the same there are asked the same.
 use Rattle.std.specs.Prelude.{◌≡◌, ℕ, true, List, Option, Some, None, option_and_then, slice_get}
 use Rattle.std.specs.List.{AllZip}
-use Rattle.cc_flow.specs.declared.types.Point.{Point}
-use Rattle.cc_places.specs.Abstract.{AreOfOneKind}
+use Rattle.cc_rules.specs.CcFlow.declared.types.Point.{Point}
+use Rattle.cc_rules.specs.CcPlaces.Abstract.{AreOfOneKind}
 use Rattle.cc_program.specs.declared.expr.Expr.{Expr, out-Expr}
 use Rattle.cc_program.specs.declared.expr.Expr.TheOpen as one
 use Rattle.cc_program.specs.declared.expr.Place.{Place, out-Place}
@@ -10,17 +10,17 @@ use Rattle.cc_program.specs.declared.func.Func.{Func}
 use Rattle.cc_program.specs.declared.program.Program.{Program}
 use Rattle.cc_rules.specs.Constraints.{Rule, Initial, Start, Flow, Write, Touch, Call, Back, Return, Handler, Stability, Constraint}
 use Rattle.cc_rules.specs.Rules.{act_at}
-use Rattle.cc_rules_flows.specs.Acts.{Act, Reads, Calls}
-use Rattle.cc_rules_flows.specs.Nexts.{IsPoint, statement_of, exit_of}
-use Rattle.cc_state_facts.specs.declared.facts.Facts.{Facts}
-use Rattle.cc_state_facts.specs.declared.facts.Key.{Key}
-use Rattle.cc_state_facts.specs.declared.facts.Key.TheVariants as key
-use Rattle.cc_state_facts.specs.Facts.{fact_at, mark_of, levels_of}
-use Rattle.cc_state_facts.specs.Levels.{one_may_enter}
-use Rattle.cc_state_keys.specs.Keys.{key_number, structure_of}
-use Rattle.cc_state_keys.specs.Tracked.{tracked}
-use Rattle.cc_state_reads.specs.Reads.{tracked_in}
-use Rattle.cc_syntax.specs.Programs.{place_type}
+use Rattle.cc_rules.specs.CcRulesFlows.Acts.{Act, Reads, Calls}
+use Rattle.cc_rules.specs.CcRulesFlows.Nexts.{IsPoint, statement_of, exit_of}
+use Rattle.cc_rules.specs.CcStateFacts.declared.facts.Facts.{Facts}
+use Rattle.cc_rules.specs.CcStateFacts.declared.facts.Key.{Key}
+use Rattle.cc_rules.specs.CcStateFacts.declared.facts.Key.TheVariants as key
+use Rattle.cc_rules.specs.CcStateFacts.Facts.{fact_at, mark_of, levels_of}
+use Rattle.cc_rules.specs.CcStateFacts.Levels.{one_may_enter}
+use Rattle.cc_rules.specs.CcStateKeys.Keys.{key_number, structure_of}
+use Rattle.cc_rules.specs.CcStateKeys.Tracked.{tracked}
+use Rattle.cc_rules.specs.CcStateReads.Reads.{tracked_in}
+use Rattle.cc_rules.specs.CcSyntax.Programs.{place_type}
 
 -- ---- what an access and a call may concern, by their form alone
 

@@ -1,12 +1,12 @@
 ghost use Rattle.cc_program.specs.declared.program.Program.{Program};
 ghost use Rattle.cc_rules.specs.Constraints.{Constraint};
 ghost use Rattle.cc_rules.specs.Rules.{IsAsked};
-ghost use Rattle.cc_rules_needs.specs.Needs.{Needs};
+ghost use Rattle.cc_rules.specs.CcRulesNeeds.Needs.{Needs};
 ghost use Rattle.cc_rules_reads.specs.Reads.{AreSameFor};
-ghost use Rattle.cc_state_facts.specs.declared.facts.Facts.{Facts};
-ghost use Rattle.cc_state_operators.specs.Domains.{domain};
+ghost use Rattle.cc_rules.specs.CcStateFacts.declared.facts.Facts.{Facts};
+ghost use Rattle.cc_rules.specs.CcStateOperators.Domains.{domain};
 
-use cc_lattice::IntDomain;
+use cc_rules::lattice::IntDomain;
 
 /// What constraints read of facts. The call does nothing.
 pub fn laws<I: IntDomain>()

@@ -3,8 +3,8 @@
 use Rattle.std.proofs.Common.{◌≡◌, ℕ, zero, suc, Bool, true, false, true≢false, List, [], ◌∷◌, map, Option, Some, None, refl, ap, sym, ◌∙◌, subst, slice_get}
 use Rattle.std.specs.Prelude.{is_some, if◌then◌else◌}
 use Rattle.std.proofs.lemmas.Option.{same_Some, none-some}
-use Rattle.cc_flow_sound.specs.Statements.{statement_at}
-use Rattle.cc_num.specs.declared.int_type.IntType.TheVariants as int
+use Rattle.cc_rules_grow.specs.CcFlowSound.Statements.{statement_at}
+use Rattle.cc_program.specs.CcNum.declared.int_type.IntType.TheVariants as int
 use Rattle.cc_program.specs.declared.expr.Expr.{Expr, out-Expr}
 use Rattle.cc_program.specs.declared.expr.Expr.TheOpen as one
 use Rattle.cc_program.specs.declared.expr.Intr.{Intr}
@@ -18,27 +18,27 @@ use Rattle.cc_program.specs.declared.stmt.Stmt.TheOpen as is
 use Rattle.cc_program.specs.declared.types.CType.{CType}
 use Rattle.cc_program.specs.declared.types.Sig.{Sig, out-Sig}
 use Rattle.cc_program.specs.Qualifiers.{is_const}
-use Rattle.cc_rules.specs.Rules.{act_at}
-use Rattle.cc_rules_flows.specs.Acts.{Act, Sets, Reads, Writes, Calls, Saves, Turns, Restores, Tests, Chooses, Returns, Passes, intrinsic, loads, gets, assigns, does, acts}
+use Rattle.cc_rules_grow.specs.CcRules.Rules.{act_at}
+use Rattle.cc_rules_grow.specs.CcRulesFlows.Acts.{Act, Sets, Reads, Writes, Calls, Saves, Turns, Restores, Tests, Chooses, Returns, Passes, intrinsic, loads, gets, assigns, does, acts}
 use Rattle.cc_rules_shaped.proofs.Texts.{statement_addressed, case_fold}
-use Rattle.cc_state_facts.specs.declared.facts.Key.{Key}
-use Rattle.cc_state_keys.specs.Addressed.{InExpr, all_taken, stmt_taken_step, taken_in_stmt, in_expr, in_place, taken_in}
-use Rattle.cc_state_points.proofs.Sound.{its_sound, sound_level}
-use Rattle.cc_state_values.proofs.Parts.{place_effects_at, typed_as, place_typed_as, by_place}
-use Rattle.cc_state_values.proofs.Rules.{one_there, two_there, when_there}
+use Rattle.cc_rules_grow.specs.CcStateFacts.declared.facts.Key.{Key}
+use Rattle.cc_rules_grow.specs.CcStateKeys.Addressed.{InExpr, all_taken, stmt_taken_step, taken_in_stmt, in_expr, in_place, taken_in}
+use Rattle.cc_rules_grow.proofs.CcStatePoints.Sound.{its_sound, sound_level}
+use Rattle.cc_rules_grow.proofs.CcStateValues.Parts.{place_effects_at, typed_as, place_typed_as, by_place}
+use Rattle.cc_rules_grow.proofs.CcStateValues.Rules.{one_there, two_there, when_there}
 use Rattle.cc_state_values_fit.proofs.Taken.{first_addressed, second_addressed, taken_as}
 use Rattle.cc_state_values_fit.specs.Fit.{AreAddressed}
-use Rattle.cc_states.proofs.Options.{mapped}
-use Rattle.cc_states.proofs.SoundLemmas.{parts}
-use Rattle.cc_syntax.proofs.Prefixes.{both_true}
-use Rattle.cc_syntax.specs.Effects.{PlaceEffects, place_effects_of}
-use Rattle.cc_syntax.specs.Expressions.{of_one}
-use Rattle.cc_syntax.specs.Normal.{IsNormal}
-use Rattle.cc_syntax.specs.Operators.{assignment_type, call_type, intrinsic_type}
-use Rattle.cc_syntax.specs.Pairs.{all_pairs}
-use Rattle.cc_syntax.specs.Programs.{type_of, place_type, sound_step}
-use Rattle.cc_syntax.specs.Types.{Named}
-use Rattle.cc_syntax.specs.Values.{ValueType, NoValue, Integer, ToObject, ToFunction, PlaceType, object_place, scalar_value, result_value, read_from, written_to, is_assignable, is_assignable_some, are_assignable}
+use Rattle.cc_rules_grow.proofs.CcStates.Options.{mapped}
+use Rattle.cc_rules_grow.proofs.CcStates.SoundLemmas.{parts}
+use Rattle.cc_rules_grow.proofs.CcSyntax.Prefixes.{both_true}
+use Rattle.cc_rules_grow.specs.CcSyntax.Effects.{PlaceEffects, place_effects_of}
+use Rattle.cc_rules_grow.specs.CcSyntax.Expressions.{of_one}
+use Rattle.cc_rules_grow.specs.CcSyntax.Normal.{IsNormal}
+use Rattle.cc_rules_grow.specs.CcSyntax.Operators.{assignment_type, call_type, intrinsic_type}
+use Rattle.cc_rules_grow.specs.CcSyntax.Pairs.{all_pairs}
+use Rattle.cc_rules_grow.specs.CcSyntax.Programs.{type_of, place_type, sound_step}
+use Rattle.cc_rules_grow.specs.CcSyntax.Types.{Named}
+use Rattle.cc_rules_grow.specs.CcSyntax.Values.{ValueType, NoValue, Integer, ToObject, ToFunction, PlaceType, object_place, scalar_value, result_value, read_from, written_to, is_assignable, is_assignable_some, are_assignable}
 
 pairs_at : {A B : Type 0} (fits : A → B → Bool) (xs : List A) (ys : List B) → all_pairs fits xs ys ≡ true → (i : ℕ) (y : B) → slice_get ys i ≡ Some y → (x : A) × (slice_get xs i ≡ Some x) × (fits x y ≡ true)
 pairs_at fits [] [] h i y e = absurd (none-some y e)

@@ -1,14 +1,14 @@
 -- What each constraint asks of facts of the shape fits, rule by rule.
 use Rattle.std.proofs.Common.{◌≡◌, ℕ, true, false, Option, Some, None, slice_get, refl, sym, subst}
-use Rattle.cc_flow.specs.declared.types.Point.{Point}
+use Rattle.cc_rules_grow.specs.CcFlow.declared.types.Point.{Point}
 use Rattle.cc_program.specs.declared.func.Func.{Func}
 use Rattle.cc_program.specs.declared.program.Program.{Program}
-use Rattle.cc_rules.specs.Constraints.{Rule, Initial, Start, Flow, Write, Touch, Call, Back, Return, Handler, Stability, Constraint}
-use Rattle.cc_rules.specs.Rules.{act_at, AskedHere, AskedIn, IsAsked}
-use Rattle.cc_rules_flows.specs.Acts.{Act}
-use Rattle.cc_rules_flows.specs.Nexts.{IsPoint, statement_of}
+use Rattle.cc_rules_grow.specs.CcRules.Constraints.{Rule, Initial, Start, Flow, Write, Touch, Call, Back, Return, Handler, Stability, Constraint}
+use Rattle.cc_rules_grow.specs.CcRules.Rules.{act_at, AskedHere, AskedIn, IsAsked}
+use Rattle.cc_rules_grow.specs.CcRulesFlows.Acts.{Act}
+use Rattle.cc_rules_grow.specs.CcRulesFlows.Nexts.{IsPoint, statement_of}
 use Rattle.cc_rules_grow.proofs.Kept.{IsKept, ValuesGrow}
-use Rattle.cc_rules_needs.specs.Needs.{Needs}
+use Rattle.cc_rules_grow.specs.CcRulesNeeds.Needs.{Needs}
 use Rattle.cc_rules_shaped.proofs.Acting.{AreTaken}
 use Rattle.cc_rules_shaped.proofs.Calling.{calls_fit}
 use Rattle.cc_rules_shaped.proofs.Flowing.{flow_fit}
@@ -18,15 +18,15 @@ use Rattle.cc_rules_shaped.proofs.Rules.{handlers_fit, stability_fit, touched_fi
 use Rattle.cc_rules_shaped.proofs.Starting.{started_fit, first_sets_fit}
 use Rattle.cc_rules_shaped.proofs.Writing.{written_fit, given_fit}
 use Rattle.cc_rules_shaped.specs.Shaped.{AreFit}
-use Rattle.cc_state.specs.Shape.{IsPointFact, HaveShape}
-use Rattle.cc_state_facts.specs.declared.facts.Facts.{Facts}
-use Rattle.cc_state_facts.specs.declared.facts.PointFact.{PointFact}
-use Rattle.cc_state_facts.specs.Facts.{fact_at}
-use Rattle.cc_state_operators.specs.Domains.{Domain}
-use Rattle.cc_state_values.proofs.Same.{IsOrdered}
+use Rattle.cc_rules_grow.specs.CcState.Shape.{IsPointFact, HaveShape}
+use Rattle.cc_rules_grow.specs.CcStateFacts.declared.facts.Facts.{Facts}
+use Rattle.cc_rules_grow.specs.CcStateFacts.declared.facts.PointFact.{PointFact}
+use Rattle.cc_rules_grow.specs.CcStateFacts.Facts.{fact_at}
+use Rattle.cc_rules_grow.specs.CcStateOperators.Domains.{Domain}
+use Rattle.cc_rules_grow.proofs.CcStateValues.Same.{IsOrdered}
 use Rattle.cc_state_values_fit.proofs.Sets.{IsTyping}
 use Rattle.cc_state_values_fit.specs.Fit.{HasWholes}
-use Rattle.cc_syntax.specs.Normal.{IsNormal}
+use Rattle.cc_rules_grow.specs.CcSyntax.Normal.{IsNormal}
 
 module _ {I : Type 0} (d : Domain I) (joins : JoinsTyped d) (typing : IsTyping d) (order : IsOrdered d) (kept : IsKept d) (p : Program) (normal : IsNormal p) (wholes : HasWholes d p.target)
     (grown : (id : ℕ) (f : Func) → slice_get p.funcs id ≡ Some f → ValuesGrow d p id f) (facts : Facts I) (shape : HaveShape d p facts) where

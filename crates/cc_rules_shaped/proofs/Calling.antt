@@ -3,14 +3,14 @@ use Rattle.std.proofs.Common.{arith, ◌≡◌, ℕ, zero, suc, ◌+◌, pos, Bo
 use Rattle.std.specs.Prelude.{option_and_then}
 use Rattle.std.specs.List.{flat_map}
 use Rattle.std.proofs.lemmas.Option.{same_Some, none-some, slice_get_within}
-use Rattle.cc_flow.specs.declared.types.Point.{Point}
-use Rattle.cc_flow_sound.specs.Moves.{entry}
-use Rattle.cc_num.proofs.ResultLaws.{truth_value}
-use Rattle.cc_places.specs.Abstract.{AreOfOneKind, IsBelowAbs, HasValue}
-use Rattle.cc_places.specs.declared.abs.Abs.{Abs}
-use Rattle.cc_places.specs.declared.abs.Abs.TheVariants as abs
-use Rattle.cc_places.specs.Kept.{member_for}
-use Rattle.cc_places.specs.laws.ListLaws.{at_head, behind_head}
+use Rattle.cc_rules_grow.specs.CcFlow.declared.types.Point.{Point}
+use Rattle.cc_rules_grow.specs.CcFlowSound.Moves.{entry}
+use Rattle.cc_program.proofs.CcNum.ResultLaws.{truth_value}
+use Rattle.cc_rules_grow.specs.CcPlaces.Abstract.{AreOfOneKind, IsBelowAbs, HasValue}
+use Rattle.cc_rules_grow.specs.CcPlaces.declared.abs.Abs.{Abs}
+use Rattle.cc_rules_grow.specs.CcPlaces.declared.abs.Abs.TheVariants as abs
+use Rattle.cc_rules_grow.specs.CcPlaces.Kept.{member_for}
+use Rattle.cc_rules_grow.specs.CcPlaces.laws.ListLaws.{at_head, behind_head}
 use Rattle.cc_program.specs.declared.expr.Expr.{Expr}
 use Rattle.cc_program.specs.declared.func.Func.{Func}
 use Rattle.cc_program.specs.declared.program.Program.{Program}
@@ -19,14 +19,14 @@ use Rattle.cc_program.specs.declared.types.Shape.{out-Shape}
 use Rattle.cc_program.specs.declared.types.Sig.{Sig, out-Sig}
 use Rattle.cc_program.specs.declared.value.Address.TheVariants as address
 use Rattle.cc_program.specs.declared.value.Value.TheVariants as value
-use Rattle.cc_rules.specs.Rules.{NeedsAt, IsOnly, AreValues, AreCalled, ForEach, parameter, at_entry, need_whole, other_parameters, Entered, IsResult, OfMain, OfOther, of_exit, IsGiven, ToRegister, ToNone, Returned, FromExit, NoExit, CallAsks, OfEntries, OfReturns, OfNoCall}
-use Rattle.cc_rules_flows.specs.Acts.{Act}
-use Rattle.cc_rules_flows.specs.Flows.{ValueAt}
-use Rattle.cc_rules_flows.specs.Nexts.{IsPoint, exit_of}
-use Rattle.cc_rules_needs.specs.declared.needs.Part.TheVariants.{Mark, LevelSet}
-use Rattle.cc_rules_needs.specs.declared.needs.Slot.TheVariants.{ByMain, ByHandler, Levels, From}
-use Rattle.cc_rules_needs.specs.Flowing.{Flowing, of_fact}
-use Rattle.cc_rules_needs.specs.Needs.{Needs, Has}
+use Rattle.cc_rules_grow.specs.CcRules.Rules.{NeedsAt, IsOnly, AreValues, AreCalled, ForEach, parameter, at_entry, need_whole, other_parameters, Entered, IsResult, OfMain, OfOther, of_exit, IsGiven, ToRegister, ToNone, Returned, FromExit, NoExit, CallAsks, OfEntries, OfReturns, OfNoCall}
+use Rattle.cc_rules_grow.specs.CcRulesFlows.Acts.{Act}
+use Rattle.cc_rules_grow.specs.CcRulesFlows.Flows.{ValueAt}
+use Rattle.cc_rules_grow.specs.CcRulesFlows.Nexts.{IsPoint, exit_of}
+use Rattle.cc_rules_grow.specs.CcRulesNeeds.declared.needs.Part.TheVariants.{Mark, LevelSet}
+use Rattle.cc_rules_grow.specs.CcRulesNeeds.declared.needs.Slot.TheVariants.{ByMain, ByHandler, Levels, From}
+use Rattle.cc_rules_grow.specs.CcRulesNeeds.Flowing.{Flowing, of_fact}
+use Rattle.cc_rules_grow.specs.CcRulesNeeds.Needs.{Needs, Has}
 use Rattle.cc_rules_shaped.proofs.Acting.{IsResultTaken, IsCallTaken, AreTaken}
 use Rattle.cc_rules_shaped.proofs.Fit.{register_typed, Known, HaveThem, fit_append, FlowFits, flow_fits, cells_fit}
 use Rattle.cc_rules_shaped.proofs.Flowing.{IsTypedFlow, flow_at, fact_typed, local_typed}
@@ -35,29 +35,29 @@ use Rattle.cc_rules_shaped.proofs.Points.{next_there, exit_there}
 use Rattle.cc_rules_shaped.proofs.Rules.{entry_there}
 use Rattle.cc_rules_shaped.proofs.Types.{one_result_type}
 use Rattle.cc_rules_shaped.specs.Shaped.{AreSomeIn, IsPointIn, AreFitBehind, AreFit}
-use Rattle.cc_state.proofs.Numbered.{key_at}
-use Rattle.cc_state.proofs.Sets.{its_shape}
-use Rattle.cc_state.specs.Shape.{MayPoint, OfScalar, declared_type, local_ctype, IsSetIn, IsRegisterType, IsPointFact, HaveShape}
-use Rattle.cc_state_facts.specs.declared.facts.Facts.{Facts}
-use Rattle.cc_state_facts.specs.declared.facts.Key.TheVariants as key
-use Rattle.cc_state_facts.specs.declared.facts.PointFact.{PointFact}
-use Rattle.cc_state_facts.specs.Facts.{fact_at, mark_of, levels_of}
-use Rattle.cc_state_keys.specs.Keys.{key_number}
-use Rattle.cc_state_operators.specs.Domains.{Domain}
-use Rattle.cc_state_values.proofs.Rules.{IsPointer, assigned_scalar}
+use Rattle.cc_rules_grow.proofs.CcState.Numbered.{key_at}
+use Rattle.cc_rules_grow.proofs.CcState.Sets.{its_shape}
+use Rattle.cc_rules_grow.specs.CcState.Shape.{MayPoint, OfScalar, declared_type, local_ctype, IsSetIn, IsRegisterType, IsPointFact, HaveShape}
+use Rattle.cc_rules_grow.specs.CcStateFacts.declared.facts.Facts.{Facts}
+use Rattle.cc_rules_grow.specs.CcStateFacts.declared.facts.Key.TheVariants as key
+use Rattle.cc_rules_grow.specs.CcStateFacts.declared.facts.PointFact.{PointFact}
+use Rattle.cc_rules_grow.specs.CcStateFacts.Facts.{fact_at, mark_of, levels_of}
+use Rattle.cc_rules_grow.specs.CcStateKeys.Keys.{key_number}
+use Rattle.cc_rules_grow.specs.CcStateOperators.Domains.{Domain}
+use Rattle.cc_rules_grow.proofs.CcStateValues.Rules.{IsPointer, assigned_scalar}
 use Rattle.cc_state_values_fit.proofs.Sets.{IsTyping, one_kind, no_ints, wider_set, whole_set, below_in, below_all, has_all}
 use Rattle.cc_state_values_fit.specs.Fit.{HasWholes}
-use Rattle.cc_states.proofs.TurnLemmas.{function_sound}
-use Rattle.cc_syntax.proofs.AlikeLemmas.{function_as}
-use Rattle.cc_syntax.proofs.NameRules.{sound-typed}
-use Rattle.cc_syntax.proofs.Prefixes.{both_true}
-use Rattle.cc_syntax.proofs.SameLemmas.{shape_of_same}
-use Rattle.cc_syntax.specs.Normal.{IsNormal}
-use Rattle.cc_syntax.specs.Operators.{when, is_handler, function_type}
-use Rattle.cc_syntax.specs.SameTypes.{same_shape}
-use Rattle.cc_syntax.specs.Sound.{are_parameters}
-use Rattle.cc_syntax.specs.Types.{Named}
-use Rattle.cc_syntax.specs.Values.{ValueType, NoValue, Integer, ToObject, ToFunction, is_scalar, scalar_shape, scalar_value, result_value, is_assignable_some}
+use Rattle.cc_rules_grow.proofs.CcStates.TurnLemmas.{function_sound}
+use Rattle.cc_rules_grow.proofs.CcSyntax.AlikeLemmas.{function_as}
+use Rattle.cc_rules_grow.proofs.CcSyntax.NameRules.{sound-typed}
+use Rattle.cc_rules_grow.proofs.CcSyntax.Prefixes.{both_true}
+use Rattle.cc_rules_grow.proofs.CcSyntax.SameLemmas.{shape_of_same}
+use Rattle.cc_rules_grow.specs.CcSyntax.Normal.{IsNormal}
+use Rattle.cc_rules_grow.specs.CcSyntax.Operators.{when, is_handler, function_type}
+use Rattle.cc_rules_grow.specs.CcSyntax.SameTypes.{same_shape}
+use Rattle.cc_rules_grow.specs.CcSyntax.Sound.{are_parameters}
+use Rattle.cc_rules_grow.specs.CcSyntax.Types.{Named}
+use Rattle.cc_rules_grow.specs.CcSyntax.Values.{ValueType, NoValue, Integer, ToObject, ToFunction, is_scalar, scalar_shape, scalar_value, result_value, is_assignable_some}
 
 -- ---- parameters, and functions of a type
 

@@ -2,9 +2,9 @@
 use Rattle.std.proofs.Common.{◌≡◌, ⊎_elim, ℕ, Bool, true, false, true≢false, List, Contains, Option, Some, None, refl, ap, sym, ◌∙◌, subst, slice_get}
 use Rattle.std.specs.Prelude.{option_map, option_and_then, if◌then◌else◌}
 use Rattle.std.proofs.lemmas.Option.{same_Some, none-some, slice_get_within}
-use Rattle.cc_places.specs.Abstract.{AreOfOneKind}
-use Rattle.cc_places.specs.declared.abs.Abs.{Abs}
-use Rattle.cc_places.specs.declared.abs.Abs.TheVariants as abs
+use Rattle.cc_rules_grow.specs.CcPlaces.Abstract.{AreOfOneKind}
+use Rattle.cc_rules_grow.specs.CcPlaces.declared.abs.Abs.{Abs}
+use Rattle.cc_rules_grow.specs.CcPlaces.declared.abs.Abs.TheVariants as abs
 use Rattle.cc_program.specs.declared.expr.Expr.{Expr}
 use Rattle.cc_program.specs.declared.expr.Expr.TheOpen as one
 use Rattle.cc_program.specs.declared.expr.Place.{Place, out-Place}
@@ -21,33 +21,33 @@ use Rattle.cc_program.specs.declared.value.Address.TheVariants as address
 use Rattle.cc_program.specs.declared.value.Part.{Part}
 use Rattle.cc_program.specs.declared.value.Root.{Root}
 use Rattle.cc_rules_shaped.proofs.Types.{one_key_type, one_tracked_type}
-use Rattle.cc_state.proofs.CellTypes.{IsHeld, IsHeldIn, IsTyped, read_held, element_held, member_held, own_held, key_held, pointed_held}
-use Rattle.cc_state.proofs.Lists.{contains_at, no_member, only_one, from_filter, from_flat, any_there, number_at, same_key}
-use Rattle.cc_state.proofs.Numbered.{key_at}
-use Rattle.cc_state.specs.Shape.{declared_type, object_ctype, local_ctype, IsSetIn, IsTrackedType, IsPointFact, HaveShape}
-use Rattle.cc_state_facts.specs.declared.facts.Facts.{Facts}
-use Rattle.cc_state_facts.specs.declared.facts.Key.{Key}
-use Rattle.cc_state_facts.specs.declared.facts.Key.TheVariants as key
-use Rattle.cc_state_facts.specs.declared.facts.PointFact.{PointFact}
-use Rattle.cc_state_facts.specs.Facts.{fact_at, cell_at, cell_of}
-use Rattle.cc_state_keys.specs.Keys.{cell_key, is_key, structure_shape, keys_of, key_number}
-use Rattle.cc_state_keys.specs.Lists.{only}
-use Rattle.cc_state_keys.specs.Tracked.{tracked}
-use Rattle.cc_state_operators.specs.Domains.{Domain}
-use Rattle.cc_state_reads.specs.Named.{AreClasses, OfLocal, OfStatic, OfDevice, OfElement, OfMember, OfTarget, target_class, member_class, is_among}
-use Rattle.cc_state_reads.specs.Reads.{whole_of, object_in, device_number, tracked_in, IsOfKind, IsOfKeys, AreNamed, IsByKeys, IsRead, OfTracked, OfDevice as OfDeviceRead, OfOther}
-use Rattle.cc_state_values.proofs.Parts.{place_typed_as}
-use Rattle.cc_state_values.proofs.Rules.{one_there, two_there}
+use Rattle.cc_rules_grow.proofs.CcState.CellTypes.{IsHeld, IsHeldIn, IsTyped, read_held, element_held, member_held, own_held, key_held, pointed_held}
+use Rattle.cc_rules_grow.proofs.CcState.Lists.{contains_at, no_member, only_one, from_filter, from_flat, any_there, number_at, same_key}
+use Rattle.cc_rules_grow.proofs.CcState.Numbered.{key_at}
+use Rattle.cc_rules_grow.specs.CcState.Shape.{declared_type, object_ctype, local_ctype, IsSetIn, IsTrackedType, IsPointFact, HaveShape}
+use Rattle.cc_rules_grow.specs.CcStateFacts.declared.facts.Facts.{Facts}
+use Rattle.cc_rules_grow.specs.CcStateFacts.declared.facts.Key.{Key}
+use Rattle.cc_rules_grow.specs.CcStateFacts.declared.facts.Key.TheVariants as key
+use Rattle.cc_rules_grow.specs.CcStateFacts.declared.facts.PointFact.{PointFact}
+use Rattle.cc_rules_grow.specs.CcStateFacts.Facts.{fact_at, cell_at, cell_of}
+use Rattle.cc_rules_grow.specs.CcStateKeys.Keys.{cell_key, is_key, structure_shape, keys_of, key_number}
+use Rattle.cc_rules_grow.specs.CcStateKeys.Lists.{only}
+use Rattle.cc_rules_grow.specs.CcStateKeys.Tracked.{tracked}
+use Rattle.cc_rules_grow.specs.CcStateOperators.Domains.{Domain}
+use Rattle.cc_rules_grow.specs.CcStateReads.Named.{AreClasses, OfLocal, OfStatic, OfDevice, OfElement, OfMember, OfTarget, target_class, member_class, is_among}
+use Rattle.cc_rules_grow.specs.CcStateReads.Reads.{whole_of, object_in, device_number, tracked_in, IsOfKind, IsOfKeys, AreNamed, IsByKeys, IsRead, OfTracked, OfDevice as OfDeviceRead, OfOther}
+use Rattle.cc_rules_grow.proofs.CcStateValues.Parts.{place_typed_as}
+use Rattle.cc_rules_grow.proofs.CcStateValues.Rules.{one_there, two_there}
 use Rattle.cc_state_values_fit.proofs.Sets.{IsTyping, holds, union_in}
 use Rattle.cc_state_values_fit.specs.Fit.{HasWholes}
-use Rattle.cc_state_values_grow.proofs.Fitting.{Fitting, Leads, Points}
-use Rattle.cc_state_values_grow.proofs.Leading.{value_points}
-use Rattle.cc_state_values_grow.specs.Growth.{RegistersPoint}
-use Rattle.cc_states.proofs.Options.{mapped}
-use Rattle.cc_syntax.specs.Operators.{is_integer, subscript_type}
-use Rattle.cc_syntax.specs.Programs.{type_of, place_type}
-use Rattle.cc_syntax.specs.Types.{Named}
-use Rattle.cc_syntax.specs.Values.{ValueType, NoValue, Integer, ToObject, ToFunction, PlaceType, DevicePlace, ObjectPlace, FunctionPlace, object_place, read_from, pointed_to, element_of, member_of, member_shape, is_void, is_scalar}
+use Rattle.cc_state_values_fit.proofs.CcStateValuesGrow.Fitting.{Fitting, Leads, Points}
+use Rattle.cc_state_values_fit.proofs.CcStateValuesGrow.Leading.{value_points}
+use Rattle.cc_state_values_fit.specs.CcStateValuesGrow.Growth.{RegistersPoint}
+use Rattle.cc_rules_grow.proofs.CcStates.Options.{mapped}
+use Rattle.cc_rules_grow.specs.CcSyntax.Operators.{is_integer, subscript_type}
+use Rattle.cc_rules_grow.specs.CcSyntax.Programs.{type_of, place_type}
+use Rattle.cc_rules_grow.specs.CcSyntax.Types.{Named}
+use Rattle.cc_rules_grow.specs.CcSyntax.Values.{ValueType, NoValue, Integer, ToObject, ToFunction, PlaceType, DevicePlace, ObjectPlace, FunctionPlace, object_place, read_from, pointed_to, element_of, member_of, member_shape, is_void, is_scalar}
 
 element_taken : (b : Bool) (x : Option PlaceType) (w : PlaceType) → (if b then x else None) ≡ Some w → x ≡ Some w
 element_taken true x w e = e

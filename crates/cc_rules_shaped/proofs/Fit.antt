@@ -3,33 +3,33 @@ use Rattle.std.proofs.Common.{arith, ◌≡◌, ◌⊎◌, inl, inr, ℕ, zero, 
 use Rattle.std.specs.Prelude.{is_some, not, if◌then◌else◌}
 use Rattle.std.specs.List.{Contains, flat_map}
 use Rattle.std.proofs.lemmas.Option.{slice_get_within}
-use Rattle.cc_flow.proofs.Paths.{all_counted}
-use Rattle.cc_flow.specs.Points.{count_of, flow_of}
-use Rattle.cc_flow.specs.declared.types.Point.{Point}
-use Rattle.cc_places.specs.declared.abs.Abs.{Abs}
-use Rattle.cc_places.specs.laws.ListLaws.{cons_cases, at_head, behind_head}
+use Rattle.cc_rules_grow.proofs.CcFlow.Paths.{all_counted}
+use Rattle.cc_rules_grow.specs.CcFlow.Points.{count_of, flow_of}
+use Rattle.cc_rules_grow.specs.CcFlow.declared.types.Point.{Point}
+use Rattle.cc_rules_grow.specs.CcPlaces.declared.abs.Abs.{Abs}
+use Rattle.cc_rules_grow.specs.CcPlaces.laws.ListLaws.{cons_cases, at_head, behind_head}
 use Rattle.cc_program.specs.declared.func.Func.{Func}
 use Rattle.cc_program.specs.declared.program.Program.{Program}
-use Rattle.cc_rules_flows.specs.Nexts.{IsPoint}
+use Rattle.cc_rules_grow.specs.CcRulesFlows.Nexts.{IsPoint}
 use Rattle.cc_rules_grow.proofs.Elements.{Each, each_append, map_contained}
 use Rattle.cc_rules_grow.proofs.Firsts.{made_of, first_true, some_is}
-use Rattle.cc_rules_needs.specs.declared.needs.Part.{Part}
-use Rattle.cc_rules_needs.specs.declared.needs.Part.TheVariants.{Mark}
-use Rattle.cc_rules_needs.specs.declared.needs.Slot.{Slot}
-use Rattle.cc_rules_needs.specs.declared.needs.Slot.TheVariants.{Apart}
-use Rattle.cc_rules_needs.specs.Flowing.{Flowing, numbers, each_pair, need_apart, need_local, need_cell, needs_at}
-use Rattle.cc_rules_needs.specs.Needs.{Needs, Has}
+use Rattle.cc_rules_grow.specs.CcRulesNeeds.declared.needs.Part.{Part}
+use Rattle.cc_rules_grow.specs.CcRulesNeeds.declared.needs.Part.TheVariants.{Mark}
+use Rattle.cc_rules_grow.specs.CcRulesNeeds.declared.needs.Slot.{Slot}
+use Rattle.cc_rules_grow.specs.CcRulesNeeds.declared.needs.Slot.TheVariants.{Apart}
+use Rattle.cc_rules_grow.specs.CcRulesNeeds.Flowing.{Flowing, numbers, each_pair, need_apart, need_local, need_cell, needs_at}
+use Rattle.cc_rules_grow.specs.CcRulesNeeds.Needs.{Needs, Has}
 use Rattle.cc_rules_shaped.specs.Shaped.{AreSomeIn, IsPointIn, Fits, AllowsLevels, AreFitBehind}
-use Rattle.cc_state.proofs.Lists.{no_member, from_flat}
-use Rattle.cc_state.specs.Shape.{IsSetIn, IsRegisterType, IsTrackedType, IsPointFact}
-use Rattle.cc_state_facts.specs.declared.facts.Facts.{Facts}
-use Rattle.cc_state_facts.specs.declared.facts.PointFact.{PointFact}
-use Rattle.cc_state_facts.specs.Facts.{cell_of}
-use Rattle.cc_state_keys.specs.Tracked.{registers, tracked}
-use Rattle.cc_state_operators.specs.Domains.{Domain}
-use Rattle.cc_syntax.specs.Registers.{may_be_register, is_register, is_addressed}
-use Rattle.cc_syntax.specs.Types.{Named}
-use Rattle.cc_syntax.specs.Values.{ValueType, scalar_value}
+use Rattle.cc_rules_grow.proofs.CcState.Lists.{no_member, from_flat}
+use Rattle.cc_rules_grow.specs.CcState.Shape.{IsSetIn, IsRegisterType, IsTrackedType, IsPointFact}
+use Rattle.cc_rules_grow.specs.CcStateFacts.declared.facts.Facts.{Facts}
+use Rattle.cc_rules_grow.specs.CcStateFacts.declared.facts.PointFact.{PointFact}
+use Rattle.cc_rules_grow.specs.CcStateFacts.Facts.{cell_of}
+use Rattle.cc_rules_grow.specs.CcStateKeys.Tracked.{registers, tracked}
+use Rattle.cc_rules_grow.specs.CcStateOperators.Domains.{Domain}
+use Rattle.cc_rules_grow.specs.CcSyntax.Registers.{may_be_register, is_register, is_addressed}
+use Rattle.cc_rules_grow.specs.CcSyntax.Types.{Named}
+use Rattle.cc_rules_grow.specs.CcSyntax.Values.{ValueType, scalar_value}
 
 -- ---- lists
 

@@ -5,27 +5,27 @@ use Rattle.std.specs.Prelude.{◌==◌, if◌then◌else◌}
 use Rattle.std.specs.List.{filter, list_any}
 use Rattle.std.proofs.lemmas.Bool.{eqb-true}
 use Rattle.std.proofs.lemmas.Option.{same_Some}
-use Rattle.cc_flow.specs.declared.types.Point.{Point}
-use Rattle.cc_num.specs.declared.int_type.IntType.TheVariants as int
-use Rattle.cc_places.specs.Abstract.{IsBelowAbs}
-use Rattle.cc_places.specs.declared.abs.Abs.{Abs}
-use Rattle.cc_places.specs.declared.abs.Abs.TheVariants as abs
-use Rattle.cc_places.specs.laws.ListLaws.{cons_cases, at_head, behind_head, none_in}
+use Rattle.cc_rules_grow.specs.CcFlow.declared.types.Point.{Point}
+use Rattle.cc_program.specs.CcNum.declared.int_type.IntType.TheVariants as int
+use Rattle.cc_rules_grow.specs.CcPlaces.Abstract.{IsBelowAbs}
+use Rattle.cc_rules_grow.specs.CcPlaces.declared.abs.Abs.{Abs}
+use Rattle.cc_rules_grow.specs.CcPlaces.declared.abs.Abs.TheVariants as abs
+use Rattle.cc_rules_grow.specs.CcPlaces.laws.ListLaws.{cons_cases, at_head, behind_head, none_in}
 use Rattle.cc_program.specs.declared.expr.Expr.{Expr}
 use Rattle.cc_program.specs.declared.expr.Place.{out-Place}
 use Rattle.cc_program.specs.declared.func.Func.{Func}
 use Rattle.cc_program.specs.declared.program.Program.{Program}
 use Rattle.cc_program.specs.declared.types.Shape.{out-Shape}
-use Rattle.cc_rules.specs.Rules.{flows_to, ComesTo, ComesToEach}
-use Rattle.cc_rules_flows.specs.Acts.{Act}
-use Rattle.cc_rules_flows.specs.Flows.{to_all, FlagValue, equal_to, IsSide, Side, Taken, Barred, Untaken, AreSides, Flows, OfSets, OfReads, OfWrites, OfTurns, OfSaves, OfSavesAlone, OfRestores, OfTests, OfReturns, OfPasses, OfCalls}
-use Rattle.cc_rules_flows.specs.Nexts.{IsPoint}
-use Rattle.cc_rules_flows.specs.Tests.{Test, IsLeft, IsLeftAlike, Alike, Unlike, IsLeftBy}
+use Rattle.cc_rules_grow.specs.CcRules.Rules.{flows_to, ComesTo, ComesToEach}
+use Rattle.cc_rules_grow.specs.CcRulesFlows.Acts.{Act}
+use Rattle.cc_rules_grow.specs.CcRulesFlows.Flows.{to_all, FlagValue, equal_to, IsSide, Side, Taken, Barred, Untaken, AreSides, Flows, OfSets, OfReads, OfWrites, OfTurns, OfSaves, OfSavesAlone, OfRestores, OfTests, OfReturns, OfPasses, OfCalls}
+use Rattle.cc_rules_grow.specs.CcRulesFlows.Nexts.{IsPoint}
+use Rattle.cc_rules_grow.specs.CcRulesFlows.Tests.{Test, IsLeft, IsLeftAlike, Alike, Unlike, IsLeftBy}
 use Rattle.cc_rules_grow.proofs.Elements.{Each, each_append, each_map, each_at, map_contained}
 use Rattle.cc_rules_grow.proofs.Kept.{IsKept, ValuesGrow, abs_itself}
 use Rattle.cc_rules_grow.proofs.Leaving.{left_as, left_below}
-use Rattle.cc_rules_needs.specs.Flowing.{Flowing, of_fact, with_local, with_pair, with_cell, with_flags, IsLeastOver, IsJoined}
-use Rattle.cc_rules_needs.specs.Needs.{Needs}
+use Rattle.cc_rules_grow.specs.CcRulesNeeds.Flowing.{Flowing, of_fact, with_local, with_pair, with_cell, with_flags, IsLeastOver, IsJoined}
+use Rattle.cc_rules_grow.specs.CcRulesNeeds.Needs.{Needs}
 use Rattle.cc_rules_shaped.proofs.Acting.{AreTaken}
 use Rattle.cc_rules_shaped.proofs.Classes.{tracked_type, read_in}
 use Rattle.cc_rules_shaped.proofs.Fit.{register_typed, Known, HaveThem, fit_append, FlowFits, flow_fits, some_in, cells_fit}
@@ -33,25 +33,25 @@ use Rattle.cc_rules_shaped.proofs.Here.{its_fact, its_points, value_in, register
 use Rattle.cc_rules_shaped.proofs.Points.{next_there}
 use Rattle.cc_rules_shaped.proofs.Types.{one_register_type, one_tracked_type}
 use Rattle.cc_rules_shaped.specs.Shaped.{AreSomeIn, IsPointIn, AreFitBehind, AreFit}
-use Rattle.cc_state.proofs.Lists.{from_filter}
-use Rattle.cc_state.proofs.Sets.{scalar_at}
-use Rattle.cc_state.specs.Shape.{IsSetIn, IsRegisterType, IsTrackedType, IsPointFact, HaveShape}
-use Rattle.cc_state_facts.specs.declared.facts.Facts.{Facts}
-use Rattle.cc_state_facts.specs.declared.facts.PointFact.{PointFact}
-use Rattle.cc_state_facts.specs.Facts.{fact_at, local_of}
-use Rattle.cc_state_keys.specs.Tracked.{registers, tracked}
-use Rattle.cc_state_operators.specs.Domains.{Domain}
-use Rattle.cc_state_reads.specs.Reads.{registers_at, tracked_in}
-use Rattle.cc_state_values.proofs.Rules.{one_there, assigned_scalar}
-use Rattle.cc_state_values.proofs.Same.{IsOrdered}
+use Rattle.cc_rules_grow.proofs.CcState.Lists.{from_filter}
+use Rattle.cc_rules_grow.proofs.CcState.Sets.{scalar_at}
+use Rattle.cc_rules_grow.specs.CcState.Shape.{IsSetIn, IsRegisterType, IsTrackedType, IsPointFact, HaveShape}
+use Rattle.cc_rules_grow.specs.CcStateFacts.declared.facts.Facts.{Facts}
+use Rattle.cc_rules_grow.specs.CcStateFacts.declared.facts.PointFact.{PointFact}
+use Rattle.cc_rules_grow.specs.CcStateFacts.Facts.{fact_at, local_of}
+use Rattle.cc_rules_grow.specs.CcStateKeys.Tracked.{registers, tracked}
+use Rattle.cc_rules_grow.specs.CcStateOperators.Domains.{Domain}
+use Rattle.cc_rules_grow.specs.CcStateReads.Reads.{registers_at, tracked_in}
+use Rattle.cc_rules_grow.proofs.CcStateValues.Rules.{one_there, assigned_scalar}
+use Rattle.cc_rules_grow.proofs.CcStateValues.Same.{IsOrdered}
 use Rattle.cc_state_values_fit.proofs.Results.{IsTruth, truth_in}
 use Rattle.cc_state_values_fit.proofs.Sets.{IsTyping, holds, one_kind, wider_set, hull_in, least_in}
 use Rattle.cc_state_values_fit.specs.Fit.{HasWholes}
-use Rattle.cc_state_values_grow.specs.Growth.{AreRegistersBelow}
-use Rattle.cc_states.proofs.GivenLemmas.{read_as_written}
-use Rattle.cc_syntax.specs.Normal.{IsNormal}
-use Rattle.cc_syntax.specs.Programs.{place_type}
-use Rattle.cc_syntax.specs.Values.{ValueType, NoValue, Integer, ToObject, ToFunction, is_scalar, read_from}
+use Rattle.cc_state_values_fit.specs.CcStateValuesGrow.Growth.{AreRegistersBelow}
+use Rattle.cc_rules_grow.proofs.CcStates.GivenLemmas.{read_as_written}
+use Rattle.cc_rules_grow.specs.CcSyntax.Normal.{IsNormal}
+use Rattle.cc_rules_grow.specs.CcSyntax.Programs.{place_type}
+use Rattle.cc_rules_grow.specs.CcSyntax.Values.{ValueType, NoValue, Integer, ToObject, ToFunction, is_scalar, read_from}
 
 -- ---- the sets among some that may be there
 

@@ -2,34 +2,34 @@
 use Rattle.std.proofs.Common.{◌≡◌, ℕ, true, Option, Some, None, refl, ap, sym, ◌∙◌, subst, slice_get}
 use Rattle.std.specs.Prelude.{option_and_then}
 use Rattle.std.proofs.lemmas.Option.{same_Some, none-some}
-use Rattle.cc_flow.specs.declared.types.Point.{Point}
-use Rattle.cc_places.specs.declared.abs.Abs.{Abs}
+use Rattle.cc_rules_grow.specs.CcFlow.declared.types.Point.{Point}
+use Rattle.cc_rules_grow.specs.CcPlaces.declared.abs.Abs.{Abs}
 use Rattle.cc_program.specs.declared.expr.Expr.{Expr}
 use Rattle.cc_program.specs.declared.func.Func.{Func}
 use Rattle.cc_program.specs.declared.program.Program.{Program}
-use Rattle.cc_rules.specs.Rules.{act_at}
-use Rattle.cc_rules_flows.specs.Flows.{ValueAt}
-use Rattle.cc_rules_flows.specs.Nexts.{IsPoint, statement_of}
+use Rattle.cc_rules_grow.specs.CcRules.Rules.{act_at}
+use Rattle.cc_rules_grow.specs.CcRulesFlows.Flows.{ValueAt}
+use Rattle.cc_rules_grow.specs.CcRulesFlows.Nexts.{IsPoint, statement_of}
 use Rattle.cc_rules_shaped.proofs.Acting.{IsOfType, IsTaken, AreTaken, taken_at}
-use Rattle.cc_state.proofs.Numbered.{register_at, register_below}
-use Rattle.cc_state.proofs.Sets.{its_shape, registers_point}
-use Rattle.cc_state.specs.Shape.{IsSetIn, IsRegisterType, IsPointFact, HaveShape}
-use Rattle.cc_state_facts.specs.declared.facts.Facts.{Facts}
-use Rattle.cc_state_facts.specs.declared.facts.PointFact.{PointFact}
-use Rattle.cc_state_facts.specs.Facts.{fact_at, local_at, local_of}
-use Rattle.cc_state_keys.specs.Addressed.{taken_in}
-use Rattle.cc_state_keys.specs.Tracked.{register_number}
-use Rattle.cc_state_operators.specs.Domains.{Domain}
-use Rattle.cc_state_reads.specs.Reads.{registers_at}
-use Rattle.cc_state_values.proofs.Rules.{assigned_scalar}
+use Rattle.cc_rules_grow.proofs.CcState.Numbered.{register_at, register_below}
+use Rattle.cc_rules_grow.proofs.CcState.Sets.{its_shape, registers_point}
+use Rattle.cc_rules_grow.specs.CcState.Shape.{IsSetIn, IsRegisterType, IsPointFact, HaveShape}
+use Rattle.cc_rules_grow.specs.CcStateFacts.declared.facts.Facts.{Facts}
+use Rattle.cc_rules_grow.specs.CcStateFacts.declared.facts.PointFact.{PointFact}
+use Rattle.cc_rules_grow.specs.CcStateFacts.Facts.{fact_at, local_at, local_of}
+use Rattle.cc_rules_grow.specs.CcStateKeys.Addressed.{taken_in}
+use Rattle.cc_rules_grow.specs.CcStateKeys.Tracked.{register_number}
+use Rattle.cc_rules_grow.specs.CcStateOperators.Domains.{Domain}
+use Rattle.cc_rules_grow.specs.CcStateReads.Reads.{registers_at}
+use Rattle.cc_rules_grow.proofs.CcStateValues.Rules.{assigned_scalar}
 use Rattle.cc_state_values_fit.proofs.Sets.{IsTyping, wider_set}
 use Rattle.cc_state_values_fit.proofs.Values.{value_fits}
 use Rattle.cc_state_values_fit.specs.Fit.{HasWholes, AreAddressed, RegistersFit}
-use Rattle.cc_state_values_grow.specs.Growth.{RegistersPoint}
-use Rattle.cc_syntax.specs.Normal.{IsNormal}
-use Rattle.cc_syntax.specs.Programs.{type_of}
-use Rattle.cc_syntax.specs.Types.{Named}
-use Rattle.cc_syntax.specs.Values.{ValueType, is_scalar, scalar_value}
+use Rattle.cc_state_values_fit.specs.CcStateValuesGrow.Growth.{RegistersPoint}
+use Rattle.cc_rules_grow.specs.CcSyntax.Normal.{IsNormal}
+use Rattle.cc_rules_grow.specs.CcSyntax.Programs.{type_of}
+use Rattle.cc_rules_grow.specs.CcSyntax.Types.{Named}
+use Rattle.cc_rules_grow.specs.CcSyntax.Values.{ValueType, is_scalar, scalar_value}
 
 then_there : {A B : Type 0} (g : A → Option B) (a : Option A) (w : B) → option_and_then g a ≡ Some w → (x : A) × (a ≡ Some x) × (g x ≡ Some w)
 then_there g None w h = absurd (none-some w h)

@@ -1,20 +1,20 @@
 -- What is in two sets of values of a type is of that type where both are joined: numbers by the laws of the domain, and addresses since what
 -- sets keep of an address that may stand there may stand there too.
 use Rattle.std.proofs.Common.{ℤ}
-use Rattle.cc_num.proofs.ResultLaws.{is_value_from, value_from_test}
-use Rattle.cc_num.specs.Integers.{IsValueOf}
-use Rattle.cc_num.specs.declared.int_type.IntType.{IntType}
-use Rattle.cc_num.specs.declared.target.Target.{Target}
-use Rattle.cc_places.specs.Abstract.{IsBelowAbs}
-use Rattle.cc_places.specs.declared.abs.Abs.{Abs}
-use Rattle.cc_places.specs.declared.abs.Abs.TheVariants as abs
-use Rattle.cc_places.specs.declared.addrs.Addrs.{Addrs}
+use Rattle.cc_program.proofs.CcNum.ResultLaws.{is_value_from, value_from_test}
+use Rattle.cc_program.specs.CcNum.Integers.{IsValueOf}
+use Rattle.cc_program.specs.CcNum.declared.int_type.IntType.{IntType}
+use Rattle.cc_program.specs.CcNum.declared.target.Target.{Target}
+use Rattle.cc_rules_grow.specs.CcPlaces.Abstract.{IsBelowAbs}
+use Rattle.cc_rules_grow.specs.CcPlaces.declared.abs.Abs.{Abs}
+use Rattle.cc_rules_grow.specs.CcPlaces.declared.abs.Abs.TheVariants as abs
+use Rattle.cc_rules_grow.specs.CcPlaces.declared.addrs.Addrs.{Addrs}
 use Rattle.cc_program.specs.declared.program.Program.{Program}
-use Rattle.cc_state.specs.Shape.{MayPoint, IsSetIn}
-use Rattle.cc_state_operators.specs.Domains.{Domain}
+use Rattle.cc_rules_grow.specs.CcState.Shape.{MayPoint, IsSetIn}
+use Rattle.cc_rules_grow.specs.CcStateOperators.Domains.{Domain}
 use Rattle.cc_state_values_fit.proofs.Names.{point_kept}
-use Rattle.cc_state_values_grow.proofs.Joins.{both_all}
-use Rattle.cc_syntax.specs.Values.{ValueType, NoValue, Integer, ToObject, ToFunction}
+use Rattle.cc_state_values_fit.proofs.CcStateValuesGrow.Joins.{both_all}
+use Rattle.cc_rules_grow.specs.CcSyntax.Values.{ValueType, NoValue, Integer, ToObject, ToFunction}
 
 -- ---- joins
 

@@ -2,21 +2,21 @@
 use Rattle.std.proofs.Common.{arith, ◌≡◌, ◌⊎◌, inl, inr, ◌+◌, ◌<◌, ◌≤◌, ℕ, zero, suc, List, [], ◌∷◌, length, Contains, Some, slice_get, ap, sym, ◌∙◌}
 use Rattle.std.proofs.lemmas.Bool.{cases_lt}
 use Rattle.std.proofs.lemmas.List.Elements.{All-contains}
-use Rattle.cc_flow.proofs.Inside.{body_inside}
-use Rattle.cc_flow.proofs.Paths.{body_counted}
-use Rattle.cc_flow.specs.declared.types.Point.{Point}
-use Rattle.cc_flow.specs.Laws.{IsIn}
-use Rattle.cc_flow.specs.Points.{total_of, body_count, body_points, points_in}
-use Rattle.cc_flow_sound.proofs.Numbered.{point_of}
-use Rattle.cc_flow_sound.specs.Moves.{entry}
+use Rattle.cc_rules_grow.proofs.CcFlow.Inside.{body_inside}
+use Rattle.cc_rules_grow.proofs.CcFlow.Paths.{body_counted}
+use Rattle.cc_rules_grow.specs.CcFlow.declared.types.Point.{Point}
+use Rattle.cc_rules_grow.specs.CcFlow.Laws.{IsIn}
+use Rattle.cc_rules_grow.specs.CcFlow.Points.{total_of, body_count, body_points, points_in}
+use Rattle.cc_rules_grow.proofs.CcFlowSound.Numbered.{point_of}
+use Rattle.cc_rules_grow.specs.CcFlowSound.Moves.{entry}
 use Rattle.cc_program.specs.declared.func.Func.{Func}
 use Rattle.cc_program.specs.declared.program.Program.{Program}
-use Rattle.cc_rules_flows.specs.Nexts.{IsPoint, exit_of}
+use Rattle.cc_rules_grow.specs.CcRulesFlows.Nexts.{IsPoint, exit_of}
 use Rattle.cc_rules_grow.proofs.Elements.{some_within}
 use Rattle.cc_rules_shaped.specs.Shaped.{IsPointIn}
-use Rattle.cc_state.proofs.Lists.{contains_at}
-use Rattle.cc_state_operators.specs.Domains.{Domain}
-use Rattle.cc_states.proofs.ListLemmas.{get_before, get_after}
+use Rattle.cc_rules_grow.proofs.CcState.Lists.{contains_at}
+use Rattle.cc_rules_grow.specs.CcStateOperators.Domains.{Domain}
+use Rattle.cc_rules_grow.proofs.CcStates.ListLemmas.{get_before, get_after}
 
 -- what holds of all points of a function's body holds of the one of a number
 is_in : (func first : ℕ) (f : Func) (n : ℕ) (q : Point) → slice_get (body_points func first f.body) n ≡ Some q → IsIn func first (first + body_count f.body) q

@@ -3,32 +3,32 @@ use Rattle.std.proofs.Common.{◌≡◌, inl, inr, ℕ, zero, suc, ◌<◌, Bool
 use Rattle.std.specs.Prelude.{unwrap_or}
 use Rattle.std.specs.Int.Bits.{or_zero_r}
 use Rattle.std.proofs.lemmas.Option.{slice_get_within}
-use Rattle.cc_flow.specs.Points.{count_of, flow_of}
-use Rattle.cc_flow.specs.declared.types.Point.{Point}
-use Rattle.cc_places.specs.Abstract.{AreOfOneKind}
-use Rattle.cc_places.specs.declared.abs.Abs.{Abs}
-use Rattle.cc_places.specs.declared.abs.Abs.TheVariants as abs
+use Rattle.cc_rules_grow.specs.CcFlow.Points.{count_of, flow_of}
+use Rattle.cc_rules_grow.specs.CcFlow.declared.types.Point.{Point}
+use Rattle.cc_rules_grow.specs.CcPlaces.Abstract.{AreOfOneKind}
+use Rattle.cc_rules_grow.specs.CcPlaces.declared.abs.Abs.{Abs}
+use Rattle.cc_rules_grow.specs.CcPlaces.declared.abs.Abs.TheVariants as abs
 use Rattle.cc_program.specs.declared.func.Func.{Func}
 use Rattle.cc_program.specs.declared.program.Program.{Program}
-use Rattle.cc_rules_needs.proofs.Others.{set_at}
-use Rattle.cc_rules_needs.specs.declared.needs.Part.{Part}
-use Rattle.cc_rules_needs.specs.declared.needs.Part.TheVariants.{Mark, LevelSet, Flags, Values}
-use Rattle.cc_rules_needs.specs.declared.needs.Slot.{Slot}
-use Rattle.cc_rules_needs.specs.declared.needs.Slot.TheVariants.{Whole, HandlerReads, HandlerWrites, ReadLevels, WriteLevels, Result, ByMain, ByHandler, Levels, From, Flag, LocalAt, CellAt, Apart}
-use Rattle.cc_rules_needs.specs.Needs.{get}
-use Rattle.cc_rules_needs.specs.Raised.{MayBePut, MayGet, put, IsLeastPart, IsPut}
+use Rattle.cc_rules_grow.proofs.CcRulesNeeds.Others.{set_at}
+use Rattle.cc_rules_grow.specs.CcRulesNeeds.declared.needs.Part.{Part}
+use Rattle.cc_rules_grow.specs.CcRulesNeeds.declared.needs.Part.TheVariants.{Mark, LevelSet, Flags, Values}
+use Rattle.cc_rules_grow.specs.CcRulesNeeds.declared.needs.Slot.{Slot}
+use Rattle.cc_rules_grow.specs.CcRulesNeeds.declared.needs.Slot.TheVariants.{Whole, HandlerReads, HandlerWrites, ReadLevels, WriteLevels, Result, ByMain, ByHandler, Levels, From, Flag, LocalAt, CellAt, Apart}
+use Rattle.cc_rules_grow.specs.CcRulesNeeds.Needs.{get}
+use Rattle.cc_rules_grow.specs.CcRulesNeeds.Raised.{MayBePut, MayGet, put, IsLeastPart, IsPut}
 use Rattle.cc_rules_shaped.proofs.Joining.{JoinsTyped, IsLeastAbove, join_in}
 use Rattle.cc_rules_shaped.proofs.Types.{one_key_type, one_result_type}
 use Rattle.cc_rules_shaped.specs.Shaped.{is_at_point, Fits, AllowsLevels}
-use Rattle.cc_state.specs.Shape.{IsSetIn, AreSets, IsPointFact, IsKeyType, IsResultType, HaveShape}
-use Rattle.cc_state_facts.proofs.LevelBits.{or_from_within}
-use Rattle.cc_state_facts.specs.declared.facts.Facts.{Facts}
-use Rattle.cc_state_facts.specs.declared.facts.PointFact.{PointFact}
-use Rattle.cc_state_facts.specs.Facts.{mark_of, levels_of}
-use Rattle.cc_state_facts.specs.Levels.{AreLevelsWithin}
-use Rattle.cc_state_keys.specs.Keys.{keys_of}
-use Rattle.cc_state_operators.specs.Domains.{Domain}
-use Rattle.cc_syntax.specs.Values.{ValueType, NoValue, Integer, ToObject, ToFunction}
+use Rattle.cc_rules_grow.specs.CcState.Shape.{IsSetIn, AreSets, IsPointFact, IsKeyType, IsResultType, HaveShape}
+use Rattle.cc_rules_grow.proofs.CcStateFacts.LevelBits.{or_from_within}
+use Rattle.cc_rules_grow.specs.CcStateFacts.declared.facts.Facts.{Facts}
+use Rattle.cc_rules_grow.specs.CcStateFacts.declared.facts.PointFact.{PointFact}
+use Rattle.cc_rules_grow.specs.CcStateFacts.Facts.{mark_of, levels_of}
+use Rattle.cc_rules_grow.specs.CcStateFacts.Levels.{AreLevelsWithin}
+use Rattle.cc_rules_grow.specs.CcStateKeys.Keys.{keys_of}
+use Rattle.cc_rules_grow.specs.CcStateOperators.Domains.{Domain}
+use Rattle.cc_rules_grow.specs.CcSyntax.Values.{ValueType, NoValue, Integer, ToObject, ToFunction}
 
 -- ---- lists in which an element is another one
 

@@ -4,27 +4,27 @@ use Rattle.std.specs.Prelude.{option_and_then}
 use Rattle.std.specs.List.{AllPairs, Contains, flat_map}
 use Rattle.std.proofs.lemmas.List.Kept.{AllPairs-filter}
 use Rattle.std.proofs.lemmas.Option.{same_Some, none-some}
-use Rattle.cc_flow.specs.Points.{flow_of}
-use Rattle.cc_flow.specs.declared.types.Point.{Point}
-use Rattle.cc_lattice.specs.Tables.{AreJoins}
-use Rattle.cc_places.specs.declared.abs.Abs.{Abs}
+use Rattle.cc_rules_grow.specs.CcFlow.Points.{flow_of}
+use Rattle.cc_rules_grow.specs.CcFlow.declared.types.Point.{Point}
+use Rattle.cc_rules_grow.specs.CcLattice.Tables.{AreJoins}
+use Rattle.cc_rules_grow.specs.CcPlaces.declared.abs.Abs.{Abs}
 use Rattle.cc_program.specs.declared.func.Func.{Func}
 use Rattle.cc_program.specs.declared.program.Program.{Program}
-use Rattle.cc_rules_flows.specs.Nexts.{IsPoint}
-use Rattle.cc_rules_needs.proofs.Puts.{below_alike}
-use Rattle.cc_rules_needs.specs.Points.{is_same, IsJoin, IsRowJoin, IsPointJoin, IsWithFlow, IsRaisedAt}
+use Rattle.cc_rules_grow.specs.CcRulesFlows.Nexts.{IsPoint}
+use Rattle.cc_rules_grow.proofs.CcRulesNeeds.Puts.{below_alike}
+use Rattle.cc_rules_grow.specs.CcRulesNeeds.Points.{is_same, IsJoin, IsRowJoin, IsPointJoin, IsWithFlow, IsRaisedAt}
 use Rattle.cc_rules_shaped.proofs.Joining.{JoinsTyped, IsLeastAbove, join_in}
 use Rattle.cc_rules_shaped.proofs.Types.{one_register_type, one_tracked_type}
 use Rattle.cc_rules_shaped.proofs.Putting.{set_length, with_points}
-use Rattle.cc_state.proofs.Lists.{from_filter}
-use Rattle.cc_state.specs.Shape.{IsSetIn, AreSets, AreRows, IsBefore, IsRegisterType, IsTrackedType, IsPointFact, HaveShape}
-use Rattle.cc_state_facts.specs.declared.facts.Facts.{Facts}
-use Rattle.cc_state_facts.specs.declared.facts.PointFact.{PointFact}
-use Rattle.cc_state_facts.specs.declared.facts.Row.{Row}
-use Rattle.cc_state_facts.specs.Facts.{row_length, fact_at, cell_of, local_of}
-use Rattle.cc_state_keys.specs.Tracked.{registers, tracked}
-use Rattle.cc_state_operators.specs.Domains.{Domain}
-use Rattle.cc_syntax.specs.Values.{ValueType}
+use Rattle.cc_rules_grow.proofs.CcState.Lists.{from_filter}
+use Rattle.cc_rules_grow.specs.CcState.Shape.{IsSetIn, AreSets, AreRows, IsBefore, IsRegisterType, IsTrackedType, IsPointFact, HaveShape}
+use Rattle.cc_rules_grow.specs.CcStateFacts.declared.facts.Facts.{Facts}
+use Rattle.cc_rules_grow.specs.CcStateFacts.declared.facts.PointFact.{PointFact}
+use Rattle.cc_rules_grow.specs.CcStateFacts.declared.facts.Row.{Row}
+use Rattle.cc_rules_grow.specs.CcStateFacts.Facts.{row_length, fact_at, cell_of, local_of}
+use Rattle.cc_rules_grow.specs.CcStateKeys.Tracked.{registers, tracked}
+use Rattle.cc_rules_grow.specs.CcStateOperators.Domains.{Domain}
+use Rattle.cc_rules_grow.specs.CcSyntax.Values.{ValueType}
 
 -- ---- lists
 

@@ -4,47 +4,47 @@ use Rattle.std.specs.Prelude.{option_and_then, if◌then◌else◌}
 use Rattle.std.specs.List.{Contains, filter}
 use Rattle.std.proofs.lemmas.List.Elements.{All-contains}
 use Rattle.std.proofs.lemmas.Option.{slice_get_within}
-use Rattle.cc_flow.proofs.Inside.{body_inside}
-use Rattle.cc_flow.proofs.Paths.{body_counted}
-use Rattle.cc_flow.specs.declared.types.Point.{Point}
-use Rattle.cc_flow.specs.Laws.{IsIn}
-use Rattle.cc_flow.specs.Points.{body_count, body_points, count_of, flow_of}
-use Rattle.cc_flow_sound.proofs.Numbered.{point_of}
-use Rattle.cc_flow_sound.specs.Moves.{entry}
-use Rattle.cc_places.specs.declared.abs.Abs.{Abs}
-use Rattle.cc_places.specs.laws.ListLaws.{cons_cases, none_in}
+use Rattle.cc_rules_grow.proofs.CcFlow.Inside.{body_inside}
+use Rattle.cc_rules_grow.proofs.CcFlow.Paths.{body_counted}
+use Rattle.cc_rules_grow.specs.CcFlow.declared.types.Point.{Point}
+use Rattle.cc_rules_grow.specs.CcFlow.Laws.{IsIn}
+use Rattle.cc_rules_grow.specs.CcFlow.Points.{body_count, body_points, count_of, flow_of}
+use Rattle.cc_rules_grow.proofs.CcFlowSound.Numbered.{point_of}
+use Rattle.cc_rules_grow.specs.CcFlowSound.Moves.{entry}
+use Rattle.cc_rules_grow.specs.CcPlaces.declared.abs.Abs.{Abs}
+use Rattle.cc_rules_grow.specs.CcPlaces.laws.ListLaws.{cons_cases, none_in}
 use Rattle.cc_program.specs.declared.func.Func.{Func}
 use Rattle.cc_program.specs.declared.program.Program.{Program}
-use Rattle.cc_rules.specs.Constraints.{Rule, Touch, Handler, Stability}
-use Rattle.cc_rules.specs.Rules.{act_at, AreNumbers, reads, writes, Touched, ByRead, ByWrite, ByNone, ForEach, entry_levels, at_handler, interrupted, entering, whole_number, is_unstable, unstable_cell, unstable, HandlersAsk, AskedHere, AskedIn}
-use Rattle.cc_rules_flows.specs.Acts.{Act}
-use Rattle.cc_rules_flows.specs.Nexts.{IsPoint, statement_of}
+use Rattle.cc_rules_grow.specs.CcRules.Constraints.{Rule, Touch, Handler, Stability}
+use Rattle.cc_rules_grow.specs.CcRules.Rules.{act_at, AreNumbers, reads, writes, Touched, ByRead, ByWrite, ByNone, ForEach, entry_levels, at_handler, interrupted, entering, whole_number, is_unstable, unstable_cell, unstable, HandlersAsk, AskedHere, AskedIn}
+use Rattle.cc_rules_grow.specs.CcRulesFlows.Acts.{Act}
+use Rattle.cc_rules_grow.specs.CcRulesFlows.Nexts.{IsPoint, statement_of}
 use Rattle.cc_rules_grow.proofs.Elements.{each_append, each_map, each_at, in_map, some_within}
-use Rattle.cc_rules_needs.specs.declared.needs.Part.{Part}
-use Rattle.cc_rules_needs.specs.declared.needs.Part.TheVariants.{Mark, LevelSet}
-use Rattle.cc_rules_needs.specs.declared.needs.Slot.{Slot}
-use Rattle.cc_rules_needs.specs.declared.needs.Slot.TheVariants.{HandlerReads, HandlerWrites, ReadLevels, WriteLevels, ByHandler, Levels, From, Apart}
-use Rattle.cc_rules_needs.specs.Flowing.{numbers, each_pair}
-use Rattle.cc_rules_needs.specs.Needs.{Needs, Has}
+use Rattle.cc_rules_grow.specs.CcRulesNeeds.declared.needs.Part.{Part}
+use Rattle.cc_rules_grow.specs.CcRulesNeeds.declared.needs.Part.TheVariants.{Mark, LevelSet}
+use Rattle.cc_rules_grow.specs.CcRulesNeeds.declared.needs.Slot.{Slot}
+use Rattle.cc_rules_grow.specs.CcRulesNeeds.declared.needs.Slot.TheVariants.{HandlerReads, HandlerWrites, ReadLevels, WriteLevels, ByHandler, Levels, From, Apart}
+use Rattle.cc_rules_grow.specs.CcRulesNeeds.Flowing.{numbers, each_pair}
+use Rattle.cc_rules_grow.specs.CcRulesNeeds.Needs.{Needs, Has}
 use Rattle.cc_rules_shaped.proofs.Fit.{number_below, pair_below, point_counted, register_typed, Known, HaveThem, fit_append, FitsAlone, fit_each, FlowFits, flow_fits, some_in, cells_fit}
 use Rattle.cc_rules_shaped.proofs.Joining.{JoinsTyped}
 use Rattle.cc_rules_shaped.proofs.Types.{one_key_type}
 use Rattle.cc_rules_shaped.specs.Shaped.{AreSomeIn, IsPointIn, AreFitBehind, AreFit}
-use Rattle.cc_state.proofs.Lists.{contains_at, from_filter}
-use Rattle.cc_state.proofs.Numbered.{key_at}
-use Rattle.cc_state.proofs.Sets.{its_shape}
-use Rattle.cc_state.specs.Shape.{OfScalar, object_ctype, IsSetIn, IsKeyType, IsPointFact, HaveShape}
-use Rattle.cc_state_facts.specs.declared.facts.Facts.{Facts}
-use Rattle.cc_state_facts.specs.declared.facts.Key.{Key}
-use Rattle.cc_state_facts.specs.declared.facts.Key.TheVariants as key
-use Rattle.cc_state_facts.specs.declared.facts.PointFact.{PointFact}
-use Rattle.cc_state_facts.specs.Facts.{fact_at, mark_of, levels_of}
-use Rattle.cc_state_facts.specs.Levels.{only_level}
-use Rattle.cc_state_keys.specs.Keys.{keys_of, key_number}
-use Rattle.cc_state_keys.specs.Tracked.{registers, tracked}
-use Rattle.cc_state_operators.specs.Domains.{Domain}
-use Rattle.cc_steps.specs.Turn.{level_of}
-use Rattle.cc_syntax.specs.Values.{ValueType}
+use Rattle.cc_rules_grow.proofs.CcState.Lists.{contains_at, from_filter}
+use Rattle.cc_rules_grow.proofs.CcState.Numbered.{key_at}
+use Rattle.cc_rules_grow.proofs.CcState.Sets.{its_shape}
+use Rattle.cc_rules_grow.specs.CcState.Shape.{OfScalar, object_ctype, IsSetIn, IsKeyType, IsPointFact, HaveShape}
+use Rattle.cc_rules_grow.specs.CcStateFacts.declared.facts.Facts.{Facts}
+use Rattle.cc_rules_grow.specs.CcStateFacts.declared.facts.Key.{Key}
+use Rattle.cc_rules_grow.specs.CcStateFacts.declared.facts.Key.TheVariants as key
+use Rattle.cc_rules_grow.specs.CcStateFacts.declared.facts.PointFact.{PointFact}
+use Rattle.cc_rules_grow.specs.CcStateFacts.Facts.{fact_at, mark_of, levels_of}
+use Rattle.cc_rules_grow.specs.CcStateFacts.Levels.{only_level}
+use Rattle.cc_rules_grow.specs.CcStateKeys.Keys.{keys_of, key_number}
+use Rattle.cc_rules_grow.specs.CcStateKeys.Tracked.{registers, tracked}
+use Rattle.cc_rules_grow.specs.CcStateOperators.Domains.{Domain}
+use Rattle.cc_rules_grow.specs.CcSteps.Turn.{level_of}
+use Rattle.cc_rules_grow.specs.CcSyntax.Values.{ValueType}
 
 -- the entry of a function is a point of it
 pub entry_there : {I : Type 0} (d : Domain I) (p : Program) (id : ℕ) (f : Func) → slice_get p.funcs id ≡ Some f → IsPointIn d p (entry p id) f

@@ -5,18 +5,18 @@ use Rattle.std.specs.Prelude.{option_map, option_and_then}
 use Rattle.std.specs.List.{flat_map}
 use Rattle.std.proofs.lemmas.List.Elements.{Contains-append_left, Contains-append_right}
 use Rattle.std.proofs.lemmas.Option.{same_Some, none-some, slice_get_within, slice_get-map}
-use Rattle.cc_cells.specs.Cells.{scalar_in}
-use Rattle.cc_cells.specs.Scalars.{position}
-use Rattle.cc_eval.specs.Context.{object_type}
-use Rattle.cc_flow_sound.specs.Moves.{entry}
-use Rattle.cc_num.proofs.ResultLaws.{value_from_test}
-use Rattle.cc_num.specs.Integers.{is_value_of}
-use Rattle.cc_places.specs.Abstract.{AreOfOneKind, IsBelowAbs, HasValue}
-use Rattle.cc_places.specs.declared.abs.Abs.{Abs}
-use Rattle.cc_places.specs.declared.abs.Abs.TheVariants as abs
-use Rattle.cc_places.specs.declared.addrs.Addrs.{Addrs}
-use Rattle.cc_places.specs.laws.ListLaws.{at_head, none_in, behind_head, cons_cases}
-use Rattle.cc_places.specs.Sets.{HasAddress}
+use Rattle.cc_rules_grow.specs.CcCells.Cells.{scalar_in}
+use Rattle.cc_rules_grow.specs.CcCells.Scalars.{position}
+use Rattle.cc_rules_grow.specs.CcEval.Context.{object_type}
+use Rattle.cc_rules_grow.specs.CcFlowSound.Moves.{entry}
+use Rattle.cc_program.proofs.CcNum.ResultLaws.{value_from_test}
+use Rattle.cc_program.specs.CcNum.Integers.{is_value_of}
+use Rattle.cc_rules_grow.specs.CcPlaces.Abstract.{AreOfOneKind, IsBelowAbs, HasValue}
+use Rattle.cc_rules_grow.specs.CcPlaces.declared.abs.Abs.{Abs}
+use Rattle.cc_rules_grow.specs.CcPlaces.declared.abs.Abs.TheVariants as abs
+use Rattle.cc_rules_grow.specs.CcPlaces.declared.addrs.Addrs.{Addrs}
+use Rattle.cc_rules_grow.specs.CcPlaces.laws.ListLaws.{at_head, none_in, behind_head, cons_cases}
+use Rattle.cc_rules_grow.specs.CcPlaces.Sets.{HasAddress}
 use Rattle.cc_program.specs.declared.func.Func.{Func}
 use Rattle.cc_program.specs.declared.object.Object.{Object}
 use Rattle.cc_program.specs.declared.program.Program.{Program}
@@ -30,44 +30,44 @@ use Rattle.cc_program.specs.declared.value.Root.{Root}
 use Rattle.cc_program.specs.declared.value.Root.TheVariants as root
 use Rattle.cc_program.specs.declared.value.Value.{Value}
 use Rattle.cc_program.specs.declared.value.Value.TheVariants.{Int, Place}
-use Rattle.cc_rules.specs.Rules.{IsFirstValue, IsFirstSet, AreFirstSets, IsOnly, IsStart, IsStarted, AtStart, Elsewhere}
+use Rattle.cc_rules_grow.specs.CcRules.Rules.{IsFirstValue, IsFirstSet, AreFirstSets, IsOnly, IsStart, IsStarted, AtStart, Elsewhere}
 use Rattle.cc_rules_grow.proofs.Elements.{map_contained, some_within}
 use Rattle.cc_rules_grow.proofs.Firsts.{some_is, tracked_scalar, first_there}
-use Rattle.cc_rules_needs.specs.declared.needs.Part.TheVariants.{Mark, LevelSet, Values}
-use Rattle.cc_rules_needs.specs.declared.needs.Slot.TheVariants.{Whole, ByMain, Levels}
-use Rattle.cc_rules_needs.specs.Flowing.{Flowing}
-use Rattle.cc_rules_needs.specs.Needs.{Needs, Has}
+use Rattle.cc_rules_grow.specs.CcRulesNeeds.declared.needs.Part.TheVariants.{Mark, LevelSet, Values}
+use Rattle.cc_rules_grow.specs.CcRulesNeeds.declared.needs.Slot.TheVariants.{Whole, ByMain, Levels}
+use Rattle.cc_rules_grow.specs.CcRulesNeeds.Flowing.{Flowing}
+use Rattle.cc_rules_grow.specs.CcRulesNeeds.Needs.{Needs, Has}
 use Rattle.cc_rules_shaped.proofs.Fit.{register_typed, Known, FlowFits, flow_fits, some_in}
 use Rattle.cc_rules_shaped.proofs.Rules.{entry_there}
 use Rattle.cc_rules_shaped.proofs.Zeros.{object_leaf}
 use Rattle.cc_rules_shaped.specs.Shaped.{AreSomeIn, AreFitBehind, AreFit}
-use Rattle.cc_state.proofs.CellTypes.{one_type, IsHeld, IsHeldIn, IsTyped, read_held, key_held}
-use Rattle.cc_state.proofs.Lists.{contains_at, only_one}
-use Rattle.cc_state.proofs.Sets.{scalar_at}
-use Rattle.cc_state.specs.Shape.{IsCellType, OfScalar, OfElements, ctype_of, MayPoint, IsSetIn, IsTrackedType, IsKeyType, HaveShape}
-use Rattle.cc_state_facts.specs.declared.facts.Facts.{Facts}
-use Rattle.cc_state_facts.specs.declared.facts.Key.{Key}
-use Rattle.cc_state_facts.specs.Levels.{only_level}
-use Rattle.cc_state_keys.specs.Addressed.{taken_in_func, taken_in_leaf, taken_in_object, IsAddressed}
-use Rattle.cc_state_keys.specs.Keys.{keys_of, cell_key}
-use Rattle.cc_state_keys.specs.Lists.{all_from}
-use Rattle.cc_state_keys.specs.Tracked.{tracked}
-use Rattle.cc_state_operators.specs.Domains.{Domain}
-use Rattle.cc_state_values.proofs.Rules.{one_there, IsPointer}
+use Rattle.cc_rules_grow.proofs.CcState.CellTypes.{one_type, IsHeld, IsHeldIn, IsTyped, read_held, key_held}
+use Rattle.cc_rules_grow.proofs.CcState.Lists.{contains_at, only_one}
+use Rattle.cc_rules_grow.proofs.CcState.Sets.{scalar_at}
+use Rattle.cc_rules_grow.specs.CcState.Shape.{IsCellType, OfScalar, OfElements, ctype_of, MayPoint, IsSetIn, IsTrackedType, IsKeyType, HaveShape}
+use Rattle.cc_rules_grow.specs.CcStateFacts.declared.facts.Facts.{Facts}
+use Rattle.cc_rules_grow.specs.CcStateFacts.declared.facts.Key.{Key}
+use Rattle.cc_rules_grow.specs.CcStateFacts.Levels.{only_level}
+use Rattle.cc_rules_grow.specs.CcStateKeys.Addressed.{taken_in_func, taken_in_leaf, taken_in_object, IsAddressed}
+use Rattle.cc_rules_grow.specs.CcStateKeys.Keys.{keys_of, cell_key}
+use Rattle.cc_rules_grow.specs.CcStateKeys.Lists.{all_from}
+use Rattle.cc_rules_grow.specs.CcStateKeys.Tracked.{tracked}
+use Rattle.cc_rules_grow.specs.CcStateOperators.Domains.{Domain}
+use Rattle.cc_rules_grow.proofs.CcStateValues.Rules.{one_there, IsPointer}
 use Rattle.cc_state_values_fit.proofs.Names.{point_kept}
 use Rattle.cc_state_values_fit.proofs.Sets.{IsTyping, addrs_in, no_ints, one_kind, set_surely, whole_set, below_in, has_all}
 use Rattle.cc_state_values_fit.proofs.Unions.{listed_all, AreThose, those_never}
 use Rattle.cc_state_values_fit.specs.Fit.{HasWholes}
-use Rattle.cc_states.proofs.Options.{mapped}
-use Rattle.cc_states.proofs.StartLemmas.{start_state}
-use Rattle.cc_states.specs.Typed.{IsAddress, HasType}
-use Rattle.cc_steps.specs.State.{first_values}
-use Rattle.cc_steps.specs.Turn.{start}
-use Rattle.cc_syntax.proofs.NameRules.{sound-typed}
-use Rattle.cc_syntax.specs.Expressions.{of_one}
-use Rattle.cc_syntax.specs.Initial.{place_at}
-use Rattle.cc_syntax.specs.Normal.{IsNormal}
-use Rattle.cc_syntax.specs.Values.{ValueType, NoValue, Integer, ToObject, ToFunction, PlaceType, DevicePlace, ObjectPlace, FunctionPlace, object_place, read_from, is_scalar, scalar_value}
+use Rattle.cc_rules_grow.proofs.CcStates.Options.{mapped}
+use Rattle.cc_rules_grow.proofs.CcStates.StartLemmas.{start_state}
+use Rattle.cc_rules_grow.specs.CcStates.Typed.{IsAddress, HasType}
+use Rattle.cc_rules_grow.specs.CcSteps.State.{first_values}
+use Rattle.cc_rules_grow.specs.CcSteps.Turn.{start}
+use Rattle.cc_rules_grow.proofs.CcSyntax.NameRules.{sound-typed}
+use Rattle.cc_rules_grow.specs.CcSyntax.Expressions.{of_one}
+use Rattle.cc_rules_grow.specs.CcSyntax.Initial.{place_at}
+use Rattle.cc_rules_grow.specs.CcSyntax.Normal.{IsNormal}
+use Rattle.cc_rules_grow.specs.CcSyntax.Values.{ValueType, NoValue, Integer, ToObject, ToFunction, PlaceType, DevicePlace, ObjectPlace, FunctionPlace, object_place, read_from, is_scalar, scalar_value}
 
 then_there : {A B : Type 0} (g : A → Option B) (a : Option A) (w : B) → option_and_then g a ≡ Some w → (x : A) × (a ≡ Some x) × (g x ≡ Some w)
 then_there g None w h = absurd (none-some w h)

@@ -3,19 +3,19 @@ use Rattle.std.proofs.Common.{arith, ◌≡◌, ◌⊎◌, inl, inr, ◌+◌, �
 use Rattle.std.specs.List.{flat_map}
 use Rattle.std.proofs.lemmas.List.Elements.{Contains-append_left, Contains-append_right, Contains-append_cases}
 use Rattle.std.proofs.lemmas.Option.{same_Some}
-use Rattle.cc_control.specs.Control.{bodies}
-use Rattle.cc_flow_sound.specs.Statements.{inside, statement_at}
+use Rattle.cc_rules_grow.specs.CcControl.Control.{bodies}
+use Rattle.cc_rules_grow.specs.CcFlowSound.Statements.{inside, statement_at}
 use Rattle.cc_program.specs.declared.func.Func.{Func}
 use Rattle.cc_program.specs.declared.program.Program.{Program}
 use Rattle.cc_program.specs.declared.stmt.Case.{Case, out-Case, fold-Case, fold_out-Case}
 use Rattle.cc_program.specs.declared.stmt.Stmt.TheOpen as is
 use Rattle.cc_program.specs.declared.stmt.Stmt.{Stmt, out-Stmt, map-Stmt, fold_out-Stmt}
-use Rattle.cc_state.proofs.Lists.{no_member}
-use Rattle.cc_state_facts.specs.declared.facts.Key.{Key}
-use Rattle.cc_state_keys.specs.Addressed.{all_taken, taken_in, taken_in_optional, stmt_taken_step, taken_in_stmt, taken_in_func, taken_in_object}
-use Rattle.cc_state_keys.specs.Lists.{all_from}
+use Rattle.cc_rules_grow.proofs.CcState.Lists.{no_member}
+use Rattle.cc_rules_grow.specs.CcStateFacts.declared.facts.Key.{Key}
+use Rattle.cc_rules_grow.specs.CcStateKeys.Addressed.{all_taken, taken_in, taken_in_optional, stmt_taken_step, taken_in_stmt, taken_in_func, taken_in_object}
+use Rattle.cc_rules_grow.specs.CcStateKeys.Lists.{all_from}
 use Rattle.cc_state_values_fit.specs.Fit.{AreAddressed}
-use Rattle.cc_syntax.specs.Expressions.{of_one}
+use Rattle.cc_rules_grow.specs.CcSyntax.Expressions.{of_one}
 
 into_all : {A B : Type 0} (lists : ℕ → A → List B) (n : ℕ) (xs : List A) (i : ℕ) (x : A) (b : B) → slice_get xs i ≡ Some x → Contains (lists (n + i) x) b → Contains (all_from lists n xs) b
 into_all lists n [] i x b e c = absurd (cc)

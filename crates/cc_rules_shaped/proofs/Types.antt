@@ -6,11 +6,11 @@ use Rattle.cc_program.specs.declared.object.Object.{Object}
 use Rattle.cc_program.specs.declared.program.Program.{Program}
 use Rattle.cc_program.specs.declared.types.CType.{CType}
 use Rattle.cc_program.specs.declared.types.Sig.{out-Sig}
-use Rattle.cc_state.proofs.CellTypes.{one_type}
-use Rattle.cc_state.specs.Shape.{IsCellType, ctype_of, IsRegisterType, IsTrackedType, IsKeyType, IsResultType}
-use Rattle.cc_state_operators.specs.Domains.{Domain}
-use Rattle.cc_syntax.specs.Types.{Named}
-use Rattle.cc_syntax.specs.Values.{ValueType, scalar_value, result_value}
+use Rattle.cc_rules_grow.proofs.CcState.CellTypes.{one_type}
+use Rattle.cc_rules_grow.specs.CcState.Shape.{IsCellType, ctype_of, IsRegisterType, IsTrackedType, IsKeyType, IsResultType}
+use Rattle.cc_rules_grow.specs.CcStateOperators.Domains.{Domain}
+use Rattle.cc_rules_grow.specs.CcSyntax.Types.{Named}
+use Rattle.cc_rules_grow.specs.CcSyntax.Values.{ValueType, scalar_value, result_value}
 
 module _ {I : Type 0} (d : Domain I) (p : Program) where
   pub one_key_type : (k : ℕ) (t u : ValueType) → IsKeyType d p k t → IsKeyType d p k u → t ≡ u

@@ -1,42 +1,42 @@
 -- What a write asks of the keys that its place names, and a return of the results of its function, fits.
 use Rattle.std.proofs.Common.{◌≡◌, ℕ, List, [], ◌∷◌, map, Contains, inl, inr, Some, sym, subst}
 use Rattle.std.specs.Prelude.{if◌then◌else◌}
-use Rattle.cc_flow.specs.declared.types.Point.{Point}
-use Rattle.cc_places.specs.laws.ListLaws.{cons_cases, at_head, behind_head, none_in}
+use Rattle.cc_rules_grow.specs.CcFlow.declared.types.Point.{Point}
+use Rattle.cc_rules_grow.specs.CcPlaces.laws.ListLaws.{cons_cases, at_head, behind_head, none_in}
 use Rattle.cc_program.specs.declared.func.Func.{Func}
 use Rattle.cc_program.specs.declared.program.Program.{Program}
 use Rattle.cc_program.specs.declared.types.CType.{CType}
 use Rattle.cc_program.specs.declared.types.Shape.{Shape, out-Shape}
 use Rattle.cc_program.specs.declared.types.Shape.TheOpen as shape
 use Rattle.cc_program.specs.declared.types.Sig.{Sig, out-Sig}
-use Rattle.cc_rules.specs.Rules.{AreNumbers, Written, OfWrite, OfNone, Given, OfReturn, OfNoValue}
-use Rattle.cc_rules_flows.specs.Acts.{Act}
-use Rattle.cc_rules_flows.specs.Nexts.{IsPoint}
+use Rattle.cc_rules_grow.specs.CcRules.Rules.{AreNumbers, Written, OfWrite, OfNone, Given, OfReturn, OfNoValue}
+use Rattle.cc_rules_grow.specs.CcRulesFlows.Acts.{Act}
+use Rattle.cc_rules_grow.specs.CcRulesFlows.Nexts.{IsPoint}
 use Rattle.cc_rules_grow.proofs.Elements.{each_map}
-use Rattle.cc_rules_needs.specs.declared.needs.Part.TheVariants.{Values}
-use Rattle.cc_rules_needs.specs.declared.needs.Slot.TheVariants.{Whole}
-use Rattle.cc_rules_needs.specs.Needs.{Needs}
+use Rattle.cc_rules_grow.specs.CcRulesNeeds.declared.needs.Part.TheVariants.{Values}
+use Rattle.cc_rules_grow.specs.CcRulesNeeds.declared.needs.Slot.TheVariants.{Whole}
+use Rattle.cc_rules_grow.specs.CcRulesNeeds.Needs.{Needs}
 use Rattle.cc_rules_shaped.proofs.Acting.{AreTaken}
 use Rattle.cc_rules_shaped.proofs.Classes.{named_typed}
 use Rattle.cc_rules_shaped.proofs.Fit.{FitsAlone, fit_each}
 use Rattle.cc_rules_shaped.proofs.Here.{its_points, value_in}
 use Rattle.cc_rules_shaped.specs.Shaped.{AreFit}
-use Rattle.cc_state.proofs.CellTypes.{IsTyped}
-use Rattle.cc_state.proofs.Numbered.{key_at}
-use Rattle.cc_state.specs.Shape.{IsKeyType, HaveShape}
-use Rattle.cc_state_facts.specs.declared.facts.Facts.{Facts}
-use Rattle.cc_state_facts.specs.declared.facts.Key.{Key}
-use Rattle.cc_state_facts.specs.declared.facts.PointFact.{PointFact}
-use Rattle.cc_state_facts.specs.Facts.{fact_at}
-use Rattle.cc_state_keys.specs.Keys.{key_number}
-use Rattle.cc_state_operators.specs.Domains.{Domain}
-use Rattle.cc_state_reads.specs.Reads.{registers_at}
+use Rattle.cc_rules_grow.proofs.CcState.CellTypes.{IsTyped}
+use Rattle.cc_rules_grow.proofs.CcState.Numbered.{key_at}
+use Rattle.cc_rules_grow.specs.CcState.Shape.{IsKeyType, HaveShape}
+use Rattle.cc_rules_grow.specs.CcStateFacts.declared.facts.Facts.{Facts}
+use Rattle.cc_rules_grow.specs.CcStateFacts.declared.facts.Key.{Key}
+use Rattle.cc_rules_grow.specs.CcStateFacts.declared.facts.PointFact.{PointFact}
+use Rattle.cc_rules_grow.specs.CcStateFacts.Facts.{fact_at}
+use Rattle.cc_rules_grow.specs.CcStateKeys.Keys.{key_number}
+use Rattle.cc_rules_grow.specs.CcStateOperators.Domains.{Domain}
+use Rattle.cc_rules_grow.specs.CcStateReads.Reads.{registers_at}
 use Rattle.cc_state_values_fit.proofs.Sets.{IsTyping}
 use Rattle.cc_state_values_fit.specs.Fit.{HasWholes}
-use Rattle.cc_states.proofs.GivenLemmas.{read_as_written}
-use Rattle.cc_syntax.specs.Normal.{IsNormal}
-use Rattle.cc_syntax.specs.SameTypes.{is_void_shape}
-use Rattle.cc_syntax.specs.Values.{ValueType, NoValue, scalar_shape, scalar_value, result_value}
+use Rattle.cc_rules_grow.proofs.CcStates.GivenLemmas.{read_as_written}
+use Rattle.cc_rules_grow.specs.CcSyntax.Normal.{IsNormal}
+use Rattle.cc_rules_grow.specs.CcSyntax.SameTypes.{is_void_shape}
+use Rattle.cc_rules_grow.specs.CcSyntax.Values.{ValueType, NoValue, scalar_shape, scalar_value, result_value}
 
 -- a scalar result is what a function gives
 pub scalar_result : (c : CType) (t : ValueType) → scalar_value c ≡ Some t → result_value c ≡ Some t

@@ -3,7 +3,7 @@ use Rattle.std.proofs.Common.{◌≡◌, ℕ, zero, suc, List, [], ◌∷◌, �
 use Rattle.std.specs.Prelude.{unwrap_or, fold}
 use Rattle.std.specs.List.{flat_map}
 use Rattle.std.proofs.lemmas.Option.{same_Some, none-some}
-use Rattle.cc_cells.specs.Scalars.{shape_zeros, zeros_over, member_zeros, structure_zeros, zeros}
+use Rattle.cc_rules_grow.specs.CcCells.Scalars.{shape_zeros, zeros_over, member_zeros, structure_zeros, zeros}
 use Rattle.cc_program.proofs.TypeInduction.{with_shape, TypeParts, by_type}
 use Rattle.cc_program.specs.declared.object.Object.{Object}
 use Rattle.cc_program.specs.declared.program.Program.{Program}
@@ -21,10 +21,10 @@ use Rattle.cc_program.specs.declared.value.Root.{Root}
 use Rattle.cc_program.specs.declared.value.Value.{Value}
 use Rattle.cc_program.specs.declared.value.Value.TheVariants.{Int, Place}
 use Rattle.cc_rules_grow.proofs.Elements.{Each, each_append, each_at}
-use Rattle.cc_state.proofs.Lists.{contains_at}
-use Rattle.cc_states.proofs.ZeroLemmas.{parts_zeros, zeros-shape}
-use Rattle.cc_steps.specs.State.{first_value, values_or, first_values}
-use Rattle.cc_syntax.specs.Types.{Named}
+use Rattle.cc_rules_grow.proofs.CcState.Lists.{contains_at}
+use Rattle.cc_rules_grow.proofs.CcStates.ZeroLemmas.{parts_zeros, zeros-shape}
+use Rattle.cc_rules_grow.specs.CcSteps.State.{first_value, values_or, first_values}
+use Rattle.cc_rules_grow.specs.CcSyntax.Types.{Named}
 
 -- a value that is no address of an object
 abbrev IsOther : Value → Type 0

@@ -1,25 +1,25 @@
 -- Which parts the slots of facts of a program's shape may get: values of the slot's type, and levels of what is marked.
 use Rattle.std.specs.Prelude.{◌≡◌, ◌⊎◌, ◌<◌, ℕ, Bool, true, false, [], ◌∷◌, length, Option, Some, None}
 use Rattle.std.specs.List.{AllPairs, Contains}
-use Rattle.cc_flow.specs.declared.types.Point.{Point}
-use Rattle.cc_flow.specs.Points.{count_of}
-use Rattle.cc_places.specs.declared.abs.Abs.{Abs}
+use Rattle.cc_rules_grow.specs.CcFlow.declared.types.Point.{Point}
+use Rattle.cc_rules_grow.specs.CcFlow.Points.{count_of}
+use Rattle.cc_rules_grow.specs.CcPlaces.declared.abs.Abs.{Abs}
 use Rattle.cc_program.specs.declared.func.Func.{Func}
 use Rattle.cc_program.specs.declared.program.Program.{Program}
-use Rattle.cc_rules_flows.specs.Nexts.{IsPoint}
-use Rattle.cc_rules_needs.specs.declared.needs.Part.{Part}
-use Rattle.cc_rules_needs.specs.declared.needs.Part.TheVariants.{Mark, LevelSet, Flags, Values}
-use Rattle.cc_rules_needs.specs.declared.needs.Slot.{Slot}
-use Rattle.cc_rules_needs.specs.declared.needs.Slot.TheVariants.{Whole, HandlerReads, HandlerWrites, ReadLevels, WriteLevels, Result, ByMain, ByHandler, Levels, From, Flag, LocalAt, CellAt, Apart}
-use Rattle.cc_rules_needs.specs.Needs.{Needs, Has}
-use Rattle.cc_state.specs.Shape.{IsSetIn, AreRows, IsBefore, IsRegisterType, IsTrackedType, IsKeyType, IsResultType}
-use Rattle.cc_state_facts.specs.declared.facts.Facts.{Facts}
-use Rattle.cc_state_facts.specs.declared.facts.PointFact.{PointFact}
-use Rattle.cc_state_facts.specs.Facts.{cell_of, mark_of}
-use Rattle.cc_state_keys.specs.Keys.{keys_of}
-use Rattle.cc_state_keys.specs.Tracked.{registers, tracked}
-use Rattle.cc_state_operators.specs.Domains.{Domain}
-use Rattle.cc_syntax.specs.Values.{ValueType}
+use Rattle.cc_rules_grow.specs.CcRulesFlows.Nexts.{IsPoint}
+use Rattle.cc_rules_grow.specs.CcRulesNeeds.declared.needs.Part.{Part}
+use Rattle.cc_rules_grow.specs.CcRulesNeeds.declared.needs.Part.TheVariants.{Mark, LevelSet, Flags, Values}
+use Rattle.cc_rules_grow.specs.CcRulesNeeds.declared.needs.Slot.{Slot}
+use Rattle.cc_rules_grow.specs.CcRulesNeeds.declared.needs.Slot.TheVariants.{Whole, HandlerReads, HandlerWrites, ReadLevels, WriteLevels, Result, ByMain, ByHandler, Levels, From, Flag, LocalAt, CellAt, Apart}
+use Rattle.cc_rules_grow.specs.CcRulesNeeds.Needs.{Needs, Has}
+use Rattle.cc_rules_grow.specs.CcState.Shape.{IsSetIn, AreRows, IsBefore, IsRegisterType, IsTrackedType, IsKeyType, IsResultType}
+use Rattle.cc_rules_grow.specs.CcStateFacts.declared.facts.Facts.{Facts}
+use Rattle.cc_rules_grow.specs.CcStateFacts.declared.facts.PointFact.{PointFact}
+use Rattle.cc_rules_grow.specs.CcStateFacts.Facts.{cell_of, mark_of}
+use Rattle.cc_rules_grow.specs.CcStateKeys.Keys.{keys_of}
+use Rattle.cc_rules_grow.specs.CcStateKeys.Tracked.{registers, tracked}
+use Rattle.cc_rules_grow.specs.CcStateOperators.Domains.{Domain}
+use Rattle.cc_rules_grow.specs.CcSyntax.Values.{ValueType}
 
 -- whether a slot is one of a point, and not of a key or a function
 abbrev pub is_at_point : Slot → Bool

@@ -1,26 +1,26 @@
 ghost use Rattle.std.specs.Prelude.{◌≡◌, ℕ, false, length};
-ghost use Rattle.cc_flow.specs.declared.types.Point.{Point};
+ghost use Rattle.cc_rules_grow.specs.CcFlow.declared.types.Point.{Point};
 ghost use Rattle.cc_program.specs.declared.func.Func.{Func};
 ghost use Rattle.cc_program.specs.declared.program.Program.{Program};
-ghost use Rattle.cc_rules.specs.Constraints.{Constraint, Touch, Handler, Stability, at_point};
-ghost use Rattle.cc_rules.specs.Rules.{IsAsked};
-ghost use Rattle.cc_rules_flows.specs.Nexts.{IsPoint};
-ghost use Rattle.cc_rules_needs.specs.declared.needs.Part.{Part};
-ghost use Rattle.cc_rules_needs.specs.declared.needs.Slot.{Slot};
-ghost use Rattle.cc_rules_needs.specs.Flowing.{of_fact, needs_at};
-ghost use Rattle.cc_rules_needs.specs.Needs.{Needs};
-ghost use Rattle.cc_rules_needs.specs.Points.{IsRaisedAt};
-ghost use Rattle.cc_rules_needs.specs.Raised.{MayGet, IsPut};
+ghost use Rattle.cc_rules_grow.specs.CcRules.Constraints.{Constraint, Touch, Handler, Stability, at_point};
+ghost use Rattle.cc_rules_grow.specs.CcRules.Rules.{IsAsked};
+ghost use Rattle.cc_rules_grow.specs.CcRulesFlows.Nexts.{IsPoint};
+ghost use Rattle.cc_rules_grow.specs.CcRulesNeeds.declared.needs.Part.{Part};
+ghost use Rattle.cc_rules_grow.specs.CcRulesNeeds.declared.needs.Slot.{Slot};
+ghost use Rattle.cc_rules_grow.specs.CcRulesNeeds.Flowing.{of_fact, needs_at};
+ghost use Rattle.cc_rules_grow.specs.CcRulesNeeds.Needs.{Needs};
+ghost use Rattle.cc_rules_grow.specs.CcRulesNeeds.Points.{IsRaisedAt};
+ghost use Rattle.cc_rules_grow.specs.CcRulesNeeds.Raised.{MayGet, IsPut};
 ghost use Rattle.cc_rules_shaped.specs.Shaped.{is_at_point, Fits, AllowsLevels, AreFit, IsLaidOut};
-ghost use Rattle.cc_state.specs.Shape.{IsPointFact, HaveShape};
-ghost use Rattle.cc_state_facts.specs.declared.facts.Facts.{Facts};
-ghost use Rattle.cc_state_facts.specs.declared.facts.PointFact.{PointFact};
-ghost use Rattle.cc_state_keys.specs.Tracked.{registers, tracked};
-ghost use Rattle.cc_state_operators.specs.Domains.{domain};
+ghost use Rattle.cc_rules_grow.specs.CcState.Shape.{IsPointFact, HaveShape};
+ghost use Rattle.cc_rules_grow.specs.CcStateFacts.declared.facts.Facts.{Facts};
+ghost use Rattle.cc_rules_grow.specs.CcStateFacts.declared.facts.PointFact.{PointFact};
+ghost use Rattle.cc_rules_grow.specs.CcStateKeys.Tracked.{registers, tracked};
+ghost use Rattle.cc_rules_grow.specs.CcStateOperators.Domains.{domain};
 ghost use Rattle.cc_state_values_fit.specs.Fit.{HasWholes};
-ghost use Rattle.cc_syntax.specs.Normal.{IsNormal};
+ghost use Rattle.cc_rules_grow.specs.CcSyntax.Normal.{IsNormal};
 
-use cc_lattice::IntDomain;
+use cc_rules_grow::lattice::IntDomain;
 
 /// What facts of a program's shape may get, and that they keep the shape. The call does nothing.
 pub fn laws<I: IntDomain>()

@@ -2,17 +2,17 @@
 use Rattle.std.proofs.Common.{arith, ◌≡◌, ◌⊎◌, inl, inr, ⊎_elim, ◌+◌, ◌<◌, ◌≤◌, ◌==◌, ℕ, zero, suc, ℤ, Bool, true, false, if◌then◌else◌, List, [], ◌∷◌, ◌++◌, length, take, get_or, Option, Some, None, slice_get, refl, ap, sym, subst, ◌∙◌}
 use Rattle.std.specs.List.{filter}
 use Rattle.std.proofs.lemmas.List.{append_assoc, length-take-le, take_more}
-use Rattle.cc_places.specs.declared.abs.Abs.{Abs}
-use Rattle.cc_places.specs.laws.ListLaws.{all_taken}
+use Rattle.cc_rules_flows.specs.CcPlaces.declared.abs.Abs.{Abs}
+use Rattle.cc_rules_flows.specs.CcPlaces.laws.ListLaws.{all_taken}
 use Rattle.cc_rules_sides.specs.Refined.{AreWorkedOf, IsCellLeft, IsLeftByIn, IsLeftMore, equal_from}
 use Rattle.cc_rules_sides.proofs.Unique.{KeepsMore, left_by_more, one_left_by}
 use Rattle.cc_rules_tests.specs.declared.tested.Tested.{Tested}
 use Rattle.cc_rules_tests.specs.Tested.{IsExplicitIn, IsLeftAlikeIn, IsOfRegisterIn, IsWorkedAt, test_of}
-use Rattle.cc_state_facts.specs.declared.facts.PointFact.{PointFact}
-use Rattle.cc_state_facts.specs.Facts.{has_pair}
-use Rattle.cc_state_operators.specs.Domains.{Domain}
-use Rattle.cc_state_values.proofs.Same.{IsOrdered}
-use Rattle.cc_state_values.specs.Contexts.{set_in}
+use Rattle.cc_rules_flows.specs.CcStateFacts.declared.facts.PointFact.{PointFact}
+use Rattle.cc_rules_flows.specs.CcStateFacts.Facts.{has_pair}
+use Rattle.cc_rules_flows.specs.CcStateOperators.Domains.{Domain}
+use Rattle.cc_rules_flows.proofs.CcStateValues.Same.{IsOrdered}
+use Rattle.cc_rules_flows.specs.CcStateValues.Contexts.{set_in}
 
 -- a list that ends with an element, split at one of its elements
 

@@ -1,18 +1,18 @@
 -- A set that has a value, of which a test leaves none.
 use Rattle.std.proofs.Common.{◌≡◌, ◌↔◌, not, ℤ, Bool, true, false, true≢false, IsTrue, ℕ, Option, Some, None, is_some, refl, ap, sym, subst, ◌∙◌}
 use Rattle.std.specs.Option.{IfSome}
-use Rattle.cc_lattice.specs.Domains.{AreEnds}
-use Rattle.cc_places.specs.Abstract.{HasValue}
-use Rattle.cc_places.specs.declared.abs.Abs.{Abs}
-use Rattle.cc_places.specs.declared.abs.Abs.TheVariants as abs
-use Rattle.cc_places.specs.declared.addrs.Addrs.{Addrs}
+use Rattle.cc_rules_flows.specs.CcLattice.Domains.{AreEnds}
+use Rattle.cc_rules_flows.specs.CcPlaces.Abstract.{HasValue}
+use Rattle.cc_rules_flows.specs.CcPlaces.declared.abs.Abs.{Abs}
+use Rattle.cc_rules_flows.specs.CcPlaces.declared.abs.Abs.TheVariants as abs
+use Rattle.cc_rules_flows.specs.CcPlaces.declared.addrs.Addrs.{Addrs}
 use Rattle.cc_program.specs.declared.value.Value.{Value}
 use Rattle.cc_program.specs.declared.value.Value.TheVariants as value
 use Rattle.cc_rules_flows.specs.Tests.{IsLeft, OfMembers, OfRange, OfOther, OfAddresses}
 use Rattle.cc_rules_sides.specs.Refined.{HasNumber, IsEmptied, KeepsAddresses}
 use Rattle.cc_rules_tests.specs.declared.tested.Tested.{Tested}
 use Rattle.cc_rules_tests.specs.Tested.{IsLeftIn}
-use Rattle.cc_state_operators.specs.Domains.{Domain}
+use Rattle.cc_rules_flows.specs.CcStateOperators.Domains.{Domain}
 
 pub none_told : (A : Type 0) (b : Bool) → (IsTrue b ↔ A) → (IsTrue (not b) ↔ (A → ⊥))
 none_told A true h = ((λ e. let f : false ≡ true = e in absurd (cc)), (λ k. absurd (k (h.0 refl))))

@@ -4,16 +4,16 @@ use Rattle.std.specs.List.{list_any}
 use Rattle.std.proofs.lemmas.Bool.Decides.{nat_tests}
 use Rattle.std.proofs.lemmas.List.{length-append, length-take-le, take_more}
 use Rattle.std.proofs.lemmas.Option.{get_or_from_slice_get, same_Some, slice_get_within}
-use Rattle.cc_places.specs.declared.abs.Abs.{Abs}
-use Rattle.cc_places.specs.laws.ListLaws.{all_taken, any_at, any_from, both_true}
+use Rattle.cc_rules_flows.specs.CcPlaces.declared.abs.Abs.{Abs}
+use Rattle.cc_rules_flows.specs.CcPlaces.laws.ListLaws.{all_taken, any_at, any_from, both_true}
 use Rattle.cc_rules_sides.specs.Refined.{AreCellsLeft, AreRowsLeft, IsCellLeft, equal_from, has_pairs_in}
 use Rattle.cc_rules_sides.proofs.CellLemmas.{none_equal}
 use Rattle.cc_rules_sides.proofs.LocalLemmas.{IsBefore, pushed_cases}
 use Rattle.cc_rules_tests.specs.declared.tested.Tested.{Tested}
-use Rattle.cc_state_facts.specs.declared.facts.PointFact.{PointFact}
-use Rattle.cc_state_facts.specs.declared.facts.Row.{Row}
-use Rattle.cc_state_facts.specs.Facts.{has_pair, row_length}
-use Rattle.cc_state_operators.specs.Domains.{Domain}
+use Rattle.cc_rules_flows.specs.CcStateFacts.declared.facts.PointFact.{PointFact}
+use Rattle.cc_rules_flows.specs.CcStateFacts.declared.facts.Row.{Row}
+use Rattle.cc_rules_flows.specs.CcStateFacts.Facts.{has_pair, row_length}
+use Rattle.cc_rules_flows.specs.CcStateOperators.Domains.{Domain}
 
 no_item : {A B : Type 0} (k : ℕ) (y : A) → slice_get {X = A} [] k ≡ Some y → B
 no_item k y h = absurd (cc)

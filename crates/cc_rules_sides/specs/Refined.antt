@@ -1,20 +1,20 @@
 -- What a test leaves of the sets of registers, and of those of the tracked cells that equal some.
 use Rattle.std.specs.Prelude.{◌≡◌, ◌<◌, ◌+◌, ◌*◌, ◌/◌, ◌^◌, ◌==◌, ℕ, ℤ, Bool, true, false, List, [], ◌∷◌, ◌++◌, length, Option, Some, slice_get, if◌then◌else◌}
 use Rattle.std.specs.List.{list_any}
-use Rattle.cc_places.specs.Abstract.{HasValue}
-use Rattle.cc_places.specs.declared.abs.Abs.{Abs}
-use Rattle.cc_places.specs.declared.abs.Abs.TheVariants as abs
+use Rattle.cc_rules_flows.specs.CcPlaces.Abstract.{HasValue}
+use Rattle.cc_rules_flows.specs.CcPlaces.declared.abs.Abs.{Abs}
+use Rattle.cc_rules_flows.specs.CcPlaces.declared.abs.Abs.TheVariants as abs
 use Rattle.cc_program.specs.declared.value.Value.{Value}
 use Rattle.cc_rules_flows.specs.Tests.{IsLeftBy}
 use Rattle.cc_rules_tests.specs.declared.tested.Tested.{Tested}
 use Rattle.cc_rules_tests.specs.Tested.{test_of, MayHave, IsExplicitIn, IsLeftAlikeIn, IsLeftIn, IsOfRegisterIn, IsWorkedAt}
-use Rattle.cc_state_facts.specs.declared.facts.PointFact.{PointFact}
-use Rattle.cc_state_facts.specs.declared.facts.Row.{Row}
-use Rattle.cc_state_facts.specs.Facts.{has_pair, row_length}
-use Rattle.cc_state_operators.specs.Domains.{Domain}
-use Rattle.cc_state_values.specs.declared.context.Context.{Context}
-use Rattle.cc_state_values.specs.Contexts.{set_in}
-use Rattle.cc_syntax.specs.Registers.{is_register}
+use Rattle.cc_rules_flows.specs.CcStateFacts.declared.facts.PointFact.{PointFact}
+use Rattle.cc_rules_flows.specs.CcStateFacts.declared.facts.Row.{Row}
+use Rattle.cc_rules_flows.specs.CcStateFacts.Facts.{has_pair, row_length}
+use Rattle.cc_rules_flows.specs.CcStateOperators.Domains.{Domain}
+use Rattle.cc_rules_flows.specs.CcStateValues.declared.context.Context.{Context}
+use Rattle.cc_rules_flows.specs.CcStateValues.Contexts.{set_in}
+use Rattle.cc_rules_flows.specs.CcSyntax.Registers.{is_register}
 
 -- one register after the other, each of some that pass
 abbrev pub equal_from : {I : Type 0} → PointFact I → ℕ → ℕ → List ℕ → List ℕ

@@ -4,15 +4,15 @@ ghost use Rattle.std.specs.Prelude.{◌≡◌, ◌<◌, ◌+◌, ◌*◌, ◌^�
 ghost use Rattle.cc_rules_sides.specs.Refined.{AreCellsLeft, AreNumbered, AreRegisters, AreRowsLeft, IsCellLeft, IsLeftMore, IsNumbered, equal_from, has_pairs_in as has_pairs_of};
 ghost use Rattle.cc_rules_tests.specs.Tested.{IsTested};
 ghost use Rattle.cc_rules_tests.specs.Trials.{IsTrialOf};
-ghost use Rattle.cc_state_facts.specs.Facts.{row_length};
-ghost use Rattle.cc_state_operators.specs.Domains.{domain};
-ghost use Rattle.cc_syntax.specs.Registers.{is_register};
+ghost use Rattle.cc_rules_flows.specs.CcStateFacts.Facts.{row_length};
+ghost use Rattle.cc_rules_flows.specs.CcStateOperators.Domains.{domain};
+ghost use Rattle.cc_rules_flows.specs.CcSyntax.Registers.{is_register};
 
-use cc_lattice::IntDomain;
-use cc_num::{List, NoMemory};
-use cc_places::Abs;
+use cc_program::num::{List, NoMemory};
+use cc_rules_flows::lattice::IntDomain;
+use cc_rules_flows::places::Abs;
+use cc_rules_flows::state_facts::{PointFact, Row, Shared, is_pair};
 use cc_rules_tests::{Tested, Trial};
-use cc_state_facts::{PointFact, Row, Shared, is_pair};
 use std::alloc::Global;
 
 /// How many tracked cells a row has, where it is not the last.

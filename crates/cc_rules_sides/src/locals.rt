@@ -4,13 +4,13 @@ ghost use Rattle.std.specs.Prelude.{◌≡◌, ◌↔◌, length, IfOk, IsTrue};
 ghost use Rattle.cc_rules_sides.specs.Refined.{AllKeepAddresses, AreHeld, AreLeft, HasNumber, IsEmptied, IsOneEmptied, KeepsAddresses};
 ghost use Rattle.cc_rules_tests.specs.Tested.{IsTested};
 ghost use Rattle.cc_rules_tests.specs.Trials.{IsTrialOf};
-ghost use Rattle.cc_state_operators.specs.Domains.{domain};
+ghost use Rattle.cc_rules_flows.specs.CcStateOperators.Domains.{domain};
 
-use cc_lattice::IntDomain;
-use cc_num::NoMemory;
-use cc_places::Abs;
+use cc_program::num::NoMemory;
+use cc_rules_flows::lattice::IntDomain;
+use cc_rules_flows::places::Abs;
+use cc_rules_flows::state_facts::Shared;
 use cc_rules_tests::{Tested, Trial};
-use cc_state_facts::Shared;
 use std::alloc::Global;
 
 /// The sets of registers, each as the test leaves it.

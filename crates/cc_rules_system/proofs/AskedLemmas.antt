@@ -3,13 +3,13 @@ use Rattle.std.proofs.Common.{◌≡◌, ◌<◌, ℕ, length, Some, slice_get, 
 use Rattle.std.proofs.lemmas.Option.{same_Some, slice_get-get_or}
 use Rattle.std.specs.Prelude.{get_or}
 use Rattle.cc_program.specs.declared.program.Program.{Program}
-use Rattle.cc_rules.specs.Constraints.{Initial, Constraint, at_point, constraints}
-use Rattle.cc_rules.specs.Rules.{IsAsked, Asks}
+use Rattle.cc_rules_asked.specs.CcRules.Constraints.{Initial, Constraint, at_point, constraints}
+use Rattle.cc_rules_asked.specs.CcRules.Rules.{IsAsked, Asks}
 use Rattle.cc_rules_grow.specs.Grown.{IsWorked}
-use Rattle.cc_rules_needs.specs.Needs.{Needs, HasAll}
+use Rattle.cc_rules_asked.specs.CcRulesNeeds.Needs.{Needs, HasAll}
 use Rattle.cc_rules_system.specs.System.{AsksAt}
-use Rattle.cc_state_facts.specs.declared.facts.Facts.{Facts}
-use Rattle.cc_state_operators.specs.Domains.{Domain}
+use Rattle.cc_rules_asked.specs.CcStateFacts.declared.facts.Facts.{Facts}
+use Rattle.cc_rules_asked.specs.CcStateOperators.Domains.{Domain}
 
 module _ {I : Type 0} (d : Domain I) (p : Program) where
   pub record IsAskedAt (i : ℕ) (f : Facts I) (ns : Needs I) : Type 0 where

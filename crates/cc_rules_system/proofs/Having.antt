@@ -1,16 +1,16 @@
 -- Who has what the constraint with a number asks of facts: other facts, greater ones that meet it, and the facts themselves.
 use Rattle.std.proofs.Common.{◌≡◌, ◌↔◌, ℕ, Bool, true, false, true≢false, not, ◌∷◌, ◌++◌, Option, Some, None, is_some, IsTrue, refl, sym, subst}
 use Rattle.cc_program.specs.declared.program.Program.{Program}
-use Rattle.cc_rules.specs.Rules.{IsAsked, Asks}
+use Rattle.cc_rules_asked.specs.CcRules.Rules.{IsAsked, Asks}
 use Rattle.cc_rules_grow.proofs.Elements.{each_all, each_split}
 use Rattle.cc_rules_lacking.specs.First.{LacksFirst}
-use Rattle.cc_rules_needs.specs.declared.needs.Part.{Part}
-use Rattle.cc_rules_needs.specs.declared.needs.Slot.{Slot}
-use Rattle.cc_rules_needs.specs.Needs.{Needs, Has, HasAll}
+use Rattle.cc_rules_asked.specs.CcRulesNeeds.declared.needs.Part.{Part}
+use Rattle.cc_rules_asked.specs.CcRulesNeeds.declared.needs.Slot.{Slot}
+use Rattle.cc_rules_asked.specs.CcRulesNeeds.Needs.{Needs, Has, HasAll}
 use Rattle.cc_rules_system.proofs.AskedLemmas.{IsAskedAt, asks, asks_of}
 use Rattle.cc_rules_system.specs.System.{AsksAt}
-use Rattle.cc_state_facts.specs.declared.facts.Facts.{Facts}
-use Rattle.cc_state_operators.specs.Domains.{Domain}
+use Rattle.cc_rules_asked.specs.CcStateFacts.declared.facts.Facts.{Facts}
+use Rattle.cc_rules_asked.specs.CcStateOperators.Domains.{Domain}
 
 module _ {I : Type 0} (d : Domain I) (p : Program) (i : ℕ) (f : Facts I) (ns : Needs I) (a : IsAskedAt d p i f ns) where
   -- what is asked is determined: so others that have it have these needs

@@ -1,22 +1,22 @@
 -- Facts that meet each constraint by its number are a solution, and the other way round; and what is made of a program is ready to be solved.
 use Rattle.std.proofs.Common.{◌≡◌, ◌≤◌, length, get_or, Some, slice_get, sym, ap, subst, ◌∙◌}
 use Rattle.std.proofs.lemmas.Option.{same_Some, slice_get-get_or}
-use Rattle.cc_flow.specs.Points.{count_of}
-use Rattle.cc_lattice.specs.Systems.{MeetsAll}
+use Rattle.cc_rules_asked.specs.CcFlow.Points.{count_of}
+use Rattle.cc_rules_asked.specs.CcLattice.Systems.{MeetsAll}
 use Rattle.cc_program.specs.declared.program.Program.{Program}
-use Rattle.cc_rules.specs.Constraints.{Initial, Constraint, at_point, constraints}
-use Rattle.cc_rules.specs.Rules.{Asks, IsSolution}
+use Rattle.cc_rules_asked.specs.CcRules.Constraints.{Initial, Constraint, at_point, constraints}
+use Rattle.cc_rules_asked.specs.CcRules.Rules.{Asks, IsSolution}
 use Rattle.cc_rules_made.specs.declared.rules.Rules.{Rules}
 use Rattle.cc_rules_made.specs.Rules.{AreOf}
 use Rattle.cc_rules_readers.specs.declared.index.Index.{Index}
 use Rattle.cc_rules_readers.specs.Index.{IsIndexOf}
 use Rattle.cc_rules_system.specs.laws.Numbers.{numbered_there}
 use Rattle.cc_rules_system.specs.System.{IsReady, AsksAt}
-use Rattle.cc_state_facts.specs.declared.facts.Facts.{Facts}
-use Rattle.cc_state_keys.specs.Counts.{fact_count}
-use Rattle.cc_state_operators.specs.Domains.{Domain}
+use Rattle.cc_rules_asked.specs.CcStateFacts.declared.facts.Facts.{Facts}
+use Rattle.cc_rules_asked.specs.CcStateKeys.Counts.{fact_count}
+use Rattle.cc_rules_asked.specs.CcStateOperators.Domains.{Domain}
 use Rattle.cc_state_values_fit.specs.Fit.{HasWholes}
-use Rattle.cc_syntax.specs.Normal.{IsNormal}
+use Rattle.cc_rules_asked.specs.CcSyntax.Normal.{IsNormal}
 
 module _ {I : Type 0} (d : Domain I) (p : Program) (f : Facts I) where
   pub solution_of : MeetsAll (length (constraints p)) (AsksAt d p) f → IsSolution d p f

@@ -1,21 +1,21 @@
 -- The constraints of a program by their numbers.
 use Rattle.std.specs.Prelude.{◌≡◌, ◌≤◌, ℕ, List, [], Option, Some, None, slice_get}
-use Rattle.cc_flow.specs.Points.{count_of}
+use Rattle.cc_rules_asked.specs.CcFlow.Points.{count_of}
 use Rattle.cc_program.specs.declared.program.Program.{Program}
-use Rattle.cc_rules.specs.Constraints.{Constraint, constraints}
-use Rattle.cc_rules.specs.Rules.{Asks}
+use Rattle.cc_rules_asked.specs.CcRules.Constraints.{Constraint, constraints}
+use Rattle.cc_rules_asked.specs.CcRules.Rules.{Asks}
 use Rattle.cc_rules_again.specs.Again.{again_of}
 use Rattle.cc_rules_made.specs.declared.rules.Rules.{Rules}
 use Rattle.cc_rules_made.specs.Rules.{AreOf}
 use Rattle.cc_rules_readers.specs.declared.index.Index.{Index}
 use Rattle.cc_rules_readers.specs.Index.{IsIndexOf}
-use Rattle.cc_state.specs.Shape.{HaveShape}
-use Rattle.cc_state_facts.specs.declared.facts.Facts.{Facts}
-use Rattle.cc_state_keys.specs.Counts.{fact_count}
+use Rattle.cc_rules_grow.specs.CcState.Shape.{HaveShape}
+use Rattle.cc_rules_asked.specs.CcStateFacts.declared.facts.Facts.{Facts}
+use Rattle.cc_rules_asked.specs.CcStateKeys.Counts.{fact_count}
 use Rattle.cc_state_limits.specs.Held.{AreHeld}
-use Rattle.cc_state_operators.specs.Domains.{Domain}
+use Rattle.cc_rules_asked.specs.CcStateOperators.Domains.{Domain}
 use Rattle.cc_state_values_fit.specs.Fit.{HasWholes}
-use Rattle.cc_syntax.specs.Normal.{IsNormal}
+use Rattle.cc_rules_asked.specs.CcSyntax.Normal.{IsNormal}
 
 -- what is made once of a program in normal form within the limits, over a domain with the set of all values of each type
 pub record IsReady {I : Type 0} (d : Domain I) (rules : Rules) (index : Index) : Type 0 where

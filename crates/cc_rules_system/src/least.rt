@@ -1,30 +1,30 @@
 //! The least facts about a program.
 
 ghost use Rattle.std.specs.Prelude.{◌≡◌, ◌≤◌, ◌<◌, ◌⊎◌, ◌^◌, ◌-◌, ℕ, Err, min, IfOk};
-ghost use Rattle.cc_flow.specs.Points.{count_of, flow_of};
-ghost use Rattle.cc_rules.specs.Rules.{IsSolution};
+ghost use Rattle.cc_rules_asked.specs.CcFlow.Points.{count_of, flow_of};
+ghost use Rattle.cc_rules_asked.specs.CcRules.Rules.{IsSolution};
 ghost use Rattle.cc_rules_system.specs.declared.least.LeastEnd.TheVariants as LeastEndOf;
 ghost use Rattle.cc_rules_system.specs.System.{IsReady};
-ghost use Rattle.cc_state.specs.Covered.{Covers};
-ghost use Rattle.cc_state.specs.Shape.{HaveShape};
-ghost use Rattle.cc_state_facts.specs.declared.facts.Facts.{Facts as FactsOf};
-ghost use Rattle.cc_state_facts.specs.Orders.{IsBelow};
-ghost use Rattle.cc_state_keys.specs.Counts.{fact_count};
+ghost use Rattle.cc_rules_grow.specs.CcState.Covered.{Covers};
+ghost use Rattle.cc_rules_grow.specs.CcState.Shape.{HaveShape};
+ghost use Rattle.cc_rules_asked.specs.CcStateFacts.declared.facts.Facts.{Facts as FactsOf};
+ghost use Rattle.cc_rules_asked.specs.CcStateFacts.Orders.{IsBelow};
+ghost use Rattle.cc_rules_asked.specs.CcStateKeys.Counts.{fact_count};
 ghost use Rattle.cc_state_limits.specs.Held.{AreHeld};
-ghost use Rattle.cc_state_operators.specs.Domains.{domain};
-ghost use Rattle.cc_syntax.specs.Normal.{IsNormal};
+ghost use Rattle.cc_rules_asked.specs.CcStateOperators.Domains.{domain};
+ghost use Rattle.cc_rules_asked.specs.CcSyntax.Normal.{IsNormal};
 
 use crate::system::ConstraintSystem;
 use cc_fix::least;
-use cc_flow::Flow;
-use cc_lattice::IntDomain;
-use cc_num::NoMemory;
 use cc_program::Program;
+use cc_program::num::NoMemory;
 use cc_proof_rules::solutions;
+use cc_rules_asked::flow::Flow;
+use cc_rules_asked::lattice::IntDomain;
+use cc_rules_asked::state_facts::Facts;
+use cc_rules_asked::state_keys::count_facts;
 use cc_rules_made::rules_of;
 use cc_rules_readers::index_of;
-use cc_state_facts::Facts;
-use cc_state_keys::count_facts;
 use cc_state_values_fit::wholes;
 use std::alloc::Global;
 use std::marker::PhantomData;

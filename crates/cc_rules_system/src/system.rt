@@ -1,16 +1,17 @@
 //! The constraints of a program by their numbers, as what is solved.
 
 ghost use Rattle.std.specs.Prelude.{length, slice_get};
-ghost use Rattle.cc_rules.specs.Constraints.{constraints};
+ghost use Rattle.cc_rules_asked.specs.CcRules.Constraints.{constraints};
 ghost use Rattle.cc_rules_system.specs.laws.Again.{fitting, counts, lists};
 ghost use Rattle.cc_rules_system.specs.System.{IsReady, Fits, AsksAt, again_at};
 ghost use Rattle.cc_state_limits.specs.Held.{most_members};
-ghost use Rattle.cc_state_operators.specs.Domains.{domain};
+ghost use Rattle.cc_rules_asked.specs.CcStateOperators.Domains.{domain};
 ghost use Rattle.cc_state_room.specs.Room.{room_of};
 
 use cc_fix::System;
-use cc_lattice::IntDomain;
-use cc_num::NoMemory;
+use cc_program::num::NoMemory;
+use cc_rules_asked::lattice::IntDomain;
+use cc_rules_asked::state_facts::Facts;
 use cc_rules_constraints::asked;
 use cc_rules_grow::laws as grow_laws;
 use cc_rules_lacking::first_lacking_asked;
@@ -19,7 +20,6 @@ use cc_rules_numbered::{Rule, constraint_at, constraint_count};
 use cc_rules_raised::raise_asked;
 use cc_rules_readers::{Index, again};
 use cc_rules_shaped::laws as shape_laws;
-use cc_state_facts::Facts;
 use cc_state_limits::{held, laws as limit_laws};
 use cc_state_room::{laws as room_laws, room};
 use cc_state_shape::{laws as kind_laws, lowest};

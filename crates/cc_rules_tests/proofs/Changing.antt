@@ -5,15 +5,15 @@ use Rattle.std.specs.List.{position_or_len}
 use Rattle.std.proofs.lemmas.Bool.{eqb-true, lt-ltb}
 use Rattle.std.proofs.lemmas.Bool.Decides.{eqb_tells, nat_tests}
 use Rattle.std.proofs.Math.Path.{fun_ext}
-use Rattle.cc_places.specs.declared.abs.Abs.{Abs}
-use Rattle.cc_places.specs.declared.abs.Abs.TheVariants as abs
+use Rattle.cc_rules_flows.specs.CcPlaces.declared.abs.Abs.{Abs}
+use Rattle.cc_rules_flows.specs.CcPlaces.declared.abs.Abs.TheVariants as abs
 use Rattle.cc_rules_tests.specs.Tested.{MayHoldAll}
-use Rattle.cc_state_operators.specs.Domains.{Domain}
-use Rattle.cc_state_values.specs.declared.context.Context.{Context}
-use Rattle.cc_state_values.specs.Contexts.{HaveSetsIn, set_in, set_of}
-use Rattle.cc_state_values.specs.Typed.{HaveSets, HasSet}
-use Rattle.cc_syntax.specs.Registers.{is_register}
-use Rattle.cc_syntax.specs.Values.{Integer}
+use Rattle.cc_rules_flows.specs.CcStateOperators.Domains.{Domain}
+use Rattle.cc_rules_flows.specs.CcStateValues.declared.context.Context.{Context}
+use Rattle.cc_rules_flows.specs.CcStateValues.Contexts.{HaveSetsIn, set_in, set_of}
+use Rattle.cc_rules_flows.specs.CcStateValues.Typed.{HaveSets, HasSet}
+use Rattle.cc_rules_flows.specs.CcSyntax.Registers.{is_register}
+use Rattle.cc_rules_flows.specs.CcSyntax.Values.{Integer}
 
 turned_by : (a b : ℕ) → ((eqb a b ≡ true) × (a ≡ b)) ⊎ ((eqb a b ≡ false) × (a ≢ b)) → ((eqb b a ≡ true) × (b ≡ a)) ⊎ ((eqb b a ≡ false) × (b ≢ a)) → (a == b) ≡ (b == a)
 turned_by a b (inl h) (inl k) = h.0 ∙ sym k.0

@@ -2,19 +2,19 @@
 use Rattle.std.proofs.Common.{◌≡◌, ◌↔◌, ◌<◌, ◌≤◌, ◌+◌, ℕ, zero, suc, ℤ, Bool, true, false, IsTrue, List, [], ◌∷◌, length, drop, get_or, Some, None, refl, ap, sym, subst, ◌∙◌, add-one, arith}
 use Rattle.std.proofs.Math.Seq.{drop-cons}
 use Rattle.std.specs.List.{Contains}
-use Rattle.cc_num.specs.declared.op.BinOp.{BinOp}
-use Rattle.cc_num.specs.declared.op.BinOp.TheVariants as op
-use Rattle.cc_places.specs.declared.abs.Abs.{Abs}
-use Rattle.cc_places.specs.declared.abs.Abs.TheVariants as abs
-use Rattle.cc_places.specs.declared.addrs.Addrs.{Addrs}
+use Rattle.cc_program.specs.CcNum.declared.op.BinOp.{BinOp}
+use Rattle.cc_program.specs.CcNum.declared.op.BinOp.TheVariants as op
+use Rattle.cc_rules_flows.specs.CcPlaces.declared.abs.Abs.{Abs}
+use Rattle.cc_rules_flows.specs.CcPlaces.declared.abs.Abs.TheVariants as abs
+use Rattle.cc_rules_flows.specs.CcPlaces.declared.addrs.Addrs.{Addrs}
 use Rattle.cc_program.specs.declared.expr.Expr.{Expr, out-Expr}
 use Rattle.cc_rules_flows.specs.Tests.{Test, Is, Equals, Differs, passing, turned, ByNone, ByFirst, ByComparison, ByLabel, ByLabels, Compares, OfMembers, OfRange, OfOther, OfAddresses, Cut, Uncut}
 use Rattle.cc_rules_tests.specs.Forms.{comparison_in}
 use Rattle.cc_rules_tests.specs.Tested.{IsCutAsIn, IsCutByIn, IsCutByOne, IsLeftIn, IsOperandIn, IsRangeLeftIn, IsValWith, StaysIn, test_of}
 use Rattle.cc_rules_tests.specs.declared.tested.Tested.{Tested}
 use Rattle.cc_rules_tests.proofs.Formed.{comparison_back, no_comparison}
-use Rattle.cc_state_operators.specs.Domains.{Domain, IsHull}
-use Rattle.cc_state_values.specs.Contexts.{set_in}
+use Rattle.cc_rules_flows.specs.CcStateOperators.Domains.{Domain, IsHull}
+use Rattle.cc_rules_flows.specs.CcStateValues.Contexts.{set_in}
 
 at_end : {A : Type 0} (xs : List A) (i : ℕ) → length xs ≤ i → drop i xs ≡ []
 at_end [] zero h = refl

@@ -2,9 +2,9 @@
 use Rattle.std.proofs.Common.{◌≡◌, ◌↔◌, ℕ, ℤ, List, Some, sym, subst, ◌∙◌}
 use Rattle.std.specs.List.{Contains}
 use Rattle.std.specs.Option.{IfSome}
-use Rattle.cc_places.specs.Abstract.{IsBelowAbs}
-use Rattle.cc_places.specs.declared.abs.Abs.{Abs}
-use Rattle.cc_places.specs.declared.abs.Abs.TheVariants as abs
+use Rattle.cc_rules_flows.specs.CcPlaces.Abstract.{IsBelowAbs}
+use Rattle.cc_rules_flows.specs.CcPlaces.declared.abs.Abs.{Abs}
+use Rattle.cc_rules_flows.specs.CcPlaces.declared.abs.Abs.TheVariants as abs
 use Rattle.cc_program.specs.declared.expr.Expr.{Expr}
 use Rattle.cc_rules_flows.specs.Tests.{OfMembers}
 use Rattle.cc_rules_tests.specs.Tested.{IsExplicitIn, IsLeftIn, IsWorkedAt, MayHoldEach, StaysIn}
@@ -14,8 +14,8 @@ use Rattle.cc_rules_tests.specs.declared.tried.Tried.{Tried}
 use Rattle.cc_rules_tests.proofs.Registers.{below_ints, explicit_member, stays_below}
 use Rattle.cc_rules_tests.proofs.Staying.{StayOf, worked_on}
 use Rattle.cc_rules_tests.proofs.Zips.{zip_in}
-use Rattle.cc_state_operators.specs.Domains.{Domain, IsHull}
-use Rattle.cc_state_values.specs.declared.context.Context.{Context}
+use Rattle.cc_rules_flows.specs.CcStateOperators.Domains.{Domain, IsHull}
+use Rattle.cc_rules_flows.specs.CcStateValues.declared.context.Context.{Context}
 
 -- what was tried for a register at some numbers
 pub given_of : {I : Type 0} (d : Domain I) (c : Context I) (e : Expr) (r : ℕ) (numbers : List ℤ) (t : Tried I) → IsTriedAt r numbers t → IsTried d c e t → AreGivenAt d c e r numbers t.values.items

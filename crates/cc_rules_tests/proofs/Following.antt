@@ -5,8 +5,8 @@ use Rattle.std.specs.Int.{w128}
 use borrow.Author.Differences.{up, down, sum_is_lem, le_out, lt_out, at_most_in, le-true}
 use lib.Signed.{le_z}
 use Rattle.std.proofs.lemmas.Int.{by_lt_z, ints}
-use Rattle.cc_lattice.specs.Domains.{IsInReach, IsIntValue}
-use Rattle.cc_places.specs.laws.ListLaws.{all_taken, item_in, none_in, taken_cases}
+use Rattle.cc_rules_flows.specs.CcLattice.Domains.{IsInReach, IsIntValue}
+use Rattle.cc_rules_flows.specs.CcPlaces.laws.ListLaws.{all_taken, item_in, none_in, taken_cases}
 use Rattle.cc_rules_tests.specs.Passing.{IsBehind, IsNext, HasOtherBetween}
 
 -- ---- numbers as the code has them

@@ -1,13 +1,13 @@
 -- Least sets that have some integers, by the laws of a domain's order.
 use Rattle.std.proofs.Common.{◌≡◌, ◌⊎◌, ◌↔◌, ℤ, ⊎_elim, refl, sym, subst, to_z, of_z}
 use Rattle.std.specs.Int.{w128}
-use Rattle.cc_lattice.specs.Domains.{IsIntValue}
-use Rattle.cc_lattice.specs.Orders.{IsLeastUpperBound}
-use Rattle.cc_num.specs.declared.int_type.IntType.{IntType}
-use Rattle.cc_num.specs.declared.target.Target.{Target}
-use Rattle.cc_num.specs.Integers.{IsValueOf}
+use Rattle.cc_rules_flows.specs.CcLattice.Domains.{IsIntValue}
+use Rattle.cc_rules_flows.specs.CcLattice.Orders.{IsLeastUpperBound}
+use Rattle.cc_program.specs.CcNum.declared.int_type.IntType.{IntType}
+use Rattle.cc_program.specs.CcNum.declared.target.Target.{Target}
+use Rattle.cc_program.specs.CcNum.Integers.{IsValueOf}
 use Rattle.cc_rules_tests.proofs.Following.{int_same}
-use Rattle.cc_state_operators.specs.Domains.{Domain, IsHull, IsHullFrom, AllOf}
+use Rattle.cc_rules_flows.specs.CcStateOperators.Domains.{Domain, IsHull, IsHullFrom, AllOf}
 
 -- what the order of a domain keeps
 pub record IsOrder {I : Type 0} (d : Domain I) : Type 0 where

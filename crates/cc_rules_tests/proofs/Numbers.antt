@@ -2,15 +2,15 @@
 use Rattle.std.proofs.Common.{◌≡◌, ℕ, ℤ, to_z, of_z, Bool, true, false, List, [], Some, refl, sym, subst}
 use Rattle.std.specs.Int.{w128}
 use Rattle.std.specs.List.{Contains}
-use Rattle.cc_lattice.specs.Domains.{IsIntValue, is_comparison}
-use Rattle.cc_num.specs.declared.int_type.IntType.{IntType}
-use Rattle.cc_num.specs.declared.op.BinOp.{BinOp}
-use Rattle.cc_num.specs.declared.op.BinOp.TheVariants as op
-use Rattle.cc_num.specs.Results.{is_shift}
-use Rattle.cc_places.specs.declared.abs.Abs.{Abs}
-use Rattle.cc_places.specs.declared.abs.Abs.TheVariants as abs
-use Rattle.cc_places.specs.declared.addrs.Addrs.{Addrs}
-use Rattle.cc_places.specs.laws.ListLaws.{at_head}
+use Rattle.cc_rules_flows.specs.CcLattice.Domains.{IsIntValue, is_comparison}
+use Rattle.cc_program.specs.CcNum.declared.int_type.IntType.{IntType}
+use Rattle.cc_program.specs.CcNum.declared.op.BinOp.{BinOp}
+use Rattle.cc_program.specs.CcNum.declared.op.BinOp.TheVariants as op
+use Rattle.cc_program.specs.CcNum.Results.{is_shift}
+use Rattle.cc_rules_flows.specs.CcPlaces.declared.abs.Abs.{Abs}
+use Rattle.cc_rules_flows.specs.CcPlaces.declared.abs.Abs.TheVariants as abs
+use Rattle.cc_rules_flows.specs.CcPlaces.declared.addrs.Addrs.{Addrs}
+use Rattle.cc_rules_flows.specs.CcPlaces.laws.ListLaws.{at_head}
 use Rattle.cc_program.specs.declared.expr.Expr.{Expr, out-Expr}
 use Rattle.cc_rules_flows.specs.Tests.{Equals, Differs, negated, passing, turned}
 use Rattle.cc_rules_tests.specs.Forms.{comparison_in}
@@ -18,14 +18,14 @@ use Rattle.cc_rules_tests.specs.Tested.{IsCutAsIn, IsCutByOne, IsPureNumber, IsT
 use Rattle.cc_rules_tests.specs.declared.tested.Tested.{Tested}
 use Rattle.cc_rules_tests.proofs.Following.{int_same}
 use Rattle.cc_rules_tests.proofs.Formed.{comparison_back}
-use Rattle.cc_state_operators.specs.declared.operators.TwoOperands.TheVariants as kind_two
-use Rattle.cc_state_operators.specs.Domains.{Domain}
-use Rattle.cc_state_operators.specs.Types.{AreOf}
-use Rattle.cc_state_values.specs.declared.context.Context.{Context}
-use Rattle.cc_state_values.proofs.Parts.{two_parts, two_rule, two_type}
-use Rattle.cc_state_values.proofs.Rules.{IsSecondType, are_integers, two_there}
-use Rattle.cc_syntax.specs.Programs.{type_of}
-use Rattle.cc_syntax.specs.Values.{ValueType, Integer}
+use Rattle.cc_rules_flows.specs.CcStateOperators.declared.operators.TwoOperands.TheVariants as kind_two
+use Rattle.cc_rules_flows.specs.CcStateOperators.Domains.{Domain}
+use Rattle.cc_rules_flows.specs.CcStateOperators.Types.{AreOf}
+use Rattle.cc_rules_flows.specs.CcStateValues.declared.context.Context.{Context}
+use Rattle.cc_rules_flows.proofs.CcStateValues.Parts.{two_parts, two_rule, two_type}
+use Rattle.cc_rules_flows.proofs.CcStateValues.Rules.{IsSecondType, are_integers, two_there}
+use Rattle.cc_rules_flows.specs.CcSyntax.Programs.{type_of}
+use Rattle.cc_rules_flows.specs.CcSyntax.Values.{ValueType, Integer}
 
 -- comparisons
 

@@ -3,11 +3,11 @@ use Rattle.std.proofs.Common.{◌≡◌, ◌↔◌, ℕ, ℤ, ◌≤ℤ◌, to_z
 use Rattle.std.proofs.lemmas.Int.{ints}
 use Rattle.std.specs.Int.{w128}
 use Rattle.std.proofs.lemmas.Option.{same_Some}
-use Rattle.cc_lattice.specs.Domains.{AreEnds, IsInReach}
-use Rattle.cc_num.specs.declared.int_type.IntType.{IntType}
-use Rattle.cc_num.specs.declared.target.Target.{Target}
-use Rattle.cc_num.specs.Integers.{IsValueOf, is_value_of}
-use Rattle.cc_num.proofs.ResultLaws.{is_value_from, value_from_test}
+use Rattle.cc_rules_flows.specs.CcLattice.Domains.{AreEnds, IsInReach}
+use Rattle.cc_program.specs.CcNum.declared.int_type.IntType.{IntType}
+use Rattle.cc_program.specs.CcNum.declared.target.Target.{Target}
+use Rattle.cc_program.specs.CcNum.Integers.{IsValueOf, is_value_of}
+use Rattle.cc_program.proofs.CcNum.ResultLaws.{is_value_from, value_from_test}
 use Rattle.cc_program.specs.declared.expr.Expr.{Expr, out-Expr}
 use Rattle.cc_program.specs.declared.expr.Expr.TheOpen as one
 use Rattle.cc_program.specs.declared.expr.Place.{Place, out-Place}
@@ -18,10 +18,10 @@ use Rattle.cc_rules_tests.specs.Tested.{IsOperandIn, ReadsLocal}
 use Rattle.cc_rules_tests.proofs.Formed.{conversion_back, none_some}
 use Rattle.cc_rules_tests.proofs.Following.{reach_same}
 use Rattle.cc_rules_tests.specs.declared.tested.Tested.{Tested}
-use Rattle.cc_state_operators.specs.Domains.{Domain, AllOf}
-use Rattle.cc_state_values.proofs.Parts.{by_place, place_effects_at}
-use Rattle.cc_syntax.specs.Effects.{PlaceEffects, place_effects_of}
-use Rattle.cc_syntax.specs.Registers.{is_register}
+use Rattle.cc_rules_flows.specs.CcStateOperators.Domains.{Domain, AllOf}
+use Rattle.cc_rules_flows.proofs.CcStateValues.Parts.{by_place, place_effects_at}
+use Rattle.cc_rules_flows.specs.CcSyntax.Effects.{PlaceEffects, place_effects_of}
+use Rattle.cc_rules_flows.specs.CcSyntax.Registers.{is_register}
 
 -- a value is between the ends of its type
 pub between : (t : IntType) (target : Target) (low high v : ℤ) → IsValueOf t target low → IsValueOf t target high → low ≤ℤ v → v ≤ℤ high → IsValueOf t target v

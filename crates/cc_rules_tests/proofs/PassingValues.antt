@@ -3,19 +3,19 @@ use Rattle.std.proofs.Common.{arith, ◌≡◌, ◌≢◌, ◌⊎◌, ◌↔◌,
 use Rattle.std.specs.List.{Contains}
 use Rattle.std.specs.Int.{w128}
 use Rattle.std.proofs.lemmas.Bool.Decides.{eqb_tells}
-use Rattle.cc_lattice.specs.Domains.{AreEnds, IsInReach}
-use Rattle.cc_places.specs.declared.abs.Abs.{Abs}
-use Rattle.cc_places.specs.declared.abs.Abs.TheVariants as abs
-use Rattle.cc_places.specs.declared.addrs.Addrs.{Addrs}
-use Rattle.cc_places.specs.laws.ListLaws.{at_head, none_in}
-use Rattle.cc_places.specs.laws.SetLaws.{has_member}
-use Rattle.cc_places.specs.Kept.{member_for}
+use Rattle.cc_rules_flows.specs.CcLattice.Domains.{AreEnds, IsInReach}
+use Rattle.cc_rules_flows.specs.CcPlaces.declared.abs.Abs.{Abs}
+use Rattle.cc_rules_flows.specs.CcPlaces.declared.abs.Abs.TheVariants as abs
+use Rattle.cc_rules_flows.specs.CcPlaces.declared.addrs.Addrs.{Addrs}
+use Rattle.cc_rules_flows.specs.CcPlaces.laws.ListLaws.{at_head, none_in}
+use Rattle.cc_rules_flows.specs.CcPlaces.laws.SetLaws.{has_member}
+use Rattle.cc_rules_flows.specs.CcPlaces.Kept.{member_for}
 use Rattle.cc_program.specs.declared.value.Address.{Address}
 use Rattle.cc_program.specs.declared.value.Value.TheVariants.{Int, Place}
 use Rattle.cc_rules_flows.specs.Tests.{Differs, Equals}
 use Rattle.cc_rules_tests.proofs.Following.{reach_same}
 use Rattle.cc_rules_tests.specs.Passing.{HasOther, HasOtherBetween, MayPassIn}
-use Rattle.cc_state_operators.specs.Domains.{Domain}
+use Rattle.cc_rules_flows.specs.CcStateOperators.Domains.{Domain}
 
 pub by_members : (has : ℤ → Type 0) (members others : List ℤ) (b : Bool) → ((v : ℤ) → Contains members v ↔ has v) → (IsTrue b ↔ HasOther (Contains members) others) → (IsTrue b ↔ HasOther has others)
 by_members has members others b all tells = (

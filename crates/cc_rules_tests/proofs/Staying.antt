@@ -1,21 +1,21 @@
 -- Which members of an explicit set stay, and the least set that has them.
 use Rattle.std.proofs.Common.{◌≡◌, ◌<◌, ◌+◌, ℕ, ℤ, List, [], length, take, get_or, inl, inr, ⊎_elim, refl, sym, subst}
 use Rattle.std.specs.List.{Contains}
-use Rattle.cc_lattice.specs.Domains.{IsIntValue}
-use Rattle.cc_lattice.specs.Orders.{IsLeastUpperBound}
-use Rattle.cc_lattice.proofs.IntValues.{value_is_int}
-use Rattle.cc_places.specs.declared.abs.Abs.{Abs}
-use Rattle.cc_places.specs.laws.ListLaws.{item_in, none_in, taken_before, taken_cases, taken_now}
+use Rattle.cc_rules_flows.specs.CcLattice.Domains.{IsIntValue}
+use Rattle.cc_rules_flows.specs.CcLattice.Orders.{IsLeastUpperBound}
+use Rattle.cc_rules_flows.proofs.CcLattice.IntValues.{value_is_int}
+use Rattle.cc_rules_flows.specs.CcPlaces.declared.abs.Abs.{Abs}
+use Rattle.cc_rules_flows.specs.CcPlaces.laws.ListLaws.{item_in, none_in, taken_before, taken_cases, taken_now}
 use Rattle.cc_rules_flows.specs.Tests.{Test}
 use Rattle.cc_rules_tests.specs.Passing.{MayPassIn}
 use Rattle.cc_rules_tests.specs.Tested.{IsValWith, IsWorkedAt, MayHoldAll, MayHoldEach, MayHoldOne, StaysIn, test_of}
 use Rattle.cc_rules_tests.specs.Trials.{IsGivenAt}
 use Rattle.cc_rules_tests.specs.declared.tested.Tested.{Tested}
 use Rattle.cc_rules_tests.proofs.Changing.{changed}
-use Rattle.cc_state_operators.specs.Domains.{Domain, IsHull, IsHullFrom}
+use Rattle.cc_rules_flows.specs.CcStateOperators.Domains.{Domain, IsHull, IsHullFrom}
 use Rattle.cc_rules_tests.proofs.Least.{IsNumber, IsOrder, from_none, from_number, hull_more, hull_none, number_typed}
-use Rattle.cc_state_values.specs.declared.context.Context.{Context}
-use Rattle.cc_state_values.proofs.Same.{IsOrdered, one_hull, same_value}
+use Rattle.cc_rules_flows.specs.CcStateValues.declared.context.Context.{Context}
+use Rattle.cc_rules_flows.proofs.CcStateValues.Same.{IsOrdered, one_hull, same_value}
 
 module _ {I : Type 0} (d : Domain I) (c : Context I) where
   pub one_int : (r : ℕ) (m : ℤ) → MayHoldOne d c r m → IsIntValue m

@@ -1,10 +1,10 @@
 -- What an expression gives where a register that it does not read has another set: the same. By induction over how it comes about.
 use Rattle.std.proofs.Common.{◌≡◌, ◌≢◌, ◌==◌, ◌||◌, ℕ, ℤ, Bool, true, false, true≢false, cond, Option, Some, None, inl, inr, ⊎_elim, refl, ap, sym, ◌∙◌}
 use Rattle.std.proofs.lemmas.Bool.Decides.{Decides-eqb, eqb_tells}
-use Rattle.cc_num.specs.declared.op.BinOp.{BinOp}
-use Rattle.cc_places.specs.declared.abs.Abs.{Abs}
-use Rattle.cc_places.specs.declared.abs.Abs.TheVariants as abs
-use Rattle.cc_places.specs.declared.addrs.Addrs.{Addrs}
+use Rattle.cc_program.specs.CcNum.declared.op.BinOp.{BinOp}
+use Rattle.cc_rules_flows.specs.CcPlaces.declared.abs.Abs.{Abs}
+use Rattle.cc_rules_flows.specs.CcPlaces.declared.abs.Abs.TheVariants as abs
+use Rattle.cc_rules_flows.specs.CcPlaces.declared.addrs.Addrs.{Addrs}
 use Rattle.cc_program.specs.declared.expr.Expr.{Expr, out-Expr, roll-Expr, roll-out-Expr, map-Expr, fold-roll-Expr}
 use Rattle.cc_program.specs.declared.expr.Expr.TheOpen as one
 use Rattle.cc_program.specs.declared.expr.Place.{Place, out-Place, roll-Place, roll-out-Place, map-Place, fold-roll-Place}
@@ -22,10 +22,10 @@ use Rattle.cc_rules_tests.proofs.Changing.{changed}
 use Rattle.cc_rules_tests.proofs.Cuts.{left_compared, left_no_label, left_no_labels, left_uncompared, uncut}
 use Rattle.cc_rules_tests.proofs.Formed.{comparison_back}
 use Rattle.cc_rules_tests.proofs.Operands.{of_read}
-use Rattle.cc_state_operators.specs.Domains.{Domain, IsHull}
-use Rattle.cc_state_values.specs.declared.context.Context.{Context}
-use Rattle.cc_state_values.specs.Contexts.{IsValIn, set_in}
-use Rattle.cc_state_values.specs.Values.{IsVal, OfConst, OfNull, OfFunction, OfRegister, OfAddress, OfUn, OfBin, OfConv, OfQualify, OfMove, OfGap, OfCompare, OfBoth, OfEither, OfChoose, Designates, AtLocal, AtStatic, AtDevice, AtElement, AtMember, AtTarget}
+use Rattle.cc_rules_flows.specs.CcStateOperators.Domains.{Domain, IsHull}
+use Rattle.cc_rules_flows.specs.CcStateValues.declared.context.Context.{Context}
+use Rattle.cc_rules_flows.specs.CcStateValues.Contexts.{IsValIn, set_in}
+use Rattle.cc_rules_flows.specs.CcStateValues.Values.{IsVal, OfConst, OfNull, OfFunction, OfRegister, OfAddress, OfUn, OfBin, OfConv, OfQualify, OfMove, OfGap, OfCompare, OfBoth, OfEither, OfChoose, Designates, AtLocal, AtStatic, AtDevice, AtElement, AtMember, AtTarget}
 
 neither : (p q : Bool) → p || q ≡ false → (p ≡ false) × (q ≡ false)
 neither true q h = absurd (true≢false h)

@@ -3,7 +3,7 @@ use Rattle.std.proofs.Common.{◌≡◌, ◌<◌, ◌++◌, ◌+◌, ℕ, zero, 
 use Rattle.std.specs.List.{AllZip, Contains}
 use Rattle.std.proofs.lemmas.List.{take_more}
 use Rattle.std.proofs.lemmas.Slice.Zip.{AllZip-long}
-use Rattle.cc_places.specs.laws.ListLaws.{at_head, behind_head, cons_cases, none_in}
+use Rattle.cc_rules_flows.specs.CcPlaces.laws.ListLaws.{at_head, behind_head, cons_cases, none_in}
 
 module _ {A B : Type 0} (R : A → B → Type 0) where
   zip_at : (xs : List A) (ys : List B) (i : ℕ) (a : A) (b : B) → AllZip R xs ys → i < length xs → R (get_or xs i a) (get_or ys i b)

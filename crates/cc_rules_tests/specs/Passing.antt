@@ -1,11 +1,11 @@
 -- A set has a value with which a test passes; and what is asked of numbers that are not among others.
 use Rattle.std.specs.Prelude.{◌≡◌, ◌≤ℤ◌, ◌<ℤ◌, ◌^◌, ℤ, pos, neg_ℤ, List}
 use Rattle.std.specs.List.{Contains}
-use Rattle.cc_places.specs.declared.abs.Abs.{Abs}
-use Rattle.cc_places.specs.Abstract.{HasValue}
+use Rattle.cc_rules_flows.specs.CcPlaces.declared.abs.Abs.{Abs}
+use Rattle.cc_rules_flows.specs.CcPlaces.Abstract.{HasValue}
 use Rattle.cc_program.specs.declared.value.Value.{Value}
 use Rattle.cc_rules_flows.specs.Tests.{Test, Passes}
-use Rattle.cc_state_operators.specs.Domains.{Domain}
+use Rattle.cc_rules_flows.specs.CcStateOperators.Domains.{Domain}
 
 abbrev pub MayPassIn : {I : Type 0} → Domain I → Test → Abs I → Type 0
 MayPassIn d test y = (v : Value) × HasValue d.has y v × Passes test v

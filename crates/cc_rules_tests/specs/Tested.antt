@@ -1,12 +1,12 @@
 -- A test of an expression, as the code has it: what is asked of it, and what it leaves.
 use Rattle.std.specs.Prelude.{◌≡◌, ℕ, ◌==◌, ℤ, true, List, [], ◌∷◌, Some, slice_get, if◌then◌else◌}
 use Rattle.std.specs.List.{Contains}
-use Rattle.cc_lattice.specs.Domains.{IsIntValue}
-use Rattle.cc_num.specs.declared.int_type.IntType.{IntType}
-use Rattle.cc_num.specs.Integers.{IsValueOf}
-use Rattle.cc_num.specs.declared.op.BinOp.{BinOp}
-use Rattle.cc_places.specs.declared.abs.Abs.{Abs}
-use Rattle.cc_places.specs.declared.abs.Abs.TheVariants as abs
+use Rattle.cc_rules_flows.specs.CcLattice.Domains.{IsIntValue}
+use Rattle.cc_program.specs.CcNum.declared.int_type.IntType.{IntType}
+use Rattle.cc_program.specs.CcNum.Integers.{IsValueOf}
+use Rattle.cc_program.specs.CcNum.declared.op.BinOp.{BinOp}
+use Rattle.cc_rules_flows.specs.CcPlaces.declared.abs.Abs.{Abs}
+use Rattle.cc_rules_flows.specs.CcPlaces.declared.abs.Abs.TheVariants as abs
 use Rattle.cc_program.specs.declared.expr.Expr.{Expr, out-Expr}
 use Rattle.cc_program.specs.declared.expr.Expr.TheOpen as one
 use Rattle.cc_program.specs.declared.expr.Place.{Place, out-Place}
@@ -15,15 +15,15 @@ use Rattle.cc_rules_tests.specs.declared.tested.Test.{Test as CodeTest}
 use Rattle.cc_rules_tests.specs.declared.tested.Test.TheVariants as made
 use Rattle.cc_rules_tests.specs.declared.tested.Tested.{Tested}
 use Rattle.cc_rules_tests.specs.declared.changed.Changed.{Changed}
-use Rattle.cc_state_operators.specs.Domains.{Domain, AllOf, IsHull}
-use Rattle.cc_state_values.specs.declared.context.Context.{Context}
-use Rattle.cc_state_values.specs.Contexts.{HaveSetsIn, IsPureIn, set_in}
-use Rattle.cc_state_values.specs.Values.{IsVal}
-use Rattle.cc_syntax.specs.Programs.{type_of}
-use Rattle.cc_syntax.specs.Registers.{is_register}
-use Rattle.cc_syntax.specs.Sizes.{AreSized}
-use Rattle.cc_syntax.specs.Types.{Named}
-use Rattle.cc_syntax.specs.Values.{Integer, scalar_value}
+use Rattle.cc_rules_flows.specs.CcStateOperators.Domains.{Domain, AllOf, IsHull}
+use Rattle.cc_rules_flows.specs.CcStateValues.declared.context.Context.{Context}
+use Rattle.cc_rules_flows.specs.CcStateValues.Contexts.{HaveSetsIn, IsPureIn, set_in}
+use Rattle.cc_rules_flows.specs.CcStateValues.Values.{IsVal}
+use Rattle.cc_rules_flows.specs.CcSyntax.Programs.{type_of}
+use Rattle.cc_rules_flows.specs.CcSyntax.Registers.{is_register}
+use Rattle.cc_rules_flows.specs.CcSyntax.Sizes.{AreSized}
+use Rattle.cc_rules_flows.specs.CcSyntax.Types.{Named}
+use Rattle.cc_rules_flows.specs.CcSyntax.Values.{Integer, scalar_value}
 
 abbrev pub test_of : CodeTest → Test
 test_of (made.Is b) = Is b

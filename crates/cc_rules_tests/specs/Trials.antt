@@ -1,15 +1,15 @@
 -- What has been worked of an expression: at the sets of the registers, and with one of them at each of some numbers.
 use Rattle.std.specs.Prelude.{◌≡◌, ℕ, ℤ, All, List, Some}
 use Rattle.std.specs.List.{AllZip}
-use Rattle.cc_places.specs.declared.abs.Abs.{Abs}
-use Rattle.cc_places.specs.declared.abs.Abs.TheVariants as abs
+use Rattle.cc_rules_flows.specs.CcPlaces.declared.abs.Abs.{Abs}
+use Rattle.cc_rules_flows.specs.CcPlaces.declared.abs.Abs.TheVariants as abs
 use Rattle.cc_program.specs.declared.expr.Expr.{Expr}
 use Rattle.cc_rules_tests.specs.Tested.{IsChangedOf, IsValWith}
 use Rattle.cc_rules_tests.specs.declared.tried.Tried.{Tried}
 use Rattle.cc_rules_tests.specs.declared.trial.Trial.{Trial}
-use Rattle.cc_state_operators.specs.Domains.{Domain, IsHull}
-use Rattle.cc_state_values.specs.declared.context.Context.{Context}
-use Rattle.cc_state_values.specs.Contexts.{IsValIn}
+use Rattle.cc_rules_flows.specs.CcStateOperators.Domains.{Domain, IsHull}
+use Rattle.cc_rules_flows.specs.CcStateValues.declared.context.Context.{Context}
+use Rattle.cc_rules_flows.specs.CcStateValues.Contexts.{IsValIn}
 
 -- of this register, at these numbers
 pub record IsTriedAt {I : Type 0} (r : ℕ) (ns : List ℤ) (t : Tried I) : Type 0 where

@@ -1,22 +1,22 @@
 //! An expression worked where one register has another set.
 
 ghost use Rattle.std.specs.Prelude.{◌≡◌, ◌++◌, ◌∷◌, IfOk, OnOk, Some};
-ghost use Rattle.cc_places.specs.declared.abs.Abs.TheVariants as abs;
+ghost use Rattle.cc_rules_flows.specs.CcPlaces.declared.abs.Abs.TheVariants as abs;
 ghost use Rattle.cc_rules_tests.specs.Tested.{IsChangedOf, IsValWith, MayHoldAll, MayHoldEach, MayHoldOne};
 ghost use Rattle.cc_rules_tests.specs.Trials.{AreGivenAt, IsGivenAt};
-ghost use Rattle.cc_state_operators.specs.Domains.{domain};
-ghost use Rattle.cc_state_operators.specs.Types.{AreOf};
-ghost use Rattle.cc_state_values.specs.Contexts.{HaveSetsIn, IsPureIn};
-ghost use Rattle.cc_syntax.specs.Programs.{type_of};
-ghost use Rattle.cc_syntax.specs.Sizes.{AreSized};
-ghost use Rattle.cc_syntax.specs.Values.{ValueType};
+ghost use Rattle.cc_rules_flows.specs.CcStateOperators.Domains.{domain};
+ghost use Rattle.cc_rules_flows.specs.CcStateOperators.Types.{AreOf};
+ghost use Rattle.cc_rules_flows.specs.CcStateValues.Contexts.{HaveSetsIn, IsPureIn};
+ghost use Rattle.cc_rules_flows.specs.CcSyntax.Programs.{type_of};
+ghost use Rattle.cc_rules_flows.specs.CcSyntax.Sizes.{AreSized};
+ghost use Rattle.cc_rules_flows.specs.CcSyntax.Values.{ValueType};
 
-use cc_lattice::IntDomain;
-use cc_num::NoMemory;
-use cc_places::Abs;
 use cc_program::Expr;
-use cc_state_shared::Shared;
-use cc_state_values::{Context, value_of};
+use cc_program::num::NoMemory;
+use cc_rules_flows::lattice::IntDomain;
+use cc_rules_flows::places::Abs;
+use cc_rules_flows::state_shared::Shared;
+use cc_rules_flows::state_values::{Context, value_of};
 use std::alloc::Global;
 
 /// The registers of a function with their sets, and before them one of these once more, with another set.

@@ -1,20 +1,20 @@
 //! What a test leaves of a range.
 
 ghost use Rattle.std.specs.Prelude.{◌≡◌, IfOk, true, None};
-ghost use Rattle.cc_lattice.specs.Domains.{is_comparison as is_comparison_of};
+ghost use Rattle.cc_rules_flows.specs.CcLattice.Domains.{is_comparison as is_comparison_of};
 ghost use Rattle.cc_rules_flows.specs.Tests.{Is, Equals, Differs, negated as negated_of, turned as turned_of, passing as passing_of};
 ghost use Rattle.cc_rules_tests.specs.Tested.{IsCutAsIn, IsPureNumber, IsRangeLeftIn, IsTested, IsChangedOf, MayHoldAll, test_of};
-ghost use Rattle.cc_state_operators.specs.Domains.{domain};
-ghost use Rattle.cc_syntax.specs.Registers.{is_register};
+ghost use Rattle.cc_rules_flows.specs.CcStateOperators.Domains.{domain};
+ghost use Rattle.cc_rules_flows.specs.CcSyntax.Registers.{is_register};
 
 use crate::changed::Changed;
 use crate::cut::at_label;
 use crate::forms::comparison_of;
 use crate::operand::is_operand;
 use crate::tested::{Test, Tested};
-use cc_lattice::{IntDomain, copied};
-use cc_num::{BinOp, NoMemory};
 use cc_program::Expr;
+use cc_program::num::{BinOp, NoMemory};
+use cc_rules_flows::lattice::{IntDomain, copied};
 use std::alloc::Global;
 
 /// The comparison that passes where another one does not.

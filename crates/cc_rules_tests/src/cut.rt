@@ -2,19 +2,19 @@
 
 ghost use Rattle.std.specs.Prelude.{◌≡◌, ℤ, IfOk, true};
 ghost use Rattle.std.specs.List.{Contains};
-ghost use Rattle.cc_lattice.specs.Domains.{IsIntValue, is_comparison};
-ghost use Rattle.cc_num.specs.declared.op.BinOp.TheVariants as op;
-ghost use Rattle.cc_places.specs.declared.abs.Abs.TheVariants as abs;
+ghost use Rattle.cc_rules_flows.specs.CcLattice.Domains.{IsIntValue, is_comparison};
+ghost use Rattle.cc_program.specs.CcNum.declared.op.BinOp.TheVariants as op;
+ghost use Rattle.cc_rules_flows.specs.CcPlaces.declared.abs.Abs.TheVariants as abs;
 ghost use Rattle.cc_rules_tests.specs.Tested.{IsTested, IsChangedOf, IsValWith, MayHoldAll, IsCutAsIn, IsCutByIn, IsCutByOne, IsPureNumber};
-ghost use Rattle.cc_state_operators.specs.Domains.{domain};
+ghost use Rattle.cc_rules_flows.specs.CcStateOperators.Domains.{domain};
 
 use crate::changed::Changed;
 use crate::operand::is_operand;
 use crate::tested::Tested;
-use cc_lattice::{IntDomain, copied};
-use cc_num::{BinOp, NoMemory};
-use cc_places::Abs;
 use cc_program::Expr;
+use cc_program::num::{BinOp, NoMemory};
+use cc_rules_flows::lattice::{IntDomain, copied};
+use cc_rules_flows::places::Abs;
 use std::alloc::Global;
 
 /// A range without a label.

@@ -1,12 +1,12 @@
 //! The forms of expressions by which tests refine.
 
 ghost use Rattle.std.specs.Prelude.{◌≡◌, Some, None, if◌then◌else◌};
-ghost use Rattle.cc_lattice.specs.Domains.{is_comparison as is_comparison_of};
+ghost use Rattle.cc_rules_flows.specs.CcLattice.Domains.{is_comparison as is_comparison_of};
 ghost use Rattle.cc_program.specs.declared.expr.Expr.{out-Expr};
 ghost use Rattle.cc_program.specs.declared.expr.Place.{out-Place};
 ghost use Rattle.cc_rules_tests.specs.Forms.{local_in as local_in_of, local_read as local_read_of, conversion_in, converted_view, comparison_in, comparison_view};
 
-use cc_num::{BinOp, IntType};
+use cc_program::num::{BinOp, IntType};
 use cc_program::{Expr, Place};
 
 /// A conversion.

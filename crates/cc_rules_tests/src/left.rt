@@ -1,22 +1,22 @@
 //! What a test leaves of a set.
 
 ghost use Rattle.std.specs.Prelude.{◌≡◌, ◌↔◌, ℤ, IfOk, IsTrue, None, true};
-ghost use Rattle.cc_places.specs.Abstract.{IsBelowAbs};
-ghost use Rattle.cc_places.specs.declared.abs.Abs.TheVariants as abs;
+ghost use Rattle.cc_rules_flows.specs.CcPlaces.Abstract.{IsBelowAbs};
+ghost use Rattle.cc_rules_flows.specs.CcPlaces.declared.abs.Abs.TheVariants as abs;
 ghost use Rattle.cc_rules_tests.specs.Tested.{IsExplicitIn, IsLeftAlikeIn, IsLeftIn, IsOfRegisterIn, IsTested, IsWorkedAt, MayHave, MayHoldAll};
 ghost use Rattle.cc_rules_tests.specs.Trials.{IsTrialOf};
-ghost use Rattle.cc_state_operators.specs.Domains.{domain};
-ghost use Rattle.cc_syntax.specs.Registers.{is_register};
+ghost use Rattle.cc_rules_flows.specs.CcStateOperators.Domains.{domain};
+ghost use Rattle.cc_rules_flows.specs.CcSyntax.Registers.{is_register};
 
 use crate::operand::are_of;
 use crate::reading::reads;
 use crate::tested::Tested;
 use crate::trial::Trial;
-use cc_lattice::IntDomain;
-use cc_num::{NoMemory, at};
-use cc_places::Abs;
-use cc_state_shared::Shared;
-use cc_typed::scalar_value;
+use cc_program::num::{NoMemory, at};
+use cc_rules_flows::lattice::IntDomain;
+use cc_rules_flows::places::Abs;
+use cc_rules_flows::state_shared::Shared;
+use cc_rules_flows::typed::scalar_value;
 use std::alloc::Global;
 
 impl<I: IntDomain> Tested<'_, I> {

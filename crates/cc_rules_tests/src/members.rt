@@ -2,24 +2,24 @@
 
 ghost use Rattle.std.specs.Prelude.{◌≡◌, ◌↔◌, IsTrue, IfOk, ℤ, false};
 ghost use Rattle.std.specs.List.{Contains};
-ghost use Rattle.cc_lattice.specs.Domains.{IsIntValue};
-ghost use Rattle.cc_places.specs.Abstract.{IsBelowAbs};
-ghost use Rattle.cc_places.specs.declared.abs.Abs.{Abs as AbsOf};
+ghost use Rattle.cc_rules_flows.specs.CcLattice.Domains.{IsIntValue};
+ghost use Rattle.cc_rules_flows.specs.CcPlaces.Abstract.{IsBelowAbs};
+ghost use Rattle.cc_rules_flows.specs.CcPlaces.declared.abs.Abs.{Abs as AbsOf};
 ghost use Rattle.cc_rules_tests.specs.Passing.{MayPassIn};
 ghost use Rattle.cc_rules_tests.specs.Reads.{reads as reads_of};
 ghost use Rattle.cc_rules_tests.specs.Tested.{IsExplicitIn, IsLeftIn, IsTested, IsWorkedAt, MayHoldEach, StaysIn, labels_of, test_of};
 ghost use Rattle.cc_rules_tests.specs.Trials.{HasOne, IsExplicitSet, IsTried, IsTrialOf};
-ghost use Rattle.cc_state_operators.specs.Domains.{domain, IsHull, IsHullFrom};
+ghost use Rattle.cc_rules_flows.specs.CcStateOperators.Domains.{domain, IsHull, IsHullFrom};
 
 use crate::passing::passes;
 use crate::reading::reads;
 use crate::tested::{Test, Tested};
 use crate::trial::Trial;
 use crate::tried::Tried;
-use cc_lattice::{IntDomain, Lattice};
-use cc_num::NoMemory;
-use cc_places::Abs;
-use cc_state_shared::Shared;
+use cc_program::num::NoMemory;
+use cc_rules_flows::lattice::{IntDomain, Lattice};
+use cc_rules_flows::places::Abs;
+use cc_rules_flows::state_shared::Shared;
 use std::alloc::Global;
 
 /// Whether a test passes with each of some sets.

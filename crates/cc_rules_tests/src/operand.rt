@@ -2,18 +2,18 @@
 
 ghost use Rattle.std.specs.Prelude.{◌≡◌, ◌↔◌, IsTrue, true};
 ghost use Rattle.cc_rules_tests.specs.Tested.{IsOperandIn, ReadsLocal};
-ghost use Rattle.cc_state_operators.specs.Domains.{domain, AllOf};
-ghost use Rattle.cc_state_operators.specs.Types.{AreOf};
-ghost use Rattle.cc_syntax.specs.Registers.{is_register};
-ghost use Rattle.cc_typed.specs.View.{value_view};
+ghost use Rattle.cc_rules_flows.specs.CcStateOperators.Domains.{domain, AllOf};
+ghost use Rattle.cc_rules_flows.specs.CcStateOperators.Types.{AreOf};
+ghost use Rattle.cc_rules_flows.specs.CcSyntax.Registers.{is_register};
+ghost use Rattle.cc_rules_flows.specs.CcTyped.View.{value_view};
 
 use crate::forms::{conversion_of, local_read};
 use crate::tested::Tested;
-use cc_lattice::IntDomain;
-use cc_num::{IntType, Target};
-use cc_places::Abs;
 use cc_program::Expr;
-use cc_typed::ValueType;
+use cc_program::num::{IntType, Target};
+use cc_rules_flows::lattice::IntDomain;
+use cc_rules_flows::places::Abs;
+use cc_rules_flows::typed::ValueType;
 
 /// Whether an expression reads a local.
 fn is_read(r: u32, a: &Expr) -> bool

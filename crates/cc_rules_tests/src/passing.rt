@@ -2,17 +2,17 @@
 
 ghost use Rattle.std.specs.Prelude.{◌≡◌, ◌↔◌, ℤ, IsTrue};
 ghost use Rattle.std.specs.List.{Contains};
-ghost use Rattle.cc_lattice.specs.Domains.{IsInReach, IsIntValue};
-ghost use Rattle.cc_places.specs.declared.abs.Abs.TheVariants as abs;
+ghost use Rattle.cc_rules_flows.specs.CcLattice.Domains.{IsInReach, IsIntValue};
+ghost use Rattle.cc_rules_flows.specs.CcPlaces.declared.abs.Abs.TheVariants as abs;
 ghost use Rattle.cc_rules_flows.specs.Tests.{Differs, Equals};
 ghost use Rattle.cc_rules_tests.specs.Passing.{MayPassIn, IsNext, IsBehind, HasOther, HasOtherBetween};
 ghost use Rattle.cc_rules_tests.specs.Tested.{labels_of, test_of};
-ghost use Rattle.cc_state_operators.specs.Domains.{domain};
+ghost use Rattle.cc_rules_flows.specs.CcStateOperators.Domains.{domain};
 
 use crate::tested::Test;
-use cc_lattice::IntDomain;
-use cc_places::Abs;
-use cc_state_operators::may_be;
+use cc_rules_flows::lattice::IntDomain;
+use cc_rules_flows::places::Abs;
+use cc_rules_flows::state_operators::may_be;
 
 /// The number behind those of a list that follow one another from a number on, each where it comes in the list.
 fn behind(first: i128, numbers: &[i128]) -> i128

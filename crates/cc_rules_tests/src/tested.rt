@@ -1,7 +1,7 @@
 //! A test of what an expression gives.
 
 use cc_program::Expr;
-use cc_state_values::Context;
+use cc_rules_flows::state_values::Context;
 
 /// What is tested of a value.
 #[derive(Clone, Copy)]

@@ -3,18 +3,18 @@
 ghost use Rattle.std.specs.Prelude.{◌≡◌, IfOk};
 ghost use Rattle.cc_rules_tests.specs.Tested.{MayHoldEach};
 ghost use Rattle.cc_rules_tests.specs.Trials.{IsTried, IsTriedAt, IsTrialOf};
-ghost use Rattle.cc_state_operators.specs.Domains.{domain};
-ghost use Rattle.cc_state_values.specs.Contexts.{HaveSetsIn, IsPureIn};
-ghost use Rattle.cc_syntax.specs.Sizes.{AreSized};
+ghost use Rattle.cc_rules_flows.specs.CcStateOperators.Domains.{domain};
+ghost use Rattle.cc_rules_flows.specs.CcStateValues.Contexts.{HaveSetsIn, IsPureIn};
+ghost use Rattle.cc_rules_flows.specs.CcSyntax.Sizes.{AreSized};
 
 use crate::changed::Changed;
 use crate::tried::{Tried, tried_at};
-use cc_lattice::IntDomain;
-use cc_num::NoMemory;
-use cc_places::Abs;
 use cc_program::Expr;
-use cc_state_shared::Shared;
-use cc_state_values::{Context, value_of};
+use cc_program::num::NoMemory;
+use cc_rules_flows::lattice::IntDomain;
+use cc_rules_flows::places::Abs;
+use cc_rules_flows::state_shared::Shared;
+use cc_rules_flows::state_values::{Context, value_of};
 use std::alloc::Global;
 
 /// What an expression gives: at the sets that the registers of its function have, and with one of them at each of some numbers,

@@ -5,9 +5,9 @@ ghost use Rattle.std.specs.List.{Contains};
 ghost use Rattle.cc_rules_tests.specs.Trials.{IsTriedAt};
 ghost use Rattle.cc_rules_tests.specs.declared.tried.Tried.{Tried as TriedOf};
 
-use cc_num::NoMemory;
-use cc_places::Abs;
-use cc_state_shared::Shared;
+use cc_program::num::NoMemory;
+use cc_rules_flows::places::Abs;
+use cc_rules_flows::state_shared::Shared;
 
 /// A register, some numbers, and what an expression gives with the register at each.
 #[derive(Drop)]

@@ -2,20 +2,20 @@
 
 ghost use Rattle.std.specs.Prelude.{◌≡◌, ◌++◌, IfOk, OnOk};
 ghost use Rattle.std.specs.Option.{option_copied};
-ghost use Rattle.cc_rules_needs.specs.declared.needs.Part.TheVariants as part;
-ghost use Rattle.cc_rules_needs.specs.Needs.{apart_in, flags_in};
+ghost use Rattle.cc_rules_asked.specs.CcRulesNeeds.declared.needs.Part.TheVariants as part;
+ghost use Rattle.cc_rules_asked.specs.CcRulesNeeds.Needs.{apart_in, flags_in};
 ghost use Rattle.cc_rules_texts.specs.Names.{AreNames};
 ghost use Rattle.cc_rules_texts.specs.Texts.{had_text as had_text_of, part_text};
-ghost use Rattle.cc_state_facts.specs.Facts.{fact_at};
+ghost use Rattle.cc_rules_asked.specs.CcStateFacts.Facts.{fact_at};
 
 use crate::names::Names;
 use crate::parts::{put_flags, put_mark};
-use cc_lattice::IntDomain;
-use cc_num::{NoMemory, at};
-use cc_places::Abs;
+use cc_program::num::{NoMemory, at};
+use cc_rules_asked::lattice::IntDomain;
+use cc_rules_asked::places::Abs;
+use cc_rules_asked::rules_needs::Slot;
+use cc_rules_asked::state_facts::{Facts, PointFact, is_pair};
 use cc_rules_asked::{levels, mark};
-use cc_rules_needs::Slot;
-use cc_state_facts::{Facts, PointFact, is_pair};
 use cc_state_texts::{put_number, put_values};
 use std::alloc::Global;
 

@@ -3,13 +3,13 @@
 ghost use Rattle.std.specs.Prelude.{◌≡◌, ◌++◌, OnOk};
 ghost use Rattle.cc_rules_texts.specs.Names.{AreNames};
 ghost use Rattle.cc_rules_texts.specs.Texts.{pair_text, register_in, register_text, tracked_text};
-ghost use Rattle.cc_state_keys.specs.Tracked.{registers as registers_of};
+ghost use Rattle.cc_rules_asked.specs.CcStateKeys.Tracked.{registers as registers_of};
 ghost use Rattle.cc_state_texts.specs.Texts.{name_of, object_at};
 
-use cc_flow::Flow;
-use cc_num::{NoMemory, at};
+use cc_program::num::{NoMemory, at};
 use cc_program::{Func, Program};
-use cc_state_keys::registers;
+use cc_rules_asked::flow::Flow;
+use cc_rules_asked::state_keys::registers;
 use cc_state_texts::put;
 use std::alloc::Global;
 

@@ -1,14 +1,14 @@
 //! Parts of slots, as reports have them.
 
 ghost use Rattle.std.specs.Prelude.{◌≡◌, ◌++◌, IfOk, OnOk};
-ghost use Rattle.cc_rules_needs.specs.declared.needs.Part.TheVariants as part;
+ghost use Rattle.cc_rules_asked.specs.CcRulesNeeds.declared.needs.Part.TheVariants as part;
 ghost use Rattle.cc_rules_texts.specs.Names.{AreNames};
 ghost use Rattle.cc_rules_texts.specs.Texts.{flags_text as flags_text_of, mark_text as mark_text_of, part_text as part_text_of};
 
 use crate::names::{Names, put_pair};
-use cc_lattice::IntDomain;
-use cc_num::NoMemory;
-use cc_rules_needs::{Part, Slot};
+use cc_program::num::NoMemory;
+use cc_rules_asked::lattice::IntDomain;
+use cc_rules_asked::rules_needs::{Part, Slot};
 use cc_state_texts::{put, put_number, put_values};
 use std::alloc::Global;
 

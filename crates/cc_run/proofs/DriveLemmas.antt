@@ -3,10 +3,10 @@ use Rattle.std.proofs.Common.{◌≡◌, ◌∙◌, ◌<◌, ◌≤◌, ◌+◌,
 use Rattle.std.proofs.lemmas.Bool.Decides.{nat_tests}
 use Rattle.std.specs.Prelude.{◌&&◌, nat_eq, nat_lt, if◌then◌else◌}
 use Rattle.cc_program.specs.declared.program.Program.{Program}
-use Rattle.cc_steps.specs.State.{State}
-use Rattle.cc_steps.specs.declared.event.Took.TheVariants.{Entered, Stepped, Ended}
-use Rattle.cc_steps.specs.Turn.{is_going, entering, enters, turn_by, turn, took}
-use Rattle.cc_steps.specs.Runs.{run}
+use Rattle.cc_states.specs.CcSteps.State.{State}
+use Rattle.cc_states.specs.CcSteps.declared.event.Took.TheVariants.{Entered, Stepped, Ended}
+use Rattle.cc_states.specs.CcSteps.Turn.{is_going, entering, enters, turn_by, turn, took}
+use Rattle.cc_states.specs.CcSteps.Runs.{run}
 use Rattle.cc_run.specs.Driven.{turns_ascend, arrival_at, arrivals_for, first_of, left_behind}
 
 -- a run that has ended stays as it is

@@ -4,7 +4,7 @@ use Rattle.std.specs.Prelude.{◌&&◌}
 use Rattle.std.specs.Str.{bytes_eq}
 use Rattle.std.proofs.lemmas.List.{drop_more, at_drop_all}
 use Rattle.cc_program.specs.declared.func.Func.{Func}
-use Rattle.cc_syntax.specs.Operators.{is_handler}
+use Rattle.cc_states.specs.CcSyntax.Operators.{is_handler}
 use Rattle.cc_run.specs.Arrivals.{handler_from}
 
 -- none of the functions so far is it

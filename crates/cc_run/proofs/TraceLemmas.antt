@@ -3,8 +3,8 @@ use Rattle.std.proofs.Common.{◌≡◌, ◌∙◌, ◌<◌, ◌≤◌, ◌+◌,
 use Rattle.std.proofs.lemmas.List.{map-append, take_all, take_more}
 use Rattle.csv.specs.Writing.{row_text, default_writer}
 use Rattle.cc_program.specs.declared.program.Program.{Program}
-use Rattle.cc_steps.specs.declared.event.Event.{Event}
-use Rattle.cc_steps.specs.Rows.{Row, row_of, rows_of}
+use Rattle.cc_states.specs.CcSteps.declared.event.Event.{Event}
+use Rattle.cc_states.specs.CcSteps.Rows.{Row, row_of, rows_of}
 use Rattle.cc_run.specs.Trace.{row_fields, rows_text}
 
 one_text : (r : Row) → rows_text (r ∷ []) ≡ row_text default_writer (row_fields r)

@@ -2,7 +2,7 @@
 use Rattle.std.specs.Prelude.{ℕ, ◌+◌, ◌-◌, ◌^◌, ◌&&◌, nat_lt, List, [], ◌∷◌, Option, Some, None, option_map, if◌then◌else◌}
 use Rattle.std.specs.Str.{bytes_eq}
 use Rattle.cc_program.specs.declared.func.Func.{Func}
-use Rattle.cc_syntax.specs.Operators.{is_handler}
+use Rattle.cc_states.specs.CcSyntax.Operators.{is_handler}
 use Rattle.cc_rows.specs.Numbers.{number_in}
 use Rattle.cc_rows.specs.Rows.{Row}
 use Rattle.cc_run.specs.declared.arrivals.ArrivalLine.{ArrivalLine}

@@ -1,9 +1,9 @@
 -- Runs of a program with arrivals at some turns.
 use Rattle.std.specs.Prelude.{ℕ, zero, suc, ◌+◌, ℤ, Bool, true, ◌&&◌, nat_eq, nat_lt, List, [], ◌∷◌, Option, Some, None, if◌then◌else◌}
 use Rattle.cc_program.specs.declared.program.Program.{Program}
-use Rattle.cc_steps.specs.State.{State}
-use Rattle.cc_steps.specs.Turn.{start}
-use Rattle.cc_steps.specs.Runs.{run}
+use Rattle.cc_states.specs.CcSteps.State.{State}
+use Rattle.cc_states.specs.CcSteps.Turn.{start}
+use Rattle.cc_states.specs.CcSteps.Runs.{run}
 
 -- each turn is greater than the one before it, the first than `last`
 abbrev pub turns_ascend : ℕ → List (ℕ × ℕ) → Bool

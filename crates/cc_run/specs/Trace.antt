@@ -3,10 +3,10 @@ use Rattle.std.specs.Prelude.{ℕ, ◌&&◌, nat_eq, List, [], ◌∷◌, ◌++�
 use Rattle.std.specs.Fmt.{decimal, signed_decimal}
 use Rattle.csv.specs.Writing.{row_text, default_writer}
 use Rattle.cc_program.specs.declared.program.Program.{Program}
-use Rattle.cc_steps.specs.declared.event.End.{End}
-use Rattle.cc_steps.specs.declared.event.End.TheVariants.{Going, Exit, Trap, Starved}
-use Rattle.cc_steps.specs.State.{State}
-use Rattle.cc_steps.specs.Rows.{Name, Into, ToMember, ToElement, Spelled, Device, Static, Auto, SpelledValue, Number, ToNothing, ToFunction, ToObject, Row, Reads, Writes, Enters, rows_of}
+use Rattle.cc_states.specs.CcSteps.declared.event.End.{End}
+use Rattle.cc_states.specs.CcSteps.declared.event.End.TheVariants.{Going, Exit, Trap, Starved}
+use Rattle.cc_states.specs.CcSteps.State.{State}
+use Rattle.cc_states.specs.CcSteps.Rows.{Name, Into, ToMember, ToElement, Spelled, Device, Static, Auto, SpelledValue, Number, ToNothing, ToFunction, ToObject, Row, Reads, Writes, Enters, rows_of}
 
 abbrev pub name_text : Name → List ℕ
 name_text None = []

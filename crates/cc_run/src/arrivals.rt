@@ -3,14 +3,14 @@
 ghost use Rattle.std.specs.Prelude.{◌≡◌, ◌∷◌, [], IfOk, IfErr, Some, map, ◌&&◌, true};
 ghost use Rattle.std.specs.Str.{bytes_eq};
 ghost use Rattle.csv.specs.Records.{fields_of};
-ghost use Rattle.cc_syntax.specs.Operators.{is_handler};
+ghost use Rattle.cc_states.specs.CcSyntax.Operators.{is_handler};
 ghost use Rattle.cc_rows.specs.Rows.{rows_of};
 ghost use Rattle.cc_run.specs.Arrivals.{written_in as written_in_row, line_of, written_of, id_of as id_of_place, handler_from, handler_named as handler_named_in, arrival_of as arrival_of_line, arrivals_from};
 ghost use Rattle.cc_run.specs.Driven.{turns_ascend};
 ghost use Rattle.cc_run.specs.Outcomes.{TellsRow, first_none};
 
 use crate::fault::{RowFault, row_behind};
-use cc_num::{List, Name, NoMemory};
+use cc_program::num::{List, Name, NoMemory};
 use cc_program::{Func, Program};
 use cc_rows::{FromRow, lines_of, number_in};
 use csv::ByteRecord;

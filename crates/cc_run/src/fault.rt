@@ -1,7 +1,7 @@
 ghost use Rattle.std.specs.Prelude.{◌≡◌, ◌+◌, ◌-◌, ◌^◌, min};
 ghost use Rattle.cc_run.specs.declared.fault.RowFault.TheVariants as fault;
 
-use cc_num::NoMemory;
+use cc_program::num::NoMemory;
 use std::alloc::{AllocError, AllocFailed};
 
 /// Why a text gives no list.

@@ -7,7 +7,7 @@ ghost use Rattle.cc_run.specs.Inputs.{input_in as input_in_row, line_of, input_o
 ghost use Rattle.cc_run.specs.Outcomes.{TellsRow, first_none};
 
 use crate::fault::{RowFault, row_behind};
-use cc_num::NoMemory;
+use cc_program::num::NoMemory;
 use cc_rows::{FromRow, lines_of, signed_in};
 use csv::ByteRecord;
 use std::alloc::Global;

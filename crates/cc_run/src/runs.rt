@@ -1,17 +1,17 @@
 //! Runs of a program.
 
 ghost use Rattle.std.specs.Prelude.{◌≡◌, ◌↔◌, IsTrue, ◌+◌, ◌<◌, ◌-◌, ◌^◌, true, IfOk, OnOk};
-ghost use Rattle.cc_syntax.specs.Sound.{IsSound};
-ghost use Rattle.cc_steps.specs.Runs.{run};
-ghost use Rattle.cc_steps.specs.declared.event.Took.TheVariants.{Ended};
+ghost use Rattle.cc_states.specs.CcSyntax.Sound.{IsSound};
+ghost use Rattle.cc_states.specs.CcSteps.Runs.{run};
+ghost use Rattle.cc_states.specs.CcSteps.declared.event.Took.TheVariants.{Ended};
 ghost use Rattle.cc_meaning.specs.View.{state_of};
 ghost use Rattle.cc_run.specs.Driven.{turns_ascend, first_of, left_behind as left_behind_of, arrivals_for, driven};
 ghost use Rattle.cc_run.specs.Trace.{trace_text as text_of_trace};
 
 use crate::trace::trace_text;
 use cc_meaning::{Machine, Took, start};
-use cc_num::NoMemory;
 use cc_program::Program;
+use cc_program::num::NoMemory;
 use std::alloc::Global;
 
 /// Who arrives at a turn, of arrivals that come no earlier.

@@ -4,17 +4,17 @@ ghost use Rattle.std.specs.Prelude.{◌≡◌, ◌++◌, ◌∷◌, [], IfOk, On
 ghost use Rattle.std.specs.Fmt.{decimal, signed_decimal};
 ghost use Rattle.std.specs.Option.{option_copied};
 ghost use Rattle.csv.specs.Writing.{row_text, default_writer};
-ghost use Rattle.cc_typed.specs.View.{place_view};
+ghost use Rattle.cc_states.specs.CcTyped.View.{place_view};
 ghost use Rattle.cc_program.specs.declared.value.Part.TheVariants.{Member};
-ghost use Rattle.cc_steps.specs.Rows.{member_name as name_of_member, step_in, steps, func_name as name_of_func, local_in, object_spelled, device_spelled, cell_spelled, value_spelled, row_of, rows_of, address_spelled, ToMember};
-ghost use Rattle.cc_steps.specs.Runs.{run};
+ghost use Rattle.cc_states.specs.CcSteps.Rows.{member_name as name_of_member, step_in, steps, func_name as name_of_func, local_in, object_spelled, device_spelled, cell_spelled, value_spelled, row_of, rows_of, address_spelled, ToMember};
+ghost use Rattle.cc_states.specs.CcSteps.Runs.{run};
 ghost use Rattle.cc_run.specs.Trace.{name_text, into_text, steps_text, spelled_text, index_text, value_text, row_fields, end_fields, rows_text};
 
-use cc_eval::object_type;
 use cc_meaning::{End, Event};
-use cc_num::{NoMemory, at};
+use cc_program::num::{NoMemory, at};
 use cc_program::{Address, Cell, Part, Program, Root, Shape, Value};
-use cc_typed::{PlaceType, step_into};
+use cc_states::eval::object_type;
+use cc_states::typed_crate::{PlaceType, step_into};
 use csv::WriterBuilder;
 use std::alloc::Global;
 

@@ -7,9 +7,9 @@ use Rattle.std.specs.Borrow.{Bor}
 use Rattle.std.specs.Option.{option_copied}
 use Rattle.std.specs.Prelude.{is_some, nat_eq}
 use Rattle.cc_program.specs.declared.types.Structure.{Structure}
-use Rattle.cc_syntax.specs.Layout.{nothing}
-use Rattle.cc_syntax.specs.Types.{Named}
-use Rattle.cc_syntax.specs.declared.sizes.Layout.{Layout}
+use Rattle.cc_operands.specs.CcSyntax.Layout.{nothing}
+use Rattle.cc_operands.specs.CcSyntax.Types.{Named}
+use Rattle.cc_operands.specs.CcSyntax.declared.sizes.Layout.{Layout}
 use Rattle.cc_scopes.specs.Standings.{Entry, entries_of, is_none, is_kept, are_kept, some_if, known, known_structures, completed_with, with_alias}
 use Rattle.cc_scopes.specs.State.{Name, KnownStructure, as_structure, change_at, name_or_none, members_or_none, only_named}
 use Rattle.cc_scopes.specs.Structures.{has_content}

@@ -5,18 +5,18 @@ use Rattle.std.proofs.lemmas.List.{take_more, map-append}
 use Rattle.std.proofs.lemmas.List.Sums.{fold-append}
 use Rattle.std.proofs.lemmas.Option.{slice_get_within, get_or_from_slice_get}
 use Rattle.std.specs.Int.{next_multiple_of}
-use Rattle.cc_num.specs.declared.int_type.IntType.{IntType}
-use Rattle.cc_num.specs.declared.target.Target.{Target}
-use Rattle.cc_num.specs.Integers.{bytes_of}
+use Rattle.cc_program.specs.CcNum.declared.int_type.IntType.{IntType}
+use Rattle.cc_program.specs.CcNum.declared.target.Target.{Target}
+use Rattle.cc_program.specs.CcNum.Integers.{bytes_of}
 use Rattle.cc_program.specs.declared.types.CType.{CType}
 use Rattle.cc_program.specs.declared.types.Shape.{Shape, Void, Int, Pointer, Array, Struct, Func, out-Shape}
 use Rattle.cc_program.specs.declared.types.Shape.TheOpen as shape
 use Rattle.cc_program.specs.declared.types.Shape.TheVariants.{outs-Void, outs-Int, outs-Pointer, outs-Array, outs-Struct, outs-Func}
 use Rattle.cc_program.specs.declared.types.Sig.{Sig}
-use Rattle.cc_syntax.proofs.TypeLayouts.{parts_layout, layout-opens}
-use Rattle.cc_syntax.specs.declared.sizes.Layout.{Layout}
-use Rattle.cc_syntax.specs.Layout.{aligned, end_behind, end_of, greatest_align, nothing, scalar, shape_layout, structure, type_layout}
-use Rattle.cc_syntax.specs.Types.{Named}
+use Rattle.cc_operands.proofs.CcSyntax.TypeLayouts.{parts_layout, layout-opens}
+use Rattle.cc_operands.specs.CcSyntax.declared.sizes.Layout.{Layout}
+use Rattle.cc_operands.specs.CcSyntax.Layout.{aligned, end_behind, end_of, greatest_align, nothing, scalar, shape_layout, structure, type_layout}
+use Rattle.cc_operands.specs.CcSyntax.Types.{Named}
 use Rattle.cc_scopes.specs.Layouts.{saturated}
 
 -- ---- sizes that 64 bits hold

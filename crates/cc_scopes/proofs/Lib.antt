@@ -4,3 +4,5 @@ pub mod LinkedLemmas
 pub mod Outcomes
 pub mod ScopeMaps
 pub mod States
+pub mod CcLex
+pub mod CcSyntax

@@ -1,10 +1,10 @@
 -- Scopes, the innermost last, as the definitions have them.
 use Rattle.std.proofs.Common.{◌≡◌, ◌∙◌, ◌<◌, ◌-◌, ◌≤◌, ℕ, zero, suc, subst, arith, List, [], ◌∷◌, ◌++◌, Option, refl, ap, sym, reverse, take, length, get_or, map}
 use Rattle.std.proofs.lemmas.List.{reverse-append}
-use Rattle.cc_num.specs.declared.target.Target.{Target}
-use Rattle.cc_syntax.specs.Layout.{structure, type_layout}
-use Rattle.cc_syntax.specs.Types.{Named}
-use Rattle.cc_syntax.specs.declared.sizes.Layout.{Layout}
+use Rattle.cc_program.specs.CcNum.declared.target.Target.{Target}
+use Rattle.cc_operands.specs.CcSyntax.Layout.{structure, type_layout}
+use Rattle.cc_operands.specs.CcSyntax.Types.{Named}
+use Rattle.cc_operands.specs.CcSyntax.declared.sizes.Layout.{Layout}
 use Rattle.cc_scopes.specs.Standings.{completed_with}
 use Rattle.cc_scopes.specs.Structures.{completed}
 use Rattle.cc_scopes.specs.View.{known_of, scopes_of, state_of}

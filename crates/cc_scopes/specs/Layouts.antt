@@ -1,6 +1,6 @@
 -- Sizes as 64 bits hold them.
 use Rattle.std.specs.Prelude.{◌-◌, ◌^◌, min}
-use Rattle.cc_syntax.specs.declared.sizes.Layout.{Layout}
+use Rattle.cc_operands.specs.CcSyntax.declared.sizes.Layout.{Layout}
 
 -- a size that they do not hold is the greatest that they hold
 abbrev pub saturated : Layout → Layout

@@ -8,3 +8,7 @@ pub mod State
 pub mod Structures
 pub mod Verdicts
 pub mod View
+pub mod CcLex
+pub mod CcOperands
+pub mod CcSyntax
+pub mod CcUnit

@@ -1,4 +1,4 @@
-use cc_syntax::CType;
+use cc_operands::syntax::CType;
 
 /// What an identifier designates (C99 6.2.1, 1).
 #[derive(Drop)]

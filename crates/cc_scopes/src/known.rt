@@ -8,9 +8,9 @@ ghost use Rattle.cc_scopes.specs.State.{name_or_none};
 mod layouts;
 
 use crate::standing::Standing;
-use cc_num::{List, Name, NoMemory, at};
+use cc_operands::syntax::{CType, Layout, Structure};
 use cc_program::copy_list;
-use cc_syntax::{CType, Layout, Structure};
+use cc_program::num::{List, Name, NoMemory, at};
 pub use layouts::{structure_layout, type_layout_in};
 use std::alloc::Global;
 

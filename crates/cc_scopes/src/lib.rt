@@ -13,6 +13,9 @@ mod tags;
 mod unit;
 mod verdict;
 
+pub use cc_operands as operands;
+pub use cc_operands::{lex, syntax, typed_crate as typed};
+pub use cc_unit as unit_crate;
 pub use cc_unit::{Linkage, UnitKind};
 pub use designated::{Designated, Tagged};
 pub use law::laws;

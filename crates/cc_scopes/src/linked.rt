@@ -10,7 +10,7 @@ ghost use Rattle.cc_scopes.specs.declared.unit.Declared.{Declared as DeclaredOf}
 mod definitions;
 
 use crate::unit::Declared;
-use cc_num::NoMemory;
+use cc_program::num::NoMemory;
 use cc_unit::Linkage;
 use indexmap::IndexMap;
 use std::alloc::Global;

@@ -5,7 +5,7 @@ ghost use Rattle.std.specs.Option.{option_copied};
 ghost use Rattle.cc_scopes.specs.State.{empty, find_name, with_name};
 
 use crate::designated::{Designated, Tagged};
-use cc_num::NoMemory;
+use cc_program::num::NoMemory;
 use indexmap::IndexMap;
 use std::alloc::Global;
 use std::marker::Model;

@@ -1,4 +1,4 @@
-use cc_num::Name;
+use cc_program::num::Name;
 
 /// What is known of a structure type beside its tag, its members and its layout.
 #[derive(Drop)]

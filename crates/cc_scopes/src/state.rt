@@ -10,15 +10,15 @@ ghost use Rattle.cc_program.specs.declared.expr.Place.{out-Place};
 ghost use Rattle.cc_scopes.specs.Standings.{with_alias};
 ghost use Rattle.cc_scopes.specs.Structures.{completed as completed_in, has_content as has_content_in, with_structure};
 ghost use Rattle.cc_scopes.specs.View.{state_of};
-ghost use Rattle.cc_syntax.specs.Layout.{type_layout};
+ghost use Rattle.cc_operands.specs.CcSyntax.Layout.{type_layout};
 
 use crate::designated::{Designated, Tagged};
 use crate::known::{Structures, structure_layout, type_layout_in};
 use crate::linked::Names;
 use crate::scope::Scope;
 use crate::unit::Declared;
-use cc_num::{List, Name, NoMemory, Target};
-use cc_syntax::{CType, Entry, Layout, Leaf, Place, Structure};
+use cc_operands::syntax::{CType, Entry, Layout, Leaf, Place, Structure};
+use cc_program::num::{List, Name, NoMemory, Target};
 use cc_unit::UnitKind;
 use std::alloc::Global;
 use std::mem::replace;

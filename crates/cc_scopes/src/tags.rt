@@ -13,9 +13,9 @@ ghost use Rattle.std.specs.Str.{bytes_eq};
 use crate::designated::Tagged;
 use crate::state::State;
 use crate::verdict::{Fault, Stop};
-use cc_num::{IntType, List, Name, NoMemory, Target};
+use cc_operands::syntax::{CType, Shape};
 use cc_operands::{Breach, Constant, Rule};
-use cc_syntax::{CType, Shape};
+use cc_program::num::{IntType, List, Name, NoMemory, Target};
 use std::alloc::Global;
 
 fn structure_type(id: u32) -> CType

@@ -1,5 +1,5 @@
-use cc_num::Name;
-use cc_syntax::CType;
+use cc_operands::syntax::CType;
+use cc_program::num::Name;
 use cc_unit::{Linkage, UnitKind};
 
 /// An object with static storage, a device or a function, as far as it is known.

@@ -4,8 +4,8 @@ ghost use Rattle.std.specs.Prelude.{◌≡◌};
 ghost use Rattle.cc_scopes.specs.Outcomes.{stopped};
 ghost use Rattle.cc_scopes.specs.declared.verdict.Stop.TheVariants.{NoMemory as NoRoom};
 
-use cc_num::NoMemory;
 use cc_operands::{Breach, Rule};
+use cc_program::num::NoMemory;
 use std::alloc::{AllocError, AllocFailed};
 
 /// A rule that a construct breaks, and the offset at which the construct begins.

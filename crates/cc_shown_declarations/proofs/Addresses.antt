@@ -1,22 +1,22 @@
 -- Address constants are typed to pointers that are assigned as they are, and give the leaves that they show.
 use Rattle.std.proofs.Common.{◌≡◌, ℕ, pos, Bool, true, false, not, ◌&&◌, ◌||◌, List, Option, Some, None, Ok, refl, ap, sym, ◌∙◌, subst, slice_get, nat_le, nat_eq, arith}
-use Rattle.cc_designators.specs.Designators.{TypedExpr, IsPlace, IsValue, IsFunction}
-use Rattle.cc_designators.specs.Postfix.{address_at}
+use Rattle.cc_type.specs.CcDesignators.Designators.{TypedExpr, IsPlace, IsValue, IsFunction}
+use Rattle.cc_type.specs.CcDesignators.Postfix.{address_at}
 use Rattle.cc_expression_trees.specs.Constants.{IsZero}
-use Rattle.cc_initial.specs.Addresses.{Spot, Located, ConstantExpression, AtNull, AtSpot, located, place_located, spot_address, address_leaf, moved_to, moved_address, leaf_of, path_into}
-use Rattle.cc_lex.specs.declared.token.Mark.TheVariants as m
-use Rattle.cc_num.specs.declared.int_type.IntType.{IntType}
-use Rattle.cc_num.specs.declared.int_type.IntType.TheVariants as int
-use Rattle.cc_objects.specs.Values.{objects_in, leaf_given}
-use Rattle.cc_operands.specs.Operands.{Operand, operand, integer, number_type, is_pointer, is_zero_constant, is_null_at, constant_at, null_of, is_null_constant}
-use Rattle.cc_operands.specs.Qualified.{type_of_value}
-use Rattle.cc_operands.specs.Operators.{operator_of}
-use Rattle.cc_operands.specs.Assignments.{assigned}
-use Rattle.cc_operands.specs.Verdicts.{Judged, judge_then}
-use Rattle.cc_operands.specs.declared.operator.Operator.TheVariants as operator
+use Rattle.cc_type.specs.CcInitial.Addresses.{Spot, Located, ConstantExpression, AtNull, AtSpot, located, place_located, spot_address, address_leaf, moved_to, moved_address, leaf_of, path_into}
+use Rattle.cc_type.specs.CcLex.declared.token.Mark.TheVariants as m
+use Rattle.cc_program.specs.CcNum.declared.int_type.IntType.{IntType}
+use Rattle.cc_program.specs.CcNum.declared.int_type.IntType.TheVariants as int
+use Rattle.cc_type.specs.CcObjects.Values.{objects_in, leaf_given}
+use Rattle.cc_type.specs.CcOperands.Operands.{Operand, operand, integer, number_type, is_pointer, is_zero_constant, is_null_at, constant_at, null_of, is_null_constant}
+use Rattle.cc_type.specs.CcOperands.Qualified.{type_of_value}
+use Rattle.cc_type.specs.CcOperands.Operators.{operator_of}
+use Rattle.cc_type.specs.CcOperands.Assignments.{assigned}
+use Rattle.cc_type.specs.CcOperands.Verdicts.{Judged, judge_then}
+use Rattle.cc_type.specs.CcOperands.declared.operator.Operator.TheVariants as operator
 use Rattle.cc_shown_expressions.proofs.Rules.{move-rule}
-use Rattle.cc_typed_terms.specs.Operators.{binary_by}
-use Rattle.cc_typed_terms.specs.Values.{gives, valued, value_found}
+use Rattle.cc_type.specs.CcTypedTerms.Operators.{binary_by}
+use Rattle.cc_type.specs.CcTypedTerms.Values.{gives, valued, value_found}
 use Rattle.cc_program.specs.declared.expr.Expr.{Expr, Const, FuncAddr, AddrOf, Move, out-Expr}
 use Rattle.cc_program.specs.declared.expr.Expr.TheOpen as one
 use Rattle.cc_program.specs.declared.expr.Expr.TheVariants as expr_rolls
@@ -34,20 +34,20 @@ use Rattle.cc_program.specs.declared.value.Leaf.{Leaf}
 use Rattle.cc_program.specs.declared.value.Leaf.TheVariants as leaf
 use Rattle.cc_program.specs.declared.value.Part.{Part}
 use Rattle.cc_program.specs.declared.value.Root.TheVariants as root
-use Rattle.cc_scopes.specs.State.{State, structures_of}
-use Rattle.cc_scopes.specs.Verdicts.{Found, whole, and_then}
-use Rattle.cc_syntax.specs.Expressions.{of_one}
-use Rattle.cc_syntax.specs.Folding.{NoConstant}
-use Rattle.cc_syntax.specs.Initial.{bound_of, leads_to_element, place_at, names_element, names_whole, names}
-use Rattle.cc_syntax.specs.Lists.{is_count}
-use Rattle.cc_syntax.specs.Operators.{is_handler, function_type, points_to_object}
-use Rattle.cc_syntax.specs.Programs.{is_address, static_place}
-use Rattle.cc_syntax.specs.Sizes.{AreSized}
-use Rattle.cc_syntax.specs.Types.{is_complete}
-use Rattle.cc_syntax.specs.Values.{ValueType, NoValue, Integer, ToObject, ToFunction, PlaceType, DevicePlace, ObjectPlace, FunctionPlace, is_scalar, is_assignable, is_assignable_some, pointer_shape, pointer_to, address_of, element_of}
-use Rattle.cc_syntax.proofs.Prefixes.{both_true}
-use Rattle.cc_terms.specs.Operations.{prefixed}
-use Rattle.cc_terms.specs.Terms.{tree_of, here}
+use Rattle.cc_type.specs.CcScopes.State.{State, structures_of}
+use Rattle.cc_type.specs.CcScopes.Verdicts.{Found, whole, and_then}
+use Rattle.cc_type.specs.CcSyntax.Expressions.{of_one}
+use Rattle.cc_type.specs.CcSyntax.Folding.{NoConstant}
+use Rattle.cc_type.specs.CcSyntax.Initial.{bound_of, leads_to_element, place_at, names_element, names_whole, names}
+use Rattle.cc_type.specs.CcSyntax.Lists.{is_count}
+use Rattle.cc_type.specs.CcSyntax.Operators.{is_handler, function_type, points_to_object}
+use Rattle.cc_type.specs.CcSyntax.Programs.{is_address, static_place}
+use Rattle.cc_type.specs.CcSyntax.Sizes.{AreSized}
+use Rattle.cc_type.specs.CcSyntax.Types.{is_complete}
+use Rattle.cc_type.specs.CcSyntax.Values.{ValueType, NoValue, Integer, ToObject, ToFunction, PlaceType, DevicePlace, ObjectPlace, FunctionPlace, is_scalar, is_assignable, is_assignable_some, pointer_shape, pointer_to, address_of, element_of}
+use Rattle.cc_type.proofs.CcSyntax.Prefixes.{both_true}
+use Rattle.cc_type.specs.CcTerms.Operations.{prefixed}
+use Rattle.cc_type.specs.CcTerms.Terms.{tree_of, here}
 use Rattle.cc_tree.specs.declared.at.At.{At}
 use Rattle.cc_tree.specs.declared.tree.Declr.TheOpen as trees
 use Rattle.cc_tree.specs.declared.tree.Tree as tree

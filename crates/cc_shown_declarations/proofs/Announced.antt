@@ -14,11 +14,11 @@ use Rattle.cc_program.specs.declared.types.Sig.{Sig, out-Sig, out-roll-Sig}
 use Rattle.cc_program.specs.declared.types.Structure.{Structure}
 use Rattle.cc_program.proofs.Each.{Each}
 use Rattle.cc_program.proofs.TypeInduction.{with_shape, TypeParts, by_type}
-use Rattle.cc_syntax.specs.Kinds.{Kind, extent_kind, qualified_kind, is_plain_scalar}
-use Rattle.cc_syntax.specs.Programs.{kind_in}
-use Rattle.cc_syntax.specs.Sound.{IsSound}
-use Rattle.cc_syntax.specs.Types.{Named, has_members}
-use Rattle.cc_syntax.proofs.Prefixes.{both_true}
+use Rattle.cc_type.specs.CcSyntax.Kinds.{Kind, extent_kind, qualified_kind, is_plain_scalar}
+use Rattle.cc_type.specs.CcSyntax.Programs.{kind_in}
+use Rattle.cc_type.specs.CcSyntax.Sound.{IsSound}
+use Rattle.cc_type.specs.CcSyntax.Types.{Named, has_members}
+use Rattle.cc_type.proofs.CcSyntax.Prefixes.{both_true}
 use Rattle.std.specs.List.{list_all}
 use Rattle.cc_expression_trees.proofs.TypeNames.{there}
 use Rattle.cc_shown_expressions.proofs.Standing.{Stands, kind-at, pointed-stands, element-stands, signature-stands, signature-parts, result-stands, scalar-stands}

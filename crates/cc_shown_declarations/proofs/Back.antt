@@ -9,7 +9,7 @@ use Rattle.cc_program.proofs.Each.{Each}
 use Rattle.cc_program.proofs.Levels.{sig_of_fields}
 use Rattle.cc_program.proofs.TypeInduction.{with_shape, TypeParts, SigParts, by_type}
 use Rattle.cc_structures.proofs.WordLaws.{renumbered_level, level-renumbered, constant-kept as constant-renumbered, volatile-kept as volatile-renumbered, sig_level}
-use Rattle.cc_unit.specs.Renumbered.{structure_by, type_renumbered, sig_renumbered}
+use Rattle.cc_type.specs.CcUnit.Renumbered.{structure_by, type_renumbered, sig_renumbered}
 use Rattle.cc_shown_expressions.specs.Numbers.{type_numbered, sig_numbered}
 use Rattle.cc_shown_expressions.proofs.Bases.{type-of-fields, shape-of-level}
 use Rattle.cc_shown_expressions.proofs.Numbering.{level, level-at, constant-kept, volatile-kept, sig-level}

@@ -4,9 +4,9 @@ use Rattle.std.proofs.lemmas.Bool.Decides.{nat_tests}
 use Rattle.std.proofs.lemmas.List.{length-map, map-append}
 use Rattle.std.specs.Prelude.{if◌then◌else◌, ◌&&◌}
 use Rattle.std.specs.Str.{bytes_eq}
-use Rattle.cc_typed_terms.specs.Specifiers.{begin, as_type}
-use Rattle.cc_operands.specs.Qualified.{plain, further, qualified_by}
-use Rattle.cc_operands.specs.Verdicts.{Judged, judge_then}
+use Rattle.cc_type.specs.CcTypedTerms.Specifiers.{begin, as_type}
+use Rattle.cc_type.specs.CcOperands.Qualified.{plain, further, qualified_by}
+use Rattle.cc_type.specs.CcOperands.Verdicts.{Judged, judge_then}
 use Rattle.cc_program.specs.declared.program.Program.{Program}
 use Rattle.cc_program.specs.declared.program.Roles.{Roles}
 use Rattle.cc_program.specs.declared.types.CType.{CType}
@@ -15,23 +15,23 @@ use Rattle.cc_program.specs.declared.types.Shape.TheOpen as shape
 use Rattle.cc_program.specs.declared.types.Shape.TheVariants.{outs-Struct}
 use Rattle.cc_program.specs.declared.types.Sig.{Sig}
 use Rattle.cc_program.specs.declared.types.Structure.{Structure}
-use Rattle.cc_scopes.specs.State.{State, Name, KnownStructure, only_named, find_name, with_name, tagged, tagged_here, or_else}
-use Rattle.cc_scopes.specs.Structures.{new_structure, structure_named, structure_type}
-use Rattle.cc_scopes.specs.Verdicts.{Found, whole, and_then}
-use Rattle.cc_scopes.specs.declared.designated.Tagged.{Tagged}
-use Rattle.cc_scopes.specs.declared.designated.Tagged.TheVariants.{StructureTag}
-use Rattle.cc_specifiers.specs.BasicTypes.{no_word}
-use Rattle.cc_specifiers.specs.Specifiers.{with_specifier, specified}
-use Rattle.cc_specifiers.specs.declared.specifier.Base.TheVariants as base
-use Rattle.cc_specifiers.specs.declared.specifier.Specifier.{Specifier}
-use Rattle.cc_specifiers.specs.declared.specifier.Specifier.TheVariants as specifier
-use Rattle.cc_specifiers.specs.declared.specifier.Specs.{Specs}
-use Rattle.cc_specifiers.specs.declared.storage.Setting.{Setting}
-use Rattle.cc_syntax.specs.Names.{tags}
-use Rattle.cc_syntax.specs.Sound.{IsSound}
-use Rattle.cc_syntax.specs.Types.{has_members}
-use Rattle.cc_terms.specs.Specifiers.{specified_found}
-use Rattle.cc_terms.specs.Terms.{spec_of, spec_here}
+use Rattle.cc_type.specs.CcScopes.State.{State, Name, KnownStructure, only_named, find_name, with_name, tagged, tagged_here, or_else}
+use Rattle.cc_type.specs.CcScopes.Structures.{new_structure, structure_named, structure_type}
+use Rattle.cc_type.specs.CcScopes.Verdicts.{Found, whole, and_then}
+use Rattle.cc_type.specs.CcScopes.declared.designated.Tagged.{Tagged}
+use Rattle.cc_type.specs.CcScopes.declared.designated.Tagged.TheVariants.{StructureTag}
+use Rattle.cc_type.specs.CcSpecifiers.BasicTypes.{no_word}
+use Rattle.cc_type.specs.CcSpecifiers.Specifiers.{with_specifier, specified}
+use Rattle.cc_type.specs.CcSpecifiers.declared.specifier.Base.TheVariants as base
+use Rattle.cc_type.specs.CcSpecifiers.declared.specifier.Specifier.{Specifier}
+use Rattle.cc_type.specs.CcSpecifiers.declared.specifier.Specifier.TheVariants as specifier
+use Rattle.cc_type.specs.CcSpecifiers.declared.specifier.Specs.{Specs}
+use Rattle.cc_type.specs.CcSpecifiers.declared.storage.Setting.{Setting}
+use Rattle.cc_type.specs.CcSyntax.Names.{tags}
+use Rattle.cc_type.specs.CcSyntax.Sound.{IsSound}
+use Rattle.cc_type.specs.CcSyntax.Types.{has_members}
+use Rattle.cc_type.specs.CcTerms.Specifiers.{specified_found}
+use Rattle.cc_type.specs.CcTerms.Terms.{spec_of, spec_here}
 use Rattle.cc_tree.specs.declared.at.At.{At}
 use Rattle.cc_tree.specs.declared.tree.Declr.TheOpen as one
 use Rattle.cc_tree.specs.declared.tree.Spec as spec

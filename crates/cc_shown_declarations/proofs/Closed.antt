@@ -6,16 +6,16 @@ use Rattle.cc_print.specs.Units.{first_naming, is_in_parameters}
 use Rattle.cc_program.specs.declared.program.Program.{Program}
 use Rattle.cc_program.specs.declared.types.CType.{CType}
 use Rattle.cc_program.specs.declared.types.Structure.{Structure}
-use Rattle.cc_scopes.specs.State.{State, KnownStructure, only_named, change_at, layouts_of}
-use Rattle.cc_scopes.specs.Structures.{with_members as members_given, completed}
-use Rattle.cc_syntax.specs.Layout.{nothing, structure, type_layout, layouts}
-use Rattle.cc_syntax.specs.Sizes.{AreSized}
-use Rattle.cc_syntax.specs.Sound.{IsSound}
-use Rattle.cc_syntax.specs.Types.{Named, has_members, is_complete}
-use Rattle.cc_syntax.specs.declared.sizes.Layout.{Layout}
-use Rattle.cc_syntax.proofs.Parts.{all_at}
-use Rattle.cc_syntax.proofs.Prefixes.{layouts-at, layout-taken, complete-taken}
-use Rattle.cc_syntax.proofs.StructureLemmas.{structures_sized}
+use Rattle.cc_type.specs.CcScopes.State.{State, KnownStructure, only_named, change_at, layouts_of}
+use Rattle.cc_type.specs.CcScopes.Structures.{with_members as members_given, completed}
+use Rattle.cc_type.specs.CcSyntax.Layout.{nothing, structure, type_layout, layouts}
+use Rattle.cc_type.specs.CcSyntax.Sizes.{AreSized}
+use Rattle.cc_type.specs.CcSyntax.Sound.{IsSound}
+use Rattle.cc_type.specs.CcSyntax.Types.{Named, has_members, is_complete}
+use Rattle.cc_type.specs.CcSyntax.declared.sizes.Layout.{Layout}
+use Rattle.cc_type.proofs.CcSyntax.Parts.{all_at}
+use Rattle.cc_type.proofs.CcSyntax.Prefixes.{layouts-at, layout-taken, complete-taken}
+use Rattle.cc_type.proofs.CcSyntax.StructureLemmas.{structures_sized}
 use Rattle.cc_shown_expressions.specs.Numbers.{type_numbered, named_numbered}
 use Rattle.cc_shown_expressions.proofs.Complete.{layout-numbered}
 use Rattle.cc_shown_declarations.specs.Order.{base_of, is_among, with_first, with_base, with_members, with_structures, announced_from, order_before, appearance, structure_number}

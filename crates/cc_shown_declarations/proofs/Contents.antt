@@ -1,14 +1,14 @@
 -- What an object consists of, opened at a type; and what an initialiser that shows it does, as one of a list or as a whole.
 use Rattle.std.proofs.Common.{◌≡◌, ℕ, Bool, true, false, ◌||◌, List, [], ◌∷◌, map, Option, Some, None, refl, ap, sym, ◌∙◌, subst}
 use Rattle.std.specs.Prelude.{is_some, if◌then◌else◌}
-use Rattle.cc_initialisers.specs.Contents.{Contents, Scalar, Elements, NoMember, Members, Inside, ShapeInside, shape_inside, type_inside, contents_over, of_members}
-use Rattle.cc_initialisers.specs.Initialisers.{Step, Give, Initialiser, Init, Filled, is_scalar_object, takes_text, string_for, started, started_by, elided, initialiser_of, list_braced, all_taken, list_initialised, aggregate_initialised, initialised, scalar_given, here}
-use Rattle.cc_initialisers.proofs.Layers.{initialiser-One, initialiser-Many}
+use Rattle.cc_type.specs.CcInitialisers.Contents.{Contents, Scalar, Elements, NoMember, Members, Inside, ShapeInside, shape_inside, type_inside, contents_over, of_members}
+use Rattle.cc_type.specs.CcInitialisers.Initialisers.{Step, Give, Initialiser, Init, Filled, is_scalar_object, takes_text, string_for, started, started_by, elided, initialiser_of, list_braced, all_taken, list_initialised, aggregate_initialised, initialised, scalar_given, here}
+use Rattle.cc_type.proofs.CcInitialisers.Layers.{initialiser-One, initialiser-Many}
 use Rattle.cc_program.specs.declared.types.CType.{CType, fold-CType, fold_out-CType}
 use Rattle.cc_program.specs.declared.types.Shape.{Shape, out-Shape, map-Shape, fold-Shape, fold_out-Shape}
 use Rattle.cc_program.specs.declared.types.Shape.TheOpen as shape
 use Rattle.cc_program.specs.declared.types.Sig.{Sig, fold-Sig}
-use Rattle.cc_syntax.specs.Values.{ValueType, Integer, pointer_to}
+use Rattle.cc_type.specs.CcSyntax.Values.{ValueType, Integer, pointer_to}
 use Rattle.cc_tree.specs.declared.at.At.{At}
 use Rattle.cc_tree.specs.declared.tree.Tree.{Tree}
 use Rattle.cc_tree.specs.declared.unit.Given as given

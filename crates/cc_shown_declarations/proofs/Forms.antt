@@ -6,9 +6,9 @@ use Rattle.cc_program.specs.declared.types.Shape.{Shape, out-Shape}
 use Rattle.cc_program.specs.declared.types.Shape.TheOpen as shape
 use Rattle.cc_program.specs.declared.types.Sig.{Sig, out-Sig}
 use Rattle.cc_program.specs.declared.types.Structure.{Structure}
-use Rattle.cc_specifiers.specs.Declarators.{form_step, form_of, nearer, is_function_form, declares_function}
-use Rattle.cc_specifiers.specs.declared.declarator.Form.{Form}
-use Rattle.cc_specifiers.specs.declared.declarator.Form.TheVariants as form
+use Rattle.cc_type.specs.CcSpecifiers.Declarators.{form_step, form_of, nearer, is_function_form, declares_function}
+use Rattle.cc_type.specs.CcSpecifiers.declared.declarator.Form.{Form}
+use Rattle.cc_type.specs.CcSpecifiers.declared.declarator.Form.TheVariants as form
 use Rattle.cc_tree.specs.declared.at.At.{At}
 use Rattle.cc_tree.specs.declared.tree.Declr as declr
 use Rattle.cc_tree.specs.declared.tree.Declr.{Declr, out-Declr, map-Declr, fold_out-Declr, fold-Declr}

@@ -11,8 +11,8 @@ use Rattle.cc_program.specs.declared.types.Shape.TheOpen as shape
 use Rattle.cc_program.specs.declared.types.Sig.{Sig, out-Sig, out-roll-Sig}
 use Rattle.cc_program.specs.declared.types.Structure.{Structure}
 use Rattle.cc_program.proofs.TypeInduction.{with_shape, TypeParts, by_type}
-use Rattle.cc_syntax.specs.Sound.{IsSound}
-use Rattle.cc_syntax.specs.Types.{Named}
+use Rattle.cc_type.specs.CcSyntax.Sound.{IsSound}
+use Rattle.cc_type.specs.CcSyntax.Types.{Named}
 use Rattle.cc_shown_declarations.specs.Order.{base_of, is_among, with_first, with_base, with_members, with_structures, announced_from, order_before, appearance}
 use Rattle.cc_shown_declarations.proofs.Announced.{InFront, at-first-known, begun, base-keeps, member-passed, structure-passed, member-stands, named-there, take-more}
 use Rattle.cc_shown_declarations.proofs.Namings.{base-at, named-at}

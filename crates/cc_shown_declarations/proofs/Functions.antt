@@ -3,9 +3,9 @@
 use Rattle.std.proofs.Common.{◌≡◌, ℕ, zero, suc, Bool, true, false, not, ◌||◌, List, [], ◌∷◌, ◌++◌, map, Some, None, Ok, refl, ap, sym, ◌∙◌, subst, slice_get}
 use Rattle.std.specs.List.{list_all, list_any}
 use Rattle.std.specs.Option.{is_some}
-use Rattle.cc_typed_terms.specs.Located.{located}
-use Rattle.cc_operands.specs.Qualified.{plain, unqualified}
-use Rattle.cc_operands.specs.declared.rule.Rule.TheVariants as rule
+use Rattle.cc_type.specs.CcTypedTerms.Located.{located}
+use Rattle.cc_type.specs.CcOperands.Qualified.{plain, unqualified}
+use Rattle.cc_type.specs.CcOperands.declared.rule.Rule.TheVariants as rule
 use Rattle.cc_program.specs.declared.program.Program.{Program}
 use Rattle.cc_program.specs.declared.program.Roles.{Roles}
 use Rattle.cc_program.specs.declared.types.CType.{CType}
@@ -13,23 +13,23 @@ use Rattle.cc_program.specs.declared.types.Shape.{Array, Func, out-Shape}
 use Rattle.cc_program.specs.declared.types.Shape.TheOpen as shape
 use Rattle.cc_program.specs.declared.types.Shape.TheVariants.{outs-Array, outs-Func}
 use Rattle.cc_program.specs.declared.types.Sig.{Sig, out-Sig}
-use Rattle.cc_scopes.specs.State.{State, Scope, Name, structures_of, layouts_of}
-use Rattle.cc_scopes.specs.Verdicts.{Found, and_then}
-use Rattle.cc_specifiers.specs.Declarators.{breach, broken_unless, derive_one, function_to, result_breach, type_found}
-use Rattle.cc_specifiers.specs.Derivations.{with_derivation, is_next_to_name, suffix_found, says_const, says_volatile, pointer_derivation}
-use Rattle.cc_specifiers.specs.Places.{JudgedAt, Checked}
-use Rattle.cc_specifiers.specs.declared.derivation.Allowed.{Allowed}
-use Rattle.cc_specifiers.specs.declared.derivation.Declarator.{Declarator}
-use Rattle.cc_specifiers.specs.declared.derivation.Derivation.{Derivation}
-use Rattle.cc_specifiers.specs.declared.derivation.Derivation.TheVariants as to
-use Rattle.cc_specifiers.specs.declared.derivation.Parameter.{Parameter}
-use Rattle.cc_syntax.specs.Kinds.{is_result, is_plain_scalar}
-use Rattle.cc_syntax.specs.Programs.{kind_in}
-use Rattle.cc_syntax.specs.Sizes.{AreSized}
-use Rattle.cc_syntax.specs.Values.{is_void}
-use Rattle.cc_syntax.proofs.Prefixes.{both_true}
-use Rattle.cc_terms.specs.Declarators.{bounded}
-use Rattle.cc_terms.specs.Terms.{params_of, here}
+use Rattle.cc_type.specs.CcScopes.State.{State, Scope, Name, structures_of, layouts_of}
+use Rattle.cc_type.specs.CcScopes.Verdicts.{Found, and_then}
+use Rattle.cc_type.specs.CcSpecifiers.Declarators.{breach, broken_unless, derive_one, function_to, result_breach, type_found}
+use Rattle.cc_type.specs.CcSpecifiers.Derivations.{with_derivation, is_next_to_name, suffix_found, says_const, says_volatile, pointer_derivation}
+use Rattle.cc_type.specs.CcSpecifiers.Places.{JudgedAt, Checked}
+use Rattle.cc_type.specs.CcSpecifiers.declared.derivation.Allowed.{Allowed}
+use Rattle.cc_type.specs.CcSpecifiers.declared.derivation.Declarator.{Declarator}
+use Rattle.cc_type.specs.CcSpecifiers.declared.derivation.Derivation.{Derivation}
+use Rattle.cc_type.specs.CcSpecifiers.declared.derivation.Derivation.TheVariants as to
+use Rattle.cc_type.specs.CcSpecifiers.declared.derivation.Parameter.{Parameter}
+use Rattle.cc_type.specs.CcSyntax.Kinds.{is_result, is_plain_scalar}
+use Rattle.cc_type.specs.CcSyntax.Programs.{kind_in}
+use Rattle.cc_type.specs.CcSyntax.Sizes.{AreSized}
+use Rattle.cc_type.specs.CcSyntax.Values.{is_void}
+use Rattle.cc_type.proofs.CcSyntax.Prefixes.{both_true}
+use Rattle.cc_type.specs.CcTerms.Declarators.{bounded}
+use Rattle.cc_type.specs.CcTerms.Terms.{params_of, here}
 use Rattle.cc_tree.specs.declared.at.At.{At}
 use Rattle.cc_tree.specs.declared.tree.Declr as declr
 use Rattle.cc_tree.specs.declared.tree.Declr.{Declr}

@@ -5,20 +5,20 @@ use Rattle.std.proofs.lemmas.List.{append-nil, map-append}
 use Rattle.std.specs.Prelude.{option_to_list, is_some, if◌then◌else◌}
 use Rattle.std.specs.List.{All}
 use Rattle.cc_expression_trees.specs.Constants.{ShowsInteger, InParens as IntegerInParens, ShowsNatural, ShowsNegative, ShowsLeast, IsZero, Zero, ZeroInParens}
-use Rattle.cc_designators.specs.Designators.{TypedExpr, IsValue}
-use Rattle.cc_initial.specs.Addresses.{integer_leaf, leaf_of}
-use Rattle.cc_initialisers.specs.Contents.{Contents, Scalar, Elements, Inside, contents_over, of_members, members_at, structure_inside}
-use Rattle.cc_initialisers.specs.Initialisers.{Step, Give, Initialiser, Init, Filled, is_scalar_object, both_filled, repeated, started, elided, nothing_left, initialiser_of, initialised, here as given_here, text_in, expression_text, sole_text}
-use Rattle.cc_initialisers.proofs.Layers.{initialiser-One, initialiser-Many}
-use Rattle.cc_lex.specs.declared.token.Mark.TheVariants as m
-use Rattle.cc_num.specs.declared.int_type.IntType.{IntType}
-use Rattle.cc_num.specs.Integers.{is_value_of}
-use Rattle.cc_objects.specs.Values.{objects_in, leaf_given, no_leaf}
-use Rattle.cc_operands.specs.Operands.{Operand, integer}
-use Rattle.cc_operands.specs.Verdicts.{Judged, judge_then}
+use Rattle.cc_type.specs.CcDesignators.Designators.{TypedExpr, IsValue}
+use Rattle.cc_type.specs.CcInitial.Addresses.{integer_leaf, leaf_of}
+use Rattle.cc_type.specs.CcInitialisers.Contents.{Contents, Scalar, Elements, Inside, contents_over, of_members, members_at, structure_inside}
+use Rattle.cc_type.specs.CcInitialisers.Initialisers.{Step, Give, Initialiser, Init, Filled, is_scalar_object, both_filled, repeated, started, elided, nothing_left, initialiser_of, initialised, here as given_here, text_in, expression_text, sole_text}
+use Rattle.cc_type.proofs.CcInitialisers.Layers.{initialiser-One, initialiser-Many}
+use Rattle.cc_type.specs.CcLex.declared.token.Mark.TheVariants as m
+use Rattle.cc_program.specs.CcNum.declared.int_type.IntType.{IntType}
+use Rattle.cc_program.specs.CcNum.Integers.{is_value_of}
+use Rattle.cc_type.specs.CcObjects.Values.{objects_in, leaf_given, no_leaf}
+use Rattle.cc_type.specs.CcOperands.Operands.{Operand, integer}
+use Rattle.cc_type.specs.CcOperands.Verdicts.{Judged, judge_then}
 use Rattle.cc_shown_expressions.proofs.ChoiceRules.{constancy-of}
 use Rattle.cc_shown_declarations.proofs.Located.{integer-assigned}
-use Rattle.cc_typed_terms.specs.Values.{valued}
+use Rattle.cc_type.specs.CcTypedTerms.Values.{valued}
 use Rattle.cc_program.specs.declared.func.Func.{Func}
 use Rattle.cc_program.specs.declared.object.Object.{Object}
 use Rattle.cc_program.specs.declared.program.Program.{Program}
@@ -30,24 +30,24 @@ use Rattle.cc_program.specs.declared.types.Structure.{Structure}
 use Rattle.cc_program.specs.declared.value.Address.{Address}
 use Rattle.cc_program.specs.declared.value.Leaf.{Leaf}
 use Rattle.cc_program.specs.declared.value.Leaf.TheVariants as leaf
-use Rattle.cc_scopes.specs.State.{State, structures_of}
-use Rattle.cc_scopes.specs.Verdicts.{Found, whole, and_then}
-use Rattle.cc_syntax.specs.Initial.{OfInteger, OfPointer, OfArray, OfStructure, NoElement, Element, NoMember, Member}
-use Rattle.cc_syntax.specs.Programs.{AreLeaves, AreElements, AreMembers, is_address}
-use Rattle.cc_syntax.specs.Sizes.{AreSized}
-use Rattle.cc_syntax.specs.Types.{Named, has_members, complete_shape, is_complete}
-use Rattle.cc_syntax.specs.Values.{ValueType, Integer, pointer_to}
-use Rattle.cc_syntax.proofs.Parts.{all_at}
-use Rattle.cc_syntax.proofs.Prefixes.{both_true, get_taken}
-use Rattle.cc_syntax.proofs.TypeLayouts.{parts_complete, complete-opens}
-use Rattle.cc_terms.specs.InTurn.{in_turn}
+use Rattle.cc_type.specs.CcScopes.State.{State, structures_of}
+use Rattle.cc_type.specs.CcScopes.Verdicts.{Found, whole, and_then}
+use Rattle.cc_type.specs.CcSyntax.Initial.{OfInteger, OfPointer, OfArray, OfStructure, NoElement, Element, NoMember, Member}
+use Rattle.cc_type.specs.CcSyntax.Programs.{AreLeaves, AreElements, AreMembers, is_address}
+use Rattle.cc_type.specs.CcSyntax.Sizes.{AreSized}
+use Rattle.cc_type.specs.CcSyntax.Types.{Named, has_members, complete_shape, is_complete}
+use Rattle.cc_type.specs.CcSyntax.Values.{ValueType, Integer, pointer_to}
+use Rattle.cc_type.proofs.CcSyntax.Parts.{all_at}
+use Rattle.cc_type.proofs.CcSyntax.Prefixes.{both_true, get_taken}
+use Rattle.cc_type.proofs.CcSyntax.TypeLayouts.{parts_complete, complete-opens}
+use Rattle.cc_type.specs.CcTerms.InTurn.{in_turn}
 use Rattle.cc_tree.specs.declared.at.At.{At}
 use Rattle.cc_tree.specs.declared.tree.Tree.{Tree, out-Tree}
 use Rattle.cc_tree.specs.declared.tree.Tree.TheVariants as tree_rolls
 use Rattle.cc_tree.specs.declared.unit.Given as given
 use Rattle.cc_tree.specs.declared.unit.Given.{Given}
 use Rattle.cc_expression_trees.specs.Types.{plain_suffix}
-use Rattle.cc_typed_bodies.specs.Plans.{as_given, step_done}
+use Rattle.cc_type.specs.CcTypedBodies.Plans.{as_given, step_done}
 use Rattle.cc_unit_trees.specs.Values.{ShowsAddress, AddressInParens, ShowsNull, ShowsFunction, ShowsElementAddress, ShowsWholeAddress, ShowsPast, ShowsGiven, ShowsNumber, ShowsPointer, ShowsArray, ShowsStructure, ShowsEach, ShowsNone, ShowsMore}
 use Rattle.cc_shown_expressions.proofs.Constants.{integer-found}
 use Rattle.cc_shown_expressions.specs.KnownNames.{TypesStand}

@@ -5,35 +5,35 @@ use Rattle.std.proofs.lemmas.Bool.Decides.{nat_tests}
 use Rattle.std.proofs.lemmas.List.{append-nil}
 use Rattle.std.proofs.lemmas.Option.{slice_get-map, slice_get_within}
 use Rattle.std.specs.Prelude.{if◌then◌else◌, option_map}
-use Rattle.cc_num.specs.declared.target.Target.{Target}
-use Rattle.cc_objects.specs.Categories.{setting_of}
-use Rattle.cc_objects.specs.Tags.{sole_tag, tag_declared, is_extension_at, sole_declared, in_front, aliased}
-use Rattle.cc_operands.specs.Qualified.{qualified_by}
-use Rattle.cc_operands.specs.declared.rule.Rule.TheVariants as rule
+use Rattle.cc_program.specs.CcNum.declared.target.Target.{Target}
+use Rattle.cc_type.specs.CcObjects.Categories.{setting_of}
+use Rattle.cc_type.specs.CcObjects.Tags.{sole_tag, tag_declared, is_extension_at, sole_declared, in_front, aliased}
+use Rattle.cc_type.specs.CcOperands.Qualified.{qualified_by}
+use Rattle.cc_type.specs.CcOperands.declared.rule.Rule.TheVariants as rule
 use Rattle.cc_print.specs.Units.{first_naming, is_in_parameters}
 use Rattle.cc_program.specs.declared.program.Program.{Program}
 use Rattle.cc_program.specs.declared.program.Roles.{Roles}
 use Rattle.cc_program.specs.declared.types.CType.{CType}
 use Rattle.cc_program.specs.declared.types.Structure.{Structure}
-use Rattle.cc_scopes.specs.State.{State, Name, KnownStructure, only_named, at_first, tagged_here, or_else}
-use Rattle.cc_scopes.specs.Structures.{structure_named, structure_type, opened_by, is_enumeration, has_content, completed, tag_by, declared_tag}
-use Rattle.cc_scopes.specs.Verdicts.{Found, whole, and_then, Checked, checked}
-use Rattle.cc_scopes.specs.declared.designated.Tagged.{Tagged}
-use Rattle.cc_scopes.specs.declared.designated.Tagged.TheVariants.{StructureTag}
-use Rattle.cc_typed_terms.specs.Specifiers.{as_type}
-use Rattle.cc_specifiers.specs.Specifiers.{no_specifier, with_specifier, specified}
-use Rattle.cc_specifiers.specs.declared.specifier.Base.TheVariants as base
-use Rattle.cc_specifiers.specs.declared.specifier.Specified.{Specified}
-use Rattle.cc_specifiers.specs.declared.specifier.Specifier.{Specifier}
-use Rattle.cc_specifiers.specs.declared.specifier.Specifier.TheVariants as specifier
-use Rattle.cc_specifiers.specs.declared.storage.Setting.{Setting}
-use Rattle.cc_specifiers.specs.declared.storage.Where.TheVariants as stands
-use Rattle.cc_syntax.specs.Sound.{IsSound}
-use Rattle.cc_syntax.specs.Types.{Named, has_members}
-use Rattle.cc_terms.specs.InTurn.{in_turn}
-use Rattle.cc_terms.specs.Specifiers.{specified_found}
-use Rattle.cc_terms.specs.Structures.{structure_opened, members_found, structure_closed, structure_found}
-use Rattle.cc_terms.specs.Terms.{spec_of, spec_here, members_here}
+use Rattle.cc_type.specs.CcScopes.State.{State, Name, KnownStructure, only_named, at_first, tagged_here, or_else}
+use Rattle.cc_type.specs.CcScopes.Structures.{structure_named, structure_type, opened_by, is_enumeration, has_content, completed, tag_by, declared_tag}
+use Rattle.cc_type.specs.CcScopes.Verdicts.{Found, whole, and_then, Checked, checked}
+use Rattle.cc_type.specs.CcScopes.declared.designated.Tagged.{Tagged}
+use Rattle.cc_type.specs.CcScopes.declared.designated.Tagged.TheVariants.{StructureTag}
+use Rattle.cc_type.specs.CcTypedTerms.Specifiers.{as_type}
+use Rattle.cc_type.specs.CcSpecifiers.Specifiers.{no_specifier, with_specifier, specified}
+use Rattle.cc_type.specs.CcSpecifiers.declared.specifier.Base.TheVariants as base
+use Rattle.cc_type.specs.CcSpecifiers.declared.specifier.Specified.{Specified}
+use Rattle.cc_type.specs.CcSpecifiers.declared.specifier.Specifier.{Specifier}
+use Rattle.cc_type.specs.CcSpecifiers.declared.specifier.Specifier.TheVariants as specifier
+use Rattle.cc_type.specs.CcSpecifiers.declared.storage.Setting.{Setting}
+use Rattle.cc_type.specs.CcSpecifiers.declared.storage.Where.TheVariants as stands
+use Rattle.cc_type.specs.CcSyntax.Sound.{IsSound}
+use Rattle.cc_type.specs.CcSyntax.Types.{Named, has_members}
+use Rattle.cc_type.specs.CcTerms.InTurn.{in_turn}
+use Rattle.cc_type.specs.CcTerms.Specifiers.{specified_found}
+use Rattle.cc_type.specs.CcTerms.Structures.{structure_opened, members_found, structure_closed, structure_found}
+use Rattle.cc_type.specs.CcTerms.Terms.{spec_of, spec_here, members_here}
 use Rattle.cc_tree.specs.declared.at.At.{At}
 use Rattle.cc_tree.specs.declared.tree.Declr.{Declr}
 use Rattle.cc_tree.specs.declared.tree.Declr.TheOpen as one
@@ -50,7 +50,7 @@ use Rattle.cc_tree.specs.declared.unit.Decl.{Decl}
 use Rattle.cc_tree.specs.declared.unit.Item.{Item}
 use Rattle.cc_tree.specs.declared.unit.Item.TheVariants as item
 use Rattle.cc_type.specs.Units.{item_found, item_next, items_found}
-use Rattle.cc_typed_bodies.specs.Declarations.{inits_found, declaration}
+use Rattle.cc_type.specs.CcTypedBodies.Declarations.{inits_found, declaration}
 use Rattle.cc_unit_trees.specs.Externals.{ATag as TagExternal, AStructure, in_front_if, announced}
 use Rattle.cc_unit_trees.specs.Items.{ShowsTag, ATag, ShowsMembers, ShowsStructure, OnlyNamed, WithMembers}
 use Rattle.cc_unit_trees.specs.Programs.{ShowsExternals, NoExternal, MoreExternals}

@@ -7,20 +7,20 @@ use Rattle.std.proofs.lemmas.List.Elements.{filter-append}
 use Rattle.std.proofs.lemmas.Option.{slice_get-map, slice_get_within}
 use Rattle.std.specs.Prelude.{if◌then◌else◌, is_some, option_map, option_to_list, cond}
 use Rattle.std.specs.List.{list_any, filter}
-use Rattle.cc_numbering.specs.Numbers.{only_named as left_named, order_of, place_from, places_from, numbers_of}
-use Rattle.cc_numbering.specs.Structures.{structure_in, structures_in, all_named_in}
+use Rattle.cc_type.specs.CcNumbering.Numbers.{only_named as left_named, order_of, place_from, places_from, numbers_of}
+use Rattle.cc_type.specs.CcNumbering.Structures.{structure_in, structures_in, all_named_in}
 use Rattle.cc_print.specs.Units.{or_else, member_naming, first_naming, is_in_parameters}
 use Rattle.cc_program.specs.declared.program.Program.{Program}
 use Rattle.cc_program.specs.declared.types.CType.{CType}
 use Rattle.cc_program.specs.declared.types.Structure.{Structure}
-use Rattle.cc_scopes.specs.State.{KnownStructure, only_named}
+use Rattle.cc_type.specs.CcScopes.State.{KnownStructure, only_named}
 use Rattle.cc_shown_expressions.specs.Numbers.{named_numbered}
-use Rattle.cc_syntax.specs.Lists.{come_first}
-use Rattle.cc_syntax.specs.Sound.{IsSound, is_only_named}
-use Rattle.cc_syntax.specs.Types.{Named, has_members}
-use Rattle.cc_syntax.proofs.Prefixes.{get_taken}
-use Rattle.cc_unit.specs.Renumbered.{structure_by}
-use Rattle.cc_unit.specs.declared.unit.UnitStructure.{UnitStructure}
+use Rattle.cc_type.specs.CcSyntax.Lists.{come_first}
+use Rattle.cc_type.specs.CcSyntax.Sound.{IsSound, is_only_named}
+use Rattle.cc_type.specs.CcSyntax.Types.{Named, has_members}
+use Rattle.cc_type.proofs.CcSyntax.Prefixes.{get_taken}
+use Rattle.cc_type.specs.CcUnit.Renumbered.{structure_by}
+use Rattle.cc_type.specs.CcUnit.declared.unit.UnitStructure.{UnitStructure}
 use Rattle.cc_shown_declarations.specs.Left.{structure_left}
 use Rattle.cc_shown_declarations.specs.Order.{base_of, is_among, with_first, with_base, with_members, announced_from, order_before, appearance, structure_number, place_in}
 use Rattle.cc_shown_declarations.specs.States.{whole_structure, known_by, known_as, completed_from, first_state}

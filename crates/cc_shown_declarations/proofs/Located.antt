@@ -1,16 +1,16 @@
 -- Where an address constant lies, opened at a level.
 use Rattle.std.proofs.Common.{◌≡◌, ℕ, ℤ, Bool, true, false, ◌||◌, ◌&&◌, List, Option, Ok, refl, ap, ◌∙◌}
 use Rattle.std.specs.Prelude.{if◌then◌else◌}
-use Rattle.cc_initial.specs.Addresses.{Located, ConstantExpression, expr_step, place_step, constant_expression, place_located, located, address_leaf, leaf_by}
-use Rattle.cc_num.specs.declared.int_type.IntType.{IntType}
-use Rattle.cc_num.specs.Integers.{is_value_of}
-use Rattle.cc_num.proofs.Conversions.{converted-same}
-use Rattle.cc_num.proofs.ResultLaws.{value_from_test}
-use Rattle.cc_num.specs.declared.target.Target.{Target}
-use Rattle.cc_operands.specs.Assignments.{assigned, assigned_pointer}
-use Rattle.cc_operands.specs.Operands.{Operand, operand, integer, folded, cast_to, converted_from, constant_at, is_pointer, is_to_void, is_zero_constant, is_null_at, is_null_constant, null_of}
-use Rattle.cc_operands.specs.Verdicts.{must}
-use Rattle.cc_operands.specs.declared.rule.Rule.TheVariants as rule
+use Rattle.cc_type.specs.CcInitial.Addresses.{Located, ConstantExpression, expr_step, place_step, constant_expression, place_located, located, address_leaf, leaf_by}
+use Rattle.cc_program.specs.CcNum.declared.int_type.IntType.{IntType}
+use Rattle.cc_program.specs.CcNum.Integers.{is_value_of}
+use Rattle.cc_program.proofs.CcNum.Conversions.{converted-same}
+use Rattle.cc_program.proofs.CcNum.ResultLaws.{value_from_test}
+use Rattle.cc_program.specs.CcNum.declared.target.Target.{Target}
+use Rattle.cc_type.specs.CcOperands.Assignments.{assigned, assigned_pointer}
+use Rattle.cc_type.specs.CcOperands.Operands.{Operand, operand, integer, folded, cast_to, converted_from, constant_at, is_pointer, is_to_void, is_zero_constant, is_null_at, is_null_constant, null_of}
+use Rattle.cc_type.specs.CcOperands.Verdicts.{must}
+use Rattle.cc_type.specs.CcOperands.declared.rule.Rule.TheVariants as rule
 use Rattle.cc_shown_expressions.proofs.ChoiceRules.{constancy-of}
 use Rattle.cc_shown_expressions.proofs.Rules.{with-scalar, without-structure}
 use Rattle.cc_program.specs.declared.expr.Expr.{Expr, Const, Conv, out-Expr, map-Expr, fold_out-Expr}
@@ -18,10 +18,10 @@ use Rattle.cc_program.specs.declared.expr.Expr.TheOpen as one
 use Rattle.cc_program.specs.declared.expr.Place.{Place, out-Place, map-Place, fold_out-Place}
 use Rattle.cc_program.specs.declared.types.CType.{CType}
 use Rattle.cc_program.specs.declared.types.Structure.{Structure}
-use Rattle.cc_syntax.specs.Folding.{Constant, NoConstant, converted_constant}
-use Rattle.cc_syntax.specs.SameTypes.{same_int}
-use Rattle.cc_syntax.proofs.SameLemmas.{int_same}
-use Rattle.cc_syntax.specs.Values.{ValueType, NoValue, Integer, ToObject, ToFunction, is_scalar, is_assignable}
+use Rattle.cc_type.specs.CcSyntax.Folding.{Constant, NoConstant, converted_constant}
+use Rattle.cc_type.specs.CcSyntax.SameTypes.{same_int}
+use Rattle.cc_type.proofs.CcSyntax.SameLemmas.{int_same}
+use Rattle.cc_type.specs.CcSyntax.Values.{ValueType, NoValue, Integer, ToObject, ToFunction, is_scalar, is_assignable}
 
 module _ (structures : List Structure) (objects : ℕ → Option CType) where
   abbrev found_in : one.Expr-F Expr Place → ConstantExpression

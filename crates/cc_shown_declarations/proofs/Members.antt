@@ -5,39 +5,39 @@ use Rattle.std.specs.Prelude.{if◌then◌else◌}
 use Rattle.std.specs.List.{list_any}
 use Rattle.std.specs.Option.{is_some}
 use Rattle.std.specs.Str.{bytes_eq}
-use Rattle.cc_typed_terms.specs.Located.{located}
-use Rattle.cc_typed_terms.specs.Members.{member_judged}
-use Rattle.cc_operands.specs.Verdicts.{must}
-use Rattle.cc_operands.specs.declared.rule.Rule.TheVariants as rule
+use Rattle.cc_type.specs.CcTypedTerms.Located.{located}
+use Rattle.cc_type.specs.CcTypedTerms.Members.{member_judged}
+use Rattle.cc_type.specs.CcOperands.Verdicts.{must}
+use Rattle.cc_type.specs.CcOperands.declared.rule.Rule.TheVariants as rule
 use Rattle.cc_program.specs.declared.program.Program.{Program}
 use Rattle.cc_program.specs.declared.program.Roles.{Roles}
 use Rattle.cc_program.specs.declared.types.CType.{CType}
 use Rattle.cc_program.specs.declared.types.Shape.TheOpen as shape
 use Rattle.cc_program.specs.declared.types.Structure.{Structure}
-use Rattle.cc_scopes.specs.State.{State, Scope, structures_of, layouts_of}
-use Rattle.cc_scopes.specs.Structures.{is_member_name}
-use Rattle.cc_scopes.specs.Verdicts.{Found, whole, and_then}
-use Rattle.cc_specifiers.specs.Derivations.{nothing_more}
-use Rattle.cc_specifiers.specs.Places.{JudgedAt}
-use Rattle.cc_specifiers.specs.Storage.{setting}
-use Rattle.cc_specifiers.specs.declared.attribute.Entity.TheVariants as entity
-use Rattle.cc_specifiers.specs.declared.derivation.Declarator.{Declarator}
-use Rattle.cc_specifiers.specs.declared.specifier.Specified.{Specified as SpecifiedType}
-use Rattle.cc_specifiers.specs.declared.storage.Where.TheVariants as stands
-use Rattle.cc_syntax.specs.Kinds.{Kind, bytes_in, is_small, is_object_kind, is_object_type}
-use Rattle.cc_syntax.specs.Names.{local_names}
-use Rattle.cc_syntax.specs.Programs.{kind_in}
-use Rattle.cc_syntax.specs.Sound.{IsSound, is_member}
-use Rattle.cc_syntax.specs.Types.{Named}
-use Rattle.cc_terms.specs.Constants.{enumr_step}
-use Rattle.cc_terms.specs.Declarators.{declr_step, params_step, param_step, type_name_step}
-use Rattle.cc_terms.specs.Expressions.{tree_step}
-use Rattle.cc_terms.specs.InTurn.{in_turn}
-use Rattle.cc_terms.specs.Meanings.{TreeMeaning, DeclrMeaning, ParamsMeaning, ParamMeaning, SpecMeaning, MembersMeaning, EnumrMeaning, TypeNameMeaning}
-use Rattle.cc_terms.specs.Members.{declared_members, members_step}
-use Rattle.cc_terms.specs.Specifiers.{specified_found, spec_step}
-use Rattle.cc_terms.specs.Structures.{member_behind}
-use Rattle.cc_terms.specs.Terms.{tree_of, declr_of, params_of, param_of, spec_of, members_of, enumr_of, type_name_of, spec_here, declr_here, members_here}
+use Rattle.cc_type.specs.CcScopes.State.{State, Scope, structures_of, layouts_of}
+use Rattle.cc_type.specs.CcScopes.Structures.{is_member_name}
+use Rattle.cc_type.specs.CcScopes.Verdicts.{Found, whole, and_then}
+use Rattle.cc_type.specs.CcSpecifiers.Derivations.{nothing_more}
+use Rattle.cc_type.specs.CcSpecifiers.Places.{JudgedAt}
+use Rattle.cc_type.specs.CcSpecifiers.Storage.{setting}
+use Rattle.cc_type.specs.CcSpecifiers.declared.attribute.Entity.TheVariants as entity
+use Rattle.cc_type.specs.CcSpecifiers.declared.derivation.Declarator.{Declarator}
+use Rattle.cc_type.specs.CcSpecifiers.declared.specifier.Specified.{Specified as SpecifiedType}
+use Rattle.cc_type.specs.CcSpecifiers.declared.storage.Where.TheVariants as stands
+use Rattle.cc_type.specs.CcSyntax.Kinds.{Kind, bytes_in, is_small, is_object_kind, is_object_type}
+use Rattle.cc_type.specs.CcSyntax.Names.{local_names}
+use Rattle.cc_type.specs.CcSyntax.Programs.{kind_in}
+use Rattle.cc_type.specs.CcSyntax.Sound.{IsSound, is_member}
+use Rattle.cc_type.specs.CcSyntax.Types.{Named}
+use Rattle.cc_type.specs.CcTerms.Constants.{enumr_step}
+use Rattle.cc_type.specs.CcTerms.Declarators.{declr_step, params_step, param_step, type_name_step}
+use Rattle.cc_type.specs.CcTerms.Expressions.{tree_step}
+use Rattle.cc_type.specs.CcTerms.InTurn.{in_turn}
+use Rattle.cc_type.specs.CcTerms.Meanings.{TreeMeaning, DeclrMeaning, ParamsMeaning, ParamMeaning, SpecMeaning, MembersMeaning, EnumrMeaning, TypeNameMeaning}
+use Rattle.cc_type.specs.CcTerms.Members.{declared_members, members_step}
+use Rattle.cc_type.specs.CcTerms.Specifiers.{specified_found, spec_step}
+use Rattle.cc_type.specs.CcTerms.Structures.{member_behind}
+use Rattle.cc_type.specs.CcTerms.Terms.{tree_of, declr_of, params_of, param_of, spec_of, members_of, enumr_of, type_name_of, spec_here, declr_here, members_here}
 use Rattle.cc_tree.specs.declared.at.At.{At}
 use Rattle.cc_tree.specs.declared.tree.Declr.{Declr}
 use Rattle.cc_tree.specs.declared.tree.MemberDecl.{MemberDecl, fold_out-MemberDecl}

@@ -5,14 +5,14 @@ use Rattle.std.specs.List.{list_any, list_all}
 use Rattle.std.specs.Option.{is_some}
 use Rattle.std.specs.Str.{bytes_eq}
 use Rattle.std.proofs.lemmas.Slice.Eq.{bytes_eq-Decides}
-use Rattle.cc_typed_terms.specs.Primary.{is_intrinsic}
+use Rattle.cc_type.specs.CcTypedTerms.Primary.{is_intrinsic}
 use Rattle.cc_program.specs.declared.program.Roles.{Roles}
 use Rattle.cc_program.specs.declared.types.CType.{CType}
-use Rattle.cc_scopes.specs.State.{Name, find_name, with_name as name_added}
-use Rattle.cc_scopes.specs.declared.designated.Designated.{Designated}
-use Rattle.cc_scopes.specs.declared.designated.Designated.TheVariants as means
-use Rattle.cc_syntax.proofs.Prefixes.{both_true}
-use Rattle.cc_words.specs.Names.{are_distinct}
+use Rattle.cc_type.specs.CcScopes.State.{Name, find_name, with_name as name_added}
+use Rattle.cc_type.specs.CcScopes.declared.designated.Designated.{Designated}
+use Rattle.cc_type.specs.CcScopes.declared.designated.Designated.TheVariants as means
+use Rattle.cc_type.proofs.CcSyntax.Prefixes.{both_true}
+use Rattle.cc_program.specs.CcWords.Names.{are_distinct}
 use Rattle.cc_shown_declarations.specs.Parameters.{Entry, entry_numbered, with_name, entry_names, HaveNewNames, with_local, locals_from}
 
 abbrev Locals : Type 0

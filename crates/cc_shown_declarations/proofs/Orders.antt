@@ -5,8 +5,8 @@ use Rattle.std.proofs.lemmas.Bool.Decides.{nat_tests}
 use Rattle.std.proofs.lemmas.List.{append-nil}
 use Rattle.std.specs.Prelude.{if◌then◌else◌}
 use Rattle.cc_program.specs.declared.types.Structure.{Structure}
-use Rattle.cc_scopes.specs.State.{change_at}
-use Rattle.cc_syntax.specs.Types.{Named}
+use Rattle.cc_type.specs.CcScopes.State.{change_at}
+use Rattle.cc_type.specs.CcSyntax.Types.{Named}
 use Rattle.cc_shown_declarations.specs.Order.{base_of, is_among, with_first, with_base, with_members, with_structures, place_in}
 
 pub same : (i j : ℕ) → nat_eq i j ≡ true → i ≡ j

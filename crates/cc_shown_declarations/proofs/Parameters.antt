@@ -6,39 +6,39 @@ use Rattle.std.specs.Prelude.{if◌then◌else◌}
 use Rattle.std.specs.List.{list_any}
 use Rattle.std.specs.Option.{is_some}
 use Rattle.std.specs.Str.{bytes_eq}
-use Rattle.cc_typed_terms.specs.Located.{located}
-use Rattle.cc_typed_terms.specs.Parameters.{parameter, parameter_bound}
-use Rattle.cc_operands.specs.Qualified.{unqualified}
-use Rattle.cc_operands.specs.Verdicts.{Judged, must}
-use Rattle.cc_operands.specs.declared.rule.Rule.TheVariants as rule
-use Rattle.cc_typed_terms.specs.Primary.{is_intrinsic}
+use Rattle.cc_type.specs.CcTypedTerms.Located.{located}
+use Rattle.cc_type.specs.CcTypedTerms.Parameters.{parameter, parameter_bound}
+use Rattle.cc_type.specs.CcOperands.Qualified.{unqualified}
+use Rattle.cc_type.specs.CcOperands.Verdicts.{Judged, must}
+use Rattle.cc_type.specs.CcOperands.declared.rule.Rule.TheVariants as rule
+use Rattle.cc_type.specs.CcTypedTerms.Primary.{is_intrinsic}
 use Rattle.cc_program.specs.declared.program.Program.{Program}
 use Rattle.cc_program.specs.declared.program.Roles.{Roles}
 use Rattle.cc_program.specs.declared.types.CType.{CType}
 use Rattle.cc_program.specs.declared.types.Shape.{Shape, out-Shape}
 use Rattle.cc_program.specs.declared.types.Shape.TheOpen as shape
 use Rattle.cc_program.specs.declared.types.Sig.{Sig}
-use Rattle.cc_scopes.specs.State.{State, Scope, Name, entered, bind, named_here, with_name as name_added, structures_of, layouts_of}
-use Rattle.cc_scopes.specs.Verdicts.{Found, whole, and_then}
-use Rattle.cc_scopes.specs.declared.designated.Designated.{Designated}
-use Rattle.cc_scopes.specs.declared.designated.Designated.TheVariants as means
-use Rattle.cc_specifiers.specs.Derivations.{in_parameter}
-use Rattle.cc_specifiers.specs.Parameters.{adjusted_by, adjusted, parameter_by, parameter_type}
-use Rattle.cc_specifiers.specs.Places.{JudgedAt}
-use Rattle.cc_specifiers.specs.Storage.{setting}
-use Rattle.cc_specifiers.specs.declared.attribute.Entity.TheVariants as entity
-use Rattle.cc_specifiers.specs.declared.derivation.Declarator.{Declarator}
-use Rattle.cc_specifiers.specs.declared.derivation.Parameter.{Parameter}
-use Rattle.cc_specifiers.specs.declared.specifier.Specified.{Specified}
-use Rattle.cc_specifiers.specs.declared.storage.Where.TheVariants as stands
-use Rattle.cc_syntax.specs.Kinds.{Kind, IsVoid, IsScalar, IsStructure, IsArray, IsIncomplete, IsFunction, is_plain_scalar, qualified_kind, shape_kind, extent_in}
-use Rattle.cc_syntax.specs.Programs.{kind_in}
-use Rattle.cc_syntax.specs.Sizes.{AreSized}
-use Rattle.cc_syntax.proofs.KindRolls.{parts_kind}
-use Rattle.cc_terms.specs.Declarators.{declarator, with_scope, parameter_declared}
-use Rattle.cc_terms.specs.InTurn.{in_turn, one_more}
-use Rattle.cc_terms.specs.Meanings.{ParamMeaning}
-use Rattle.cc_terms.specs.Terms.{params_of, declr_here, param_here}
+use Rattle.cc_type.specs.CcScopes.State.{State, Scope, Name, entered, bind, named_here, with_name as name_added, structures_of, layouts_of}
+use Rattle.cc_type.specs.CcScopes.Verdicts.{Found, whole, and_then}
+use Rattle.cc_type.specs.CcScopes.declared.designated.Designated.{Designated}
+use Rattle.cc_type.specs.CcScopes.declared.designated.Designated.TheVariants as means
+use Rattle.cc_type.specs.CcSpecifiers.Derivations.{in_parameter}
+use Rattle.cc_type.specs.CcSpecifiers.Parameters.{adjusted_by, adjusted, parameter_by, parameter_type}
+use Rattle.cc_type.specs.CcSpecifiers.Places.{JudgedAt}
+use Rattle.cc_type.specs.CcSpecifiers.Storage.{setting}
+use Rattle.cc_type.specs.CcSpecifiers.declared.attribute.Entity.TheVariants as entity
+use Rattle.cc_type.specs.CcSpecifiers.declared.derivation.Declarator.{Declarator}
+use Rattle.cc_type.specs.CcSpecifiers.declared.derivation.Parameter.{Parameter}
+use Rattle.cc_type.specs.CcSpecifiers.declared.specifier.Specified.{Specified}
+use Rattle.cc_type.specs.CcSpecifiers.declared.storage.Where.TheVariants as stands
+use Rattle.cc_type.specs.CcSyntax.Kinds.{Kind, IsVoid, IsScalar, IsStructure, IsArray, IsIncomplete, IsFunction, is_plain_scalar, qualified_kind, shape_kind, extent_in}
+use Rattle.cc_type.specs.CcSyntax.Programs.{kind_in}
+use Rattle.cc_type.specs.CcSyntax.Sizes.{AreSized}
+use Rattle.cc_type.proofs.CcSyntax.KindRolls.{parts_kind}
+use Rattle.cc_type.specs.CcTerms.Declarators.{declarator, with_scope, parameter_declared}
+use Rattle.cc_type.specs.CcTerms.InTurn.{in_turn, one_more}
+use Rattle.cc_type.specs.CcTerms.Meanings.{ParamMeaning}
+use Rattle.cc_type.specs.CcTerms.Terms.{params_of, declr_here, param_here}
 use Rattle.cc_tree.specs.declared.at.At.{At}
 use Rattle.cc_tree.specs.declared.tree.Declr.{Declr}
 use Rattle.cc_tree.specs.declared.tree.Declr.TheOpen as one

@@ -2,14 +2,14 @@
 use Rattle.std.proofs.Common.{◌≡◌, ℕ, ℤ, pos, Bool, true, false, List, [], ◌∷◌, ◌++◌, Option, Some, None, Ok, refl, ap, sym, ◌∙◌, subst, slice_get, nat_lt, nat_le, arith}
 use Rattle.std.specs.Prelude.{is_some, if◌then◌else◌, take}
 use Rattle.cc_bodies.specs.Names.{member_name}
-use Rattle.cc_designators.specs.Designators.{TypedExpr, IsPlace, IsValue}
-use Rattle.cc_designators.specs.Postfix.{element, element_by, dot}
-use Rattle.cc_initial.specs.Addresses.{Spot, Located, ConstantExpression, Trapping, AtSpot, constant_expression, place_located, into, path_into, element_found, element_spot, element_in, element_by as element_located, element_at as located_element, member_spot, whole_object}
-use Rattle.cc_num.specs.declared.int_type.IntType.{IntType}
-use Rattle.cc_objects.specs.Values.{objects_in}
-use Rattle.cc_operands.specs.Operands.{Operand, integer, number_type}
+use Rattle.cc_type.specs.CcDesignators.Designators.{TypedExpr, IsPlace, IsValue}
+use Rattle.cc_type.specs.CcDesignators.Postfix.{element, element_by, dot}
+use Rattle.cc_type.specs.CcInitial.Addresses.{Spot, Located, ConstantExpression, Trapping, AtSpot, constant_expression, place_located, into, path_into, element_found, element_spot, element_in, element_by as element_located, element_at as located_element, member_spot, whole_object}
+use Rattle.cc_program.specs.CcNum.declared.int_type.IntType.{IntType}
+use Rattle.cc_type.specs.CcObjects.Values.{objects_in}
+use Rattle.cc_type.specs.CcOperands.Operands.{Operand, integer, number_type}
 use Rattle.cc_shown_expressions.proofs.Rules.{with-scalar}
-use Rattle.cc_typed_terms.specs.Values.{valued, value_found, designating}
+use Rattle.cc_type.specs.CcTypedTerms.Values.{valued, value_found, designating}
 use Rattle.cc_program.specs.declared.expr.Expr.{Const}
 use Rattle.cc_program.specs.declared.expr.Expr.TheOpen as one
 use Rattle.cc_program.specs.declared.expr.Expr.TheVariants as expr_rolls
@@ -25,17 +25,17 @@ use Rattle.cc_program.specs.declared.types.Sig.{Sig}
 use Rattle.cc_program.specs.declared.types.Structure.{Structure}
 use Rattle.cc_program.specs.declared.value.Part.{Part}
 use Rattle.cc_program.specs.declared.value.Part.TheVariants as part
-use Rattle.cc_scopes.specs.State.{State, structures_of}
-use Rattle.cc_scopes.specs.Verdicts.{Found, whole, and_then}
-use Rattle.cc_syntax.specs.Initial.{bound_shape, bound_of, is_below, step_into, leads_to_element}
-use Rattle.cc_syntax.specs.Sizes.{AreSized}
-use Rattle.cc_syntax.specs.Types.{Named, complete_shape, is_complete}
-use Rattle.cc_syntax.specs.Values.{PlaceType, DevicePlace, ObjectPlace, FunctionPlace, object_place, element_shape, element_of, member_shape, member_in, member_at, member_of}
-use Rattle.cc_syntax.proofs.Parts.{all_at}
-use Rattle.cc_syntax.proofs.Prefixes.{both_true, complete-taken}
-use Rattle.cc_syntax.proofs.TypeLayouts.{parts_complete, complete-opens}
-use Rattle.cc_terms.specs.Operations.{subscript_base, subscript_judged, as_value}
-use Rattle.cc_terms.specs.Terms.{tree_of, here}
+use Rattle.cc_type.specs.CcScopes.State.{State, structures_of}
+use Rattle.cc_type.specs.CcScopes.Verdicts.{Found, whole, and_then}
+use Rattle.cc_type.specs.CcSyntax.Initial.{bound_shape, bound_of, is_below, step_into, leads_to_element}
+use Rattle.cc_type.specs.CcSyntax.Sizes.{AreSized}
+use Rattle.cc_type.specs.CcSyntax.Types.{Named, complete_shape, is_complete}
+use Rattle.cc_type.specs.CcSyntax.Values.{PlaceType, DevicePlace, ObjectPlace, FunctionPlace, object_place, element_shape, element_of, member_shape, member_in, member_at, member_of}
+use Rattle.cc_type.proofs.CcSyntax.Parts.{all_at}
+use Rattle.cc_type.proofs.CcSyntax.Prefixes.{both_true, complete-taken}
+use Rattle.cc_type.proofs.CcSyntax.TypeLayouts.{parts_complete, complete-opens}
+use Rattle.cc_type.specs.CcTerms.Operations.{subscript_base, subscript_judged, as_value}
+use Rattle.cc_type.specs.CcTerms.Terms.{tree_of, here}
 use Rattle.cc_tree.specs.declared.at.At.{At}
 use Rattle.cc_tree.specs.declared.tree.Tree as tree
 use Rattle.cc_tree.specs.declared.tree.Tree.{Tree}

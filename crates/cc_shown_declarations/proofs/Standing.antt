@@ -15,18 +15,18 @@ use Rattle.cc_program.specs.declared.types.Structure.{Structure}
 use Rattle.cc_program.proofs.Each.{Each}
 use Rattle.cc_program.proofs.Levels.{sig_of_fields}
 use Rattle.cc_program.proofs.TypeInduction.{with_shape, TypeParts, SigParts, by_type}
-use Rattle.cc_scopes.specs.State.{State, Name, KnownStructure, as_structure, structures_of, layouts_of, find_name, tagged, or_else, only_named}
-use Rattle.cc_scopes.specs.declared.designated.Tagged.{Tagged}
-use Rattle.cc_scopes.specs.declared.designated.Tagged.TheVariants.{StructureTag}
-use Rattle.cc_syntax.specs.Kinds.{extent_with, extent_in, kind_of}
-use Rattle.cc_syntax.specs.Layout.{nothing, aligned, structure, type_layout, next_layout, layouts}
-use Rattle.cc_syntax.specs.Programs.{kind_in}
-use Rattle.cc_syntax.specs.Sizes.{AreSized}
-use Rattle.cc_syntax.specs.Sound.{IsSound, is_structure, are_structures}
-use Rattle.cc_syntax.specs.Types.{Named, has_members}
-use Rattle.cc_syntax.specs.declared.sizes.Layout.{Layout}
-use Rattle.cc_syntax.proofs.Prefixes.{both_true, get_taken, layouts-at}
-use Rattle.cc_syntax.proofs.StructureLemmas.{structures_sized}
+use Rattle.cc_type.specs.CcScopes.State.{State, Name, KnownStructure, as_structure, structures_of, layouts_of, find_name, tagged, or_else, only_named}
+use Rattle.cc_type.specs.CcScopes.declared.designated.Tagged.{Tagged}
+use Rattle.cc_type.specs.CcScopes.declared.designated.Tagged.TheVariants.{StructureTag}
+use Rattle.cc_type.specs.CcSyntax.Kinds.{extent_with, extent_in, kind_of}
+use Rattle.cc_type.specs.CcSyntax.Layout.{nothing, aligned, structure, type_layout, next_layout, layouts}
+use Rattle.cc_type.specs.CcSyntax.Programs.{kind_in}
+use Rattle.cc_type.specs.CcSyntax.Sizes.{AreSized}
+use Rattle.cc_type.specs.CcSyntax.Sound.{IsSound, is_structure, are_structures}
+use Rattle.cc_type.specs.CcSyntax.Types.{Named, has_members}
+use Rattle.cc_type.specs.CcSyntax.declared.sizes.Layout.{Layout}
+use Rattle.cc_type.proofs.CcSyntax.Prefixes.{both_true, get_taken, layouts-at}
+use Rattle.cc_type.proofs.CcSyntax.StructureLemmas.{structures_sized}
 use Rattle.cc_tree.specs.declared.at.At.{At}
 use Rattle.cc_tree.specs.declared.tree.Declr.{Declr}
 use Rattle.cc_tree.specs.declared.tree.Param.{Param}

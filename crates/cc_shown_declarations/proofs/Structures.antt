@@ -6,24 +6,24 @@ use Rattle.std.specs.Prelude.{if◌then◌else◌}
 use Rattle.std.proofs.lemmas.Option.{slice_get_within}
 use Rattle.std.specs.List.{list_all}
 use Rattle.cc_unit_trees.specs.Items.{ShowsMembers}
-use Rattle.cc_num.specs.declared.target.Target.{Target}
+use Rattle.cc_program.specs.CcNum.declared.target.Target.{Target}
 use Rattle.cc_program.specs.declared.program.Program.{Program}
 use Rattle.cc_program.specs.declared.program.Roles.{Roles}
 use Rattle.cc_program.specs.declared.types.CType.{CType}
 use Rattle.cc_program.specs.declared.types.Structure.{Structure}
-use Rattle.cc_scopes.specs.State.{structures_of, layouts_of}
-use Rattle.cc_scopes.specs.declared.designated.Tagged.TheVariants.{StructureTag}
+use Rattle.cc_type.specs.CcScopes.State.{structures_of, layouts_of}
+use Rattle.cc_type.specs.CcScopes.declared.designated.Tagged.TheVariants.{StructureTag}
 use Rattle.cc_shown_declarations.proofs.Names.{apart-before}
-use Rattle.cc_syntax.specs.Names.{are_names, local_names}
-use Rattle.cc_syntax.specs.Sound.{IsSound, have_ids, is_member, is_structure, are_structures}
-use Rattle.cc_scopes.specs.Structures.{completed}
-use Rattle.cc_syntax.specs.Types.{Named, has_members}
-use Rattle.cc_syntax.proofs.Prefixes.{both_true}
-use Rattle.cc_terms.specs.Structures.{members_found}
-use Rattle.cc_terms.specs.Terms.{members_here}
+use Rattle.cc_type.specs.CcSyntax.Names.{are_names, local_names}
+use Rattle.cc_type.specs.CcSyntax.Sound.{IsSound, have_ids, is_member, is_structure, are_structures}
+use Rattle.cc_type.specs.CcScopes.Structures.{completed}
+use Rattle.cc_type.specs.CcSyntax.Types.{Named, has_members}
+use Rattle.cc_type.proofs.CcSyntax.Prefixes.{both_true}
+use Rattle.cc_type.specs.CcTerms.Structures.{members_found}
+use Rattle.cc_type.specs.CcTerms.Terms.{members_here}
 use Rattle.cc_tree.specs.declared.at.At.{At}
 use Rattle.cc_tree.specs.declared.tree.MemberDecl.{MemberDecl}
-use Rattle.cc_words.specs.Names.{is_name, are_distinct}
+use Rattle.cc_program.specs.CcWords.Names.{is_name, are_distinct}
 use Rattle.cc_shown_expressions.specs.Known.{KnowsStructures}
 use Rattle.cc_shown_expressions.specs.Numbers.{named_numbered}
 use Rattle.cc_shown_declarations.specs.Order.{appearance, order_before, structure_number, with_first, with_members}

@@ -7,13 +7,13 @@ use Rattle.std.specs.List.{list_any, list_all}
 use Rattle.std.specs.Str.{bytes_eq}
 use Rattle.cc_program.specs.declared.program.Program.{Program}
 use Rattle.cc_program.specs.declared.types.Structure.{Structure}
-use Rattle.cc_scopes.specs.State.{Name, find_name}
-use Rattle.cc_scopes.specs.declared.designated.Tagged.{Tagged}
-use Rattle.cc_scopes.specs.declared.designated.Tagged.TheVariants.{StructureTag}
-use Rattle.cc_syntax.specs.Names.{tags}
-use Rattle.cc_syntax.specs.Sound.{IsSound}
-use Rattle.cc_syntax.proofs.Prefixes.{both_true}
-use Rattle.cc_words.specs.Names.{is_name, are_distinct}
+use Rattle.cc_type.specs.CcScopes.State.{Name, find_name}
+use Rattle.cc_type.specs.CcScopes.declared.designated.Tagged.{Tagged}
+use Rattle.cc_type.specs.CcScopes.declared.designated.Tagged.TheVariants.{StructureTag}
+use Rattle.cc_type.specs.CcSyntax.Names.{tags}
+use Rattle.cc_type.specs.CcSyntax.Sound.{IsSound}
+use Rattle.cc_type.proofs.CcSyntax.Prefixes.{both_true}
+use Rattle.cc_program.specs.CcWords.Names.{is_name, are_distinct}
 use Rattle.cc_shown_declarations.specs.Order.{is_among, structure_number}
 use Rattle.cc_shown_declarations.specs.States.{tag_or_none, tag_at, tag_entry}
 use Rattle.cc_shown_declarations.proofs.Orders.{same, self, or-left}

@@ -1,10 +1,10 @@
 -- Items that show external declarations, in two parts, one behind the other.
 use Rattle.std.proofs.Common.{◌≡◌, List, [], ◌∷◌, ◌++◌, Ok, refl, ap, subst}
-use Rattle.cc_num.specs.declared.target.Target.{Target}
+use Rattle.cc_program.specs.CcNum.declared.target.Target.{Target}
 use Rattle.cc_program.specs.declared.program.Program.{Program}
 use Rattle.cc_program.specs.declared.program.Roles.{Roles}
-use Rattle.cc_scopes.specs.State.{State, Name}
-use Rattle.cc_scopes.specs.Verdicts.{checked}
+use Rattle.cc_type.specs.CcScopes.State.{State, Name}
+use Rattle.cc_type.specs.CcScopes.Verdicts.{checked}
 use Rattle.cc_tree.specs.declared.at.At.{At}
 use Rattle.cc_tree.specs.declared.unit.Item.{Item}
 use Rattle.cc_type.specs.Units.{item_next, items_found}

@@ -1,15 +1,15 @@
 -- What is known where the first values of a program's static objects stand: its structures, and which objects and functions
 -- their names designate (C99 6.2.1, 6.6).
 use Rattle.std.specs.Prelude.{◌≡◌, ◌≤◌, ℕ, Some, length, slice_get, Ok}
-use Rattle.cc_designators.specs.Designators.{IsPlace, IsFunction}
-use Rattle.cc_objects.specs.Values.{objects_in}
-use Rattle.cc_typed_terms.specs.Primary.{named}
+use Rattle.cc_type.specs.CcDesignators.Designators.{IsPlace, IsFunction}
+use Rattle.cc_type.specs.CcObjects.Values.{objects_in}
+use Rattle.cc_type.specs.CcTypedTerms.Primary.{named}
 use Rattle.cc_program.specs.declared.expr.Place.{Static}
 use Rattle.cc_program.specs.declared.func.Func.{Func}
 use Rattle.cc_program.specs.declared.object.Object.{Object}
 use Rattle.cc_program.specs.declared.program.Program.{Program}
-use Rattle.cc_scopes.specs.State.{State, structures_of}
-use Rattle.cc_syntax.specs.Values.{object_place}
+use Rattle.cc_type.specs.CcScopes.State.{State, structures_of}
+use Rattle.cc_type.specs.CcSyntax.Values.{object_place}
 use Rattle.cc_shown_expressions.specs.OperationNumbers.{Numbers}
 use Rattle.cc_shown_expressions.specs.Known.{KnowsStructures}
 use Rattle.cc_shown_expressions.specs.Numbers.{type_numbered, sig_numbered}

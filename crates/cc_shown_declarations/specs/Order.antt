@@ -7,7 +7,7 @@ use Rattle.cc_program.specs.declared.program.Program.{Program}
 use Rattle.cc_program.specs.declared.types.CType.{CType, fold-CType}
 use Rattle.cc_program.specs.declared.types.Shape.TheOpen as shape
 use Rattle.cc_program.specs.declared.types.Structure.{Structure}
-use Rattle.cc_syntax.specs.Types.{Named}
+use Rattle.cc_type.specs.CcSyntax.Types.{Named}
 
 -- the structure that the words of a type name
 abbrev pub base_step : shape.Shape-F (Option ℕ) (Option ℕ) (Option ℕ) → Option ℕ

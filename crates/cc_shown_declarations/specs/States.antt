@@ -3,13 +3,13 @@
 use Rattle.std.specs.Prelude.{ℕ, suc, Bool, ◌&&◌, nat_lt, List, [], ◌∷◌, map, Option, Some, None, slice_get, take, unwrap_or, if◌then◌else◌}
 use Rattle.cc_program.specs.declared.program.Program.{Program}
 use Rattle.cc_program.specs.declared.types.Structure.{Structure}
-use Rattle.cc_scopes.specs.State.{State, Name, Scope, KnownStructure, only_named}
-use Rattle.cc_scopes.specs.declared.designated.Tagged.{Tagged}
-use Rattle.cc_scopes.specs.declared.designated.Tagged.TheVariants.{StructureTag}
+use Rattle.cc_type.specs.CcScopes.State.{State, Name, Scope, KnownStructure, only_named}
+use Rattle.cc_type.specs.CcScopes.declared.designated.Tagged.{Tagged}
+use Rattle.cc_type.specs.CcScopes.declared.designated.Tagged.TheVariants.{StructureTag}
 use Rattle.cc_shown_expressions.specs.Numbers.{named_numbered}
 use Rattle.cc_shown_declarations.specs.Order.{structure_number}
-use Rattle.cc_syntax.specs.Layout.{nothing, layouts}
-use Rattle.cc_syntax.specs.Types.{has_members}
+use Rattle.cc_type.specs.CcSyntax.Layout.{nothing, layouts}
+use Rattle.cc_type.specs.CcSyntax.Types.{has_members}
 
 module _ (p : Program) where
   abbrev pub tag_or_none : Option Structure → Name

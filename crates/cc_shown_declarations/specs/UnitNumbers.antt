@@ -3,7 +3,7 @@
 use Rattle.std.specs.Prelude.{ℕ, ◌+◌, nat_lt, length, if◌then◌else◌}
 use Rattle.cc_program.specs.declared.program.Program.{Program}
 use Rattle.cc_shown_expressions.specs.OperationNumbers.{Numbers}
-use Rattle.cc_syntax.specs.Normal.{count_named}
+use Rattle.cc_type.specs.CcSyntax.Normal.{count_named}
 
 module _ (p : Program) where
   abbrev pub first_function : ℕ

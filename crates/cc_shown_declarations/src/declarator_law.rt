@@ -3,21 +3,21 @@
 ghost use Rattle.std.specs.Prelude.{◌≡◌, ◌||◌, ℕ, true, false, List, map, Option};
 ghost use Rattle.std.specs.List.{list_all};
 ghost use Rattle.std.specs.Option.{is_some};
-ghost use Rattle.cc_operands.specs.Qualified.{unqualified};
+ghost use Rattle.cc_type.specs.CcOperands.Qualified.{unqualified};
 ghost use Rattle.cc_program.specs.declared.program.Program.{Program};
 ghost use Rattle.cc_program.specs.declared.program.Roles.{Roles};
 ghost use Rattle.cc_program.specs.declared.types.CType.{CType};
 ghost use Rattle.cc_program.specs.declared.types.Shape.{out-Shape};
 ghost use Rattle.cc_program.specs.declared.types.Sig.{Sig, out-Sig};
-ghost use Rattle.cc_scopes.specs.State.{Name, State};
+ghost use Rattle.cc_type.specs.CcScopes.State.{Name, State};
 ghost use Rattle.cc_shown_declarations.specs.Declared.{IsFunctionDeclared};
 ghost use Rattle.cc_shown_declarations.specs.Parameters.{Entry, HaveNewNames, is_function_shape};
 ghost use Rattle.cc_shown_expressions.specs.Known.{KnowsStructures};
-ghost use Rattle.cc_specifiers.specs.Declarators.{declares_function};
-ghost use Rattle.cc_specifiers.specs.declared.derivation.Allowed.{Allowed};
-ghost use Rattle.cc_syntax.specs.Kinds.{is_plain_scalar, is_result};
-ghost use Rattle.cc_syntax.specs.Programs.{kind_in};
-ghost use Rattle.cc_syntax.specs.Sound.{IsSound};
+ghost use Rattle.cc_type.specs.CcSpecifiers.Declarators.{declares_function};
+ghost use Rattle.cc_type.specs.CcSpecifiers.declared.derivation.Allowed.{Allowed};
+ghost use Rattle.cc_type.specs.CcSyntax.Kinds.{is_plain_scalar, is_result};
+ghost use Rattle.cc_type.specs.CcSyntax.Programs.{kind_in};
+ghost use Rattle.cc_type.specs.CcSyntax.Sound.{IsSound};
 ghost use Rattle.cc_tree.specs.declared.tree.Declr.{Declr};
 ghost use Rattle.cc_expression_trees.specs.Types.{Declares, Function, Plain};
 

@@ -3,11 +3,11 @@
 ghost use Rattle.std.specs.Prelude.{◌≡◌, ◌++◌, List, length, map, Ok};
 ghost use Rattle.cc_program.specs.declared.program.Program.{Program};
 ghost use Rattle.cc_program.specs.declared.program.Roles.{Roles};
-ghost use Rattle.cc_scopes.specs.State.{Name, at_first};
-ghost use Rattle.cc_scopes.specs.Verdicts.{checked};
+ghost use Rattle.cc_type.specs.CcScopes.State.{Name, at_first};
+ghost use Rattle.cc_type.specs.CcScopes.Verdicts.{checked};
 ghost use Rattle.cc_shown_declarations.specs.Order.{appearance};
 ghost use Rattle.cc_shown_declarations.specs.States.{first_state};
-ghost use Rattle.cc_syntax.specs.Sound.{IsSound};
+ghost use Rattle.cc_type.specs.CcSyntax.Sound.{IsSound};
 ghost use Rattle.cc_tree.specs.declared.at.At.{At};
 ghost use Rattle.cc_tree.specs.declared.unit.Item.{Item};
 ghost use Rattle.cc_type.specs.Units.{items_found};

@@ -1,14 +1,14 @@
 //! What holds of the structures of a program in the unit that is left behind its text.
 
 ghost use Rattle.std.specs.Prelude.{◌≡◌, ℕ, length, map, Some, slice_get};
-ghost use Rattle.cc_numbering.specs.Numbers.{numbers_of, order_of};
-ghost use Rattle.cc_numbering.specs.Structures.{structures_in};
+ghost use Rattle.cc_type.specs.CcNumbering.Numbers.{numbers_of, order_of};
+ghost use Rattle.cc_type.specs.CcNumbering.Structures.{structures_in};
 ghost use Rattle.cc_program.specs.declared.program.Program.{Program};
 ghost use Rattle.cc_program.specs.declared.types.Structure.{Structure};
 ghost use Rattle.cc_shown_declarations.specs.Left.{structure_left};
 ghost use Rattle.cc_shown_declarations.specs.Order.{appearance, structure_number};
 ghost use Rattle.cc_shown_declarations.specs.States.{first_state, known_as};
-ghost use Rattle.cc_syntax.specs.Sound.{IsSound};
+ghost use Rattle.cc_type.specs.CcSyntax.Sound.{IsSound};
 
 /// What holds of the structures of a sound program in the unit that its text leaves: there they have the program's order
 /// and numbers, whatever the order in which the text names them first. The call does nothing.

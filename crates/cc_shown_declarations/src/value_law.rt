@@ -1,25 +1,25 @@
 //! What holds of the trees that show first values of a program.
 
 ghost use Rattle.std.specs.Prelude.{◌≡◌, ℕ, Bool, true, false, List, [], map, Ok, Some, slice_get};
-ghost use Rattle.cc_initialisers.specs.Contents.{contents};
-ghost use Rattle.cc_initialisers.specs.Initialisers.{here, initialised};
-ghost use Rattle.cc_objects.specs.Values.{leaf_given, no_leaf};
-ghost use Rattle.cc_typed_terms.specs.Primary.{leaves_or_none};
+ghost use Rattle.cc_type.specs.CcInitialisers.Contents.{contents};
+ghost use Rattle.cc_type.specs.CcInitialisers.Initialisers.{here, initialised};
+ghost use Rattle.cc_type.specs.CcObjects.Values.{leaf_given, no_leaf};
+ghost use Rattle.cc_type.specs.CcTypedTerms.Primary.{leaves_or_none};
 ghost use Rattle.cc_program.specs.declared.object.Object.{Object};
 ghost use Rattle.cc_program.specs.declared.program.Program.{Program};
 ghost use Rattle.cc_program.specs.declared.types.CType.{CType};
 ghost use Rattle.cc_program.specs.declared.value.Leaf.{Leaf};
-ghost use Rattle.cc_scopes.specs.State.{State, structures_of};
+ghost use Rattle.cc_type.specs.CcScopes.State.{State, structures_of};
 ghost use Rattle.cc_shown_expressions.specs.OperationNumbers.{Numbers};
 ghost use Rattle.cc_shown_expressions.specs.Numbers.{type_numbered};
 ghost use Rattle.cc_shown_declarations.specs.Known.{KnowsStatics};
 ghost use Rattle.cc_shown_declarations.specs.Numbers.{leaf_numbered};
-ghost use Rattle.cc_syntax.specs.Programs.{AreLeaves};
-ghost use Rattle.cc_syntax.specs.Sound.{IsSound};
-ghost use Rattle.cc_syntax.specs.Types.{is_complete};
+ghost use Rattle.cc_type.specs.CcSyntax.Programs.{AreLeaves};
+ghost use Rattle.cc_type.specs.CcSyntax.Sound.{IsSound};
+ghost use Rattle.cc_type.specs.CcSyntax.Types.{is_complete};
 ghost use Rattle.cc_tree.specs.declared.at.At.{At};
 ghost use Rattle.cc_tree.specs.declared.unit.Given.{Given};
-ghost use Rattle.cc_typed_bodies.specs.Plans.{steps_done};
+ghost use Rattle.cc_type.specs.CcTypedBodies.Plans.{steps_done};
 ghost use Rattle.cc_unit_trees.specs.Values.{ShowsGiven, ShowsInitial};
 
 /// What holds of initialisers that show first values of a sound program, where its structures are known and names designate

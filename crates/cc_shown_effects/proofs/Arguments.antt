@@ -1,12 +1,12 @@
 -- Arguments that show those of a call are passed as they are, each as if assigned to its parameter (C99 6.5.2.2, 7).
 use Rattle.std.proofs.Common.{◌≡◌, Bool, true, false, List, [], ◌∷◌, ◌++◌, map, Option, Some, None, Ok, refl, ap, sym, ◌∙◌, subst, append_assoc, append-nil}
 use Rattle.std.specs.List.{list_all}
-use Rattle.cc_designators.specs.Calls.{passed, passed_to}
+use Rattle.cc_typed_bodies.specs.CcDesignators.Calls.{passed, passed_to}
 use Rattle.cc_expression_trees.specs.Exprs.{ShowsValue}
-use Rattle.cc_designators.specs.Designators.{TypedExpr}
-use Rattle.cc_operands.specs.Operands.{Operand}
-use Rattle.cc_operands.specs.Verdicts.{Judged, judge_then}
-use Rattle.cc_typed_terms.specs.Values.{valued}
+use Rattle.cc_typed_bodies.specs.CcDesignators.Designators.{TypedExpr}
+use Rattle.cc_typed_bodies.specs.CcOperands.Operands.{Operand}
+use Rattle.cc_typed_bodies.specs.CcOperands.Verdicts.{Judged, judge_then}
+use Rattle.cc_typed_bodies.specs.CcTypedTerms.Values.{valued}
 use Rattle.cc_program.specs.declared.expr.Expr.{Expr}
 use Rattle.cc_program.specs.declared.func.Func.{Func}
 use Rattle.cc_program.specs.declared.program.Program.{Program}
@@ -14,20 +14,20 @@ use Rattle.cc_program.specs.declared.types.CType.{CType}
 use Rattle.cc_program.specs.declared.types.Shape.{Shape, out-Shape}
 use Rattle.cc_program.specs.declared.types.Shape.TheOpen as shape
 use Rattle.cc_program.specs.declared.types.Sig.{Sig}
-use Rattle.cc_scopes.specs.State.{State}
-use Rattle.cc_scopes.specs.Verdicts.{Found, and_then}
-use Rattle.cc_syntax.specs.Effects.{no_one, effects_of}
-use Rattle.cc_syntax.specs.Programs.{type_of, kind_in}
-use Rattle.cc_syntax.specs.Folding.{is_folded}
-use Rattle.cc_syntax.specs.Kinds.{is_plain_scalar}
-use Rattle.cc_syntax.specs.Normal.{is_operand}
-use Rattle.cc_syntax.specs.SameTypes.{is_void_shape}
-use Rattle.cc_syntax.specs.Sizes.{AreSized}
-use Rattle.cc_syntax.specs.Values.{ValueType, NoValue, Integer, ToObject, ToFunction, ObjectPlace, is_scalar, scalar_shape, scalar_value, is_assignable, is_assignable_some, are_assignable}
-use Rattle.cc_syntax.proofs.Prefixes.{both_true}
-use Rattle.cc_terms.specs.Expressions.{argument_found}
-use Rattle.cc_terms.specs.InTurn.{in_turn, one_more}
-use Rattle.cc_terms.specs.Terms.{here}
+use Rattle.cc_typed_bodies.specs.CcScopes.State.{State}
+use Rattle.cc_typed_bodies.specs.CcScopes.Verdicts.{Found, and_then}
+use Rattle.cc_typed_bodies.specs.CcSyntax.Effects.{no_one, effects_of}
+use Rattle.cc_typed_bodies.specs.CcSyntax.Programs.{type_of, kind_in}
+use Rattle.cc_typed_bodies.specs.CcSyntax.Folding.{is_folded}
+use Rattle.cc_typed_bodies.specs.CcSyntax.Kinds.{is_plain_scalar}
+use Rattle.cc_typed_bodies.specs.CcSyntax.Normal.{is_operand}
+use Rattle.cc_typed_bodies.specs.CcSyntax.SameTypes.{is_void_shape}
+use Rattle.cc_typed_bodies.specs.CcSyntax.Sizes.{AreSized}
+use Rattle.cc_typed_bodies.specs.CcSyntax.Values.{ValueType, NoValue, Integer, ToObject, ToFunction, ObjectPlace, is_scalar, scalar_shape, scalar_value, is_assignable, is_assignable_some, are_assignable}
+use Rattle.cc_typed_bodies.proofs.CcSyntax.Prefixes.{both_true}
+use Rattle.cc_typed_bodies.specs.CcTerms.Expressions.{argument_found}
+use Rattle.cc_typed_bodies.specs.CcTerms.InTurn.{in_turn, one_more}
+use Rattle.cc_typed_bodies.specs.CcTerms.Terms.{here}
 use Rattle.cc_tree.specs.declared.at.At.{At}
 use Rattle.cc_tree.specs.declared.tree.Tree.{Tree}
 use Rattle.cc_unit_trees.specs.Effects.{ShowsArguments, NoArgument, MoreArguments}

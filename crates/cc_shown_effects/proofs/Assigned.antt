@@ -2,17 +2,17 @@
 -- declared.
 use Rattle.std.proofs.Common.{◌≡◌, ℕ, zero, suc, Bool, true, false, ◌&&◌, ◌||◌, List, [], ◌∷◌, ◌++◌, Option, Some, None, Ok, refl, ap, sym, ◌∙◌, subst, slice_get}
 use Rattle.cc_bodies.specs.Stmts.{taker}
-use Rattle.cc_designators.specs.Assignments.{assign_of}
-use Rattle.cc_designators.specs.Designators.{TypedExpr, IsPlace, IsValue, loaded, value_at}
-use Rattle.cc_lex.specs.declared.token.Mark.{Mark}
-use Rattle.cc_lex.specs.declared.token.Mark.TheVariants as m
+use Rattle.cc_typed_bodies.specs.CcDesignators.Assignments.{assign_of}
+use Rattle.cc_typed_bodies.specs.CcDesignators.Designators.{TypedExpr, IsPlace, IsValue, loaded, value_at}
+use Rattle.cc_typed_bodies.specs.CcLex.declared.token.Mark.{Mark}
+use Rattle.cc_typed_bodies.specs.CcLex.declared.token.Mark.TheVariants as m
 use Rattle.cc_shown_expressions.specs.Assigned.{AssignedAs}
 use Rattle.cc_shown_expressions.proofs.ChoiceRules.{assign-rule}
-use Rattle.cc_operands.specs.Assignments.{stored_at}
-use Rattle.cc_operands.specs.Operands.{Operand, operand, constant_at, is_zero_constant, is_to_void, is_null_at, is_null_constant}
-use Rattle.cc_operands.specs.Verdicts.{Judged, judge_then}
-use Rattle.cc_typed_terms.specs.Primary.{linked, designates, named_by, named, intrinsic_named}
-use Rattle.cc_typed_terms.specs.Values.{designating, gives, valued, value_found}
+use Rattle.cc_typed_bodies.specs.CcOperands.Assignments.{stored_at}
+use Rattle.cc_typed_bodies.specs.CcOperands.Operands.{Operand, operand, constant_at, is_zero_constant, is_to_void, is_null_at, is_null_constant}
+use Rattle.cc_typed_bodies.specs.CcOperands.Verdicts.{Judged, judge_then}
+use Rattle.cc_typed_bodies.specs.CcTypedTerms.Primary.{linked, designates, named_by, named, intrinsic_named}
+use Rattle.cc_typed_bodies.specs.CcTypedTerms.Values.{designating, gives, valued, value_found}
 use Rattle.cc_program.specs.declared.expr.Expr.{Expr, Load, Assign, out-Expr}
 use Rattle.cc_program.specs.declared.expr.Expr.TheOpen as one
 use Rattle.cc_program.specs.declared.expr.Expr.TheVariants as expr_rolls
@@ -25,15 +25,15 @@ use Rattle.cc_program.specs.declared.types.CType.{CType}
 use Rattle.cc_program.specs.declared.types.Shape.{Shape, out-Shape}
 use Rattle.cc_program.specs.declared.types.Shape.TheOpen as shape
 use Rattle.cc_program.specs.declared.types.Sig.{Sig}
-use Rattle.cc_scopes.specs.State.{State, Name, designated, with_declared, structures_of}
-use Rattle.cc_scopes.specs.Verdicts.{Found, whole, and_then}
-use Rattle.cc_scopes.specs.declared.designated.Designated.{Designated}
-use Rattle.cc_scopes.specs.declared.designated.Designated.TheVariants as means
-use Rattle.cc_scopes.specs.declared.unit.Declared.{Declared}
-use Rattle.cc_syntax.specs.Sizes.{AreSized}
-use Rattle.cc_syntax.specs.Sound.{IsSound}
-use Rattle.cc_syntax.specs.Values.{ValueType, Integer, PlaceType, DevicePlace, ObjectPlace, FunctionPlace, scalar_shape, scalar_value, pointer_to, read_from, written_to, is_assignable}
-use Rattle.cc_terms.specs.Terms.{tree_of, here}
+use Rattle.cc_typed_bodies.specs.CcScopes.State.{State, Name, designated, with_declared, structures_of}
+use Rattle.cc_typed_bodies.specs.CcScopes.Verdicts.{Found, whole, and_then}
+use Rattle.cc_typed_bodies.specs.CcScopes.declared.designated.Designated.{Designated}
+use Rattle.cc_typed_bodies.specs.CcScopes.declared.designated.Designated.TheVariants as means
+use Rattle.cc_typed_bodies.specs.CcScopes.declared.unit.Declared.{Declared}
+use Rattle.cc_typed_bodies.specs.CcSyntax.Sizes.{AreSized}
+use Rattle.cc_typed_bodies.specs.CcSyntax.Sound.{IsSound}
+use Rattle.cc_typed_bodies.specs.CcSyntax.Values.{ValueType, Integer, PlaceType, DevicePlace, ObjectPlace, FunctionPlace, scalar_shape, scalar_value, pointer_to, read_from, written_to, is_assignable}
+use Rattle.cc_typed_bodies.specs.CcTerms.Terms.{tree_of, here}
 use Rattle.cc_tree.specs.declared.at.At.{At}
 use Rattle.cc_tree.specs.declared.tree.Declr.TheOpen as trees
 use Rattle.cc_tree.specs.declared.tree.Tree as tree

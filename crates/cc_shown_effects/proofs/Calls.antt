@@ -4,11 +4,11 @@ use Rattle.std.proofs.Common.{◌≡◌, ℕ, Bool, true, false, not, ◌&&◌, 
 use Rattle.std.specs.Prelude.{option_map, if◌then◌else◌}
 use Rattle.std.specs.List.{list_all}
 use Rattle.std.specs.Option.{is_some}
-use Rattle.cc_designators.specs.Calls.{passed, result_of}
-use Rattle.cc_designators.specs.Designators.{TypedExpr, IsValue}
-use Rattle.cc_operands.specs.Operands.{Operand, operand}
-use Rattle.cc_operands.specs.Verdicts.{Judged, judge_then}
-use Rattle.cc_typed_terms.specs.Values.{gives}
+use Rattle.cc_typed_bodies.specs.CcDesignators.Calls.{passed, result_of}
+use Rattle.cc_typed_bodies.specs.CcDesignators.Designators.{TypedExpr, IsValue}
+use Rattle.cc_typed_bodies.specs.CcOperands.Operands.{Operand, operand}
+use Rattle.cc_typed_bodies.specs.CcOperands.Verdicts.{Judged, judge_then}
+use Rattle.cc_typed_bodies.specs.CcTypedTerms.Values.{gives}
 use Rattle.cc_program.specs.declared.expr.Expr.{Expr, Call, out-Expr}
 use Rattle.cc_program.specs.declared.expr.Expr.TheOpen as one
 use Rattle.cc_program.specs.declared.expr.Intr.{Intr}
@@ -19,22 +19,22 @@ use Rattle.cc_program.specs.declared.types.CType.{CType}
 use Rattle.cc_program.specs.declared.types.Shape.{Shape, out-Shape}
 use Rattle.cc_program.specs.declared.types.Shape.TheOpen as shape
 use Rattle.cc_program.specs.declared.types.Sig.{Sig, out-Sig}
-use Rattle.cc_scopes.specs.State.{State}
-use Rattle.cc_scopes.specs.Verdicts.{Found, and_then}
-use Rattle.cc_syntax.specs.Effects.{Effects, PlaceEffects, no_one, is_soft, place_effects_of}
-use Rattle.cc_syntax.specs.Programs.{type_of, place_type, kind_in}
-use Rattle.cc_syntax.specs.Forms.{form_at, form_of}
-use Rattle.cc_syntax.specs.Kinds.{is_plain_scalar}
-use Rattle.cc_syntax.specs.Normal.{is_operand, is_callee, is_register_place}
-use Rattle.cc_syntax.specs.Operators.{is_handler, function_type, call_type}
-use Rattle.cc_syntax.specs.Sizes.{AreSized}
-use Rattle.cc_syntax.specs.Sound.{IsSound, IsFunc}
-use Rattle.cc_syntax.specs.Types.{Named}
-use Rattle.cc_syntax.specs.Values.{ValueType, NoValue, Integer, ToObject, ToFunction, PlaceType, object_place, scalar_shape, pointer_shape, pointer_to, read_from, result_value, are_assignable}
-use Rattle.cc_syntax.proofs.Parts.{all_at}
-use Rattle.cc_terms.specs.Expressions.{arguments_found}
-use Rattle.cc_terms.specs.Operations.{callee, callee_by, call_judged}
-use Rattle.cc_terms.specs.Terms.{tree_of, here}
+use Rattle.cc_typed_bodies.specs.CcScopes.State.{State}
+use Rattle.cc_typed_bodies.specs.CcScopes.Verdicts.{Found, and_then}
+use Rattle.cc_typed_bodies.specs.CcSyntax.Effects.{Effects, PlaceEffects, no_one, is_soft, place_effects_of}
+use Rattle.cc_typed_bodies.specs.CcSyntax.Programs.{type_of, place_type, kind_in}
+use Rattle.cc_typed_bodies.specs.CcSyntax.Forms.{form_at, form_of}
+use Rattle.cc_typed_bodies.specs.CcSyntax.Kinds.{is_plain_scalar}
+use Rattle.cc_typed_bodies.specs.CcSyntax.Normal.{is_operand, is_callee, is_register_place}
+use Rattle.cc_typed_bodies.specs.CcSyntax.Operators.{is_handler, function_type, call_type}
+use Rattle.cc_typed_bodies.specs.CcSyntax.Sizes.{AreSized}
+use Rattle.cc_typed_bodies.specs.CcSyntax.Sound.{IsSound, IsFunc}
+use Rattle.cc_typed_bodies.specs.CcSyntax.Types.{Named}
+use Rattle.cc_typed_bodies.specs.CcSyntax.Values.{ValueType, NoValue, Integer, ToObject, ToFunction, PlaceType, object_place, scalar_shape, pointer_shape, pointer_to, read_from, result_value, are_assignable}
+use Rattle.cc_typed_bodies.proofs.CcSyntax.Parts.{all_at}
+use Rattle.cc_typed_bodies.specs.CcTerms.Expressions.{arguments_found}
+use Rattle.cc_typed_bodies.specs.CcTerms.Operations.{callee, callee_by, call_judged}
+use Rattle.cc_typed_bodies.specs.CcTerms.Terms.{tree_of, here}
 use Rattle.cc_tree.specs.declared.at.At.{At}
 use Rattle.cc_tree.specs.declared.tree.Declr.TheOpen as trees
 use Rattle.cc_tree.specs.declared.tree.Tree as tree

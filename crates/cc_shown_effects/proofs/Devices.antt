@@ -2,16 +2,16 @@
 use Rattle.std.proofs.Common.{◌≡◌, ℕ, ◌*◌, ◌^◌, pos, Bool, true, false, ◌||◌, List, Option, Some, None, Ok, refl, ap, sym, ◌∙◌, slice_get, nat_lt}
 use Rattle.std.specs.Prelude.{option_map, nat_eq, Err, if◌then◌else◌}
 use Rattle.std.specs.Option.{is_some, is_none}
-use Rattle.cc_designators.specs.Casts.{fits_pointer, no_device}
-use Rattle.cc_designators.specs.Designators.{TypedExpr, IsPlace, IsAddress}
-use Rattle.cc_lex.specs.declared.token.Mark.TheVariants as m
+use Rattle.cc_typed_bodies.specs.CcDesignators.Casts.{fits_pointer, no_device}
+use Rattle.cc_typed_bodies.specs.CcDesignators.Designators.{TypedExpr, IsPlace, IsAddress}
+use Rattle.cc_typed_bodies.specs.CcLex.declared.token.Mark.TheVariants as m
 use Rattle.cc_shown_expressions.proofs.CastRules.{constant-pointer}
 use Rattle.cc_shown_expressions.proofs.ChoiceRules.{constancy-of}
-use Rattle.cc_operands.specs.Operands.{integer, number_type}
-use Rattle.cc_operands.specs.Qualified.{unqualified}
-use Rattle.cc_typed_terms.specs.Devices.{device_of, declared_device, number_of, device_place, with_device, device_found, register_found, address_found}
-use Rattle.cc_typed_terms.specs.Primary.{named}
-use Rattle.cc_typed_terms.specs.Values.{valued}
+use Rattle.cc_typed_bodies.specs.CcOperands.Operands.{integer, number_type}
+use Rattle.cc_typed_bodies.specs.CcOperands.Qualified.{unqualified}
+use Rattle.cc_typed_bodies.specs.CcTypedTerms.Devices.{device_of, declared_device, number_of, device_place, with_device, device_found, register_found, address_found}
+use Rattle.cc_typed_bodies.specs.CcTypedTerms.Primary.{named}
+use Rattle.cc_typed_bodies.specs.CcTypedTerms.Values.{valued}
 use Rattle.cc_program.specs.declared.expr.Expr.TheOpen as one
 use Rattle.cc_program.specs.declared.expr.Place.{Place, out-Place}
 use Rattle.cc_program.specs.declared.func.Func.{Func}
@@ -19,24 +19,24 @@ use Rattle.cc_program.specs.declared.object.Device.{Device}
 use Rattle.cc_program.specs.declared.object.Object.{Object}
 use Rattle.cc_program.specs.declared.types.Structure.{Structure}
 use Rattle.cc_program.specs.Qualifiers.{is_const, is_volatile}
-use Rattle.cc_operands.specs.declared.rule.Rule.TheVariants as rule
+use Rattle.cc_typed_bodies.specs.CcOperands.declared.rule.Rule.TheVariants as rule
 use Rattle.cc_program.specs.declared.expr.Expr.{Expr}
 use Rattle.cc_program.specs.declared.program.Program.{Program}
 use Rattle.cc_program.specs.declared.types.CType.{CType}
 use Rattle.cc_program.specs.declared.types.Shape.{Shape, out-Shape, out-roll-Shape}
 use Rattle.cc_program.specs.declared.types.Shape.TheOpen as shape
 use Rattle.cc_program.specs.declared.types.Sig.{Sig}
-use Rattle.cc_scopes.specs.State.{State, with_declared}
-use Rattle.cc_scopes.specs.Verdicts.{Found, whole, and_then}
-use Rattle.cc_syntax.specs.Kinds.{Kind, qualified_kind, shape_kind, extent_in}
-use Rattle.cc_syntax.specs.Programs.{kind_in}
-use Rattle.cc_syntax.specs.Sizes.{AreSized}
-use Rattle.cc_syntax.specs.Sound.{IsSound, is_device}
-use Rattle.cc_syntax.specs.SameTypes.{is_void_shape}
-use Rattle.cc_syntax.specs.Types.{Named}
-use Rattle.cc_syntax.specs.Values.{ValueType, NoValue, Integer, ToObject, ToFunction, PlaceType, DevicePlace, ObjectPlace, FunctionPlace, is_void, object_place, pointed_to, member_at, member_in, member_shape, member_of}
-use Rattle.cc_terms.specs.Operations.{prefixed}
-use Rattle.cc_terms.specs.Terms.{tree_of}
+use Rattle.cc_typed_bodies.specs.CcScopes.State.{State, with_declared}
+use Rattle.cc_typed_bodies.specs.CcScopes.Verdicts.{Found, whole, and_then}
+use Rattle.cc_typed_bodies.specs.CcSyntax.Kinds.{Kind, qualified_kind, shape_kind, extent_in}
+use Rattle.cc_typed_bodies.specs.CcSyntax.Programs.{kind_in}
+use Rattle.cc_typed_bodies.specs.CcSyntax.Sizes.{AreSized}
+use Rattle.cc_typed_bodies.specs.CcSyntax.Sound.{IsSound, is_device}
+use Rattle.cc_typed_bodies.specs.CcSyntax.SameTypes.{is_void_shape}
+use Rattle.cc_typed_bodies.specs.CcSyntax.Types.{Named}
+use Rattle.cc_typed_bodies.specs.CcSyntax.Values.{ValueType, NoValue, Integer, ToObject, ToFunction, PlaceType, DevicePlace, ObjectPlace, FunctionPlace, is_void, object_place, pointed_to, member_at, member_in, member_shape, member_of}
+use Rattle.cc_typed_bodies.specs.CcTerms.Operations.{prefixed}
+use Rattle.cc_typed_bodies.specs.CcTerms.Terms.{tree_of}
 use Rattle.cc_tree.specs.declared.at.At.{At}
 use Rattle.cc_tree.specs.declared.tree.Declr.TheOpen as trees
 use Rattle.cc_tree.specs.declared.tree.Tree as tree

@@ -2,27 +2,27 @@
 use Rattle.std.proofs.Common.{◌≡◌, ℕ, Bool, true, false, ◌&&◌, ◌||◌, Option, Some, None, Ok, refl, ap, sym, ◌∙◌, subst}
 use Rattle.std.specs.List.{list_all}
 use Rattle.cc_bodies.specs.Stmts.{taker}
-use Rattle.cc_designators.specs.Designators.{IsValue}
-use Rattle.cc_lex.specs.declared.token.Mark.TheVariants as m
+use Rattle.cc_typed_bodies.specs.CcDesignators.Designators.{IsValue}
+use Rattle.cc_typed_bodies.specs.CcLex.declared.token.Mark.TheVariants as m
 use Rattle.cc_shown_expressions.proofs.ChoiceRules.{assign-rule}
-use Rattle.cc_operands.specs.Operands.{operand, constant_at, is_zero_constant, is_to_void, is_null_at, is_null_constant}
+use Rattle.cc_typed_bodies.specs.CcOperands.Operands.{operand, constant_at, is_zero_constant, is_to_void, is_null_at, is_null_constant}
 use Rattle.cc_program.specs.declared.expr.Expr.{Expr, out-Expr}
 use Rattle.cc_program.specs.declared.expr.Expr.TheOpen as one
 use Rattle.cc_program.specs.declared.expr.Place.{Place}
 use Rattle.cc_program.specs.declared.func.Func.{Func}
 use Rattle.cc_program.specs.declared.program.Program.{Program}
 use Rattle.cc_program.specs.declared.types.CType.{CType}
-use Rattle.cc_scopes.specs.State.{State}
-use Rattle.cc_syntax.specs.Effects.{Effects, no_one, effects_of}
-use Rattle.cc_syntax.specs.Programs.{type_of, place_type}
-use Rattle.cc_syntax.specs.Folding.{NoConstant, is_folded}
-use Rattle.cc_syntax.specs.Forms.{form_at, form_of}
-use Rattle.cc_syntax.specs.Normal.{is_operand, is_callee, is_call, is_place_read, is_assignment, is_expression_statement}
-use Rattle.cc_syntax.specs.Sizes.{AreSized}
-use Rattle.cc_syntax.specs.Sound.{IsSound}
-use Rattle.cc_syntax.specs.Values.{ValueType, PlaceType, read_from, written_to, is_assignable}
-use Rattle.cc_syntax.proofs.Prefixes.{both_true}
-use Rattle.cc_terms.specs.Terms.{tree_of}
+use Rattle.cc_typed_bodies.specs.CcScopes.State.{State}
+use Rattle.cc_typed_bodies.specs.CcSyntax.Effects.{Effects, no_one, effects_of}
+use Rattle.cc_typed_bodies.specs.CcSyntax.Programs.{type_of, place_type}
+use Rattle.cc_typed_bodies.specs.CcSyntax.Folding.{NoConstant, is_folded}
+use Rattle.cc_typed_bodies.specs.CcSyntax.Forms.{form_at, form_of}
+use Rattle.cc_typed_bodies.specs.CcSyntax.Normal.{is_operand, is_callee, is_call, is_place_read, is_assignment, is_expression_statement}
+use Rattle.cc_typed_bodies.specs.CcSyntax.Sizes.{AreSized}
+use Rattle.cc_typed_bodies.specs.CcSyntax.Sound.{IsSound}
+use Rattle.cc_typed_bodies.specs.CcSyntax.Values.{ValueType, PlaceType, read_from, written_to, is_assignable}
+use Rattle.cc_typed_bodies.proofs.CcSyntax.Prefixes.{both_true}
+use Rattle.cc_typed_bodies.specs.CcTerms.Terms.{tree_of}
 use Rattle.cc_tree.specs.declared.at.At.{At}
 use Rattle.cc_tree.specs.declared.tree.Tree as tree
 use Rattle.cc_tree.specs.declared.tree.Tree.{Tree}

@@ -5,14 +5,14 @@ use Rattle.std.specs.List.{list_any, list_all}
 use Rattle.std.specs.Str.{bytes_eq}
 use Rattle.std.proofs.lemmas.Slice.Eq.{bytes_eq-Decides}
 use Rattle.cc_bodies.specs.Stmts.{intrinsic_name}
-use Rattle.cc_designators.specs.Calls.{signature, byte_type, first_or_none, result_of, passed, passed_to, called_with}
-use Rattle.cc_designators.specs.Designators.{TypedExpr, IsIntrinsic, IsValue}
-use Rattle.cc_num.specs.declared.int_type.IntType.TheVariants as int
-use Rattle.cc_operands.specs.Operands.{Operand, operand}
-use Rattle.cc_operands.specs.Qualified.{plain}
-use Rattle.cc_operands.specs.Verdicts.{Judged, judge_then}
-use Rattle.cc_typed_terms.specs.Primary.{intrinsic_named, named_by}
-use Rattle.cc_typed_terms.specs.Values.{gives, valued}
+use Rattle.cc_typed_bodies.specs.CcDesignators.Calls.{signature, byte_type, first_or_none, result_of, passed, passed_to, called_with}
+use Rattle.cc_typed_bodies.specs.CcDesignators.Designators.{TypedExpr, IsIntrinsic, IsValue}
+use Rattle.cc_program.specs.CcNum.declared.int_type.IntType.TheVariants as int
+use Rattle.cc_typed_bodies.specs.CcOperands.Operands.{Operand, operand}
+use Rattle.cc_typed_bodies.specs.CcOperands.Qualified.{plain}
+use Rattle.cc_typed_bodies.specs.CcOperands.Verdicts.{Judged, judge_then}
+use Rattle.cc_typed_bodies.specs.CcTypedTerms.Primary.{intrinsic_named, named_by}
+use Rattle.cc_typed_bodies.specs.CcTypedTerms.Values.{gives, valued}
 use Rattle.cc_program.specs.declared.expr.Expr.{Expr, Intr as IntrOf, out-Expr}
 use Rattle.cc_program.specs.declared.expr.Expr.TheOpen as one
 use Rattle.cc_program.specs.declared.expr.Intr.{Intr}
@@ -26,28 +26,28 @@ use Rattle.cc_program.specs.declared.types.Shape.{Shape, Void}
 use Rattle.cc_program.specs.declared.types.Shape.TheOpen as shape
 use Rattle.cc_program.specs.declared.types.Shape.TheVariants.{outs-Void, outs-Int}
 use Rattle.cc_program.specs.declared.types.Sig.{Sig, out-roll-Sig}
-use Rattle.cc_scopes.specs.State.{State}
-use Rattle.cc_scopes.specs.Verdicts.{Found, whole, and_then}
-use Rattle.cc_syntax.specs.Programs.{type_of}
-use Rattle.cc_syntax.specs.Names.{device_names, intrinsic_names, file_names}
-use Rattle.cc_syntax.specs.Normal.{is_operand}
-use Rattle.cc_syntax.specs.Operators.{intrinsic_type, is_of}
-use Rattle.cc_syntax.specs.SameTypes.{is_void_shape}
-use Rattle.cc_syntax.specs.Sizes.{AreSized}
-use Rattle.cc_syntax.specs.Sound.{IsSound}
-use Rattle.cc_syntax.specs.Values.{ValueType, NoValue, Integer, scalar_shape, scalar_value, result_value}
-use Rattle.cc_syntax.proofs.Prefixes.{both_true}
-use Rattle.cc_syntax.proofs.SameLemmas.{int_itself}
-use Rattle.cc_terms.specs.Expressions.{argument_found, arguments_found}
-use Rattle.cc_terms.specs.InTurn.{in_turn, one_more}
-use Rattle.cc_terms.specs.Operations.{callee, call_judged}
-use Rattle.cc_terms.specs.Terms.{tree_of, here}
+use Rattle.cc_typed_bodies.specs.CcScopes.State.{State}
+use Rattle.cc_typed_bodies.specs.CcScopes.Verdicts.{Found, whole, and_then}
+use Rattle.cc_typed_bodies.specs.CcSyntax.Programs.{type_of}
+use Rattle.cc_typed_bodies.specs.CcSyntax.Names.{device_names, intrinsic_names, file_names}
+use Rattle.cc_typed_bodies.specs.CcSyntax.Normal.{is_operand}
+use Rattle.cc_typed_bodies.specs.CcSyntax.Operators.{intrinsic_type, is_of}
+use Rattle.cc_typed_bodies.specs.CcSyntax.SameTypes.{is_void_shape}
+use Rattle.cc_typed_bodies.specs.CcSyntax.Sizes.{AreSized}
+use Rattle.cc_typed_bodies.specs.CcSyntax.Sound.{IsSound}
+use Rattle.cc_typed_bodies.specs.CcSyntax.Values.{ValueType, NoValue, Integer, scalar_shape, scalar_value, result_value}
+use Rattle.cc_typed_bodies.proofs.CcSyntax.Prefixes.{both_true}
+use Rattle.cc_typed_bodies.proofs.CcSyntax.SameLemmas.{int_itself}
+use Rattle.cc_typed_bodies.specs.CcTerms.Expressions.{argument_found, arguments_found}
+use Rattle.cc_typed_bodies.specs.CcTerms.InTurn.{in_turn, one_more}
+use Rattle.cc_typed_bodies.specs.CcTerms.Operations.{callee, call_judged}
+use Rattle.cc_typed_bodies.specs.CcTerms.Terms.{tree_of, here}
 use Rattle.cc_tree.specs.declared.at.At.{At}
 use Rattle.cc_tree.specs.declared.tree.Declr.TheOpen as trees
 use Rattle.cc_tree.specs.declared.tree.Tree as tree
 use Rattle.cc_tree.specs.declared.tree.Tree.{Tree}
 use Rattle.cc_tree.specs.declared.tree.Tree.TheVariants as tree_rolls
-use Rattle.cc_words.specs.Names.{is_name, are_distinct}
+use Rattle.cc_program.specs.CcWords.Names.{is_name, are_distinct}
 use Rattle.cc_expression_trees.specs.Exprs.{ShowsValue}
 use Rattle.cc_shown_expressions.proofs.Rules.{of-is}
 use Rattle.cc_shown_effects.proofs.Arguments.{has-operand}

@@ -4,8 +4,8 @@ use Rattle.std.specs.Prelude.{ℤ}
 use Rattle.std.proofs.Common.{◌≡◌, ℕ, Bool, true, List, map, Option, Some, None, refl, ap, ◌∙◌}
 use Rattle.std.specs.List.{list_all, flat_map}
 use Rattle.std.specs.Option.{is_some}
-use Rattle.cc_num.specs.declared.int_type.IntType.{IntType}
-use Rattle.cc_num.specs.declared.target.Target.{Target}
+use Rattle.cc_program.specs.CcNum.declared.int_type.IntType.{IntType}
+use Rattle.cc_program.specs.CcNum.declared.target.Target.{Target}
 use Rattle.cc_program.specs.declared.expr.Expr.{Expr, out-Expr}
 use Rattle.cc_program.specs.declared.expr.Expr.TheOpen as one
 use Rattle.cc_program.specs.declared.expr.Place.{Place}
@@ -14,15 +14,15 @@ use Rattle.cc_program.specs.declared.program.Program.{Program}
 use Rattle.cc_program.specs.declared.stmt.Case.{Case, out-Case, roll-Case, fold-Case, fold_out-Case}
 use Rattle.cc_program.specs.declared.stmt.Stmt.{Stmt, out-Stmt, map-Stmt, fold_out-Stmt}
 use Rattle.cc_program.specs.declared.stmt.Stmt.TheOpen as is
-use Rattle.cc_syntax.specs.Effects.{no_one, effects_of}
-use Rattle.cc_syntax.specs.Folding.{is_folded}
-use Rattle.cc_syntax.specs.Forms.{form_at, form_of}
-use Rattle.cc_syntax.specs.Normal.{is_one, is_operand, normal_step, is_normal_stmt, devices_step, devices_of}
-use Rattle.cc_syntax.specs.Operators.{is_promoted}
-use Rattle.cc_syntax.specs.Programs.{type_of, sound_step, is_sound_stmt}
-use Rattle.cc_syntax.specs.Statements.{SoundWhere, Labelled, sound_case, is_condition, label_fits, labels_fit}
-use Rattle.cc_syntax.specs.Values.{ValueType, NoValue, Integer, ToObject, ToFunction, is_scalar, is_assignable, is_assignable_some}
-use Rattle.cc_syntax.proofs.Prefixes.{both_true}
+use Rattle.cc_typed_bodies.specs.CcSyntax.Effects.{no_one, effects_of}
+use Rattle.cc_typed_bodies.specs.CcSyntax.Folding.{is_folded}
+use Rattle.cc_typed_bodies.specs.CcSyntax.Forms.{form_at, form_of}
+use Rattle.cc_typed_bodies.specs.CcSyntax.Normal.{is_one, is_operand, normal_step, is_normal_stmt, devices_step, devices_of}
+use Rattle.cc_typed_bodies.specs.CcSyntax.Operators.{is_promoted}
+use Rattle.cc_typed_bodies.specs.CcSyntax.Programs.{type_of, sound_step, is_sound_stmt}
+use Rattle.cc_typed_bodies.specs.CcSyntax.Statements.{SoundWhere, Labelled, sound_case, is_condition, label_fits, labels_fit}
+use Rattle.cc_typed_bodies.specs.CcSyntax.Values.{ValueType, NoValue, Integer, ToObject, ToFunction, is_scalar, is_assignable, is_assignable_some}
+use Rattle.cc_typed_bodies.proofs.CcSyntax.Prefixes.{both_true}
 use Rattle.cc_unit_trees.proofs.Lines.{one-pure}
 use Rattle.cc_shown_effects.specs.Numbers.{stmt_step, case_step, stmt_numbered, case_numbered}
 use Rattle.cc_shown_expressions.specs.Normal.{HasOperand}

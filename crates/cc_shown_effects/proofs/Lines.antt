@@ -1,11 +1,11 @@
 -- Lines that show statements with no other in them are typed to them: what an expression does, jumps, and returned values.
 use Rattle.std.proofs.Common.{◌≡◌, ℕ, Bool, true, false, List, [], ◌∷◌, Option, Some, None, Ok, refl, ap, sym, ◌∙◌}
 use Rattle.std.specs.Prelude.{Err, if◌then◌else◌}
-use Rattle.cc_designators.specs.Designators.{TypedExpr, IsValue}
-use Rattle.cc_operands.specs.Operands.{Operand, operand}
-use Rattle.cc_operands.specs.Verdicts.{Judged, must, judge_then}
-use Rattle.cc_operands.specs.declared.rule.Rule.TheVariants as rule
-use Rattle.cc_typed_terms.specs.Values.{valued}
+use Rattle.cc_typed_bodies.specs.CcDesignators.Designators.{TypedExpr, IsValue}
+use Rattle.cc_typed_bodies.specs.CcOperands.Operands.{Operand, operand}
+use Rattle.cc_typed_bodies.specs.CcOperands.Verdicts.{Judged, must, judge_then}
+use Rattle.cc_typed_bodies.specs.CcOperands.declared.rule.Rule.TheVariants as rule
+use Rattle.cc_typed_bodies.specs.CcTypedTerms.Values.{valued}
 use Rattle.cc_program.specs.declared.expr.Expr.{Expr}
 use Rattle.cc_program.specs.declared.program.Program.{Program}
 use Rattle.cc_program.specs.declared.stmt.Case.{Case}
@@ -15,11 +15,11 @@ use Rattle.cc_program.specs.declared.types.CType.{CType}
 use Rattle.cc_program.specs.declared.types.Shape.{Shape}
 use Rattle.cc_program.specs.declared.types.Shape.TheOpen as shape
 use Rattle.cc_program.specs.declared.types.Sig.{Sig}
-use Rattle.cc_syntax.specs.SameTypes.{is_void_shape}
-use Rattle.cc_scopes.specs.State.{State, Name}
-use Rattle.cc_scopes.specs.Verdicts.{Found, whole, and_then}
-use Rattle.cc_syntax.specs.Values.{ValueType, is_void, scalar_shape, scalar_value}
-use Rattle.cc_terms.specs.Terms.{tree_of}
+use Rattle.cc_typed_bodies.specs.CcSyntax.SameTypes.{is_void_shape}
+use Rattle.cc_typed_bodies.specs.CcScopes.State.{State, Name}
+use Rattle.cc_typed_bodies.specs.CcScopes.Verdicts.{Found, whole, and_then}
+use Rattle.cc_typed_bodies.specs.CcSyntax.Values.{ValueType, is_void, scalar_shape, scalar_value}
+use Rattle.cc_typed_bodies.specs.CcTerms.Terms.{tree_of}
 use Rattle.cc_tree.specs.declared.at.At.{At}
 use Rattle.cc_tree.specs.declared.tree.Tree.{Tree}
 use Rattle.cc_tree.specs.declared.unit.Line.{Line, out-Line, map-Line}
@@ -30,9 +30,9 @@ use Rattle.cc_typed_bodies.specs.Lines.{line_of, line_step}
 use Rattle.cc_typed_bodies.specs.Meanings.{LineMeaning, done}
 use Rattle.cc_typed_bodies.specs.Parts.{value_here, effect_found, expression_found, return_found}
 use Rattle.cc_typed_bodies.proofs.Equations.{line-out}
-use Rattle.cc_typed_statements.specs.Conditions.{effect}
-use Rattle.cc_typed_statements.specs.Jumps.{returned, returned_by}
-use Rattle.cc_typed_statements.specs.declared.jumps.Jumps.{Jumps}
+use Rattle.cc_typed_bodies.specs.CcTypedStatements.Conditions.{effect}
+use Rattle.cc_typed_bodies.specs.CcTypedStatements.Jumps.{returned, returned_by}
+use Rattle.cc_typed_bodies.specs.CcTypedStatements.declared.jumps.Jumps.{Jumps}
 use Rattle.cc_shown_expressions.specs.Taken.{IsTakenAs}
 use Rattle.cc_shown_effects.specs.Numbers.{stmt_step, case_step, stmt_numbered, case_numbered}
 use Rattle.cc_shown_expressions.specs.OperationNumbers.{Numbers, expr_numbered}

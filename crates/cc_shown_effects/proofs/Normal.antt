@@ -2,22 +2,22 @@
 use Rattle.std.proofs.Common.{◌≡◌, ℕ, Bool, true, false, not, ◌&&◌, ◌||◌, Option, Some, None, refl, ap, sym, ◌∙◌}
 use Rattle.std.specs.Prelude.{if◌then◌else◌}
 use Rattle.std.specs.Option.{is_some}
-use Rattle.cc_lex.specs.declared.token.Mark.{Mark}
+use Rattle.cc_typed_bodies.specs.CcLex.declared.token.Mark.{Mark}
 use Rattle.cc_program.specs.declared.expr.Expr.{Expr, out-Expr}
 use Rattle.cc_program.specs.declared.expr.Expr.TheOpen as one
 use Rattle.cc_program.specs.declared.expr.Place.{Place, out-Place}
 use Rattle.cc_program.specs.declared.func.Func.{Func}
 use Rattle.cc_program.specs.declared.program.Program.{Program}
 use Rattle.cc_program.specs.declared.types.CType.{CType}
-use Rattle.cc_syntax.specs.Effects.{PlaceEffects, no_one, is_soft, place_effects_of}
-use Rattle.cc_syntax.specs.Expressions.{of_one}
-use Rattle.cc_syntax.specs.Programs.{type_of, place_type}
-use Rattle.cc_syntax.specs.Folding.{is_folded_place}
-use Rattle.cc_syntax.specs.Forms.{form_of}
-use Rattle.cc_syntax.specs.Normal.{is_operand, is_call, is_place_read, is_register_place, is_other_place, is_assignment}
-use Rattle.cc_syntax.specs.Operators.{assignment_type}
-use Rattle.cc_syntax.specs.Values.{ValueType, PlaceType, written_to, is_assignable}
-use Rattle.cc_syntax.proofs.Prefixes.{both_true}
+use Rattle.cc_typed_bodies.specs.CcSyntax.Effects.{PlaceEffects, no_one, is_soft, place_effects_of}
+use Rattle.cc_typed_bodies.specs.CcSyntax.Expressions.{of_one}
+use Rattle.cc_typed_bodies.specs.CcSyntax.Programs.{type_of, place_type}
+use Rattle.cc_typed_bodies.specs.CcSyntax.Folding.{is_folded_place}
+use Rattle.cc_typed_bodies.specs.CcSyntax.Forms.{form_of}
+use Rattle.cc_typed_bodies.specs.CcSyntax.Normal.{is_operand, is_call, is_place_read, is_register_place, is_other_place, is_assignment}
+use Rattle.cc_typed_bodies.specs.CcSyntax.Operators.{assignment_type}
+use Rattle.cc_typed_bodies.specs.CcSyntax.Values.{ValueType, PlaceType, written_to, is_assignable}
+use Rattle.cc_typed_bodies.proofs.CcSyntax.Prefixes.{both_true}
 use Rattle.cc_tree.specs.declared.tree.Tree.{Tree}
 use Rattle.cc_expression_trees.specs.Exprs.{IsBinary, AnOperation, AMovement, ADifference, AComparison, ABoth, AnEither, ShowsExpr, InParens, ShowsConstant, ShowsNarrow, ShowsNull, ShowsFunction, ShowsRead, ShowsAddress, ShowsUnary, ShowsConversion, ShowsQualified, ShowsBinary, ShowsChoice, ShowsValue, ValueInParens, ValueOf, NarrowValue, NullValue}
 use Rattle.cc_shown_expressions.proofs.Levels.{one-is, two-is, when-is, type-at, place-effects-at, place-folding-at}

@@ -2,12 +2,12 @@
 -- this use, behind all that is (C99 6.7.8).
 use Rattle.std.specs.Prelude.{◌≡◌, ℕ, true, Some, None, length, slice_get}
 use Rattle.std.specs.Option.{is_some}
-use Rattle.cc_typed_terms.specs.Devices.{declared_device, number_of}
+use Rattle.cc_typed_bodies.specs.CcTypedTerms.Devices.{declared_device, number_of}
 use Rattle.cc_program.specs.declared.expr.Place.{Place, out-Place}
 use Rattle.cc_program.specs.declared.expr.Expr.TheOpen as one
 use Rattle.cc_program.specs.declared.object.Device.{Device}
 use Rattle.cc_program.specs.declared.program.Program.{Program}
-use Rattle.cc_scopes.specs.State.{State, with_declared}
+use Rattle.cc_typed_bodies.specs.CcScopes.State.{State, with_declared}
 use Rattle.cc_shown_expressions.specs.OperationNumbers.{Numbers}
 
 module _ (p : Program) (n : Numbers) (s : State) where

@@ -5,7 +5,7 @@ use Rattle.cc_program.specs.declared.expr.Expr.{Expr, out-Expr}
 use Rattle.cc_program.specs.declared.expr.Expr.TheOpen as one
 use Rattle.cc_program.specs.declared.expr.Place.{Place}
 use Rattle.cc_program.specs.declared.program.Program.{Program}
-use Rattle.cc_scopes.specs.State.{State}
+use Rattle.cc_typed_bodies.specs.CcScopes.State.{State}
 use Rattle.cc_shown_effects.specs.Accesses.{Accesses}
 use Rattle.cc_shown_expressions.specs.OperationNumbers.{Numbers}
 

@@ -2,25 +2,25 @@
 
 ghost use Rattle.std.specs.Prelude.{◌≡◌, ℕ, true, Option, Some, Ok, slice_get};
 ghost use Rattle.cc_bodies.specs.Stmts.{taker};
-ghost use Rattle.cc_designators.specs.Designators.{IsPlace, IsValue};
+ghost use Rattle.cc_typed_bodies.specs.CcDesignators.Designators.{IsPlace, IsValue};
 ghost use Rattle.cc_expression_trees.specs.Exprs.{ShowsPlace, ShowsValue};
-ghost use Rattle.cc_lex.specs.declared.token.Mark.TheVariants as m;
-ghost use Rattle.cc_operands.specs.Operands.{operand};
+ghost use Rattle.cc_typed_bodies.specs.CcLex.declared.token.Mark.TheVariants as m;
+ghost use Rattle.cc_typed_bodies.specs.CcOperands.Operands.{operand};
 ghost use Rattle.cc_program.specs.declared.expr.Expr.{Assign, Expr, out-Expr};
 ghost use Rattle.cc_program.specs.declared.expr.Expr.TheOpen as one;
 ghost use Rattle.cc_program.specs.declared.expr.Place.{Place};
 ghost use Rattle.cc_program.specs.declared.func.Func.{Func};
 ghost use Rattle.cc_program.specs.declared.program.Program.{Program};
 ghost use Rattle.cc_program.specs.declared.types.CType.{CType};
-ghost use Rattle.cc_scopes.specs.State.{State};
+ghost use Rattle.cc_typed_bodies.specs.CcScopes.State.{State};
 ghost use Rattle.cc_shown_effects.specs.Accesses.{Accesses};
 ghost use Rattle.cc_shown_expressions.specs.KnownNames.{KnowsNames};
 ghost use Rattle.cc_shown_expressions.specs.Normal.{HasOperand, HasPlace};
 ghost use Rattle.cc_shown_expressions.specs.OperationNumbers.{Numbers, expr_numbered, place_numbered};
 ghost use Rattle.cc_shown_expressions.specs.Numbers.{place_type_numbered, value_numbered};
-ghost use Rattle.cc_syntax.specs.Sound.{IsSound};
-ghost use Rattle.cc_syntax.specs.Values.{PlaceType, ValueType, is_assignable, read_from, written_to};
-ghost use Rattle.cc_terms.specs.Terms.{tree_of};
+ghost use Rattle.cc_typed_bodies.specs.CcSyntax.Sound.{IsSound};
+ghost use Rattle.cc_typed_bodies.specs.CcSyntax.Values.{PlaceType, ValueType, is_assignable, read_from, written_to};
+ghost use Rattle.cc_typed_bodies.specs.CcTerms.Terms.{tree_of};
 ghost use Rattle.cc_tree.specs.declared.at.At.{At};
 ghost use Rattle.cc_tree.specs.declared.tree.Tree as tree;
 

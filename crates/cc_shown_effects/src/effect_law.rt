@@ -1,23 +1,23 @@
 //! What holds of the trees that show expression statements of a program.
 
 ghost use Rattle.std.specs.Prelude.{◌≡◌, ℕ, true, Some, Ok, slice_get};
-ghost use Rattle.cc_designators.specs.Designators.{IsValue};
-ghost use Rattle.cc_operands.specs.Operands.{operand};
+ghost use Rattle.cc_typed_bodies.specs.CcDesignators.Designators.{IsValue};
+ghost use Rattle.cc_typed_bodies.specs.CcOperands.Operands.{operand};
 ghost use Rattle.cc_program.specs.declared.expr.Expr.{Expr};
 ghost use Rattle.cc_program.specs.declared.func.Func.{Func};
 ghost use Rattle.cc_program.specs.declared.program.Program.{Program};
-ghost use Rattle.cc_scopes.specs.State.{State};
+ghost use Rattle.cc_typed_bodies.specs.CcScopes.State.{State};
 ghost use Rattle.cc_shown_effects.specs.Steps.{Steps};
 ghost use Rattle.cc_shown_expressions.specs.KnownNames.{KnowsNames};
 ghost use Rattle.cc_shown_expressions.specs.OperationNumbers.{Numbers, expr_numbered};
 ghost use Rattle.cc_shown_expressions.specs.Numbers.{value_numbered};
 ghost use Rattle.cc_unit_trees.specs.Effects.{ShowsEffect};
-ghost use Rattle.cc_syntax.specs.Forms.{form_of};
-ghost use Rattle.cc_syntax.specs.Normal.{is_expression_statement};
-ghost use Rattle.cc_syntax.specs.Programs.{type_of};
-ghost use Rattle.cc_syntax.specs.Sound.{IsSound};
-ghost use Rattle.cc_syntax.specs.Values.{ValueType};
-ghost use Rattle.cc_terms.specs.Terms.{tree_of};
+ghost use Rattle.cc_typed_bodies.specs.CcSyntax.Forms.{form_of};
+ghost use Rattle.cc_typed_bodies.specs.CcSyntax.Normal.{is_expression_statement};
+ghost use Rattle.cc_typed_bodies.specs.CcSyntax.Programs.{type_of};
+ghost use Rattle.cc_typed_bodies.specs.CcSyntax.Sound.{IsSound};
+ghost use Rattle.cc_typed_bodies.specs.CcSyntax.Values.{ValueType};
+ghost use Rattle.cc_typed_bodies.specs.CcTerms.Terms.{tree_of};
 ghost use Rattle.cc_tree.specs.declared.tree.Tree.{Tree};
 
 /// What holds of trees that show expression statements in normal form of a function of a sound program, where its structures

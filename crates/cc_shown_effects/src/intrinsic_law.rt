@@ -2,23 +2,23 @@
 
 ghost use Rattle.std.specs.Prelude.{◌≡◌, ℕ, [], ◌∷◌, true, None, Some, Ok, slice_get};
 ghost use Rattle.cc_bodies.specs.Stmts.{intrinsic_name};
-ghost use Rattle.cc_designators.specs.Designators.{IsValue};
+ghost use Rattle.cc_typed_bodies.specs.CcDesignators.Designators.{IsValue};
 ghost use Rattle.cc_expression_trees.specs.Exprs.{ShowsValue};
-ghost use Rattle.cc_operands.specs.Operands.{operand};
+ghost use Rattle.cc_typed_bodies.specs.CcOperands.Operands.{operand};
 ghost use Rattle.cc_program.specs.declared.expr.Expr.{Expr, out-Expr};
 ghost use Rattle.cc_program.specs.declared.expr.Expr.TheOpen as one;
 ghost use Rattle.cc_program.specs.declared.expr.Intr.{Intr};
 ghost use Rattle.cc_program.specs.declared.func.Func.{Func};
 ghost use Rattle.cc_program.specs.declared.program.Program.{Program};
-ghost use Rattle.cc_scopes.specs.State.{State};
+ghost use Rattle.cc_typed_bodies.specs.CcScopes.State.{State};
 ghost use Rattle.cc_shown_expressions.specs.KnownNames.{KnowsNames};
 ghost use Rattle.cc_shown_expressions.specs.OperationNumbers.{Numbers, expr_numbered};
 ghost use Rattle.cc_shown_expressions.specs.Numbers.{value_numbered};
-ghost use Rattle.cc_syntax.specs.Normal.{is_operand};
-ghost use Rattle.cc_syntax.specs.Programs.{type_of};
-ghost use Rattle.cc_syntax.specs.Sound.{IsSound};
-ghost use Rattle.cc_syntax.specs.Values.{ValueType};
-ghost use Rattle.cc_terms.specs.Terms.{tree_of};
+ghost use Rattle.cc_typed_bodies.specs.CcSyntax.Normal.{is_operand};
+ghost use Rattle.cc_typed_bodies.specs.CcSyntax.Programs.{type_of};
+ghost use Rattle.cc_typed_bodies.specs.CcSyntax.Sound.{IsSound};
+ghost use Rattle.cc_typed_bodies.specs.CcSyntax.Values.{ValueType};
+ghost use Rattle.cc_typed_bodies.specs.CcTerms.Terms.{tree_of};
 ghost use Rattle.cc_tree.specs.declared.at.At.{At};
 ghost use Rattle.cc_tree.specs.declared.tree.Tree as tree;
 

@@ -8,7 +8,7 @@ ghost use Rattle.cc_program.specs.declared.program.Program.{Program};
 ghost use Rattle.cc_program.specs.declared.stmt.Stmt.{Stmt, out-Stmt};
 ghost use Rattle.cc_program.specs.declared.stmt.Stmt.TheOpen as is;
 ghost use Rattle.cc_program.specs.declared.types.CType.{CType};
-ghost use Rattle.cc_scopes.specs.State.{Name, State};
+ghost use Rattle.cc_typed_bodies.specs.CcScopes.State.{Name, State};
 ghost use Rattle.cc_shown_effects.specs.Steps.{Steps};
 ghost use Rattle.cc_shown_effects.specs.Numbers.{stmt_numbered};
 ghost use Rattle.cc_shown_expressions.specs.Fits.{FitsValue};
@@ -17,16 +17,16 @@ ghost use Rattle.cc_shown_expressions.specs.Normal.{HasOperand};
 ghost use Rattle.cc_shown_expressions.specs.OperationNumbers.{Numbers};
 ghost use Rattle.cc_shown_expressions.specs.Numbers.{type_numbered};
 ghost use Rattle.cc_unit_trees.specs.Effects.{ShowsEffect};
-ghost use Rattle.cc_syntax.specs.Forms.{form_of};
-ghost use Rattle.cc_syntax.specs.Normal.{is_expression_statement};
-ghost use Rattle.cc_syntax.specs.Programs.{type_of};
-ghost use Rattle.cc_syntax.specs.Sound.{IsSound};
-ghost use Rattle.cc_syntax.specs.Values.{ValueType, is_assignable, is_void, scalar_value};
+ghost use Rattle.cc_typed_bodies.specs.CcSyntax.Forms.{form_of};
+ghost use Rattle.cc_typed_bodies.specs.CcSyntax.Normal.{is_expression_statement};
+ghost use Rattle.cc_typed_bodies.specs.CcSyntax.Programs.{type_of};
+ghost use Rattle.cc_typed_bodies.specs.CcSyntax.Sound.{IsSound};
+ghost use Rattle.cc_typed_bodies.specs.CcSyntax.Values.{ValueType, is_assignable, is_void, scalar_value};
 ghost use Rattle.cc_tree.specs.declared.at.At.{At};
 ghost use Rattle.cc_tree.specs.declared.tree.Tree.{Tree};
 ghost use Rattle.cc_tree.specs.declared.unit.Line as line;
 ghost use Rattle.cc_typed_bodies.specs.Lines.{line_of};
-ghost use Rattle.cc_typed_statements.specs.declared.jumps.Jumps.{Jumps};
+ghost use Rattle.cc_typed_bodies.specs.CcTypedStatements.declared.jumps.Jumps.{Jumps};
 
 /// What holds of lines that show statements with no other in them, in a function of a sound program with this result, where
 /// its structures and names are known (C99 6.8.3, 6.8.6): they are typed to the statement, with the numbers that the

@@ -1,9 +1,9 @@
 -- The specifiers of a type that is not derived from others name it, behind words of a storage class and attributes too.
 use Rattle.std.proofs.Common.{◌≡◌, ℕ, Bool, List, [], ◌∷◌, map, Option, Some, None, Ok, refl, ap, sym, ◌∙◌, slice_get}
-use Rattle.cc_typed_terms.specs.Specifiers.{begin, as_type}
-use Rattle.cc_num.specs.declared.int_type.IntType.{IntType}
-use Rattle.cc_operands.specs.Qualified.{ShapeChange, plain, shape_change, type_change, at_element, with_shape as changed_shape, further, qualified_by}
-use Rattle.cc_operands.specs.Verdicts.{Judged, judge_then}
+use Rattle.cc_terms.specs.CcTypedTerms.Specifiers.{begin, as_type}
+use Rattle.cc_program.specs.CcNum.declared.int_type.IntType.{IntType}
+use Rattle.cc_terms.specs.CcOperands.Qualified.{ShapeChange, plain, shape_change, type_change, at_element, with_shape as changed_shape, further, qualified_by}
+use Rattle.cc_terms.specs.CcOperands.Verdicts.{Judged, judge_then}
 use Rattle.cc_program.specs.declared.program.Program.{Program}
 use Rattle.cc_program.specs.declared.program.Roles.{Roles}
 use Rattle.cc_program.specs.declared.types.CType.{CType, fold-CType, fold_out-CType}
@@ -12,19 +12,19 @@ use Rattle.cc_program.specs.declared.types.Shape.TheOpen as shape
 use Rattle.cc_program.specs.declared.types.Shape.TheVariants.{outs-Void, outs-Int, outs-Struct}
 use Rattle.cc_program.specs.declared.types.Sig.{Sig, fold-Sig}
 use Rattle.cc_program.specs.declared.types.Structure.{Structure}
-use Rattle.cc_scopes.specs.State.{State}
-use Rattle.cc_scopes.specs.Structures.{structure_named, structure_type}
-use Rattle.cc_scopes.specs.Verdicts.{Found, whole, and_then}
-use Rattle.cc_scopes.specs.declared.designated.Tagged.{Tagged}
-use Rattle.cc_specifiers.specs.BasicTypes.{no_word}
-use Rattle.cc_specifiers.specs.Specifiers.{with_specifier, shape_or, named_type, specified}
-use Rattle.cc_specifiers.specs.declared.attribute.Attribute.{Attribute}
-use Rattle.cc_specifiers.specs.declared.specifier.Base.{Base}
-use Rattle.cc_specifiers.specs.declared.specifier.Base.TheVariants as base
-use Rattle.cc_specifiers.specs.declared.specifier.Specifier.{Specifier}
-use Rattle.cc_specifiers.specs.declared.specifier.Specifier.TheVariants as specifier
-use Rattle.cc_specifiers.specs.declared.specifier.Specs.{Specs}
-use Rattle.cc_specifiers.specs.declared.storage.Setting.{Setting}
+use Rattle.cc_terms.specs.CcScopes.State.{State}
+use Rattle.cc_terms.specs.CcScopes.Structures.{structure_named, structure_type}
+use Rattle.cc_terms.specs.CcScopes.Verdicts.{Found, whole, and_then}
+use Rattle.cc_terms.specs.CcScopes.declared.designated.Tagged.{Tagged}
+use Rattle.cc_terms.specs.CcSpecifiers.BasicTypes.{no_word}
+use Rattle.cc_terms.specs.CcSpecifiers.Specifiers.{with_specifier, shape_or, named_type, specified}
+use Rattle.cc_terms.specs.CcSpecifiers.declared.attribute.Attribute.{Attribute}
+use Rattle.cc_terms.specs.CcSpecifiers.declared.specifier.Base.{Base}
+use Rattle.cc_terms.specs.CcSpecifiers.declared.specifier.Base.TheVariants as base
+use Rattle.cc_terms.specs.CcSpecifiers.declared.specifier.Specifier.{Specifier}
+use Rattle.cc_terms.specs.CcSpecifiers.declared.specifier.Specifier.TheVariants as specifier
+use Rattle.cc_terms.specs.CcSpecifiers.declared.specifier.Specs.{Specs}
+use Rattle.cc_terms.specs.CcSpecifiers.declared.storage.Setting.{Setting}
 use Rattle.cc_terms.specs.InTurn.{in_turn}
 use Rattle.cc_terms.specs.Specifiers.{specifier_found, specified_found}
 use Rattle.cc_terms.specs.Terms.{spec_of, spec_here}
@@ -34,8 +34,8 @@ use Rattle.cc_tree.specs.declared.tree.Spec as spec
 use Rattle.cc_tree.specs.declared.tree.Spec.{Spec}
 use Rattle.cc_tree.specs.declared.tree.Spec.TheVariants as spec_rolls
 use Rattle.cc_expression_trees.specs.Types.{ShowsBase, ShowsVoid, ShowsInt, ShowsStructure, qualifier_words, int_words}
-use Rattle.cc_words.specs.declared.word.Word.{Word}
-use Rattle.cc_words.specs.declared.word.Word.TheVariants as w
+use Rattle.cc_program.specs.CcWords.declared.word.Word.{Word}
+use Rattle.cc_program.specs.CcWords.declared.word.Word.TheVariants as w
 use Rattle.cc_shown_expressions.specs.Known.{KnowsStructures}
 use Rattle.cc_shown_expressions.specs.Numbers.{type_numbered}
 use Rattle.cc_shown_expressions.proofs.Numbering.{level, level-at, constant-kept, volatile-kept}

@@ -1,20 +1,20 @@
 -- What casts make of operands that have the types that a program asks for.
 use Rattle.std.proofs.Common.{◌≡◌, ℕ, Bool, true, false, Ok, refl, ap, ◌∙◌}
 use Rattle.std.specs.Prelude.{ℤ, if◌then◌else◌}
-use Rattle.cc_designators.specs.Casts.{void_pointer_cast, constant_cast, qualified_cast, pointer_cast, integer_cast, cast_by, cast_of}
-use Rattle.cc_designators.specs.Designators.{IsValue, IsAddress, null}
-use Rattle.cc_num.specs.declared.int_type.IntType.{IntType}
-use Rattle.cc_num.specs.declared.target.Target.{Target}
-use Rattle.cc_operands.specs.Operands.{Operand, operand, constancy, cast_to, is_pointer, is_null_constant}
-use Rattle.cc_operands.specs.Qualified.{unqualified}
-use Rattle.cc_operands.specs.Verdicts.{must}
-use Rattle.cc_operands.specs.declared.rule.Rule.TheVariants as rule
+use Rattle.cc_terms.specs.CcDesignators.Casts.{void_pointer_cast, constant_cast, qualified_cast, pointer_cast, integer_cast, cast_by, cast_of}
+use Rattle.cc_terms.specs.CcDesignators.Designators.{IsValue, IsAddress, null}
+use Rattle.cc_program.specs.CcNum.declared.int_type.IntType.{IntType}
+use Rattle.cc_program.specs.CcNum.declared.target.Target.{Target}
+use Rattle.cc_terms.specs.CcOperands.Operands.{Operand, operand, constancy, cast_to, is_pointer, is_null_constant}
+use Rattle.cc_terms.specs.CcOperands.Qualified.{unqualified}
+use Rattle.cc_terms.specs.CcOperands.Verdicts.{must}
+use Rattle.cc_terms.specs.CcOperands.declared.rule.Rule.TheVariants as rule
 use Rattle.cc_program.specs.declared.expr.Expr.{Qualify}
 use Rattle.cc_program.specs.declared.types.CType.{CType}
 use Rattle.cc_program.specs.declared.types.Shape.{out-Shape}
 use Rattle.cc_program.specs.declared.types.Shape.TheOpen as shape
-use Rattle.cc_syntax.specs.Folding.{Value}
-use Rattle.cc_syntax.specs.Values.{ValueType, NoValue, Integer, ToObject, ToFunction, is_scalar, is_void, pointer_to, is_assignable}
+use Rattle.cc_terms.specs.CcSyntax.Folding.{Value}
+use Rattle.cc_terms.specs.CcSyntax.Values.{ValueType, NoValue, Integer, ToObject, ToFunction, is_scalar, is_void, pointer_to, is_assignable}
 use Rattle.cc_shown_expressions.proofs.ChoiceRules.{pointer-scalar}
 use Rattle.cc_shown_expressions.proofs.Rules.{with-scalar}
 

@@ -1,19 +1,19 @@
 -- Trees of constants, nulls, conversions and casts of pointers that show those of a program are typed to them.
 use Rattle.std.proofs.Common.{◌≡◌, ℕ, ℤ, pos, Bool, true, false, ◌&&◌, ◌||◌, Ok, refl, ap, sym, ◌∙◌}
 use Rattle.std.specs.Option.{is_some}
-use Rattle.cc_designators.specs.Casts.{cast_of}
-use Rattle.cc_designators.specs.Designators.{TypedExpr, IsValue, IsAddress, null, pointed_in}
-use Rattle.cc_num.specs.declared.int_type.IntType.{IntType}
-use Rattle.cc_num.specs.declared.int_type.IntType.TheVariants as int
-use Rattle.cc_num.specs.Integers.{is_value_of}
-use Rattle.cc_num.proofs.Conversions.{converted-same}
-use Rattle.cc_num.proofs.ResultLaws.{value_from_test}
-use Rattle.cc_operands.specs.Operands.{Operand, operand, integer, cast_to, folded, is_pointer, is_to_void, is_zero_constant, is_null_constant, is_null_at}
-use Rattle.cc_operands.specs.Qualified.{unqualified}
+use Rattle.cc_terms.specs.CcDesignators.Casts.{cast_of}
+use Rattle.cc_terms.specs.CcDesignators.Designators.{TypedExpr, IsValue, IsAddress, null, pointed_in}
+use Rattle.cc_program.specs.CcNum.declared.int_type.IntType.{IntType}
+use Rattle.cc_program.specs.CcNum.declared.int_type.IntType.TheVariants as int
+use Rattle.cc_program.specs.CcNum.Integers.{is_value_of}
+use Rattle.cc_program.proofs.CcNum.Conversions.{converted-same}
+use Rattle.cc_program.proofs.CcNum.ResultLaws.{value_from_test}
+use Rattle.cc_terms.specs.CcOperands.Operands.{Operand, operand, integer, cast_to, folded, is_pointer, is_to_void, is_zero_constant, is_null_constant, is_null_at}
+use Rattle.cc_terms.specs.CcOperands.Qualified.{unqualified}
 use Rattle.cc_shown_expressions.proofs.CastRules.{integer-cast, constant-pointer, void-pointer, null-pointer, qualified-pointer}
 use Rattle.cc_shown_expressions.proofs.ChoiceRules.{alike-void, constancy-of, pointer-scalar}
 use Rattle.cc_pieces.specs.Constants.{is_narrow}
-use Rattle.cc_typed_terms.specs.Values.{valued, value_found}
+use Rattle.cc_terms.specs.CcTypedTerms.Values.{valued, value_found}
 use Rattle.cc_program.specs.declared.expr.Expr.{Expr, Const, Null, Conv, Qualify, out-Expr}
 use Rattle.cc_program.specs.declared.expr.Expr.TheOpen as one
 use Rattle.cc_program.specs.declared.expr.Expr.TheVariants as expr_rolls
@@ -23,14 +23,14 @@ use Rattle.cc_program.specs.declared.types.CType.{CType}
 use Rattle.cc_program.specs.declared.types.Shape.{Shape, out-Shape, out-roll-Shape}
 use Rattle.cc_program.specs.declared.types.Shape.TheOpen as shape
 use Rattle.cc_program.specs.declared.types.Sig.{Sig}
-use Rattle.cc_scopes.specs.State.{State}
-use Rattle.cc_scopes.specs.Verdicts.{Found, and_then}
-use Rattle.cc_syntax.specs.Folding.{Constant, Value, converted_constant, constant_of}
-use Rattle.cc_syntax.specs.Programs.{kind_in}
-use Rattle.cc_syntax.specs.SameTypes.{is_void_shape}
-use Rattle.cc_syntax.specs.Sizes.{AreSized}
-use Rattle.cc_syntax.specs.Values.{ValueType, NoValue, Integer, ToObject, ToFunction, is_void, pointer_shape, pointer_to, is_assignable}
-use Rattle.cc_syntax.proofs.Prefixes.{both_true}
+use Rattle.cc_terms.specs.CcScopes.State.{State}
+use Rattle.cc_terms.specs.CcScopes.Verdicts.{Found, and_then}
+use Rattle.cc_terms.specs.CcSyntax.Folding.{Constant, Value, converted_constant, constant_of}
+use Rattle.cc_terms.specs.CcSyntax.Programs.{kind_in}
+use Rattle.cc_terms.specs.CcSyntax.SameTypes.{is_void_shape}
+use Rattle.cc_terms.specs.CcSyntax.Sizes.{AreSized}
+use Rattle.cc_terms.specs.CcSyntax.Values.{ValueType, NoValue, Integer, ToObject, ToFunction, is_void, pointer_shape, pointer_to, is_assignable}
+use Rattle.cc_terms.proofs.CcSyntax.Prefixes.{both_true}
 use Rattle.cc_terms.specs.Terms.{tree_of, type_name_of, here}
 use Rattle.cc_tree.specs.declared.at.At.{At}
 use Rattle.cc_tree.specs.declared.tree.Tree as tree

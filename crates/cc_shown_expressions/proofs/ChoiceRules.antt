@@ -2,27 +2,27 @@
 -- as they are.
 use Rattle.std.proofs.Common.{◌≡◌, Bool, true, false, not, ◌&&◌, ◌||◌, Ok, Err, refl, ap, sym, ◌∙◌}
 use Rattle.std.specs.Prelude.{ℤ, if◌then◌else◌}
-use Rattle.cc_num.specs.declared.int_type.IntType.{IntType}
-use Rattle.cc_num.specs.declared.target.Target.{Target}
-use Rattle.cc_num.specs.Integers.{is_value_of}
-use Rattle.cc_num.proofs.Conversions.{converted-same}
-use Rattle.cc_num.proofs.ResultLaws.{value_from_test}
-use Rattle.cc_operands.specs.Assignments.{assigned_pointer, assigned_integer, assigned}
-use Rattle.cc_operands.specs.Choices.{chosen_integer, chosen_pointer, nothing_chosen, pointers_chosen, chosen_by, arms_chosen, choose_of}
-use Rattle.cc_operands.specs.Operands.{Operand, operand, integer, constancy, constant_at, folded, cast_to, converted_from, converted_to, is_pointer, is_nothing, is_to_void, is_null_constant, null_of, no_structure}
-use Rattle.cc_operands.specs.Verdicts.{must}
-use Rattle.cc_operands.specs.declared.rule.Rule.TheVariants as rule
+use Rattle.cc_program.specs.CcNum.declared.int_type.IntType.{IntType}
+use Rattle.cc_program.specs.CcNum.declared.target.Target.{Target}
+use Rattle.cc_program.specs.CcNum.Integers.{is_value_of}
+use Rattle.cc_program.proofs.CcNum.Conversions.{converted-same}
+use Rattle.cc_program.proofs.CcNum.ResultLaws.{value_from_test}
+use Rattle.cc_terms.specs.CcOperands.Assignments.{assigned_pointer, assigned_integer, assigned}
+use Rattle.cc_terms.specs.CcOperands.Choices.{chosen_integer, chosen_pointer, nothing_chosen, pointers_chosen, chosen_by, arms_chosen, choose_of}
+use Rattle.cc_terms.specs.CcOperands.Operands.{Operand, operand, integer, constancy, constant_at, folded, cast_to, converted_from, converted_to, is_pointer, is_nothing, is_to_void, is_null_constant, null_of, no_structure}
+use Rattle.cc_terms.specs.CcOperands.Verdicts.{must}
+use Rattle.cc_terms.specs.CcOperands.declared.rule.Rule.TheVariants as rule
 use Rattle.cc_program.specs.declared.expr.Expr.{Const, Conv, Choose}
 use Rattle.cc_program.specs.declared.expr.Expr.TheVariants as expr_rolls
 use Rattle.cc_program.specs.declared.types.CType.{CType}
 use Rattle.cc_program.specs.declared.types.Sig.{Sig}
-use Rattle.cc_syntax.specs.Folding.{Constant, Value, converted_constant}
-use Rattle.cc_syntax.specs.Operators.{is_promoted, common_type}
-use Rattle.cc_syntax.specs.SameTypes.{same_int, same_sig, alike, is_void_shape}
-use Rattle.cc_syntax.specs.Values.{ValueType, NoValue, Integer, ToObject, ToFunction, is_scalar, is_void, point_alike, is_assignable}
-use Rattle.cc_syntax.proofs.AlikeLemmas.{shares}
-use Rattle.cc_syntax.proofs.Prefixes.{both_true}
-use Rattle.cc_syntax.proofs.SameLemmas.{Alike, SameShape, Arrays, int_same}
+use Rattle.cc_terms.specs.CcSyntax.Folding.{Constant, Value, converted_constant}
+use Rattle.cc_terms.specs.CcSyntax.Operators.{is_promoted, common_type}
+use Rattle.cc_terms.specs.CcSyntax.SameTypes.{same_int, same_sig, alike, is_void_shape}
+use Rattle.cc_terms.specs.CcSyntax.Values.{ValueType, NoValue, Integer, ToObject, ToFunction, is_scalar, is_void, point_alike, is_assignable}
+use Rattle.cc_terms.proofs.CcSyntax.AlikeLemmas.{shares}
+use Rattle.cc_terms.proofs.CcSyntax.Prefixes.{both_true}
+use Rattle.cc_terms.proofs.CcSyntax.SameLemmas.{Alike, SameShape, Arrays, int_same}
 use Rattle.cc_shown_expressions.specs.Assigned.{AssignedAs}
 use Rattle.cc_shown_expressions.proofs.Rules.{scalar-something, with-scalar, without-structure, usual-is, same-conversion}
 

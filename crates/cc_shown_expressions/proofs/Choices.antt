@@ -1,18 +1,18 @@
 -- Trees of `c ? a : b` that show a choice of a program are typed to it.
 use Rattle.std.proofs.Common.{◌≡◌, ℕ, Bool, true, false, not, ◌&&◌, ◌||◌, Ok, refl, ap, sym, ◌∙◌, subst}
 use Rattle.std.specs.Prelude.{if◌then◌else◌}
-use Rattle.cc_num.specs.declared.target.Target.{Target}
-use Rattle.cc_operands.specs.Operands.{Operand, operand, constancy, folded, is_to_void}
+use Rattle.cc_program.specs.CcNum.declared.target.Target.{Target}
+use Rattle.cc_terms.specs.CcOperands.Operands.{Operand, operand, constancy, folded, is_to_void}
 use Rattle.cc_shown_expressions.proofs.ChoiceRules.{Common, Integers, Pointers, choose-integers, choose-pointers}
 use Rattle.cc_program.specs.declared.expr.Expr.{Expr, Choose, out-Expr}
 use Rattle.cc_program.specs.declared.expr.Expr.TheOpen as one
 use Rattle.cc_program.specs.declared.func.Func.{Func}
 use Rattle.cc_program.specs.declared.program.Program.{Program}
-use Rattle.cc_scopes.specs.State.{State}
-use Rattle.cc_syntax.specs.Folding.{Constant, NoConstant, Value, Traps, is_true, chosen_constant, constant_of}
-use Rattle.cc_syntax.specs.Operators.{common_type}
-use Rattle.cc_syntax.specs.SameTypes.{alike}
-use Rattle.cc_syntax.specs.Values.{ValueType, NoValue, Integer, ToObject, ToFunction, is_void, point_alike}
+use Rattle.cc_terms.specs.CcScopes.State.{State}
+use Rattle.cc_terms.specs.CcSyntax.Folding.{Constant, NoConstant, Value, Traps, is_true, chosen_constant, constant_of}
+use Rattle.cc_terms.specs.CcSyntax.Operators.{common_type}
+use Rattle.cc_terms.specs.CcSyntax.SameTypes.{alike}
+use Rattle.cc_terms.specs.CcSyntax.Values.{ValueType, NoValue, Integer, ToObject, ToFunction, is_void, point_alike}
 use Rattle.cc_tree.specs.declared.at.At.{At}
 use Rattle.cc_tree.specs.declared.tree.Tree as tree
 use Rattle.cc_tree.specs.declared.tree.Tree.{Tree}

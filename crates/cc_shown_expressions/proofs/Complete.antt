@@ -9,20 +9,20 @@ use Rattle.cc_program.specs.declared.types.Shape.TheOpen as shape
 use Rattle.cc_program.specs.declared.types.Sig.{Sig}
 use Rattle.cc_program.specs.declared.types.Structure.{Structure}
 use Rattle.cc_program.proofs.TypeInduction.{with_shape, TypeParts, by_type}
-use Rattle.cc_scopes.specs.State.{State, structures_of, layouts_of}
-use Rattle.cc_specifiers.specs.Objects.{is_object}
-use Rattle.cc_syntax.specs.Kinds.{Kind, bytes_in, is_small}
-use Rattle.cc_syntax.specs.Programs.{kind_in}
-use Rattle.cc_syntax.specs.Layout.{nothing, shape_layout, type_layout, layouts}
-use Rattle.cc_syntax.specs.Operators.{points_to_object, has_difference}
-use Rattle.cc_syntax.specs.Sizes.{AreSized}
-use Rattle.cc_syntax.specs.Types.{has_members, complete_shape, is_complete}
-use Rattle.cc_syntax.specs.Values.{ValueType, NoValue, Integer, ToObject, ToFunction}
-use Rattle.cc_syntax.specs.declared.sizes.Layout.{Layout}
-use Rattle.cc_syntax.proofs.Prefixes.{both_true}
-use Rattle.cc_syntax.proofs.SameLemmas.{and_true}
-use Rattle.cc_syntax.proofs.SizeLemmas.{has_bytes}
-use Rattle.cc_syntax.proofs.TypeLayouts.{parts_layout, layout-opens, parts_complete, complete-opens}
+use Rattle.cc_terms.specs.CcScopes.State.{State, structures_of, layouts_of}
+use Rattle.cc_terms.specs.CcSpecifiers.Objects.{is_object}
+use Rattle.cc_terms.specs.CcSyntax.Kinds.{Kind, bytes_in, is_small}
+use Rattle.cc_terms.specs.CcSyntax.Programs.{kind_in}
+use Rattle.cc_terms.specs.CcSyntax.Layout.{nothing, shape_layout, type_layout, layouts}
+use Rattle.cc_terms.specs.CcSyntax.Operators.{points_to_object, has_difference}
+use Rattle.cc_terms.specs.CcSyntax.Sizes.{AreSized}
+use Rattle.cc_terms.specs.CcSyntax.Types.{has_members, complete_shape, is_complete}
+use Rattle.cc_terms.specs.CcSyntax.Values.{ValueType, NoValue, Integer, ToObject, ToFunction}
+use Rattle.cc_terms.specs.CcSyntax.declared.sizes.Layout.{Layout}
+use Rattle.cc_terms.proofs.CcSyntax.Prefixes.{both_true}
+use Rattle.cc_terms.proofs.CcSyntax.SameLemmas.{and_true}
+use Rattle.cc_terms.proofs.CcSyntax.SizeLemmas.{has_bytes}
+use Rattle.cc_terms.proofs.CcSyntax.TypeLayouts.{parts_layout, layout-opens, parts_complete, complete-opens}
 use Rattle.cc_shown_expressions.specs.Known.{KnowsStructures}
 use Rattle.cc_shown_expressions.specs.Numbers.{type_numbered, named_numbered, value_numbered}
 use Rattle.cc_shown_expressions.proofs.Numbering.{level, level-at}

@@ -4,38 +4,38 @@ use Rattle.std.proofs.Common.{◌≡◌, ℕ, ◌-◌, Bool, true, false, List, 
 use Rattle.std.proofs.lemmas.Int.{ints}
 use Rattle.std.specs.Prelude.{if◌then◌else◌}
 use Rattle.std.specs.Ordering.{int_eq}
-use Rattle.cc_designators.specs.Designators.{TypedExpr, IsValue}
-use Rattle.cc_lex.specs.declared.token.Mark.TheVariants as m
-use Rattle.cc_lex.specs.declared.token.Suffix.{Suffix}
-use Rattle.cc_num.specs.declared.int_type.IntType.{IntType}
-use Rattle.cc_num.specs.declared.int_type.IntType.TheVariants as int
-use Rattle.cc_num.specs.declared.op.BinOp.TheVariants as op
-use Rattle.cc_num.specs.declared.op.UnOp.TheVariants as un
-use Rattle.cc_num.specs.declared.target.Target.{Target}
-use Rattle.cc_num.specs.Integers.{least_of, IsValueOf, is_value_of}
-use Rattle.cc_num.specs.Promotions.{usual_of}
-use Rattle.cc_num.proofs.Conversions.{converted-same}
-use Rattle.cc_num.proofs.ResultLaws.{is_value_from, value_from_test, truth_value}
+use Rattle.cc_terms.specs.CcDesignators.Designators.{TypedExpr, IsValue}
+use Rattle.cc_terms.specs.CcLex.declared.token.Mark.TheVariants as m
+use Rattle.cc_terms.specs.CcLex.declared.token.Suffix.{Suffix}
+use Rattle.cc_program.specs.CcNum.declared.int_type.IntType.{IntType}
+use Rattle.cc_program.specs.CcNum.declared.int_type.IntType.TheVariants as int
+use Rattle.cc_program.specs.CcNum.declared.op.BinOp.TheVariants as op
+use Rattle.cc_program.specs.CcNum.declared.op.UnOp.TheVariants as un
+use Rattle.cc_program.specs.CcNum.declared.target.Target.{Target}
+use Rattle.cc_program.specs.CcNum.Integers.{least_of, IsValueOf, is_value_of}
+use Rattle.cc_program.specs.CcNum.Promotions.{usual_of}
+use Rattle.cc_program.proofs.CcNum.Conversions.{converted-same}
+use Rattle.cc_program.proofs.CcNum.ResultLaws.{is_value_from, value_from_test, truth_value}
 use Rattle.cc_shown_expressions.proofs.ChoiceRules.{constancy-of}
 use Rattle.cc_shown_expressions.proofs.Rules.{unary-rule, same-conversion}
-use Rattle.cc_operands.specs.Arithmetic.{binary_of, worked}
-use Rattle.cc_operands.specs.Operands.{Operand, integer, constancy, cast_to, converted_to, folded, number_type}
-use Rattle.cc_operands.specs.Operators.{operator_of}
-use Rattle.cc_operands.specs.Unary.{unary_of}
-use Rattle.cc_operands.specs.declared.operator.Operator.TheVariants as operator
-use Rattle.cc_operands.specs.declared.operator.UnaryOperator.TheVariants as unary_operator
+use Rattle.cc_terms.specs.CcOperands.Arithmetic.{binary_of, worked}
+use Rattle.cc_terms.specs.CcOperands.Operands.{Operand, integer, constancy, cast_to, converted_to, folded, number_type}
+use Rattle.cc_terms.specs.CcOperands.Operators.{operator_of}
+use Rattle.cc_terms.specs.CcOperands.Unary.{unary_of}
+use Rattle.cc_terms.specs.CcOperands.declared.operator.Operator.TheVariants as operator
+use Rattle.cc_terms.specs.CcOperands.declared.operator.UnaryOperator.TheVariants as unary_operator
 use Rattle.cc_pieces.specs.Constants.{has_unsigned_letter, long_letters_of, is_narrow}
-use Rattle.cc_typed_terms.specs.Operators.{binary_by}
-use Rattle.cc_typed_terms.specs.Values.{gives, valued, value_found}
+use Rattle.cc_terms.specs.CcTypedTerms.Operators.{binary_by}
+use Rattle.cc_terms.specs.CcTypedTerms.Values.{gives, valued, value_found}
 use Rattle.cc_program.specs.declared.expr.Expr.{Const, Un, Bin, Conv}
 use Rattle.cc_program.specs.declared.program.Roles.{Roles}
 use Rattle.cc_program.specs.declared.types.Structure.{Structure}
-use Rattle.cc_scopes.specs.State.{State, structures_of}
-use Rattle.cc_scopes.specs.Verdicts.{Found, and_then}
-use Rattle.cc_syntax.specs.Folding.{Constant, Value, unary_constant, binary_constant, converted_constant}
-use Rattle.cc_syntax.specs.Operators.{is_promoted}
-use Rattle.cc_syntax.specs.SameTypes.{same_int}
-use Rattle.cc_syntax.proofs.SameLemmas.{int_same}
+use Rattle.cc_terms.specs.CcScopes.State.{State, structures_of}
+use Rattle.cc_terms.specs.CcScopes.Verdicts.{Found, and_then}
+use Rattle.cc_terms.specs.CcSyntax.Folding.{Constant, Value, unary_constant, binary_constant, converted_constant}
+use Rattle.cc_terms.specs.CcSyntax.Operators.{is_promoted}
+use Rattle.cc_terms.specs.CcSyntax.SameTypes.{same_int}
+use Rattle.cc_terms.proofs.CcSyntax.SameLemmas.{int_same}
 use Rattle.cc_terms.specs.Meanings.{TreeMeaning}
 use Rattle.cc_terms.specs.Operations.{prefixed}
 use Rattle.cc_terms.specs.Terms.{tree_of, here}

@@ -4,15 +4,15 @@ use Rattle.std.proofs.Common.{◌≡◌, ℕ, Bool, true, false, not, ◌||◌, 
 use Rattle.std.proofs.lemmas.List.{append-nil}
 use Rattle.std.specs.Prelude.{pos}
 use Rattle.std.specs.List.{list_all, list_any}
-use Rattle.cc_typed_terms.specs.Located.{located}
-use Rattle.cc_typed_terms.specs.Parameters.{parameter, parameter_bound}
-use Rattle.cc_num.specs.declared.int_type.IntType.{IntType}
-use Rattle.cc_num.specs.declared.target.Target.{Target}
-use Rattle.cc_operands.specs.Operands.{Operand, integer, constant_at, number_type}
-use Rattle.cc_operands.specs.Qualified.{plain, unqualified}
-use Rattle.cc_operands.specs.Verdicts.{Judged, must, judge_then}
-use Rattle.cc_operands.specs.declared.rule.Rule.TheVariants as rule
-use Rattle.cc_typed_terms.specs.Values.{valued, value_found}
+use Rattle.cc_terms.specs.CcTypedTerms.Located.{located}
+use Rattle.cc_terms.specs.CcTypedTerms.Parameters.{parameter, parameter_bound}
+use Rattle.cc_program.specs.CcNum.declared.int_type.IntType.{IntType}
+use Rattle.cc_program.specs.CcNum.declared.target.Target.{Target}
+use Rattle.cc_terms.specs.CcOperands.Operands.{Operand, integer, constant_at, number_type}
+use Rattle.cc_terms.specs.CcOperands.Qualified.{plain, unqualified}
+use Rattle.cc_terms.specs.CcOperands.Verdicts.{Judged, must, judge_then}
+use Rattle.cc_terms.specs.CcOperands.declared.rule.Rule.TheVariants as rule
+use Rattle.cc_terms.specs.CcTypedTerms.Values.{valued, value_found}
 use Rattle.cc_program.specs.declared.expr.Expr.{Expr}
 use Rattle.cc_program.specs.declared.expr.Place.{Place}
 use Rattle.cc_program.specs.declared.expr.Expr.TheOpen as expr
@@ -24,26 +24,26 @@ use Rattle.cc_program.specs.declared.types.Shape.{Shape, Pointer, Array, Func, o
 use Rattle.cc_program.specs.declared.types.Shape.TheOpen as shape
 use Rattle.cc_program.specs.declared.types.Shape.TheVariants.{outs-Pointer, outs-Array, outs-Func}
 use Rattle.cc_program.specs.declared.types.Sig.{Sig, out-Sig, roll-Sig, roll-out-Sig}
-use Rattle.cc_scopes.specs.State.{State, Scope, empty, entered, structures_of, layouts_of}
-use Rattle.cc_scopes.specs.Verdicts.{Found, whole, and_then}
-use Rattle.cc_specifiers.specs.Bounds.{is_bound, bound_in, bound_judged}
-use Rattle.cc_specifiers.specs.Declarators.{derive_one, breach, function_to, result_breach, broken_unless}
-use Rattle.cc_specifiers.specs.Derivations.{in_parameter, with_derivation, is_next_to_name, suffix_found, says_const, says_volatile, pointer_derivation}
-use Rattle.cc_specifiers.specs.Parameters.{adjusted_by, adjusted, parameter_by, parameter_type}
-use Rattle.cc_specifiers.specs.Places.{JudgedAt, Checked}
-use Rattle.cc_specifiers.specs.Storage.{setting}
-use Rattle.cc_specifiers.specs.declared.attribute.Entity.TheVariants as entity
-use Rattle.cc_specifiers.specs.declared.derivation.Allowed.{Allowed}
-use Rattle.cc_specifiers.specs.declared.derivation.Declarator.{Declarator}
-use Rattle.cc_specifiers.specs.declared.derivation.Derivation.TheVariants as to
-use Rattle.cc_specifiers.specs.declared.derivation.Parameter.{Parameter}
-use Rattle.cc_specifiers.specs.declared.specifier.Specified.{Specified}
-use Rattle.cc_specifiers.specs.declared.storage.Where.TheVariants as stands
-use Rattle.cc_syntax.specs.Kinds.{is_plain_scalar, is_sig, extent_in}
-use Rattle.cc_syntax.specs.Programs.{kind_in}
-use Rattle.cc_syntax.specs.Sizes.{AreSized}
-use Rattle.cc_syntax.specs.Values.{is_void}
-use Rattle.cc_syntax.proofs.Prefixes.{both_true}
+use Rattle.cc_terms.specs.CcScopes.State.{State, Scope, empty, entered, structures_of, layouts_of}
+use Rattle.cc_terms.specs.CcScopes.Verdicts.{Found, whole, and_then}
+use Rattle.cc_terms.specs.CcSpecifiers.Bounds.{is_bound, bound_in, bound_judged}
+use Rattle.cc_terms.specs.CcSpecifiers.Declarators.{derive_one, breach, function_to, result_breach, broken_unless}
+use Rattle.cc_terms.specs.CcSpecifiers.Derivations.{in_parameter, with_derivation, is_next_to_name, suffix_found, says_const, says_volatile, pointer_derivation}
+use Rattle.cc_terms.specs.CcSpecifiers.Parameters.{adjusted_by, adjusted, parameter_by, parameter_type}
+use Rattle.cc_terms.specs.CcSpecifiers.Places.{JudgedAt, Checked}
+use Rattle.cc_terms.specs.CcSpecifiers.Storage.{setting}
+use Rattle.cc_terms.specs.CcSpecifiers.declared.attribute.Entity.TheVariants as entity
+use Rattle.cc_terms.specs.CcSpecifiers.declared.derivation.Allowed.{Allowed}
+use Rattle.cc_terms.specs.CcSpecifiers.declared.derivation.Declarator.{Declarator}
+use Rattle.cc_terms.specs.CcSpecifiers.declared.derivation.Derivation.TheVariants as to
+use Rattle.cc_terms.specs.CcSpecifiers.declared.derivation.Parameter.{Parameter}
+use Rattle.cc_terms.specs.CcSpecifiers.declared.specifier.Specified.{Specified}
+use Rattle.cc_terms.specs.CcSpecifiers.declared.storage.Where.TheVariants as stands
+use Rattle.cc_terms.specs.CcSyntax.Kinds.{is_plain_scalar, is_sig, extent_in}
+use Rattle.cc_terms.specs.CcSyntax.Programs.{kind_in}
+use Rattle.cc_terms.specs.CcSyntax.Sizes.{AreSized}
+use Rattle.cc_terms.specs.CcSyntax.Values.{is_void}
+use Rattle.cc_terms.proofs.CcSyntax.Prefixes.{both_true}
 use Rattle.cc_terms.specs.Constants.{enumr_step}
 use Rattle.cc_terms.specs.Declarators.{declarator, with_bound, bounded, declr_step, with_scope, params_step, parameter_declared, param_step, type_name_step}
 use Rattle.cc_terms.specs.Expressions.{tree_step}

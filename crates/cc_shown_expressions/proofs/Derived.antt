@@ -1,27 +1,27 @@
 -- Derivations that may stand, one behind another from that next to the name: the type that they derive, and what may stand
 -- behind them.
 use Rattle.std.proofs.Common.{◌≡◌, ◌-◌, ℕ, Bool, true, false, not, ◌&&◌, ◌||◌, List, [], ◌∷◌, ◌++◌, length, length-append, Option, Some, None, Ok, refl, ap, sym, ◌∙◌, slice_get, arith}
-use Rattle.cc_num.specs.declared.target.Target.{Target}
-use Rattle.cc_operands.specs.declared.rule.Rule.{Rule}
-use Rattle.cc_operands.specs.declared.rule.Rule.TheVariants as rule
+use Rattle.cc_program.specs.CcNum.declared.target.Target.{Target}
+use Rattle.cc_terms.specs.CcOperands.declared.rule.Rule.{Rule}
+use Rattle.cc_terms.specs.CcOperands.declared.rule.Rule.TheVariants as rule
 use Rattle.cc_program.specs.declared.types.CType.{CType}
 use Rattle.cc_program.specs.declared.types.Shape.{Shape, out-Shape}
 use Rattle.cc_program.specs.declared.types.Shape.TheOpen as shape
 use Rattle.cc_program.specs.declared.types.Sig.{Sig}
 use Rattle.cc_program.specs.declared.types.Structure.{Structure}
-use Rattle.cc_scopes.specs.State.{Scope}
-use Rattle.cc_specifiers.specs.Declarators.{derive_one, derive, result_breach, broken_unless, fault_or, derived_further, breach, derived}
-use Rattle.cc_specifiers.specs.Derivations.{suffix_breach, unless_broken, outermost, suffix_judged, suffix_found}
-use Rattle.cc_specifiers.specs.Objects.{is_object}
-use Rattle.cc_specifiers.specs.Places.{JudgedAt, checked}
-use Rattle.cc_specifiers.specs.declared.derivation.Derivation.{Derivation}
-use Rattle.cc_specifiers.specs.declared.derivation.Derivation.TheVariants as to
-use Rattle.cc_syntax.specs.Operators.{is_unqualified}
-use Rattle.cc_syntax.specs.Types.{complete_shape, is_complete}
-use Rattle.cc_syntax.specs.Values.{is_void}
-use Rattle.cc_syntax.specs.declared.sizes.Layout.{Layout}
-use Rattle.cc_syntax.proofs.Prefixes.{both_true}
-use Rattle.cc_syntax.proofs.TypeLayouts.{parts_complete, complete-opens}
+use Rattle.cc_terms.specs.CcScopes.State.{Scope}
+use Rattle.cc_terms.specs.CcSpecifiers.Declarators.{derive_one, derive, result_breach, broken_unless, fault_or, derived_further, breach, derived}
+use Rattle.cc_terms.specs.CcSpecifiers.Derivations.{suffix_breach, unless_broken, outermost, suffix_judged, suffix_found}
+use Rattle.cc_terms.specs.CcSpecifiers.Objects.{is_object}
+use Rattle.cc_terms.specs.CcSpecifiers.Places.{JudgedAt, checked}
+use Rattle.cc_terms.specs.CcSpecifiers.declared.derivation.Derivation.{Derivation}
+use Rattle.cc_terms.specs.CcSpecifiers.declared.derivation.Derivation.TheVariants as to
+use Rattle.cc_terms.specs.CcSyntax.Operators.{is_unqualified}
+use Rattle.cc_terms.specs.CcSyntax.Types.{complete_shape, is_complete}
+use Rattle.cc_terms.specs.CcSyntax.Values.{is_void}
+use Rattle.cc_terms.specs.CcSyntax.declared.sizes.Layout.{Layout}
+use Rattle.cc_terms.proofs.CcSyntax.Prefixes.{both_true}
+use Rattle.cc_terms.proofs.CcSyntax.TypeLayouts.{parts_complete, complete-opens}
 use Rattle.cc_tree.specs.declared.at.At.{At}
 
 abbrev pub Derivations : Type 0

@@ -2,8 +2,8 @@
 use Rattle.std.proofs.Common.{◌≡◌, ℕ, Bool, true, false, not, ◌&&◌, ◌||◌, length, List, Option, Some, None, refl, ap, sym, ◌∙◌, subst, slice_get}
 use Rattle.std.specs.Prelude.{if◌then◌else◌}
 use Rattle.std.specs.Option.{is_some}
-use Rattle.cc_num.specs.declared.target.Target.{Target}
-use Rattle.cc_operands.specs.Operands.{is_pointer, is_to_void}
+use Rattle.cc_program.specs.CcNum.declared.target.Target.{Target}
+use Rattle.cc_terms.specs.CcOperands.Operands.{is_pointer, is_to_void}
 use Rattle.cc_program.specs.Qualifiers.{of_element, is_const, is_volatile}
 use Rattle.cc_program.specs.declared.func.Func.{Func}
 use Rattle.cc_program.specs.declared.program.Program.{Program}
@@ -13,12 +13,12 @@ use Rattle.cc_program.specs.declared.types.Shape.TheOpen as shape
 use Rattle.cc_program.specs.declared.types.Sig.{Sig}
 use Rattle.cc_program.specs.declared.types.Structure.{Structure}
 use Rattle.cc_program.proofs.QualifierLemmas.{const-opens, volatile-opens, parts_const, parts_volatile}
-use Rattle.cc_syntax.specs.Kinds.{Kind, IsVoid, IsScalar, IsStructure, IsArray, IsIncomplete, IsFunction, bytes_in, is_object_type, is_plain_scalar}
-use Rattle.cc_syntax.specs.Programs.{kind_in}
-use Rattle.cc_syntax.specs.Operators.{common_type}
-use Rattle.cc_syntax.specs.SameTypes.{is_void_shape, same_sig, alike}
-use Rattle.cc_syntax.specs.Types.{Named}
-use Rattle.cc_syntax.specs.Values.{ValueType, NoValue, Integer, ToObject, ToFunction, PlaceType, DevicePlace, ObjectPlace, FunctionPlace, pointer_shape, pointer_to, scalar_shape, scalar_value, is_void, object_place, read_from, address_of, pointed_to, element_shape, element_of, member_at, member_in, member_shape, member_of}
+use Rattle.cc_terms.specs.CcSyntax.Kinds.{Kind, IsVoid, IsScalar, IsStructure, IsArray, IsIncomplete, IsFunction, bytes_in, is_object_type, is_plain_scalar}
+use Rattle.cc_terms.specs.CcSyntax.Programs.{kind_in}
+use Rattle.cc_terms.specs.CcSyntax.Operators.{common_type}
+use Rattle.cc_terms.specs.CcSyntax.SameTypes.{is_void_shape, same_sig, alike}
+use Rattle.cc_terms.specs.CcSyntax.Types.{Named}
+use Rattle.cc_terms.specs.CcSyntax.Values.{ValueType, NoValue, Integer, ToObject, ToFunction, PlaceType, DevicePlace, ObjectPlace, FunctionPlace, pointer_shape, pointer_to, scalar_shape, scalar_value, is_void, object_place, read_from, address_of, pointed_to, element_shape, element_of, member_at, member_in, member_shape, member_of}
 use Rattle.cc_shown_expressions.specs.Fits.{FitsPlace, FitsValue}
 use Rattle.cc_shown_expressions.specs.KnownNames.{TypesStand}
 use Rattle.cc_shown_expressions.proofs.PlaceParts.{NullIs, ToVoid, ToOther, PointerIs}

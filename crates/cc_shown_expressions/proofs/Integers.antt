@@ -4,24 +4,24 @@ use Rattle.std.proofs.Common.{◌≡◌, ℕ, ◌-◌, ◌<◌, ◌≤◌, Bool,
 use Rattle.std.proofs.lemmas.Bool.Decides.{nat_tests, Decides-int_eq}
 use Rattle.std.proofs.lemmas.Int.{ints}
 use Rattle.std.specs.Ordering.{int_eq}
-use Rattle.cc_num.specs.declared.int_type.IntType.{IntType}
-use Rattle.cc_num.specs.declared.int_type.IntType.TheVariants as int
-use Rattle.cc_num.specs.declared.op.BinOp.TheVariants as op
-use Rattle.cc_num.specs.declared.op.UnOp.TheVariants as un
-use Rattle.cc_num.specs.declared.target.Target.{Target}
-use Rattle.cc_num.specs.Integers.{is_signed, bits_of, least_of, most_of, least_of_bits, most_of_bits, IsValueOf, is_value_of}
-use Rattle.cc_num.specs.Promotions.{rank_of, promoted, usual_of, common_of, common_by}
-use Rattle.cc_num.specs.Results.{result_of, unary_result_of}
-use Rattle.cc_num.proofs.Conversions.{int_bytes_is}
-use Rattle.cc_num.proofs.DivisionLaws.{ends_apart}
-use Rattle.cc_num.proofs.PromotionLaws.{promoted-same}
-use Rattle.cc_num.proofs.ResultLaws.{is_value_from, represented_same, unsigned_least, least_low, most_high}
-use Rattle.cc_operands.specs.Operands.{first_with, types_by, number_type}
+use Rattle.cc_program.specs.CcNum.declared.int_type.IntType.{IntType}
+use Rattle.cc_program.specs.CcNum.declared.int_type.IntType.TheVariants as int
+use Rattle.cc_program.specs.CcNum.declared.op.BinOp.TheVariants as op
+use Rattle.cc_program.specs.CcNum.declared.op.UnOp.TheVariants as un
+use Rattle.cc_program.specs.CcNum.declared.target.Target.{Target}
+use Rattle.cc_program.specs.CcNum.Integers.{is_signed, bits_of, least_of, most_of, least_of_bits, most_of_bits, IsValueOf, is_value_of}
+use Rattle.cc_program.specs.CcNum.Promotions.{rank_of, promoted, usual_of, common_of, common_by}
+use Rattle.cc_program.specs.CcNum.Results.{result_of, unary_result_of}
+use Rattle.cc_program.proofs.CcNum.Conversions.{int_bytes_is}
+use Rattle.cc_program.proofs.CcNum.DivisionLaws.{ends_apart}
+use Rattle.cc_program.proofs.CcNum.PromotionLaws.{promoted-same}
+use Rattle.cc_program.proofs.CcNum.ResultLaws.{is_value_from, represented_same, unsigned_least, least_low, most_high}
+use Rattle.cc_terms.specs.CcOperands.Operands.{first_with, types_by, number_type}
 use Rattle.cc_pieces.specs.Constants.{has_unsigned_letter, long_letters_of, is_narrow}
-use Rattle.cc_syntax.specs.Folding.{Value, NoConstant, result_constant, unary_constant, binary_constant}
-use Rattle.cc_syntax.specs.Operators.{is_promoted}
-use Rattle.cc_syntax.specs.SameTypes.{same_int}
-use Rattle.cc_syntax.proofs.SameLemmas.{int_itself}
+use Rattle.cc_terms.specs.CcSyntax.Folding.{Value, NoConstant, result_constant, unary_constant, binary_constant}
+use Rattle.cc_terms.specs.CcSyntax.Operators.{is_promoted}
+use Rattle.cc_terms.specs.CcSyntax.SameTypes.{same_int}
+use Rattle.cc_terms.proofs.CcSyntax.SameLemmas.{int_itself}
 use Rattle.cc_expression_trees.specs.Types.{suffix}
 
 -- ---- the type that a value is written in

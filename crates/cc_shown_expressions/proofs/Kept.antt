@@ -9,11 +9,11 @@ use Rattle.cc_program.specs.declared.types.Shape.TheOpen as shape
 use Rattle.cc_program.specs.declared.types.Sig.{Sig}
 use Rattle.cc_program.proofs.QualifierLemmas.{parts_const, parts_volatile, const-opens, volatile-opens}
 use Rattle.cc_program.proofs.TypeInduction.{with_shape, TypeParts, by_type}
-use Rattle.cc_syntax.specs.SameTypes.{alike, same_sig, is_void_shape}
-use Rattle.cc_syntax.specs.Values.{ValueType, NoValue, Integer, ToObject, ToFunction, PlaceType, DevicePlace, ObjectPlace, FunctionPlace, pointer_shape, pointer_to, scalar_shape, scalar_value, result_value, is_void, is_scalar, object_place, read_from, written_to, address_of, pointed_to, element_shape, element_of, point_alike, implies, is_assignable}
-use Rattle.cc_syntax.proofs.AlikeLemmas.{shares, same_shape_alike}
-use Rattle.cc_syntax.proofs.Prefixes.{both_true}
-use Rattle.cc_syntax.proofs.SameLemmas.{Alike, SameShape, Arrays, arrays_compared, sig_compared, and_true}
+use Rattle.cc_terms.specs.CcSyntax.SameTypes.{alike, same_sig, is_void_shape}
+use Rattle.cc_terms.specs.CcSyntax.Values.{ValueType, NoValue, Integer, ToObject, ToFunction, PlaceType, DevicePlace, ObjectPlace, FunctionPlace, pointer_shape, pointer_to, scalar_shape, scalar_value, result_value, is_void, is_scalar, object_place, read_from, written_to, address_of, pointed_to, element_shape, element_of, point_alike, implies, is_assignable}
+use Rattle.cc_terms.proofs.CcSyntax.AlikeLemmas.{shares, same_shape_alike}
+use Rattle.cc_terms.proofs.CcSyntax.Prefixes.{both_true}
+use Rattle.cc_terms.proofs.CcSyntax.SameLemmas.{Alike, SameShape, Arrays, arrays_compared, sig_compared, and_true}
 use Rattle.cc_shown_expressions.specs.Numbers.{type_numbered, sig_numbered, value_numbered, place_type_numbered}
 use Rattle.cc_shown_expressions.proofs.Numbering.{level, shape-level, level-at, constant-kept, volatile-kept}
 

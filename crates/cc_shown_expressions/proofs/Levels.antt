@@ -2,22 +2,22 @@
 -- other numbers; and what it says that the level has a type.
 use Rattle.std.specs.Prelude.{ℤ}
 use Rattle.std.proofs.Common.{◌≡◌, Bool, true, false, not, map, Option, Some, None, refl, ap, sym, ◌∙◌}
-use Rattle.cc_operands.specs.Operands.{constant_at, is_null_at}
+use Rattle.cc_terms.specs.CcOperands.Operands.{constant_at, is_null_at}
 use Rattle.cc_program.specs.declared.expr.Expr.{Expr, out-Expr, map-Expr, fold_out-Expr}
 use Rattle.cc_program.specs.declared.expr.Expr.TheOpen as one
 use Rattle.cc_program.specs.declared.expr.Expr.TheVariants as rolls
 use Rattle.cc_program.specs.declared.expr.Place.{Place, out-Place, map-Place, fold_out-Place}
 use Rattle.cc_program.specs.declared.func.Func.{Func}
 use Rattle.cc_program.specs.declared.program.Program.{Program}
-use Rattle.cc_num.specs.declared.target.Target.{Target}
-use Rattle.cc_syntax.specs.Effects.{Effects, PlaceEffects, effect_step, place_effect_step, effects_of, place_effects_of}
-use Rattle.cc_syntax.specs.Expressions.{of_one, of_two}
-use Rattle.cc_syntax.specs.Expressions as typing
-use Rattle.cc_syntax.specs.Programs.{expr_step, place_step, type_of, place_type}
-use Rattle.cc_syntax.specs.Folding.{Constant, NoConstant, Value, Traps, Folding, has_value, operation, folding_step, place_folding_step, folding_of, is_folded_place, constant_of, is_folded}
-use Rattle.cc_syntax.specs.Operators.{when}
-use Rattle.cc_syntax.specs.Values.{ValueType, PlaceType}
-use Rattle.cc_syntax.proofs.Prefixes.{both_true}
+use Rattle.cc_program.specs.CcNum.declared.target.Target.{Target}
+use Rattle.cc_terms.specs.CcSyntax.Effects.{Effects, PlaceEffects, effect_step, place_effect_step, effects_of, place_effects_of}
+use Rattle.cc_terms.specs.CcSyntax.Expressions.{of_one, of_two}
+use Rattle.cc_terms.specs.CcSyntax.Expressions as typing
+use Rattle.cc_terms.specs.CcSyntax.Programs.{expr_step, place_step, type_of, place_type}
+use Rattle.cc_terms.specs.CcSyntax.Folding.{Constant, NoConstant, Value, Traps, Folding, has_value, operation, folding_step, place_folding_step, folding_of, is_folded_place, constant_of, is_folded}
+use Rattle.cc_terms.specs.CcSyntax.Operators.{when}
+use Rattle.cc_terms.specs.CcSyntax.Values.{ValueType, PlaceType}
+use Rattle.cc_terms.proofs.CcSyntax.Prefixes.{both_true}
 use Rattle.cc_shown_expressions.specs.OperationNumbers.{Numbers, expr_numbered, place_numbered}
 use Rattle.cc_shown_expressions.specs.OperationNumbers.{expr_step as number_step, place_step as number_place_step}
 use Rattle.cc_shown_expressions.specs.Numbers.{type_numbered}

@@ -8,9 +8,9 @@ use Rattle.std.proofs.lemmas.List.{length-map}
 use Rattle.std.proofs.lemmas.Option.{slice_get-map, slice_get_within}
 use Rattle.std.proofs.lemmas.Slice.Eq.{bytes_eq-Decides}
 use Rattle.cc_bodies.specs.Names.{local_name, member_name, member_shape as name_in_shape, member_at as name_at}
-use Rattle.cc_designators.specs.Designators.{IsPlace}
-use Rattle.cc_designators.specs.Postfix.{position_in, position_at, position_of, member_at, member_by, dot}
-use Rattle.cc_operands.specs.declared.rule.Rule.TheVariants as rule
+use Rattle.cc_terms.specs.CcDesignators.Designators.{IsPlace}
+use Rattle.cc_terms.specs.CcDesignators.Postfix.{position_in, position_at, position_of, member_at, member_by, dot}
+use Rattle.cc_terms.specs.CcOperands.declared.rule.Rule.TheVariants as rule
 use Rattle.cc_program.specs.Qualifiers.{is_const, is_volatile}
 use Rattle.cc_program.specs.declared.expr.Place.{Place, Member}
 use Rattle.cc_program.specs.declared.func.Func.{Func}
@@ -20,13 +20,13 @@ use Rattle.cc_program.specs.declared.types.Shape.{Shape, out-Shape}
 use Rattle.cc_program.specs.declared.types.Shape.TheOpen as shape
 use Rattle.cc_program.specs.declared.types.Sig.{Sig}
 use Rattle.cc_program.specs.declared.types.Structure.{Structure}
-use Rattle.cc_scopes.specs.State.{State, structures_of}
-use Rattle.cc_syntax.specs.Names.{local_names}
-use Rattle.cc_syntax.specs.Types.{Named}
-use Rattle.cc_syntax.specs.Values.{PlaceType, DevicePlace, ObjectPlace, FunctionPlace, member_of}
-use Rattle.cc_syntax.specs.Values.{member_at as place_at_member, member_in as place_in_structure, member_shape as place_in_shape}
-use Rattle.cc_syntax.proofs.Prefixes.{both_true}
-use Rattle.cc_words.specs.Names.{is_name, are_distinct}
+use Rattle.cc_terms.specs.CcScopes.State.{State, structures_of}
+use Rattle.cc_terms.specs.CcSyntax.Names.{local_names}
+use Rattle.cc_terms.specs.CcSyntax.Types.{Named}
+use Rattle.cc_terms.specs.CcSyntax.Values.{PlaceType, DevicePlace, ObjectPlace, FunctionPlace, member_of}
+use Rattle.cc_terms.specs.CcSyntax.Values.{member_at as place_at_member, member_in as place_in_structure, member_shape as place_in_shape}
+use Rattle.cc_terms.proofs.CcSyntax.Prefixes.{both_true}
+use Rattle.cc_program.specs.CcWords.Names.{is_name, are_distinct}
 use Rattle.cc_shown_expressions.specs.KnownNames.{TypesStand}
 use Rattle.cc_shown_expressions.specs.Known.{KnowsStructures}
 use Rattle.cc_shown_expressions.specs.Numbers.{place_type_numbered, named_numbered, type_numbered}

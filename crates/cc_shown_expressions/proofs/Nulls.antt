@@ -1,6 +1,6 @@
 -- A null constant among operands of a program is a null of a pointer to plain void; what it is compared with is one too.
 use Rattle.std.proofs.Common.{◌≡◌, Bool, true, false, refl, ap, sym, ◌∙◌}
-use Rattle.cc_operands.specs.Operands.{is_pointer, is_to_void, is_null_at, is_null_constant, null_of}
+use Rattle.cc_terms.specs.CcOperands.Operands.{is_pointer, is_to_void, is_null_at, is_null_constant, null_of}
 use Rattle.cc_program.specs.declared.expr.Expr.{Expr, out-Expr}
 use Rattle.cc_program.specs.declared.expr.Expr.TheOpen as one
 use Rattle.cc_program.specs.declared.expr.Place.{Place}
@@ -10,10 +10,10 @@ use Rattle.cc_program.specs.declared.types.CType.{CType}
 use Rattle.cc_program.specs.declared.types.Shape.{Shape, out-Shape}
 use Rattle.cc_program.specs.declared.types.Shape.TheOpen as shape
 use Rattle.cc_program.specs.declared.types.Sig.{Sig}
-use Rattle.cc_syntax.specs.Folding.{NoConstant, constant_of}
-use Rattle.cc_syntax.specs.SameTypes.{is_void_shape}
-use Rattle.cc_syntax.specs.Values.{ValueType, NoValue, Integer, ToObject, ToFunction, is_void, pointer_shape, point_alike}
-use Rattle.cc_syntax.proofs.Prefixes.{both_true}
+use Rattle.cc_terms.specs.CcSyntax.Folding.{NoConstant, constant_of}
+use Rattle.cc_terms.specs.CcSyntax.SameTypes.{is_void_shape}
+use Rattle.cc_terms.specs.CcSyntax.Values.{ValueType, NoValue, Integer, ToObject, ToFunction, is_void, pointer_shape, point_alike}
+use Rattle.cc_terms.proofs.CcSyntax.Prefixes.{both_true}
 use Rattle.cc_shown_expressions.specs.OperationNumbers.{Numbers, expr_numbered}
 use Rattle.cc_shown_expressions.specs.Typed.{operand_of}
 use Rattle.cc_shown_expressions.proofs.ChoiceRules.{alike-void}

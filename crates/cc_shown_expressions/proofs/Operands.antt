@@ -2,9 +2,9 @@
 -- that is such an operand again.
 use Rattle.std.proofs.Common.{◌≡◌, Bool, true, false, ◌&&◌, ◌||◌, refl, ap, sym, ◌∙◌}
 use Rattle.std.specs.Prelude.{ℤ, if◌then◌else◌}
-use Rattle.cc_num.specs.declared.int_type.IntType.{IntType}
-use Rattle.cc_operands.specs.Operands.{Operand, operand, constant_at, constancy, folded, is_to_void, is_null_at, is_zero_constant, is_null_constant, null_of}
-use Rattle.cc_operands.specs.Qualified.{plain, qualified_as, instead}
+use Rattle.cc_program.specs.CcNum.declared.int_type.IntType.{IntType}
+use Rattle.cc_terms.specs.CcOperands.Operands.{Operand, operand, constant_at, constancy, folded, is_to_void, is_null_at, is_zero_constant, is_null_constant, null_of}
+use Rattle.cc_terms.specs.CcOperands.Qualified.{plain, qualified_as, instead}
 use Rattle.cc_program.specs.declared.expr.Expr.{Expr, Null, out-Expr}
 use Rattle.cc_program.specs.declared.expr.Expr.TheOpen as one
 use Rattle.cc_program.specs.declared.program.Program.{Program}
@@ -12,8 +12,8 @@ use Rattle.cc_program.specs.declared.types.CType.{CType}
 use Rattle.cc_program.specs.declared.types.Shape.{Pointer, out-Shape}
 use Rattle.cc_program.specs.declared.types.Shape.TheOpen as shape
 use Rattle.cc_program.specs.declared.types.Shape.TheVariants.{outs-Pointer}
-use Rattle.cc_syntax.specs.Folding.{Constant, NoConstant, Value, Traps, has_value, constant_of, is_folded}
-use Rattle.cc_syntax.specs.Values.{ValueType, NoValue, Integer, ToObject, ToFunction}
+use Rattle.cc_terms.specs.CcSyntax.Folding.{Constant, NoConstant, Value, Traps, has_value, constant_of, is_folded}
+use Rattle.cc_terms.specs.CcSyntax.Values.{ValueType, NoValue, Integer, ToObject, ToFunction}
 use Rattle.cc_shown_expressions.specs.OperationNumbers.{Numbers, expr_numbered}
 use Rattle.cc_shown_expressions.specs.Typed.{is_trap, operand_of}
 use Rattle.cc_shown_expressions.proofs.Levels.{expr-at, value-is, none-is, constant-numbered, null-numbered}

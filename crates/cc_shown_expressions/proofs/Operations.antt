@@ -3,28 +3,28 @@ use Rattle.std.proofs.Common.{◌≡◌, ℕ, Bool, true, false, Some, Ok, refl,
 use Rattle.std.specs.Prelude.{if◌then◌else◌}
 use Rattle.cc_bodies.specs.Exprs.{unary_mark, binary_mark, movement_mark}
 use Rattle.cc_expression_trees.specs.Exprs.{IsBinary, AnOperation, AMovement, ADifference, AComparison, ABoth, AnEither}
-use Rattle.cc_lex.specs.declared.token.Mark.{Mark}
-use Rattle.cc_lex.specs.declared.token.Mark.TheVariants as m
-use Rattle.cc_num.specs.declared.int_type.IntType.{IntType}
-use Rattle.cc_num.specs.declared.int_type.IntType.TheVariants as int
-use Rattle.cc_num.specs.declared.op.BinOp.{BinOp}
-use Rattle.cc_num.specs.declared.op.BinOp.TheVariants as op
-use Rattle.cc_num.specs.declared.op.UnOp.{UnOp}
-use Rattle.cc_num.specs.declared.op.UnOp.TheVariants as un
-use Rattle.cc_operands.specs.Operands.{Operand, constancy, folded, is_pointer}
-use Rattle.cc_operands.specs.Operators.{operator_of, unary_operator_of}
-use Rattle.cc_operands.specs.declared.operator.Operator.TheVariants as operator
-use Rattle.cc_typed_terms.specs.Operators.{prefix_of}
-use Rattle.cc_typed_terms.specs.declared.prefix.Prefix.TheVariants as prefix
+use Rattle.cc_terms.specs.CcLex.declared.token.Mark.{Mark}
+use Rattle.cc_terms.specs.CcLex.declared.token.Mark.TheVariants as m
+use Rattle.cc_program.specs.CcNum.declared.int_type.IntType.{IntType}
+use Rattle.cc_program.specs.CcNum.declared.int_type.IntType.TheVariants as int
+use Rattle.cc_program.specs.CcNum.declared.op.BinOp.{BinOp}
+use Rattle.cc_program.specs.CcNum.declared.op.BinOp.TheVariants as op
+use Rattle.cc_program.specs.CcNum.declared.op.UnOp.{UnOp}
+use Rattle.cc_program.specs.CcNum.declared.op.UnOp.TheVariants as un
+use Rattle.cc_terms.specs.CcOperands.Operands.{Operand, constancy, folded, is_pointer}
+use Rattle.cc_terms.specs.CcOperands.Operators.{operator_of, unary_operator_of}
+use Rattle.cc_terms.specs.CcOperands.declared.operator.Operator.TheVariants as operator
+use Rattle.cc_terms.specs.CcTypedTerms.Operators.{prefix_of}
+use Rattle.cc_terms.specs.CcTypedTerms.declared.prefix.Prefix.TheVariants as prefix
 use Rattle.cc_program.specs.declared.expr.Expr.{Expr, Un, Bin, Move, Gap, Compare, Both, Either, out-Expr}
 use Rattle.cc_program.specs.declared.expr.Expr.TheOpen as one
 use Rattle.cc_program.specs.declared.expr.Place.{Place}
 use Rattle.cc_program.specs.declared.func.Func.{Func}
 use Rattle.cc_program.specs.declared.program.Program.{Program}
-use Rattle.cc_scopes.specs.State.{State, structures_of}
-use Rattle.cc_syntax.specs.Folding.{Constant, unary_constant, binary_constant, both_constant, either_constant, constant_of}
-use Rattle.cc_syntax.specs.Operators.{unary_result, binary_result, difference_type, is_comparison}
-use Rattle.cc_syntax.specs.Values.{ValueType, Integer}
+use Rattle.cc_terms.specs.CcScopes.State.{State, structures_of}
+use Rattle.cc_terms.specs.CcSyntax.Folding.{Constant, unary_constant, binary_constant, both_constant, either_constant, constant_of}
+use Rattle.cc_terms.specs.CcSyntax.Operators.{unary_result, binary_result, difference_type, is_comparison}
+use Rattle.cc_terms.specs.CcSyntax.Values.{ValueType, Integer}
 use Rattle.cc_tree.specs.declared.at.At.{At}
 use Rattle.cc_tree.specs.declared.tree.Tree as tree
 use Rattle.cc_tree.specs.declared.tree.Tree.{Tree}

@@ -1,23 +1,23 @@
 -- What it says of the parts of an expression that it is an operand of a program in normal form: has a scalar type, is pure
 -- and folded.
 use Rattle.std.proofs.Common.{◌≡◌, Bool, true, false, ◌&&◌, Option, Some, refl, ap, sym, ◌∙◌, subst}
-use Rattle.cc_num.specs.declared.int_type.IntType.{IntType}
-use Rattle.cc_num.specs.declared.int_type.IntType.TheVariants as int
-use Rattle.cc_num.specs.declared.op.BinOp.{BinOp}
-use Rattle.cc_num.specs.declared.op.UnOp.{UnOp}
-use Rattle.cc_num.specs.Results.{is_shift}
+use Rattle.cc_program.specs.CcNum.declared.int_type.IntType.{IntType}
+use Rattle.cc_program.specs.CcNum.declared.int_type.IntType.TheVariants as int
+use Rattle.cc_program.specs.CcNum.declared.op.BinOp.{BinOp}
+use Rattle.cc_program.specs.CcNum.declared.op.UnOp.{UnOp}
+use Rattle.cc_program.specs.CcNum.Results.{is_shift}
 use Rattle.cc_program.specs.declared.expr.Expr.{Expr, out-Expr, map-Expr}
 use Rattle.cc_program.specs.declared.expr.Expr.TheOpen as one
 use Rattle.cc_program.specs.declared.expr.Place.{Place}
 use Rattle.cc_program.specs.declared.func.Func.{Func}
 use Rattle.cc_program.specs.declared.program.Program.{Program}
-use Rattle.cc_syntax.specs.Effects.{Effects, PlaceEffects, no_one, effect_step, effects_of, place_effects_of}
-use Rattle.cc_syntax.specs.Expressions.{of_two}
-use Rattle.cc_syntax.specs.Programs.{expr_step, type_of, place_type}
-use Rattle.cc_syntax.specs.Folding.{Constant, NoConstant, has_value, unary_constant, binary_constant, converted_constant, both_constant, either_constant, operation, constant_of, is_folded}
-use Rattle.cc_syntax.specs.Operators.{is_promoted, is_of, second_fits, binary_result, unary_result, is_integer, is_comparison, points_to_object, has_difference, difference_type, unary_type, conversion_type, binary_type, moved_type, gap_type, comparison_type, logical_type}
-use Rattle.cc_syntax.specs.Values.{ValueType, NoValue, Integer, ToObject, ToFunction, PlaceType, is_scalar, point_alike}
-use Rattle.cc_syntax.proofs.Prefixes.{both_true}
+use Rattle.cc_terms.specs.CcSyntax.Effects.{Effects, PlaceEffects, no_one, effect_step, effects_of, place_effects_of}
+use Rattle.cc_terms.specs.CcSyntax.Expressions.{of_two}
+use Rattle.cc_terms.specs.CcSyntax.Programs.{expr_step, type_of, place_type}
+use Rattle.cc_terms.specs.CcSyntax.Folding.{Constant, NoConstant, has_value, unary_constant, binary_constant, converted_constant, both_constant, either_constant, operation, constant_of, is_folded}
+use Rattle.cc_terms.specs.CcSyntax.Operators.{is_promoted, is_of, second_fits, binary_result, unary_result, is_integer, is_comparison, points_to_object, has_difference, difference_type, unary_type, conversion_type, binary_type, moved_type, gap_type, comparison_type, logical_type}
+use Rattle.cc_terms.specs.CcSyntax.Values.{ValueType, NoValue, Integer, ToObject, ToFunction, PlaceType, is_scalar, point_alike}
+use Rattle.cc_terms.proofs.CcSyntax.Prefixes.{both_true}
 use Rattle.cc_shown_expressions.specs.Normal.{HasOperand}
 use Rattle.cc_shown_expressions.proofs.Levels.{one-is, two-is, when-is, type-at, effects-at, constant-at, folded-at, folded_in, operation-is}
 use Rattle.cc_shown_expressions.proofs.Rules.{of-is, integer-is, alike-scalars, points-scalar}

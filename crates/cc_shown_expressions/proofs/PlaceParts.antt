@@ -2,7 +2,7 @@
 -- of a program in normal form.
 use Rattle.std.proofs.Common.{◌≡◌, ℕ, Bool, true, false, not, ◌&&◌, ◌||◌, Option, Some, None, refl, ap, sym, ◌∙◌}
 use Rattle.std.specs.Prelude.{if◌then◌else◌}
-use Rattle.cc_num.specs.declared.int_type.IntType.{IntType}
+use Rattle.cc_program.specs.CcNum.declared.int_type.IntType.{IntType}
 use Rattle.cc_program.specs.declared.expr.Expr.{Expr, out-Expr, map-Expr}
 use Rattle.cc_program.specs.declared.expr.Expr.TheOpen as one
 use Rattle.cc_program.specs.declared.expr.Place.{Place, out-Place, map-Place}
@@ -12,15 +12,15 @@ use Rattle.cc_program.specs.declared.types.CType.{CType}
 use Rattle.cc_program.specs.declared.types.Shape.{Shape, out-Shape}
 use Rattle.cc_program.specs.declared.types.Shape.TheOpen as shape
 use Rattle.cc_program.specs.declared.types.Sig.{Sig}
-use Rattle.cc_syntax.specs.Effects.{Effects, PlaceEffects, no_one, effect_step, place_effect_step, effects_of, place_effects_of}
-use Rattle.cc_syntax.specs.Expressions.{of_two}
-use Rattle.cc_syntax.specs.Programs.{expr_step, place_step, type_of, place_type, kind_in, pointer_type, null_type, qualified_type}
-use Rattle.cc_syntax.specs.Folding.{NoConstant, Folding, has_value, chosen_constant, place_folding_step, folding_of, is_folded_place, constant_of, is_folded}
-use Rattle.cc_syntax.specs.Kinds.{is_plain_scalar}
-use Rattle.cc_syntax.specs.Operators.{is_integer, is_unqualified, pointer_in, void_pointer_in, first_of, when_assignable, common_type, choice_type, subscript_type}
-use Rattle.cc_syntax.specs.SameTypes.{is_void_shape}
-use Rattle.cc_syntax.specs.Values.{ValueType, NoValue, Integer, ToObject, ToFunction, PlaceType, is_scalar, is_void, pointer_to, is_assignable, address_of, pointed_to, element_of, member_of}
-use Rattle.cc_syntax.proofs.Prefixes.{both_true}
+use Rattle.cc_terms.specs.CcSyntax.Effects.{Effects, PlaceEffects, no_one, effect_step, place_effect_step, effects_of, place_effects_of}
+use Rattle.cc_terms.specs.CcSyntax.Expressions.{of_two}
+use Rattle.cc_terms.specs.CcSyntax.Programs.{expr_step, place_step, type_of, place_type, kind_in, pointer_type, null_type, qualified_type}
+use Rattle.cc_terms.specs.CcSyntax.Folding.{NoConstant, Folding, has_value, chosen_constant, place_folding_step, folding_of, is_folded_place, constant_of, is_folded}
+use Rattle.cc_terms.specs.CcSyntax.Kinds.{is_plain_scalar}
+use Rattle.cc_terms.specs.CcSyntax.Operators.{is_integer, is_unqualified, pointer_in, void_pointer_in, first_of, when_assignable, common_type, choice_type, subscript_type}
+use Rattle.cc_terms.specs.CcSyntax.SameTypes.{is_void_shape}
+use Rattle.cc_terms.specs.CcSyntax.Values.{ValueType, NoValue, Integer, ToObject, ToFunction, PlaceType, is_scalar, is_void, pointer_to, is_assignable, address_of, pointed_to, element_of, member_of}
+use Rattle.cc_terms.proofs.CcSyntax.Prefixes.{both_true}
 use Rattle.cc_shown_expressions.proofs.ChoiceRules.{Common, Integers, Pointers, common-is, pointer-scalar}
 use Rattle.cc_shown_expressions.proofs.Levels.{one-is, two-is, when-is, type-at, place-at, effects-at, place-effects-at, constant-at, folded-at, folded_in, place-folding-at, operation-is}
 use Rattle.cc_shown_expressions.specs.Normal.{HasOperand, HasPlace}

@@ -2,15 +2,15 @@
 use Rattle.std.proofs.Common.{◌≡◌, ℕ, Bool, true, false, not, Option, Some, None, Ok, refl, ap, sym, ◌∙◌, subst, slice_get}
 use Rattle.std.specs.Prelude.{is_some, option_map}
 use Rattle.cc_bodies.specs.Names.{member_name}
-use Rattle.cc_designators.specs.Designators.{IsPlace, IsFunction, loaded, value_at}
-use Rattle.cc_designators.specs.Postfix.{element, element_by, address_at, indirection, pointed_at}
-use Rattle.cc_lex.specs.declared.token.Mark.TheVariants as m
-use Rattle.cc_num.specs.declared.int_type.IntType.{IntType}
-use Rattle.cc_operands.specs.Operands.{Operand, operand}
-use Rattle.cc_operands.specs.Verdicts.{must}
-use Rattle.cc_operands.specs.declared.rule.Rule.TheVariants as rule
+use Rattle.cc_terms.specs.CcDesignators.Designators.{IsPlace, IsFunction, loaded, value_at}
+use Rattle.cc_terms.specs.CcDesignators.Postfix.{element, element_by, address_at, indirection, pointed_at}
+use Rattle.cc_terms.specs.CcLex.declared.token.Mark.TheVariants as m
+use Rattle.cc_program.specs.CcNum.declared.int_type.IntType.{IntType}
+use Rattle.cc_terms.specs.CcOperands.Operands.{Operand, operand}
+use Rattle.cc_terms.specs.CcOperands.Verdicts.{must}
+use Rattle.cc_terms.specs.CcOperands.declared.rule.Rule.TheVariants as rule
 use Rattle.cc_shown_expressions.proofs.Rules.{with-scalar}
-use Rattle.cc_typed_terms.specs.Devices.{cast_constant}
+use Rattle.cc_terms.specs.CcTypedTerms.Devices.{cast_constant}
 use Rattle.cc_program.specs.declared.expr.Expr.{Expr, FuncAddr, Load, AddrOf, out-Expr}
 use Rattle.cc_program.specs.declared.expr.Expr.TheOpen as one
 use Rattle.cc_program.specs.declared.expr.Place.{Place, Local, Static, Element, Member, Deref, out-Place, map-Place}
@@ -22,13 +22,13 @@ use Rattle.cc_program.specs.declared.types.CType.{CType}
 use Rattle.cc_program.specs.declared.types.Shape.{Shape, out-Shape}
 use Rattle.cc_program.specs.declared.types.Shape.TheOpen as shape
 use Rattle.cc_program.specs.declared.types.Sig.{Sig}
-use Rattle.cc_scopes.specs.State.{State}
-use Rattle.cc_scopes.specs.Verdicts.{whole}
-use Rattle.cc_syntax.specs.Effects.{Effects, PlaceEffects, no_one, is_soft, place_effect_step, effects_of, place_effects_of}
-use Rattle.cc_syntax.specs.Programs.{place_type}
-use Rattle.cc_syntax.specs.Operators.{is_integer, is_handler, function_type}
-use Rattle.cc_syntax.specs.Types.{Named}
-use Rattle.cc_syntax.specs.Values.{ValueType, Integer, ToFunction, PlaceType, DevicePlace, ObjectPlace, FunctionPlace, is_scalar, scalar_shape, object_place, pointer_to, read_from, address_of, pointed_to, element_shape, element_of, member_of}
+use Rattle.cc_terms.specs.CcScopes.State.{State}
+use Rattle.cc_terms.specs.CcScopes.Verdicts.{whole}
+use Rattle.cc_terms.specs.CcSyntax.Effects.{Effects, PlaceEffects, no_one, is_soft, place_effect_step, effects_of, place_effects_of}
+use Rattle.cc_terms.specs.CcSyntax.Programs.{place_type}
+use Rattle.cc_terms.specs.CcSyntax.Operators.{is_integer, is_handler, function_type}
+use Rattle.cc_terms.specs.CcSyntax.Types.{Named}
+use Rattle.cc_terms.specs.CcSyntax.Values.{ValueType, Integer, ToFunction, PlaceType, DevicePlace, ObjectPlace, FunctionPlace, is_scalar, scalar_shape, object_place, pointer_to, read_from, address_of, pointed_to, element_shape, element_of, member_of}
 use Rattle.cc_terms.specs.Terms.{tree_of}
 use Rattle.cc_tree.specs.declared.at.At.{At}
 use Rattle.cc_tree.specs.declared.tree.Tree as tree

@@ -2,8 +2,8 @@
 -- innermost element, so put there again they are as they were.
 use Rattle.std.proofs.Common.{◌≡◌, ℕ, Bool, true, false, ◌||◌, length, refl, ap, sym, ◌∙◌, subst}
 use Rattle.std.specs.Option.{is_some}
-use Rattle.cc_operands.specs.Operands.{null_of}
-use Rattle.cc_operands.specs.Qualified.{plain, qualified_as, instead, at_element}
+use Rattle.cc_terms.specs.CcOperands.Operands.{null_of}
+use Rattle.cc_terms.specs.CcOperands.Qualified.{plain, qualified_as, instead, at_element}
 use Rattle.cc_program.specs.Qualifiers.{of_element, is_const, is_volatile}
 use Rattle.cc_program.specs.declared.expr.Expr.{Null}
 use Rattle.cc_program.specs.declared.program.Program.{Program}
@@ -14,8 +14,8 @@ use Rattle.cc_program.specs.declared.types.Shape.TheVariants.{outs-Pointer, outs
 use Rattle.cc_program.specs.declared.types.Sig.{Sig}
 use Rattle.cc_program.proofs.QualifierLemmas.{const-opens, volatile-opens, parts_const, parts_volatile}
 use Rattle.cc_program.proofs.TypeInduction.{with_shape, TypeParts, by_type}
-use Rattle.cc_syntax.specs.Programs.{kind_in}
-use Rattle.cc_syntax.specs.Values.{pointer_shape, pointer_to}
+use Rattle.cc_terms.specs.CcSyntax.Programs.{kind_in}
+use Rattle.cc_terms.specs.CcSyntax.Values.{pointer_shape, pointer_to}
 use Rattle.cc_expression_trees.proofs.Levels.{array-type, func-type}
 use Rattle.cc_shown_expressions.specs.Numbers.{type_numbered, sig_numbered, value_numbered}
 use Rattle.cc_shown_expressions.proofs.Bases.{opens-as, type-of-fields, shape-of-level}

@@ -1,30 +1,30 @@
 -- What the rules make of operands that have the types that a program asks for: each operator on them, and no conversion more.
 use Rattle.std.proofs.Common.{◌≡◌, Bool, true, false, not, ◌&&◌, List, Ok, Err, refl, ap, sym, ◌∙◌}
 use Rattle.std.specs.Prelude.{if◌then◌else◌}
-use Rattle.cc_num.specs.declared.int_type.IntType.{IntType}
-use Rattle.cc_num.specs.declared.op.BinOp.{BinOp}
-use Rattle.cc_num.specs.declared.op.BinOp.TheVariants as op
-use Rattle.cc_num.specs.declared.op.UnOp.{UnOp}
-use Rattle.cc_num.specs.declared.op.UnOp.TheVariants as un
-use Rattle.cc_num.specs.declared.target.Target.{Target}
-use Rattle.cc_num.specs.Promotions.{promoted, usual_of}
-use Rattle.cc_num.specs.Results.{is_shift}
-use Rattle.cc_num.proofs.PromotionLaws.{usual_of-same}
-use Rattle.cc_operands.specs.Arithmetic.{truth, is_equality, both, either, scalars, is_null_beside, pointers_compared, moved, worked, arithmetic, integers_by, integers, sum_by, sum, gap, difference_by, difference, compared_by, compared, binary_by, binary_of}
-use Rattle.cc_operands.specs.Operands.{Operand, operand, cast_to, converted_by, converted_to, is_pointer, is_nothing, is_null_constant, null_of, against_null, with_value, no_structure}
-use Rattle.cc_operands.specs.Unary.{negated, integer_by, not_by, unary_of}
-use Rattle.cc_operands.specs.Verdicts.{Judged, must}
-use Rattle.cc_operands.specs.declared.operator.Operator.{Operator}
-use Rattle.cc_operands.specs.declared.operator.Operator.TheVariants as operator
-use Rattle.cc_operands.specs.declared.rule.Rule.{Rule}
-use Rattle.cc_operands.specs.declared.rule.Rule.TheVariants as rule
+use Rattle.cc_program.specs.CcNum.declared.int_type.IntType.{IntType}
+use Rattle.cc_program.specs.CcNum.declared.op.BinOp.{BinOp}
+use Rattle.cc_program.specs.CcNum.declared.op.BinOp.TheVariants as op
+use Rattle.cc_program.specs.CcNum.declared.op.UnOp.{UnOp}
+use Rattle.cc_program.specs.CcNum.declared.op.UnOp.TheVariants as un
+use Rattle.cc_program.specs.CcNum.declared.target.Target.{Target}
+use Rattle.cc_program.specs.CcNum.Promotions.{promoted, usual_of}
+use Rattle.cc_program.specs.CcNum.Results.{is_shift}
+use Rattle.cc_program.proofs.CcNum.PromotionLaws.{usual_of-same}
+use Rattle.cc_terms.specs.CcOperands.Arithmetic.{truth, is_equality, both, either, scalars, is_null_beside, pointers_compared, moved, worked, arithmetic, integers_by, integers, sum_by, sum, gap, difference_by, difference, compared_by, compared, binary_by, binary_of}
+use Rattle.cc_terms.specs.CcOperands.Operands.{Operand, operand, cast_to, converted_by, converted_to, is_pointer, is_nothing, is_null_constant, null_of, against_null, with_value, no_structure}
+use Rattle.cc_terms.specs.CcOperands.Unary.{negated, integer_by, not_by, unary_of}
+use Rattle.cc_terms.specs.CcOperands.Verdicts.{Judged, must}
+use Rattle.cc_terms.specs.CcOperands.declared.operator.Operator.{Operator}
+use Rattle.cc_terms.specs.CcOperands.declared.operator.Operator.TheVariants as operator
+use Rattle.cc_terms.specs.CcOperands.declared.rule.Rule.{Rule}
+use Rattle.cc_terms.specs.CcOperands.declared.rule.Rule.TheVariants as rule
 use Rattle.cc_program.specs.declared.expr.Expr.{Expr, Move, Gap, Compare}
 use Rattle.cc_program.specs.declared.types.Structure.{Structure}
-use Rattle.cc_syntax.specs.Operators.{is_promoted, is_of, is_promoted_value, is_integer, points_to_object, has_difference, difference_type, second_fits}
-use Rattle.cc_syntax.specs.Values.{ValueType, NoValue, Integer, ToObject, ToFunction, is_scalar, point_alike}
+use Rattle.cc_terms.specs.CcSyntax.Operators.{is_promoted, is_of, is_promoted_value, is_integer, points_to_object, has_difference, difference_type, second_fits}
+use Rattle.cc_terms.specs.CcSyntax.Values.{ValueType, NoValue, Integer, ToObject, ToFunction, is_scalar, point_alike}
 use Rattle.cc_shown_expressions.specs.Operators.{unary_for, operator_for, NullsAgree}
-use Rattle.cc_syntax.proofs.Prefixes.{both_true}
-use Rattle.cc_syntax.proofs.SameLemmas.{int_same, int_itself}
+use Rattle.cc_terms.proofs.CcSyntax.Prefixes.{both_true}
+use Rattle.cc_terms.proofs.CcSyntax.SameLemmas.{int_same, int_itself}
 
 -- ---- types of values
 

@@ -1,14 +1,14 @@
 -- Trees that show expressions and places of a program are typed to them: by induction over what shows them.
 use Rattle.std.proofs.Common.{◌≡◌, ℕ, false, refl, ◌∙◌}
-use Rattle.cc_designators.specs.Designators.{IsValue}
+use Rattle.cc_terms.specs.CcDesignators.Designators.{IsValue}
 use Rattle.cc_program.specs.declared.expr.Expr.{Expr}
 use Rattle.cc_program.specs.declared.expr.Expr.TheOpen as one
 use Rattle.cc_program.specs.declared.expr.Place.{Place}
 use Rattle.cc_program.specs.declared.func.Func.{Func}
 use Rattle.cc_program.specs.declared.program.Program.{Program}
-use Rattle.cc_scopes.specs.State.{State}
-use Rattle.cc_syntax.specs.Sizes.{AreSized}
-use Rattle.cc_syntax.specs.Values.{ValueType, PlaceType}
+use Rattle.cc_terms.specs.CcScopes.State.{State}
+use Rattle.cc_terms.specs.CcSyntax.Sizes.{AreSized}
+use Rattle.cc_terms.specs.CcSyntax.Values.{ValueType, PlaceType}
 use Rattle.cc_tree.specs.declared.at.At.{At}
 use Rattle.cc_tree.specs.declared.tree.Tree as tree
 use Rattle.cc_tree.specs.declared.tree.Tree.{Tree}

@@ -2,7 +2,7 @@
 use Rattle.std.proofs.Common.{◌≡◌, ℕ, zero, suc, Bool, true, false, ◌&&◌, ◌||◌, List, [], ◌∷◌, ◌++◌, length, Option, Some, None, refl, ap, sym, ◌∙◌, subst, slice_get}
 use Rattle.std.specs.List.{list_all}
 use Rattle.std.specs.Option.{is_some}
-use Rattle.cc_num.specs.declared.target.Target.{Target}
+use Rattle.cc_program.specs.CcNum.declared.target.Target.{Target}
 use Rattle.cc_operand_types.proofs.Members.{members_stand}
 use Rattle.cc_operand_types.specs.Typed.{is_pointed_kind}
 use Rattle.cc_program.specs.declared.func.Func.{Func}
@@ -12,13 +12,13 @@ use Rattle.cc_program.specs.declared.types.Shape.{Shape, out-Shape}
 use Rattle.cc_program.specs.declared.types.Shape.TheOpen as shape
 use Rattle.cc_program.specs.declared.types.Sig.{Sig}
 use Rattle.cc_program.specs.declared.types.Structure.{Structure}
-use Rattle.cc_syntax.specs.Kinds.{Kind, IsVoid, qualified_kind}
-use Rattle.cc_syntax.specs.Programs.{kind_in}
-use Rattle.cc_syntax.specs.Names.{are_names, local_names}
-use Rattle.cc_syntax.specs.SameTypes.{is_void_shape}
-use Rattle.cc_syntax.specs.Sound.{IsSound, IsFunc, is_local, is_object, have_ids, is_member, is_structure, are_structures}
-use Rattle.cc_syntax.proofs.Parts.{all_at}
-use Rattle.cc_syntax.proofs.Prefixes.{both_true}
+use Rattle.cc_terms.specs.CcSyntax.Kinds.{Kind, IsVoid, qualified_kind}
+use Rattle.cc_terms.specs.CcSyntax.Programs.{kind_in}
+use Rattle.cc_terms.specs.CcSyntax.Names.{are_names, local_names}
+use Rattle.cc_terms.specs.CcSyntax.SameTypes.{is_void_shape}
+use Rattle.cc_terms.specs.CcSyntax.Sound.{IsSound, IsFunc, is_local, is_object, have_ids, is_member, is_structure, are_structures}
+use Rattle.cc_terms.proofs.CcSyntax.Parts.{all_at}
+use Rattle.cc_terms.proofs.CcSyntax.Prefixes.{both_true}
 use Rattle.cc_shown_expressions.specs.KnownNames.{TypesStand}
 use Rattle.cc_shown_expressions.proofs.Standing.{kind-at}
 

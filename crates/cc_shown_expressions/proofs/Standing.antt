@@ -3,23 +3,23 @@ use Rattle.std.proofs.Common.{◌≡◌, ◌*◌, ℕ, Bool, true, false, ◌&&�
 use Rattle.std.specs.Prelude.{nat_le, nat_lt}
 use Rattle.std.specs.List.{list_all}
 use Rattle.std.specs.Option.{is_some}
-use Rattle.cc_num.specs.Integers.{bytes_of}
-use Rattle.cc_num.specs.declared.int_type.IntType.{IntType}
+use Rattle.cc_program.specs.CcNum.Integers.{bytes_of}
+use Rattle.cc_program.specs.CcNum.declared.int_type.IntType.{IntType}
 use Rattle.cc_program.specs.declared.program.Program.{Program}
 use Rattle.cc_program.specs.declared.types.CType.{CType}
 use Rattle.cc_program.specs.declared.types.Shape.{Shape, out-Shape, roll-Shape, roll-out-Shape}
 use Rattle.cc_program.specs.declared.types.Shape.TheOpen as shape
 use Rattle.cc_program.specs.declared.types.Sig.{Sig, out-Sig, roll-out-Sig}
 use Rattle.cc_program.proofs.TypeInduction.{with_shape}
-use Rattle.cc_specifiers.specs.Bounds.{is_bound}
-use Rattle.cc_specifiers.specs.Declarators.{result_breach}
-use Rattle.cc_syntax.specs.Kinds.{Kind, IsVoid, IsScalar, IsStructure, IsArray, IsIncomplete, IsFunction, bytes_in, is_small, pointer_kind, array_kind, is_result, is_plain_scalar, extent_kind, shape_kind, qualified_kind, is_sig, extent_in}
-use Rattle.cc_syntax.specs.Programs.{kind_in}
-use Rattle.cc_syntax.specs.SameTypes.{is_void_shape}
-use Rattle.cc_syntax.specs.Types.{has_members}
-use Rattle.cc_syntax.specs.Values.{is_void}
-use Rattle.cc_syntax.proofs.KindRolls.{parts_kind, kind-opens}
-use Rattle.cc_syntax.proofs.Prefixes.{both_true}
+use Rattle.cc_terms.specs.CcSpecifiers.Bounds.{is_bound}
+use Rattle.cc_terms.specs.CcSpecifiers.Declarators.{result_breach}
+use Rattle.cc_terms.specs.CcSyntax.Kinds.{Kind, IsVoid, IsScalar, IsStructure, IsArray, IsIncomplete, IsFunction, bytes_in, is_small, pointer_kind, array_kind, is_result, is_plain_scalar, extent_kind, shape_kind, qualified_kind, is_sig, extent_in}
+use Rattle.cc_terms.specs.CcSyntax.Programs.{kind_in}
+use Rattle.cc_terms.specs.CcSyntax.SameTypes.{is_void_shape}
+use Rattle.cc_terms.specs.CcSyntax.Types.{has_members}
+use Rattle.cc_terms.specs.CcSyntax.Values.{is_void}
+use Rattle.cc_terms.proofs.CcSyntax.KindRolls.{parts_kind, kind-opens}
+use Rattle.cc_terms.proofs.CcSyntax.Prefixes.{both_true}
 use Rattle.cc_expression_trees.proofs.Levels.{pointer-type, func-type, sig-roll, no-flags}
 use Rattle.cc_shown_expressions.proofs.Numbering.{level}
 

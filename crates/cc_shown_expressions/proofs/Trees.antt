@@ -2,31 +2,31 @@
 -- what is known as it is.
 use Rattle.std.proofs.Common.{◌≡◌, ℕ, Bool, true, Option, Some, None, Ok, refl, ap, ◌∙◌}
 use Rattle.std.specs.Prelude.{is_some, if◌then◌else◌}
-use Rattle.cc_designators.specs.Casts.{cast_of}
-use Rattle.cc_designators.specs.Designators.{TypedExpr, IsPlace, IsValue, value_at}
-use Rattle.cc_designators.specs.Postfix.{element, dot, address, indirection}
-use Rattle.cc_lex.specs.declared.token.Mark.{Mark}
-use Rattle.cc_lex.specs.declared.token.Mark.TheVariants as m
-use Rattle.cc_operands.specs.Arithmetic.{binary_of}
-use Rattle.cc_operands.specs.Choices.{choose_of}
-use Rattle.cc_operands.specs.Operands.{Operand}
-use Rattle.cc_operands.specs.Operators.{operator_of, unary_operator_of}
-use Rattle.cc_operands.specs.Unary.{unary_of}
-use Rattle.cc_operands.specs.declared.operator.Operator.{Operator}
-use Rattle.cc_operands.specs.declared.operator.UnaryOperator.{UnaryOperator}
-use Rattle.cc_typed_terms.specs.Devices.{starred_by, cast_constant}
-use Rattle.cc_typed_terms.specs.Operators.{prefix_of, binary_by, unary_by}
-use Rattle.cc_typed_terms.specs.Primary.{named}
-use Rattle.cc_typed_terms.specs.Values.{gives, valued, value_found, designating}
-use Rattle.cc_typed_terms.specs.declared.prefix.Prefix.{Prefix}
-use Rattle.cc_typed_terms.specs.declared.prefix.Prefix.TheVariants as prefix
+use Rattle.cc_terms.specs.CcDesignators.Casts.{cast_of}
+use Rattle.cc_terms.specs.CcDesignators.Designators.{TypedExpr, IsPlace, IsValue, value_at}
+use Rattle.cc_terms.specs.CcDesignators.Postfix.{element, dot, address, indirection}
+use Rattle.cc_terms.specs.CcLex.declared.token.Mark.{Mark}
+use Rattle.cc_terms.specs.CcLex.declared.token.Mark.TheVariants as m
+use Rattle.cc_terms.specs.CcOperands.Arithmetic.{binary_of}
+use Rattle.cc_terms.specs.CcOperands.Choices.{choose_of}
+use Rattle.cc_terms.specs.CcOperands.Operands.{Operand}
+use Rattle.cc_terms.specs.CcOperands.Operators.{operator_of, unary_operator_of}
+use Rattle.cc_terms.specs.CcOperands.Unary.{unary_of}
+use Rattle.cc_terms.specs.CcOperands.declared.operator.Operator.{Operator}
+use Rattle.cc_terms.specs.CcOperands.declared.operator.UnaryOperator.{UnaryOperator}
+use Rattle.cc_terms.specs.CcTypedTerms.Devices.{starred_by, cast_constant}
+use Rattle.cc_terms.specs.CcTypedTerms.Operators.{prefix_of, binary_by, unary_by}
+use Rattle.cc_terms.specs.CcTypedTerms.Primary.{named}
+use Rattle.cc_terms.specs.CcTypedTerms.Values.{gives, valued, value_found, designating}
+use Rattle.cc_terms.specs.CcTypedTerms.declared.prefix.Prefix.{Prefix}
+use Rattle.cc_terms.specs.CcTypedTerms.declared.prefix.Prefix.TheVariants as prefix
 use Rattle.cc_program.specs.declared.expr.Expr.{Expr}
 use Rattle.cc_program.specs.declared.expr.Place.{Place}
 use Rattle.cc_program.specs.declared.program.Program.{Program}
 use Rattle.cc_program.specs.declared.types.CType.{CType}
-use Rattle.cc_scopes.specs.State.{State, structures_of}
-use Rattle.cc_scopes.specs.Verdicts.{Found, whole, and_then}
-use Rattle.cc_syntax.specs.Values.{ValueType, PlaceType, element_of}
+use Rattle.cc_terms.specs.CcScopes.State.{State, structures_of}
+use Rattle.cc_terms.specs.CcScopes.Verdicts.{Found, whole, and_then}
+use Rattle.cc_terms.specs.CcSyntax.Values.{ValueType, PlaceType, element_of}
 use Rattle.cc_terms.specs.Meanings.{TreeMeaning}
 use Rattle.cc_terms.specs.Operations.{as_value, subscript_base, subscript_judged, prefixed_by, prefixed}
 use Rattle.cc_terms.specs.Terms.{tree_of, type_name_of, here}

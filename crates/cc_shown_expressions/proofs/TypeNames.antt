@@ -1,28 +1,28 @@
 -- The names of types are typed to the types that they show (C99 6.7.6). `void *`, of which a null may be, is named by casts alone.
 use Rattle.std.proofs.Common.{◌≡◌, ℕ, Bool, true, false, not, ◌&&◌, ◌||◌, List, [], ◌∷◌, map, Option, None, Ok, refl, ap, sym, ◌∙◌}
-use Rattle.cc_typed_terms.specs.Declarators.{derived_type}
-use Rattle.cc_typed_terms.specs.Located.{located}
-use Rattle.cc_num.specs.declared.target.Target.{Target}
-use Rattle.cc_operands.specs.declared.rule.Rule.TheVariants as rule
+use Rattle.cc_terms.specs.CcTypedTerms.Declarators.{derived_type}
+use Rattle.cc_terms.specs.CcTypedTerms.Located.{located}
+use Rattle.cc_program.specs.CcNum.declared.target.Target.{Target}
+use Rattle.cc_terms.specs.CcOperands.declared.rule.Rule.TheVariants as rule
 use Rattle.cc_program.specs.declared.program.Program.{Program}
 use Rattle.cc_program.specs.declared.program.Roles.{Roles}
 use Rattle.cc_program.specs.declared.types.CType.{CType}
 use Rattle.cc_program.specs.declared.types.Shape.{out-Shape}
 use Rattle.cc_program.specs.declared.types.Shape.TheOpen as shape
 use Rattle.cc_program.specs.declared.types.Sig.{Sig}
-use Rattle.cc_scopes.specs.State.{State, Scope, structures_of, layouts_of}
-use Rattle.cc_scopes.specs.Verdicts.{Found, and_then}
-use Rattle.cc_specifiers.specs.Declarators.{derive_one, fault_or, broken_unless, derived}
-use Rattle.cc_specifiers.specs.Derivations.{in_type_name, with_derivation, pointer_derivation}
-use Rattle.cc_specifiers.specs.Storage.{setting}
-use Rattle.cc_specifiers.specs.declared.attribute.Entity.TheVariants as entity
-use Rattle.cc_specifiers.specs.declared.derivation.Allowed.{Allowed}
-use Rattle.cc_specifiers.specs.declared.derivation.Declarator.{Declarator}
-use Rattle.cc_specifiers.specs.declared.specifier.Specified.{Specified}
-use Rattle.cc_specifiers.specs.declared.storage.Where.TheVariants as stands
-use Rattle.cc_syntax.specs.SameTypes.{is_void_shape}
-use Rattle.cc_syntax.specs.Sizes.{AreSized}
-use Rattle.cc_syntax.specs.Values.{is_void}
+use Rattle.cc_terms.specs.CcScopes.State.{State, Scope, structures_of, layouts_of}
+use Rattle.cc_terms.specs.CcScopes.Verdicts.{Found, and_then}
+use Rattle.cc_terms.specs.CcSpecifiers.Declarators.{derive_one, fault_or, broken_unless, derived}
+use Rattle.cc_terms.specs.CcSpecifiers.Derivations.{in_type_name, with_derivation, pointer_derivation}
+use Rattle.cc_terms.specs.CcSpecifiers.Storage.{setting}
+use Rattle.cc_terms.specs.CcSpecifiers.declared.attribute.Entity.TheVariants as entity
+use Rattle.cc_terms.specs.CcSpecifiers.declared.derivation.Allowed.{Allowed}
+use Rattle.cc_terms.specs.CcSpecifiers.declared.derivation.Declarator.{Declarator}
+use Rattle.cc_terms.specs.CcSpecifiers.declared.specifier.Specified.{Specified}
+use Rattle.cc_terms.specs.CcSpecifiers.declared.storage.Where.TheVariants as stands
+use Rattle.cc_terms.specs.CcSyntax.SameTypes.{is_void_shape}
+use Rattle.cc_terms.specs.CcSyntax.Sizes.{AreSized}
+use Rattle.cc_terms.specs.CcSyntax.Values.{is_void}
 use Rattle.cc_terms.specs.Constants.{enumr_step}
 use Rattle.cc_terms.specs.Declarators.{declarator, declr_step, params_step, param_step, type_name_step}
 use Rattle.cc_terms.specs.Expressions.{tree_step}

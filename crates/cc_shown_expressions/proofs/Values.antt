@@ -1,10 +1,10 @@
 -- Trees that show whole right sides, arguments and returned values are taken as what they show: a value of a type of a lower rank
 -- than int from a constant of int, and a null from `0`.
 use Rattle.std.proofs.Common.{◌≡◌, ℕ, ℤ, pos, Bool, true, false, Option, Some, refl, ap, sym, ◌∙◌, subst}
-use Rattle.cc_designators.specs.Designators.{IsValue}
-use Rattle.cc_num.specs.declared.int_type.IntType.{IntType}
-use Rattle.cc_num.specs.declared.int_type.IntType.TheVariants as int
-use Rattle.cc_operands.specs.Operands.{Operand, integer, is_pointer, is_null_constant, null_of}
+use Rattle.cc_terms.specs.CcDesignators.Designators.{IsValue}
+use Rattle.cc_program.specs.CcNum.declared.int_type.IntType.{IntType}
+use Rattle.cc_program.specs.CcNum.declared.int_type.IntType.TheVariants as int
+use Rattle.cc_terms.specs.CcOperands.Operands.{Operand, integer, is_pointer, is_null_constant, null_of}
 use Rattle.cc_shown_expressions.specs.Assigned.{AssignedAs}
 use Rattle.cc_shown_expressions.proofs.ChoiceRules.{assign-rule, assign-null, assign-constant}
 use Rattle.cc_program.specs.declared.expr.Expr.{Expr, Null, out-Expr}
@@ -13,13 +13,13 @@ use Rattle.cc_program.specs.declared.expr.Expr.TheVariants as expr_rolls
 use Rattle.cc_program.specs.declared.func.Func.{Func}
 use Rattle.cc_program.specs.declared.program.Program.{Program}
 use Rattle.cc_program.specs.declared.types.CType.{CType}
-use Rattle.cc_scopes.specs.State.{State}
-use Rattle.cc_syntax.specs.SameTypes.{alike}
-use Rattle.cc_syntax.specs.Programs.{kind_in}
-use Rattle.cc_syntax.specs.Sizes.{AreSized}
-use Rattle.cc_syntax.specs.Values.{ValueType, NoValue, Integer, ToObject, ToFunction, scalar_shape, scalar_value, pointer_to, is_assignable}
-use Rattle.cc_syntax.proofs.AlikeLemmas.{alike-scalar}
-use Rattle.cc_syntax.proofs.SameLemmas.{int_same}
+use Rattle.cc_terms.specs.CcScopes.State.{State}
+use Rattle.cc_terms.specs.CcSyntax.SameTypes.{alike}
+use Rattle.cc_terms.specs.CcSyntax.Programs.{kind_in}
+use Rattle.cc_terms.specs.CcSyntax.Sizes.{AreSized}
+use Rattle.cc_terms.specs.CcSyntax.Values.{ValueType, NoValue, Integer, ToObject, ToFunction, scalar_shape, scalar_value, pointer_to, is_assignable}
+use Rattle.cc_terms.proofs.CcSyntax.AlikeLemmas.{alike-scalar}
+use Rattle.cc_terms.proofs.CcSyntax.SameLemmas.{int_same}
 use Rattle.cc_tree.specs.declared.tree.Tree.{Tree}
 use Rattle.cc_expression_trees.specs.Constants.{ShowsInteger, IsZero}
 use Rattle.cc_expression_trees.specs.Exprs.{ShowsValue, ValueInParens, ValueOf, NarrowValue, NullValue}

@@ -1,26 +1,26 @@
 -- Specifiers that are words, one behind another: what they say, and the type that the words of an integer type name.
 use Rattle.std.proofs.Common.{◌≡◌, ℕ, Bool, true, false, List, [], ◌∷◌, ◌++◌, map, Option, Some, None, Ok, Err, refl, ap, ◌∙◌}
 use Rattle.std.proofs.lemmas.List.{map-append}
-use Rattle.cc_num.specs.declared.int_type.IntType.{IntType}
-use Rattle.cc_num.specs.declared.int_type.IntType.TheVariants as int
-use Rattle.cc_num.specs.declared.target.Target.{Target}
-use Rattle.cc_operands.specs.Verdicts.{Judged, judge_then}
+use Rattle.cc_program.specs.CcNum.declared.int_type.IntType.{IntType}
+use Rattle.cc_program.specs.CcNum.declared.int_type.IntType.TheVariants as int
+use Rattle.cc_program.specs.CcNum.declared.target.Target.{Target}
+use Rattle.cc_terms.specs.CcOperands.Verdicts.{Judged, judge_then}
 use Rattle.cc_program.specs.declared.program.Roles.{Roles}
 use Rattle.cc_program.specs.declared.types.Shape.{Int}
-use Rattle.cc_scopes.specs.State.{State}
-use Rattle.cc_scopes.specs.Verdicts.{Found, whole, and_then}
-use Rattle.cc_specifiers.specs.BasicTypes.{no_word, basic_type}
-use Rattle.cc_specifiers.specs.Specifiers.{said, with_specifier}
-use Rattle.cc_specifiers.specs.declared.attribute.Attribute.{Attribute}
-use Rattle.cc_specifiers.specs.declared.basic.Basic.{Basic}
-use Rattle.cc_specifiers.specs.declared.basic.Length.TheVariants as lengths
-use Rattle.cc_specifiers.specs.declared.basic.Sign.TheVariants as sign
-use Rattle.cc_specifiers.specs.declared.specifier.Base.{Base}
-use Rattle.cc_specifiers.specs.declared.specifier.Base.TheVariants as base
-use Rattle.cc_specifiers.specs.declared.specifier.Specifier.{Specifier}
-use Rattle.cc_specifiers.specs.declared.specifier.Specifier.TheVariants as specifier
-use Rattle.cc_specifiers.specs.declared.specifier.Specs.{Specs}
-use Rattle.cc_specifiers.specs.declared.storage.Setting.{Setting}
+use Rattle.cc_terms.specs.CcScopes.State.{State}
+use Rattle.cc_terms.specs.CcScopes.Verdicts.{Found, whole, and_then}
+use Rattle.cc_terms.specs.CcSpecifiers.BasicTypes.{no_word, basic_type}
+use Rattle.cc_terms.specs.CcSpecifiers.Specifiers.{said, with_specifier}
+use Rattle.cc_terms.specs.CcSpecifiers.declared.attribute.Attribute.{Attribute}
+use Rattle.cc_terms.specs.CcSpecifiers.declared.basic.Basic.{Basic}
+use Rattle.cc_terms.specs.CcSpecifiers.declared.basic.Length.TheVariants as lengths
+use Rattle.cc_terms.specs.CcSpecifiers.declared.basic.Sign.TheVariants as sign
+use Rattle.cc_terms.specs.CcSpecifiers.declared.specifier.Base.{Base}
+use Rattle.cc_terms.specs.CcSpecifiers.declared.specifier.Base.TheVariants as base
+use Rattle.cc_terms.specs.CcSpecifiers.declared.specifier.Specifier.{Specifier}
+use Rattle.cc_terms.specs.CcSpecifiers.declared.specifier.Specifier.TheVariants as specifier
+use Rattle.cc_terms.specs.CcSpecifiers.declared.specifier.Specs.{Specs}
+use Rattle.cc_terms.specs.CcSpecifiers.declared.storage.Setting.{Setting}
 use Rattle.cc_terms.specs.Constants.{enumr_step}
 use Rattle.cc_terms.specs.Declarators.{declr_step, params_step, param_step, type_name_step}
 use Rattle.cc_terms.specs.Expressions.{tree_step}
@@ -42,8 +42,8 @@ use Rattle.cc_tree.specs.declared.tree.Spec.TheVariants as spec_rolls
 use Rattle.cc_tree.specs.declared.tree.Tree.{Tree}
 use Rattle.cc_tree.specs.declared.tree.TypeName.{TypeName}
 use Rattle.cc_expression_trees.specs.Types.{ShowsWords, NoWord, MoreWords, qualifier_words, int_words}
-use Rattle.cc_words.specs.declared.word.Word.{Word}
-use Rattle.cc_words.specs.declared.word.Word.TheVariants as w
+use Rattle.cc_program.specs.CcWords.declared.word.Word.{Word}
+use Rattle.cc_program.specs.CcWords.declared.word.Word.TheVariants as w
 
 -- ---- lists in turn
 

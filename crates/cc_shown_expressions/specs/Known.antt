@@ -3,9 +3,9 @@
 use Rattle.std.specs.Prelude.{◌≡◌, ℕ, Some, slice_get}
 use Rattle.cc_program.specs.declared.program.Program.{Program}
 use Rattle.cc_program.specs.declared.types.Structure.{Structure}
-use Rattle.cc_scopes.specs.State.{State, tagged, structures_of, layouts_of}
-use Rattle.cc_scopes.specs.declared.designated.Tagged.TheVariants.{StructureTag}
-use Rattle.cc_syntax.specs.Layout.{layouts}
+use Rattle.cc_terms.specs.CcScopes.State.{State, tagged, structures_of, layouts_of}
+use Rattle.cc_terms.specs.CcScopes.declared.designated.Tagged.TheVariants.{StructureTag}
+use Rattle.cc_terms.specs.CcSyntax.Layout.{layouts}
 use Rattle.cc_shown_expressions.specs.Numbers.{structure_numbered}
 
 pub record KnowsStructures (p : Program) (number : ℕ → ℕ) (s : State) : Type 0 where

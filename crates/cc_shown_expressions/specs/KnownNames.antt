@@ -2,8 +2,8 @@
 -- types of locals, objects and members may stand in the program.
 use Rattle.std.specs.Prelude.{◌≡◌, ℕ, List, Some, true, false, slice_get, Ok}
 use Rattle.std.specs.Option.{is_some}
-use Rattle.cc_designators.specs.Designators.{IsPlace, IsFunction}
-use Rattle.cc_typed_terms.specs.Primary.{named}
+use Rattle.cc_terms.specs.CcDesignators.Designators.{IsPlace, IsFunction}
+use Rattle.cc_terms.specs.CcTypedTerms.Primary.{named}
 use Rattle.cc_program.specs.declared.expr.Place.{Local, Static}
 use Rattle.cc_program.specs.declared.expr.Place.{Device as DeviceAt}
 use Rattle.cc_program.specs.declared.func.Func.{Func}
@@ -11,12 +11,12 @@ use Rattle.cc_program.specs.declared.object.Device.{Device}
 use Rattle.cc_program.specs.declared.object.Object.{Object}
 use Rattle.cc_program.specs.declared.program.Program.{Program}
 use Rattle.cc_program.specs.declared.types.Structure.{Structure}
-use Rattle.cc_scopes.specs.State.{State}
-use Rattle.cc_syntax.specs.Kinds.{is_object_type}
-use Rattle.cc_syntax.specs.Programs.{kind_in}
-use Rattle.cc_syntax.specs.Names.{are_names, local_names}
-use Rattle.cc_syntax.specs.Types.{Named}
-use Rattle.cc_syntax.specs.Values.{DevicePlace, object_place, is_void}
+use Rattle.cc_terms.specs.CcScopes.State.{State}
+use Rattle.cc_terms.specs.CcSyntax.Kinds.{is_object_type}
+use Rattle.cc_terms.specs.CcSyntax.Programs.{kind_in}
+use Rattle.cc_terms.specs.CcSyntax.Names.{are_names, local_names}
+use Rattle.cc_terms.specs.CcSyntax.Types.{Named}
+use Rattle.cc_terms.specs.CcSyntax.Values.{DevicePlace, object_place, is_void}
 use Rattle.cc_shown_expressions.specs.OperationNumbers.{Numbers}
 use Rattle.cc_shown_expressions.specs.Known.{KnowsStructures}
 use Rattle.cc_shown_expressions.specs.Numbers.{type_numbered, sig_numbered}

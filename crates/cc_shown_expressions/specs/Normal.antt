@@ -5,10 +5,10 @@ use Rattle.cc_program.specs.declared.expr.Expr.{Expr}
 use Rattle.cc_program.specs.declared.expr.Place.{Place}
 use Rattle.cc_program.specs.declared.func.Func.{Func}
 use Rattle.cc_program.specs.declared.program.Program.{Program}
-use Rattle.cc_syntax.specs.Effects.{no_one, effects_of, place_effects_of}
-use Rattle.cc_syntax.specs.Programs.{type_of, place_type}
-use Rattle.cc_syntax.specs.Folding.{is_folded, is_folded_place}
-use Rattle.cc_syntax.specs.Values.{ValueType, PlaceType, is_scalar}
+use Rattle.cc_terms.specs.CcSyntax.Effects.{no_one, effects_of, place_effects_of}
+use Rattle.cc_terms.specs.CcSyntax.Programs.{type_of, place_type}
+use Rattle.cc_terms.specs.CcSyntax.Folding.{is_folded, is_folded_place}
+use Rattle.cc_terms.specs.CcSyntax.Values.{ValueType, PlaceType, is_scalar}
 
 module _ (p : Program) (f : Func) where
   pub record HasOperand (e : Expr) (v : ValueType) : Type 0 where

@@ -6,8 +6,8 @@ use Rattle.cc_program.specs.declared.types.Shape.{Shape, fold-Shape, Void, Int, 
 use Rattle.cc_program.specs.declared.types.Shape.TheOpen as shape
 use Rattle.cc_program.specs.declared.types.Sig.{Sig, roll-Sig, fold-Sig}
 use Rattle.cc_program.specs.declared.types.Structure.{Structure}
-use Rattle.cc_syntax.specs.Types.{Named}
-use Rattle.cc_syntax.specs.Values.{ValueType, NoValue, Integer, ToObject, ToFunction, PlaceType, DevicePlace, ObjectPlace, FunctionPlace}
+use Rattle.cc_terms.specs.CcSyntax.Types.{Named}
+use Rattle.cc_terms.specs.CcSyntax.Values.{ValueType, NoValue, Integer, ToObject, ToFunction, PlaceType, DevicePlace, ObjectPlace, FunctionPlace}
 
 module _ (number : ℕ → ℕ) where
   abbrev pub shape_step : shape.Shape-F Shape CType Sig → Shape

@@ -1,15 +1,15 @@
 -- Which operator of the rules is that of an operation in a program, and when two operands may be compared although one is a
 -- null constant.
 use Rattle.std.specs.Prelude.{◌≡◌, true}
-use Rattle.cc_num.specs.declared.op.BinOp.{BinOp}
-use Rattle.cc_num.specs.declared.op.BinOp.TheVariants as op
-use Rattle.cc_num.specs.declared.op.UnOp.{UnOp}
-use Rattle.cc_num.specs.declared.op.UnOp.TheVariants as un
-use Rattle.cc_operands.specs.Operands.{Operand, is_null_constant, null_of}
-use Rattle.cc_operands.specs.declared.operator.Operator.{Operator}
-use Rattle.cc_operands.specs.declared.operator.Operator.TheVariants as operator
-use Rattle.cc_operands.specs.declared.operator.UnaryOperator.{UnaryOperator}
-use Rattle.cc_operands.specs.declared.operator.UnaryOperator.TheVariants as unary_operator
+use Rattle.cc_program.specs.CcNum.declared.op.BinOp.{BinOp}
+use Rattle.cc_program.specs.CcNum.declared.op.BinOp.TheVariants as op
+use Rattle.cc_program.specs.CcNum.declared.op.UnOp.{UnOp}
+use Rattle.cc_program.specs.CcNum.declared.op.UnOp.TheVariants as un
+use Rattle.cc_terms.specs.CcOperands.Operands.{Operand, is_null_constant, null_of}
+use Rattle.cc_terms.specs.CcOperands.declared.operator.Operator.{Operator}
+use Rattle.cc_terms.specs.CcOperands.declared.operator.Operator.TheVariants as operator
+use Rattle.cc_terms.specs.CcOperands.declared.operator.UnaryOperator.{UnaryOperator}
+use Rattle.cc_terms.specs.CcOperands.declared.operator.UnaryOperator.TheVariants as unary_operator
 
 abbrev pub unary_for : UnOp → UnaryOperator
 unary_for un.Neg = unary_operator.Minus

@@ -1,13 +1,13 @@
 -- A tree whose value is assigned, passed or returned as what an expression of a program is.
 use Rattle.std.specs.Prelude.{◌≡◌, ℕ, Ok}
-use Rattle.cc_designators.specs.Designators.{TypedExpr}
-use Rattle.cc_operands.specs.Operands.{Operand}
+use Rattle.cc_terms.specs.CcDesignators.Designators.{TypedExpr}
+use Rattle.cc_terms.specs.CcOperands.Operands.{Operand}
 use Rattle.cc_shown_expressions.specs.Assigned.{AssignedAs}
-use Rattle.cc_typed_terms.specs.Values.{valued}
+use Rattle.cc_terms.specs.CcTypedTerms.Values.{valued}
 use Rattle.cc_program.specs.declared.expr.Expr.{Expr}
 use Rattle.cc_program.specs.declared.program.Program.{Program}
-use Rattle.cc_scopes.specs.State.{State}
-use Rattle.cc_syntax.specs.Values.{ValueType}
+use Rattle.cc_terms.specs.CcScopes.State.{State}
+use Rattle.cc_terms.specs.CcSyntax.Values.{ValueType}
 use Rattle.cc_terms.specs.Terms.{tree_of}
 use Rattle.cc_tree.specs.declared.tree.Tree.{Tree}
 use Rattle.cc_shown_expressions.specs.OperationNumbers.{Numbers, expr_numbered}

@@ -1,17 +1,17 @@
 -- Trees that are typed to an expression and to a place of a program, with the numbers of the unit, where what is known stays
 -- as it is.
 use Rattle.std.specs.Prelude.{◌≡◌, ℕ, Bool, true, false, None, Ok}
-use Rattle.cc_designators.specs.Designators.{TypedExpr, IsPlace}
-use Rattle.cc_operands.specs.Operands.{Operand, is_pointer}
-use Rattle.cc_typed_terms.specs.Devices.{cast_constant}
-use Rattle.cc_typed_terms.specs.Operators.{intrinsic_in}
-use Rattle.cc_typed_terms.specs.Values.{valued}
+use Rattle.cc_terms.specs.CcDesignators.Designators.{TypedExpr, IsPlace}
+use Rattle.cc_terms.specs.CcOperands.Operands.{Operand, is_pointer}
+use Rattle.cc_terms.specs.CcTypedTerms.Devices.{cast_constant}
+use Rattle.cc_terms.specs.CcTypedTerms.Operators.{intrinsic_in}
+use Rattle.cc_terms.specs.CcTypedTerms.Values.{valued}
 use Rattle.cc_program.specs.declared.expr.Expr.{Expr, out-Expr}
 use Rattle.cc_program.specs.declared.expr.Place.{Place}
 use Rattle.cc_program.specs.declared.program.Program.{Program}
-use Rattle.cc_scopes.specs.State.{State}
-use Rattle.cc_syntax.specs.Folding.{Constant, NoConstant, Value, Traps, constant_of}
-use Rattle.cc_syntax.specs.Values.{ValueType, PlaceType}
+use Rattle.cc_terms.specs.CcScopes.State.{State}
+use Rattle.cc_terms.specs.CcSyntax.Folding.{Constant, NoConstant, Value, Traps, constant_of}
+use Rattle.cc_terms.specs.CcSyntax.Values.{ValueType, PlaceType}
 use Rattle.cc_terms.specs.Terms.{tree_of}
 use Rattle.cc_tree.specs.declared.tree.Tree.{Tree}
 use Rattle.cc_expression_trees.specs.Exprs.{is_null}

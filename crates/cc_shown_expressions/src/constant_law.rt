@@ -1,16 +1,16 @@
 //! What holds of the trees that show integer constants.
 
 ghost use Rattle.std.specs.Prelude.{◌≡◌, ℕ, ℤ, pos, true, false, Ok};
-ghost use Rattle.cc_designators.specs.Designators.{IsValue};
+ghost use Rattle.cc_terms.specs.CcDesignators.Designators.{IsValue};
 ghost use Rattle.cc_expression_trees.specs.Constants.{IsZero, ShowsInteger};
-ghost use Rattle.cc_num.specs.Integers.{is_value_of};
-ghost use Rattle.cc_num.specs.declared.int_type.IntType.{IntType};
-ghost use Rattle.cc_num.specs.declared.int_type.IntType.TheVariants as int;
-ghost use Rattle.cc_num.specs.declared.target.Target.{Target};
-ghost use Rattle.cc_operands.specs.Operands.{integer};
+ghost use Rattle.cc_program.specs.CcNum.Integers.{is_value_of};
+ghost use Rattle.cc_program.specs.CcNum.declared.int_type.IntType.{IntType};
+ghost use Rattle.cc_program.specs.CcNum.declared.int_type.IntType.TheVariants as int;
+ghost use Rattle.cc_program.specs.CcNum.declared.target.Target.{Target};
+ghost use Rattle.cc_terms.specs.CcOperands.Operands.{integer};
 ghost use Rattle.cc_pieces.specs.Constants.{is_narrow};
 ghost use Rattle.cc_program.specs.declared.program.Roles.{Roles};
-ghost use Rattle.cc_scopes.specs.State.{State};
+ghost use Rattle.cc_terms.specs.CcScopes.State.{State};
 ghost use Rattle.cc_terms.specs.Terms.{tree_of};
 ghost use Rattle.cc_tree.specs.declared.tree.Tree.{Tree};
 

@@ -2,21 +2,21 @@
 
 ghost use Rattle.std.specs.Prelude.{◌≡◌, ℕ, true, false, Option, Some, None, slice_get};
 ghost use Rattle.cc_expression_trees.specs.Exprs.{ShowsExpr, ShowsPlace, ShowsPointer, ShowsValue};
-ghost use Rattle.cc_typed_terms.specs.Devices.{cast_constant};
+ghost use Rattle.cc_terms.specs.CcTypedTerms.Devices.{cast_constant};
 ghost use Rattle.cc_program.specs.declared.expr.Expr.{Expr};
 ghost use Rattle.cc_program.specs.declared.expr.Place.{Place};
 ghost use Rattle.cc_program.specs.declared.func.Func.{Func};
 ghost use Rattle.cc_program.specs.declared.program.Program.{Program};
 ghost use Rattle.cc_program.specs.declared.types.CType.{CType};
-ghost use Rattle.cc_scopes.specs.State.{State};
+ghost use Rattle.cc_terms.specs.CcScopes.State.{State};
 ghost use Rattle.cc_shown_expressions.specs.Taken.{IsTakenAs};
 ghost use Rattle.cc_shown_expressions.specs.Fits.{FitsValue, is_device_place};
 ghost use Rattle.cc_shown_expressions.specs.KnownNames.{KnowsNames};
 ghost use Rattle.cc_shown_expressions.specs.Normal.{HasOperand, HasPlace};
 ghost use Rattle.cc_shown_expressions.specs.OperationNumbers.{Numbers};
 ghost use Rattle.cc_shown_expressions.specs.Typed.{IsPlacedAs, IsTypedAs};
-ghost use Rattle.cc_syntax.specs.Sound.{IsSound};
-ghost use Rattle.cc_syntax.specs.Values.{PlaceType, ValueType, is_assignable, scalar_value};
+ghost use Rattle.cc_terms.specs.CcSyntax.Sound.{IsSound};
+ghost use Rattle.cc_terms.specs.CcSyntax.Values.{PlaceType, ValueType, is_assignable, scalar_value};
 ghost use Rattle.cc_tree.specs.declared.tree.Tree.{Tree};
 
 /// What holds of trees that show operands and places of a function of a program in normal form, where its structures and

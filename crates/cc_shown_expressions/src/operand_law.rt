@@ -1,29 +1,29 @@
 //! What the type rules make of operands that have the types that a program writes out.
 
 ghost use Rattle.std.specs.Prelude.{◌≡◌, ℕ, ℤ, true, false, List, Ok};
-ghost use Rattle.cc_designators.specs.Casts.{cast_of};
-ghost use Rattle.cc_designators.specs.Designators.{IsAddress, IsValue, null};
-ghost use Rattle.cc_num.specs.declared.int_type.IntType.{IntType};
-ghost use Rattle.cc_num.specs.declared.op.BinOp.{BinOp};
-ghost use Rattle.cc_num.specs.declared.op.UnOp.{UnOp};
-ghost use Rattle.cc_num.specs.declared.target.Target.{Target};
-ghost use Rattle.cc_num.specs.Integers.{is_value_of};
+ghost use Rattle.cc_terms.specs.CcDesignators.Casts.{cast_of};
+ghost use Rattle.cc_terms.specs.CcDesignators.Designators.{IsAddress, IsValue, null};
+ghost use Rattle.cc_program.specs.CcNum.declared.int_type.IntType.{IntType};
+ghost use Rattle.cc_program.specs.CcNum.declared.op.BinOp.{BinOp};
+ghost use Rattle.cc_program.specs.CcNum.declared.op.UnOp.{UnOp};
+ghost use Rattle.cc_program.specs.CcNum.declared.target.Target.{Target};
+ghost use Rattle.cc_program.specs.CcNum.Integers.{is_value_of};
 ghost use Rattle.cc_shown_expressions.specs.Assigned.{AssignedAs};
 ghost use Rattle.cc_shown_expressions.specs.Operators.{NullsAgree, operator_for, unary_for};
-ghost use Rattle.cc_operands.specs.Arithmetic.{binary_of, both, either, truth, worked};
-ghost use Rattle.cc_operands.specs.Choices.{choose_of, chosen_integer};
-ghost use Rattle.cc_operands.specs.Operands.{Operand, cast_to, constancy, integer, is_null_constant, is_pointer, is_to_void, null_of, operand};
-ghost use Rattle.cc_operands.specs.Qualified.{unqualified};
-ghost use Rattle.cc_operands.specs.Unary.{negated, unary_of};
-ghost use Rattle.cc_operands.specs.declared.operator.Operator.TheVariants as operator;
+ghost use Rattle.cc_terms.specs.CcOperands.Arithmetic.{binary_of, both, either, truth, worked};
+ghost use Rattle.cc_terms.specs.CcOperands.Choices.{choose_of, chosen_integer};
+ghost use Rattle.cc_terms.specs.CcOperands.Operands.{Operand, cast_to, constancy, integer, is_null_constant, is_pointer, is_to_void, null_of, operand};
+ghost use Rattle.cc_terms.specs.CcOperands.Qualified.{unqualified};
+ghost use Rattle.cc_terms.specs.CcOperands.Unary.{negated, unary_of};
+ghost use Rattle.cc_terms.specs.CcOperands.declared.operator.Operator.TheVariants as operator;
 ghost use Rattle.cc_program.specs.declared.expr.Expr.{Choose, Compare, Const, Gap, Move, Qualify};
 ghost use Rattle.cc_program.specs.declared.types.CType.{CType};
 ghost use Rattle.cc_program.specs.declared.types.Shape.{out-Shape};
 ghost use Rattle.cc_program.specs.declared.types.Shape.TheOpen as shape;
 ghost use Rattle.cc_program.specs.declared.types.Structure.{Structure};
-ghost use Rattle.cc_syntax.specs.Folding.{Value};
-ghost use Rattle.cc_syntax.specs.Operators.{common_type, difference_type, has_difference, is_promoted, points_to_object, second_fits};
-ghost use Rattle.cc_syntax.specs.Values.{Integer, ValueType, is_assignable, is_scalar, is_void, point_alike, pointer_to};
+ghost use Rattle.cc_terms.specs.CcSyntax.Folding.{Value};
+ghost use Rattle.cc_terms.specs.CcSyntax.Operators.{common_type, difference_type, has_difference, is_promoted, points_to_object, second_fits};
+ghost use Rattle.cc_terms.specs.CcSyntax.Values.{Integer, ValueType, is_assignable, is_scalar, is_void, point_alike, pointer_to};
 
 /// What the type rules make of operands that have the types that a program writes out (C99 6.5): the operation on them as they are, with no conversion more. The call does nothing.
 pub fn operands_stay()

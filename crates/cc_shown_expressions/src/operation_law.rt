@@ -2,9 +2,9 @@
 
 ghost use Rattle.std.specs.Prelude.{◌≡◌, ℕ};
 ghost use Rattle.cc_bodies.specs.Exprs.{binary_mark, movement_mark, unary_mark};
-ghost use Rattle.cc_lex.specs.declared.token.Mark.TheVariants as m;
-ghost use Rattle.cc_num.specs.declared.int_type.IntType.{IntType};
-ghost use Rattle.cc_num.specs.declared.op.UnOp.{UnOp};
+ghost use Rattle.cc_terms.specs.CcLex.declared.token.Mark.TheVariants as m;
+ghost use Rattle.cc_program.specs.CcNum.declared.int_type.IntType.{IntType};
+ghost use Rattle.cc_program.specs.CcNum.declared.op.UnOp.{UnOp};
 ghost use Rattle.cc_program.specs.declared.expr.Expr.{Expr, FuncAddr, Null, out-Expr};
 ghost use Rattle.cc_program.specs.declared.expr.Place.{Local, Static};
 ghost use Rattle.cc_program.specs.declared.expr.Place.{Device as DeviceAt};
@@ -13,16 +13,16 @@ ghost use Rattle.cc_program.specs.declared.expr.Expr.TheOpen as one;
 ghost use Rattle.cc_program.specs.declared.func.Func.{Func};
 ghost use Rattle.cc_program.specs.declared.program.Program.{Program};
 ghost use Rattle.cc_expression_trees.specs.Exprs.{IsBinary};
-ghost use Rattle.cc_scopes.specs.State.{State};
+ghost use Rattle.cc_terms.specs.CcScopes.State.{State};
 ghost use Rattle.cc_shown_expressions.specs.Normal.{HasOperand};
 ghost use Rattle.cc_shown_expressions.specs.OperationNumbers.{Numbers, expr_numbered, place_numbered};
 ghost use Rattle.cc_shown_expressions.specs.Typed.{IsShown};
 ghost use Rattle.cc_shown_expressions.specs.Numbers.{type_numbered};
 ghost use Rattle.cc_shown_expressions.specs.Known.{KnowsStructures};
-ghost use Rattle.cc_syntax.specs.Values.{ValueType};
+ghost use Rattle.cc_terms.specs.CcSyntax.Values.{ValueType};
 ghost use Rattle.cc_tree.specs.declared.at.At.{At};
 ghost use Rattle.cc_tree.specs.declared.tree.Tree as tree;
-ghost use Rattle.cc_lex.specs.declared.token.Mark.{Mark};
+ghost use Rattle.cc_terms.specs.CcLex.declared.token.Mark.{Mark};
 
 /// What holds of trees that show operations of a program in normal form, where its structures are known: with operands
 /// that are typed to those of the program they are typed to the operation (C99 6.5.3.3, 6.5.5 to 6.5.14), and nothing that

@@ -4,17 +4,17 @@ use Rattle.std.proofs.Common.{◌≡◌, ◌⊎◌, inl, inr, ℕ, suc, ◌+◌,
 use Rattle.std.specs.List.{list_any, filter}
 use Rattle.std.specs.Option.{is_none}
 use Rattle.std.specs.Str.{bytes_eq}
-use Rattle.cc_typed_terms.specs.Primary.{intrinsic_named}
+use Rattle.cc_type.specs.CcTypedTerms.Primary.{intrinsic_named}
 use Rattle.cc_program.specs.declared.func.Func.{Func}
 use Rattle.cc_program.specs.declared.object.Device.{Device}
 use Rattle.cc_program.specs.declared.program.Program.{Program}
-use Rattle.cc_scopes.specs.State.{Name, name_or_none}
-use Rattle.cc_scopes.specs.declared.unit.Declared.{Declared}
-use Rattle.cc_syntax.specs.Names.{with_name, device_names, intrinsic_names}
-use Rattle.cc_syntax.specs.Normal.{has_name}
-use Rattle.cc_syntax.specs.Sizes.{AreSized}
-use Rattle.cc_syntax.specs.Sound.{IsSound, is_main, is_main_there, main_name}
-use Rattle.cc_syntax.proofs.StructureLemmas.{structures_sized}
+use Rattle.cc_type.specs.CcScopes.State.{Name, name_or_none}
+use Rattle.cc_type.specs.CcScopes.declared.unit.Declared.{Declared}
+use Rattle.cc_type.specs.CcSyntax.Names.{with_name, device_names, intrinsic_names}
+use Rattle.cc_type.specs.CcSyntax.Normal.{has_name}
+use Rattle.cc_type.specs.CcSyntax.Sizes.{AreSized}
+use Rattle.cc_type.specs.CcSyntax.Sound.{IsSound, is_main, is_main_there, main_name}
+use Rattle.cc_type.proofs.CcSyntax.StructureLemmas.{structures_sized}
 use Rattle.cc_shown_declarations.specs.Order.{appearance, structure_number}
 use Rattle.cc_shown_declarations.specs.States.{first_state}
 use Rattle.cc_shown_names.proofs.Changes.{stays-there}

@@ -1,29 +1,29 @@
 -- The body of a function: its automatic objects, one line each, and its statements.
 use Rattle.std.proofs.Common.{arith, ◌≡◌, inr, ℕ, zero, suc, ◌≤◌, ◌+◌, true, List, [], ◌∷◌, ◌++◌, map, length, take, drop, Some, None, Ok, refl, ap, sym, ◌∙◌, subst, slice_get, append-nil, length-append, add-one}
 use Rattle.cc_unit_trees.specs.Units.{ShowsLocals, NoLocal, MoreLocals}
-use Rattle.cc_objects.specs.Linked.{with_automatic}
-use Rattle.cc_operands.specs.Qualified.{without_const}
+use Rattle.cc_type.specs.CcObjects.Linked.{with_automatic}
+use Rattle.cc_type.specs.CcOperands.Qualified.{without_const}
 use Rattle.cc_program.specs.declared.func.Func.{Func}
 use Rattle.cc_program.specs.declared.program.Program.{Program}
 use Rattle.cc_program.specs.declared.stmt.Stmt.{Stmt}
 use Rattle.cc_program.specs.declared.types.CType.{CType}
 use Rattle.cc_program.specs.declared.types.Sig.{out-Sig}
-use Rattle.cc_scopes.specs.State.{State, Name, named_here}
-use Rattle.cc_scopes.specs.Verdicts.{Found, and_then}
+use Rattle.cc_type.specs.CcScopes.State.{State, Name, named_here}
+use Rattle.cc_type.specs.CcScopes.Verdicts.{Found, and_then}
 use Rattle.cc_unit_trees.specs.Lines.{ShowsStmts}
-use Rattle.cc_syntax.specs.Kinds.{is_object_type}
-use Rattle.cc_syntax.specs.Normal.{devices_in, is_normal_body, next_of}
-use Rattle.cc_syntax.specs.Programs.{kind_in}
-use Rattle.cc_syntax.specs.Sizes.{AreSized}
-use Rattle.cc_syntax.specs.Sound.{IsSound, IsFunc, devices_differ, is_local}
-use Rattle.cc_syntax.specs.Types.{Named}
-use Rattle.cc_terms.specs.InTurn.{in_turn}
+use Rattle.cc_type.specs.CcSyntax.Kinds.{is_object_type}
+use Rattle.cc_type.specs.CcSyntax.Normal.{devices_in, is_normal_body, next_of}
+use Rattle.cc_type.specs.CcSyntax.Programs.{kind_in}
+use Rattle.cc_type.specs.CcSyntax.Sizes.{AreSized}
+use Rattle.cc_type.specs.CcSyntax.Sound.{IsSound, IsFunc, devices_differ, is_local}
+use Rattle.cc_type.specs.CcSyntax.Types.{Named}
+use Rattle.cc_type.specs.CcTerms.InTurn.{in_turn}
 use Rattle.cc_tree.specs.declared.at.At.{At}
 use Rattle.cc_tree.specs.declared.unit.Line as line
 use Rattle.cc_tree.specs.declared.unit.Line.{Line}
-use Rattle.cc_typed_bodies.specs.Meanings.{line_found, lines_found}
-use Rattle.cc_typed_statements.specs.Jumps.{no_jumps}
-use Rattle.cc_typed_statements.specs.declared.jumps.Jumps.{Jumps}
+use Rattle.cc_type.specs.CcTypedBodies.Meanings.{line_found, lines_found}
+use Rattle.cc_type.specs.CcTypedStatements.Jumps.{no_jumps}
+use Rattle.cc_type.specs.CcTypedStatements.declared.jumps.Jumps.{Jumps}
 use Rattle.cc_shown_expressions.proofs.Stand.{tested-at}
 use Rattle.cc_shown_effects.specs.Numbers.{stmt_numbered}
 use Rattle.cc_shown_expressions.specs.KnownNames.{KnowsNames, TypesStand}

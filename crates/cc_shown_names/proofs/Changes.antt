@@ -2,14 +2,14 @@
 use Rattle.std.proofs.Common.{◌≡◌, ◌⊎◌, inl, inr, ℕ, zero, suc, ◌+◌, Bool, true, false, cond, not, ◌&&◌, List, [], ◌∷◌, ◌++◌, map, length, position, Option, Some, None, option_map, Err, refl, ap, sym, ◌∙◌, slice_get, nat_lt, nat_eq}
 use Rattle.std.specs.Prelude.{if◌then◌else◌}
 use Rattle.std.specs.List.{prefix_len}
-use Rattle.cc_designators.specs.Designators.{TypedExpr}
-use Rattle.cc_operands.specs.Verdicts.{Judged}
-use Rattle.cc_operands.specs.declared.rule.Rule.TheVariants as rule
-use Rattle.cc_typed_terms.specs.Primary.{linked_by, linked}
-use Rattle.cc_scopes.specs.Linked.{is_linked, has_name, linked_from}
-use Rattle.cc_scopes.specs.State.{Name, change_at}
-use Rattle.cc_scopes.specs.declared.unit.Declared.{Declared}
-use Rattle.cc_syntax.specs.Normal.{next_of}
+use Rattle.cc_type.specs.CcDesignators.Designators.{TypedExpr}
+use Rattle.cc_type.specs.CcOperands.Verdicts.{Judged}
+use Rattle.cc_type.specs.CcOperands.declared.rule.Rule.TheVariants as rule
+use Rattle.cc_type.specs.CcTypedTerms.Primary.{linked_by, linked}
+use Rattle.cc_type.specs.CcScopes.Linked.{is_linked, has_name, linked_from}
+use Rattle.cc_type.specs.CcScopes.State.{Name, change_at}
+use Rattle.cc_type.specs.CcScopes.declared.unit.Declared.{Declared}
+use Rattle.cc_type.specs.CcSyntax.Normal.{next_of}
 
 -- ---- one of a list changes
 

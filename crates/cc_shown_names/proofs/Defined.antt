@@ -9,7 +9,7 @@ use Rattle.cc_bodies.specs.Stmts.{intrinsic_name}
 use Rattle.cc_expression_trees.specs.Types.{Core, Plain, Function, unnamed, Declares, ShowsWords, NoWord, MoreWords}
 use Rattle.cc_expression_trees.proofs.Insides.{core_name, core-named}
 use Rattle.cc_expression_trees.specs.Constants.{qualified}
-use Rattle.cc_objects.specs.Categories.{storage_class, storage_in, is_given}
+use Rattle.cc_type.specs.CcObjects.Categories.{storage_class, storage_in, is_given}
 use Rattle.cc_program.specs.declared.expr.Intr.{Intr}
 use Rattle.cc_program.specs.declared.expr.Intr.TheVariants as intr
 use Rattle.cc_program.specs.declared.func.Func.{Func}
@@ -21,10 +21,10 @@ use Rattle.cc_program.specs.declared.types.Shape.TheOpen as shape
 use Rattle.cc_program.specs.declared.types.Sig.{out-Sig}
 use Rattle.cc_program.specs.declared.types.Structure.{Structure}
 use Rattle.cc_program.proofs.Each.{Each, each_of}
-use Rattle.cc_scopes.specs.State.{Name, or_else}
-use Rattle.cc_syntax.specs.Names.{with_name, device_names, intrinsic_names}
-use Rattle.cc_syntax.specs.Normal.{has_name}
-use Rattle.cc_syntax.specs.Sound.{IsSound}
+use Rattle.cc_type.specs.CcScopes.State.{Name, or_else}
+use Rattle.cc_type.specs.CcSyntax.Names.{with_name, device_names, intrinsic_names}
+use Rattle.cc_type.specs.CcSyntax.Normal.{has_name}
+use Rattle.cc_type.specs.CcSyntax.Sound.{IsSound}
 use Rattle.cc_tree.specs.declared.at.At.{At}
 use Rattle.cc_tree.specs.declared.tree.Declr.{Declr}
 use Rattle.cc_tree.specs.declared.tree.Spec as spec
@@ -41,8 +41,8 @@ use Rattle.cc_unit_trees.specs.Programs.{ShowsExternal, ShowsExternals, NoExtern
 use Rattle.cc_unit_trees.specs.Units.{ShowsDecl, ShowsOne, ShowsDefinition as ADefinedFunction}
 use Rattle.cc_unit_trees.proofs.Each.{each-append, each-mapped, each-passing}
 use Rattle.cc_unit_trees.proofs.Lists.{each-from}
-use Rattle.cc_words.specs.declared.word.Word.{Word}
-use Rattle.cc_words.specs.declared.word.Word.TheVariants as w
+use Rattle.cc_program.specs.CcWords.declared.word.Word.{Word}
+use Rattle.cc_program.specs.CcWords.declared.word.Word.TheVariants as w
 use Rattle.cc_shown_names.proofs.Changes.{stays-there}
 use Rattle.cc_shown_names.proofs.Names.{mapped}
 use Rattle.cc_shown_names.proofs.Base.{apart}

@@ -4,13 +4,13 @@ use Rattle.std.specs.List.{flat_map, list_all}
 use Rattle.cc_unit_trees.specs.Units.{ShowsFunction, ShowsDefinition}
 use Rattle.cc_program.specs.declared.func.Func.{Func}
 use Rattle.cc_program.specs.declared.program.Program.{Program}
-use Rattle.cc_scopes.specs.State.{State, with_locals}
-use Rattle.cc_scopes.specs.Verdicts.{Found, and_then, Checked, checked}
-use Rattle.cc_syntax.specs.Normal.{devices_in, is_normal_body, next_of}
-use Rattle.cc_syntax.specs.Sizes.{AreSized}
-use Rattle.cc_syntax.specs.Sound.{IsSound, IsFunc}
-use Rattle.cc_syntax.proofs.Parts.{all_at}
-use Rattle.cc_terms.specs.InTurn.{in_turn}
+use Rattle.cc_type.specs.CcScopes.State.{State, with_locals}
+use Rattle.cc_type.specs.CcScopes.Verdicts.{Found, and_then, Checked, checked}
+use Rattle.cc_type.specs.CcSyntax.Normal.{devices_in, is_normal_body, next_of}
+use Rattle.cc_type.specs.CcSyntax.Sizes.{AreSized}
+use Rattle.cc_type.specs.CcSyntax.Sound.{IsSound, IsFunc}
+use Rattle.cc_type.proofs.CcSyntax.Parts.{all_at}
+use Rattle.cc_type.specs.CcTerms.InTurn.{in_turn}
 use Rattle.cc_tree.specs.declared.at.At.{At}
 use Rattle.cc_tree.specs.declared.unit.Item.{Item}
 use Rattle.cc_type.specs.Functions.{defined_as}

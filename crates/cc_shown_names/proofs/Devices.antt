@@ -7,43 +7,43 @@ use Rattle.std.specs.Str.{bytes_eq}
 use Rattle.std.proofs.lemmas.List.{map-append, append-nil}
 use Rattle.cc_expression_trees.specs.Constants.{qualified}
 use Rattle.cc_expression_trees.specs.Types.{Plain}
-use Rattle.cc_linkage.specs.Linkage.{linkage_of, new_declared}
-use Rattle.cc_linkage.specs.declared.linkage.DeclaredAs.TheVariants.{AsExtern}
-use Rattle.cc_objects.specs.Categories.{setting_of}
-use Rattle.cc_objects.specs.Linked.{device_by, object_kind}
-use Rattle.cc_objects.specs.Types.{type_given, composite_by}
-use Rattle.cc_objects.specs.declared.category.Category.TheVariants as declares
-use Rattle.cc_operands.specs.Verdicts.{Judged}
-use Rattle.cc_typed_terms.specs.Primary.{intrinsic_named}
+use Rattle.cc_type.specs.CcLinkage.Linkage.{linkage_of, new_declared}
+use Rattle.cc_type.specs.CcLinkage.declared.linkage.DeclaredAs.TheVariants.{AsExtern}
+use Rattle.cc_type.specs.CcObjects.Categories.{setting_of}
+use Rattle.cc_type.specs.CcObjects.Linked.{device_by, object_kind}
+use Rattle.cc_type.specs.CcObjects.Types.{type_given, composite_by}
+use Rattle.cc_type.specs.CcObjects.declared.category.Category.TheVariants as declares
+use Rattle.cc_type.specs.CcOperands.Verdicts.{Judged}
+use Rattle.cc_type.specs.CcTypedTerms.Primary.{intrinsic_named}
 use Rattle.cc_program.specs.declared.object.Device.{Device}
 use Rattle.cc_program.specs.declared.program.Program.{Program}
 use Rattle.cc_program.specs.declared.types.CType.{CType}
 use Rattle.cc_program.specs.declared.types.Shape.{Int, out-Shape}
 use Rattle.cc_program.specs.declared.types.Shape.TheOpen as shape
 use Rattle.cc_program.specs.declared.types.Shape.TheVariants.{outs-Int}
-use Rattle.cc_scopes.specs.State.{State, Name, name_or_none}
-use Rattle.cc_scopes.specs.Verdicts.{Found, whole, and_then, Checked, checked}
-use Rattle.cc_scopes.specs.declared.unit.Declared.{Declared}
-use Rattle.cc_specifiers.specs.declared.storage.Where.TheVariants as stands
-use Rattle.cc_syntax.specs.Names.{with_name, device_names}
-use Rattle.cc_syntax.specs.Normal.{has_name}
-use Rattle.cc_syntax.specs.Sound.{IsSound, is_device, main_name}
-use Rattle.cc_syntax.proofs.Prefixes.{both_true}
-use Rattle.cc_terms.specs.InTurn.{in_turn}
+use Rattle.cc_type.specs.CcScopes.State.{State, Name, name_or_none}
+use Rattle.cc_type.specs.CcScopes.Verdicts.{Found, whole, and_then, Checked, checked}
+use Rattle.cc_type.specs.CcScopes.declared.unit.Declared.{Declared}
+use Rattle.cc_type.specs.CcSpecifiers.declared.storage.Where.TheVariants as stands
+use Rattle.cc_type.specs.CcSyntax.Names.{with_name, device_names}
+use Rattle.cc_type.specs.CcSyntax.Normal.{has_name}
+use Rattle.cc_type.specs.CcSyntax.Sound.{IsSound, is_device, main_name}
+use Rattle.cc_type.proofs.CcSyntax.Prefixes.{both_true}
+use Rattle.cc_type.specs.CcTerms.InTurn.{in_turn}
 use Rattle.cc_tree.specs.declared.at.At.{At}
 use Rattle.cc_tree.specs.declared.tree.Declr.{Declr}
 use Rattle.cc_tree.specs.declared.unit.Decl.{Decl}
 use Rattle.cc_tree.specs.declared.unit.Item.{Item}
 use Rattle.cc_tree.specs.declared.unit.Item.TheVariants as item
 use Rattle.cc_type.specs.Units.{item_found, item_next, items_found}
-use Rattle.cc_typed_bodies.specs.Declarations.{declared_left, named_found}
-use Rattle.cc_typed_bodies.specs.Objects.{linked_known, linked_as}
-use Rattle.cc_unit.specs.declared.unit.UnitKind.TheVariants as kind
+use Rattle.cc_type.specs.CcTypedBodies.Declarations.{declared_left, named_found}
+use Rattle.cc_type.specs.CcTypedBodies.Objects.{linked_known, linked_as}
+use Rattle.cc_type.specs.CcUnit.declared.unit.UnitKind.TheVariants as kind
 use Rattle.cc_unit_trees.specs.Externals.{ADevice}
 use Rattle.cc_unit_trees.specs.Items.{ShowsDevice, ADevice as ADeviceItem}
 use Rattle.cc_unit_trees.specs.Programs.{ShowsExternals, NoExternal, MoreExternals}
 use Rattle.cc_unit_trees.specs.Units.{ShowsDecl, ShowsOne}
-use Rattle.cc_words.specs.declared.word.Word.TheVariants as w
+use Rattle.cc_program.specs.CcWords.declared.word.Word.TheVariants as w
 use Rattle.cc_shown_declarations.specs.Order.{appearance, structure_number}
 use Rattle.cc_shown_declarations.specs.States.{first_state}
 use Rattle.cc_shown_expressions.specs.Known.{KnowsStructures}

@@ -3,7 +3,7 @@ use Rattle.std.proofs.Common.{arith, ◌≡◌, ◌<◌, ◌≤◌, ℕ, zero, s
 use Rattle.std.specs.Prelude.{if◌then◌else◌}
 use Rattle.std.specs.List.{list_any, filter}
 use Rattle.std.proofs.lemmas.Option.{slice_get_within}
-use Rattle.cc_syntax.specs.Lists.{come_first}
+use Rattle.cc_type.specs.CcSyntax.Lists.{come_first}
 use Rattle.cc_shown_names.proofs.Names.{neither}
 
 not-false : (b : Bool) → not b ≡ true → b ≡ false

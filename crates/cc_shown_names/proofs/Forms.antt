@@ -1,19 +1,19 @@
 -- A declarator that shows a thing of a type that is no function's declares no function.
 use Rattle.std.proofs.Common.{◌≡◌, ℕ, Bool, true, false, ◌||◌, List, Option, Some, None, refl, ap, sym, ◌∙◌}
 use Rattle.std.specs.Prelude.{if◌then◌else◌}
-use Rattle.cc_operands.specs.Qualified.{is_function_type}
+use Rattle.cc_type.specs.CcOperands.Qualified.{is_function_type}
 use Rattle.cc_program.specs.declared.program.Program.{Program}
 use Rattle.cc_program.specs.declared.types.CType.{CType}
 use Rattle.cc_program.specs.declared.types.Shape.{Shape, out-Shape}
 use Rattle.cc_program.specs.declared.types.Shape.TheOpen as shape
 use Rattle.cc_program.specs.declared.types.Sig.{Sig, out-Sig}
 use Rattle.cc_program.specs.declared.types.Structure.{Structure}
-use Rattle.cc_specifiers.specs.Declarators.{nearer, form_step, form_of, is_function_form, declares_function}
-use Rattle.cc_specifiers.specs.declared.declarator.Form.{Form}
-use Rattle.cc_specifiers.specs.declared.declarator.Form.TheVariants as form
-use Rattle.cc_syntax.specs.Kinds.{IsFunction, qualified_kind, is_sig, extent_in, is_object_type}
-use Rattle.cc_syntax.specs.Programs.{kind_in}
-use Rattle.cc_syntax.specs.SameTypes.{is_func_shape}
+use Rattle.cc_type.specs.CcSpecifiers.Declarators.{nearer, form_step, form_of, is_function_form, declares_function}
+use Rattle.cc_type.specs.CcSpecifiers.declared.declarator.Form.{Form}
+use Rattle.cc_type.specs.CcSpecifiers.declared.declarator.Form.TheVariants as form
+use Rattle.cc_type.specs.CcSyntax.Kinds.{IsFunction, qualified_kind, is_sig, extent_in, is_object_type}
+use Rattle.cc_type.specs.CcSyntax.Programs.{kind_in}
+use Rattle.cc_type.specs.CcSyntax.SameTypes.{is_func_shape}
 use Rattle.cc_tree.specs.Tokens.{Name}
 use Rattle.cc_tree.specs.declared.at.At.{At}
 use Rattle.cc_tree.specs.declared.tree.Declr as declr

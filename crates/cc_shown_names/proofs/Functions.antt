@@ -4,50 +4,50 @@ use Rattle.std.proofs.Common.{◌≡◌, ℕ, ◌≤◌, true, List, [], ◌∷�
 use Rattle.std.specs.Prelude.{if◌then◌else◌}
 use Rattle.std.specs.Option.{is_some}
 use Rattle.std.proofs.lemmas.List.{map-append}
-use Rattle.cc_typed_terms.specs.Declarators.{derived_type}
-use Rattle.cc_typed_terms.specs.Located.{located}
+use Rattle.cc_type.specs.CcTypedTerms.Declarators.{derived_type}
+use Rattle.cc_type.specs.CcTypedTerms.Located.{located}
 use Rattle.cc_unit_trees.specs.Units.{ShowsLocals}
-use Rattle.cc_linkage.specs.Linkage.{declared, may_be_declared}
-use Rattle.cc_linkage.specs.declared.linkage.DeclaredAs.TheVariants.{AsExtern}
-use Rattle.cc_objects.specs.Names.{function_judged}
-use Rattle.cc_operands.specs.Verdicts.{Judged, must, judge_then}
-use Rattle.cc_operands.specs.declared.rule.Rule.TheVariants as rule
+use Rattle.cc_type.specs.CcLinkage.Linkage.{declared, may_be_declared}
+use Rattle.cc_type.specs.CcLinkage.declared.linkage.DeclaredAs.TheVariants.{AsExtern}
+use Rattle.cc_type.specs.CcObjects.Names.{function_judged}
+use Rattle.cc_type.specs.CcOperands.Verdicts.{Judged, must, judge_then}
+use Rattle.cc_type.specs.CcOperands.declared.rule.Rule.TheVariants as rule
 use Rattle.cc_program.specs.declared.func.Func.{Func}
 use Rattle.cc_program.specs.declared.program.Program.{Program}
 use Rattle.cc_program.specs.declared.stmt.Stmt.{Stmt}
 use Rattle.cc_program.specs.declared.types.CType.{CType}
 use Rattle.cc_program.specs.declared.types.Shape.TheVariants as shape_rolls
 use Rattle.cc_program.specs.declared.types.Sig.{Sig, out-Sig}
-use Rattle.cc_scopes.specs.State.{State, Scope, with_locals}
-use Rattle.cc_scopes.specs.Verdicts.{Found, whole, and_then, checked}
-use Rattle.cc_specifiers.specs.Attributes.{entry_by}
-use Rattle.cc_specifiers.specs.Derivations.{in_definition}
-use Rattle.cc_specifiers.specs.Places.{JudgedAt}
-use Rattle.cc_specifiers.specs.Storage.{setting}
-use Rattle.cc_specifiers.specs.declared.attribute.Attribute.{Attribute}
-use Rattle.cc_specifiers.specs.declared.attribute.Entity.TheVariants as entity
-use Rattle.cc_specifiers.specs.declared.derivation.Declarator.{Declarator}
-use Rattle.cc_specifiers.specs.declared.derivation.Derivation.{Derivation}
-use Rattle.cc_specifiers.specs.declared.derivation.Derivation.TheVariants as to
-use Rattle.cc_specifiers.specs.declared.derivation.Parameter.{Parameter}
-use Rattle.cc_specifiers.specs.declared.specifier.Specified.{Specified}
-use Rattle.cc_specifiers.specs.declared.storage.Where.TheVariants as stands
+use Rattle.cc_type.specs.CcScopes.State.{State, Scope, with_locals}
+use Rattle.cc_type.specs.CcScopes.Verdicts.{Found, whole, and_then, checked}
+use Rattle.cc_type.specs.CcSpecifiers.Attributes.{entry_by}
+use Rattle.cc_type.specs.CcSpecifiers.Derivations.{in_definition}
+use Rattle.cc_type.specs.CcSpecifiers.Places.{JudgedAt}
+use Rattle.cc_type.specs.CcSpecifiers.Storage.{setting}
+use Rattle.cc_type.specs.CcSpecifiers.declared.attribute.Attribute.{Attribute}
+use Rattle.cc_type.specs.CcSpecifiers.declared.attribute.Entity.TheVariants as entity
+use Rattle.cc_type.specs.CcSpecifiers.declared.derivation.Declarator.{Declarator}
+use Rattle.cc_type.specs.CcSpecifiers.declared.derivation.Derivation.{Derivation}
+use Rattle.cc_type.specs.CcSpecifiers.declared.derivation.Derivation.TheVariants as to
+use Rattle.cc_type.specs.CcSpecifiers.declared.derivation.Parameter.{Parameter}
+use Rattle.cc_type.specs.CcSpecifiers.declared.specifier.Specified.{Specified}
+use Rattle.cc_type.specs.CcSpecifiers.declared.storage.Where.TheVariants as stands
 use Rattle.cc_unit_trees.specs.Lines.{ShowsStmts}
-use Rattle.cc_syntax.specs.Normal.{devices_in, is_normal_body, next_of}
-use Rattle.cc_syntax.specs.Sizes.{AreSized}
-use Rattle.cc_syntax.specs.Sound.{IsSound, IsFunc}
-use Rattle.cc_syntax.specs.Types.{Named}
-use Rattle.cc_terms.specs.Terms.{declr_of}
+use Rattle.cc_type.specs.CcSyntax.Normal.{devices_in, is_normal_body, next_of}
+use Rattle.cc_type.specs.CcSyntax.Sizes.{AreSized}
+use Rattle.cc_type.specs.CcSyntax.Sound.{IsSound, IsFunc}
+use Rattle.cc_type.specs.CcSyntax.Types.{Named}
+use Rattle.cc_type.specs.CcTerms.Terms.{declr_of}
 use Rattle.cc_tree.specs.declared.at.At.{At}
 use Rattle.cc_tree.specs.declared.tree.Declr.{Declr}
 use Rattle.cc_tree.specs.declared.tree.Spec.{Spec}
 use Rattle.cc_tree.specs.declared.unit.Line.{Line}
 use Rattle.cc_type.specs.Functions.{asked_by, locals_of, definition_judged, defined_as, function_of, function_defined, signature_at, entered_function, function_body_found, function_entered, judged_function, named_function, function_found}
 use Rattle.cc_expression_trees.specs.Types.{ShowsBase}
-use Rattle.cc_typed_bodies.specs.Lines.{line_here}
-use Rattle.cc_typed_bodies.specs.Meanings.{lines_found}
-use Rattle.cc_typed_statements.specs.Jumps.{no_jumps}
-use Rattle.cc_unit.specs.declared.unit.UnitKind.TheVariants as kind
+use Rattle.cc_type.specs.CcTypedBodies.Lines.{line_here}
+use Rattle.cc_type.specs.CcTypedBodies.Meanings.{lines_found}
+use Rattle.cc_type.specs.CcTypedStatements.Jumps.{no_jumps}
+use Rattle.cc_type.specs.CcUnit.declared.unit.UnitKind.TheVariants as kind
 use Rattle.cc_shown_names.specs.Bodies.{first_locals, with_local_objects}
 use Rattle.cc_shown_names.proofs.Bodies.{body-typed}
 use Rattle.cc_shown_names.proofs.LocalObjects.{objects-behind, outside-stays}

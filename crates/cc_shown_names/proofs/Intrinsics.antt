@@ -5,19 +5,19 @@ use Rattle.std.specs.List.{list_all}
 use Rattle.std.specs.Option.{is_some}
 use Rattle.std.specs.Str.{bytes_eq}
 use Rattle.cc_bodies.specs.Stmts.{intrinsic_name}
-use Rattle.cc_designators.specs.Calls.{byte_type, intrinsic_signature}
+use Rattle.cc_type.specs.CcDesignators.Calls.{byte_type, intrinsic_signature}
 use Rattle.cc_expression_trees.specs.Constants.{plain as plainly}
 use Rattle.cc_expression_trees.specs.Types.{Function, unnamed, Declares}
-use Rattle.cc_linkage.specs.Linkage.{declared}
-use Rattle.cc_linkage.specs.declared.linkage.DeclaredAs.TheVariants.{AsExtern}
-use Rattle.cc_num.specs.declared.int_type.IntType.TheVariants as int
-use Rattle.cc_objects.specs.Categories.{setting_of}
-use Rattle.cc_objects.specs.Names.{is_prototype, function_judged, prototype_judged}
-use Rattle.cc_objects.specs.declared.category.Category.TheVariants as declares
-use Rattle.cc_operands.specs.Qualified.{plain, is_function_type}
-use Rattle.cc_operands.specs.Verdicts.{Judged, must}
-use Rattle.cc_operands.specs.declared.rule.Rule.TheVariants as rule
-use Rattle.cc_typed_terms.specs.Primary.{intrinsic_named}
+use Rattle.cc_type.specs.CcLinkage.Linkage.{declared}
+use Rattle.cc_type.specs.CcLinkage.declared.linkage.DeclaredAs.TheVariants.{AsExtern}
+use Rattle.cc_program.specs.CcNum.declared.int_type.IntType.TheVariants as int
+use Rattle.cc_type.specs.CcObjects.Categories.{setting_of}
+use Rattle.cc_type.specs.CcObjects.Names.{is_prototype, function_judged, prototype_judged}
+use Rattle.cc_type.specs.CcObjects.declared.category.Category.TheVariants as declares
+use Rattle.cc_type.specs.CcOperands.Qualified.{plain, is_function_type}
+use Rattle.cc_type.specs.CcOperands.Verdicts.{Judged, must}
+use Rattle.cc_type.specs.CcOperands.declared.rule.Rule.TheVariants as rule
+use Rattle.cc_type.specs.CcTypedTerms.Primary.{intrinsic_named}
 use Rattle.cc_program.specs.declared.expr.Intr.{Intr}
 use Rattle.cc_program.specs.declared.expr.Intr.TheVariants as intr
 use Rattle.cc_program.specs.declared.program.Program.{Program}
@@ -27,27 +27,27 @@ use Rattle.cc_program.specs.declared.types.Shape.{Shape, Void, Int, Func, roll-S
 use Rattle.cc_program.specs.declared.types.Shape.TheOpen as shape
 use Rattle.cc_program.specs.declared.types.Shape.TheVariants.{outs-Void, outs-Int}
 use Rattle.cc_program.specs.declared.types.Sig.{Sig, out-Sig, roll-Sig, out-roll-Sig, roll-out-Sig}
-use Rattle.cc_scopes.specs.State.{State, Name}
-use Rattle.cc_scopes.specs.Verdicts.{Found, whole, and_then, Checked, checked}
-use Rattle.cc_specifiers.specs.declared.storage.Where.TheVariants as stands
-use Rattle.cc_syntax.specs.Kinds.{is_plain_scalar, is_result}
-use Rattle.cc_syntax.specs.Names.{device_names, intrinsic_names}
-use Rattle.cc_syntax.specs.Programs.{kind_in}
-use Rattle.cc_syntax.specs.SameTypes.{same_type}
-use Rattle.cc_syntax.specs.Sizes.{AreSized}
-use Rattle.cc_syntax.specs.Sound.{IsSound}
-use Rattle.cc_syntax.proofs.SameLemmas.{compared}
-use Rattle.cc_syntax.proofs.StructureLemmas.{structures_sized}
-use Rattle.cc_terms.specs.InTurn.{in_turn}
+use Rattle.cc_type.specs.CcScopes.State.{State, Name}
+use Rattle.cc_type.specs.CcScopes.Verdicts.{Found, whole, and_then, Checked, checked}
+use Rattle.cc_type.specs.CcSpecifiers.declared.storage.Where.TheVariants as stands
+use Rattle.cc_type.specs.CcSyntax.Kinds.{is_plain_scalar, is_result}
+use Rattle.cc_type.specs.CcSyntax.Names.{device_names, intrinsic_names}
+use Rattle.cc_type.specs.CcSyntax.Programs.{kind_in}
+use Rattle.cc_type.specs.CcSyntax.SameTypes.{same_type}
+use Rattle.cc_type.specs.CcSyntax.Sizes.{AreSized}
+use Rattle.cc_type.specs.CcSyntax.Sound.{IsSound}
+use Rattle.cc_type.proofs.CcSyntax.SameLemmas.{compared}
+use Rattle.cc_type.proofs.CcSyntax.StructureLemmas.{structures_sized}
+use Rattle.cc_type.specs.CcTerms.InTurn.{in_turn}
 use Rattle.cc_tree.specs.declared.at.At.{At}
 use Rattle.cc_tree.specs.declared.tree.Declr.{Declr}
 use Rattle.cc_tree.specs.declared.unit.Decl.{Decl}
 use Rattle.cc_tree.specs.declared.unit.Item.{Item}
 use Rattle.cc_tree.specs.declared.unit.Item.TheVariants as item
 use Rattle.cc_type.specs.Units.{item_found, item_next, items_found}
-use Rattle.cc_typed_bodies.specs.Declarations.{declared_left, named_found}
-use Rattle.cc_typed_bodies.specs.Functions.{with_function, function_refused, function_left}
-use Rattle.cc_unit.specs.declared.unit.UnitKind.TheVariants as kind
+use Rattle.cc_type.specs.CcTypedBodies.Declarations.{declared_left, named_found}
+use Rattle.cc_type.specs.CcTypedBodies.Functions.{with_function, function_refused, function_left}
+use Rattle.cc_type.specs.CcUnit.declared.unit.UnitKind.TheVariants as kind
 use Rattle.cc_unit_trees.specs.Externals.{AnIntrinsic}
 use Rattle.cc_unit_trees.specs.Items.{ShowsIntrinsic, AnIntrinsic as AnIntrinsicItem, intrinsic_result, intrinsic_parameters}
 use Rattle.cc_unit_trees.specs.Programs.{ShowsExternals, NoExternal, MoreExternals}

@@ -6,10 +6,10 @@ use Rattle.std.proofs.lemmas.Option.{slice_get_within}
 use Rattle.cc_program.specs.declared.func.Func.{Func}
 use Rattle.cc_program.specs.declared.object.Object.{Object}
 use Rattle.cc_program.specs.declared.program.Program.{Program}
-use Rattle.cc_scopes.specs.State.{Name}
-use Rattle.cc_syntax.specs.Names.{device_names, intrinsic_names, file_names, are_names}
-use Rattle.cc_syntax.proofs.Prefixes.{both_true}
-use Rattle.cc_words.specs.Names.{is_name, are_distinct}
+use Rattle.cc_type.specs.CcScopes.State.{Name}
+use Rattle.cc_type.specs.CcSyntax.Names.{device_names, intrinsic_names, file_names, are_names}
+use Rattle.cc_type.proofs.CcSyntax.Prefixes.{both_true}
+use Rattle.cc_program.specs.CcWords.Names.{is_name, are_distinct}
 use Rattle.cc_shown_names.proofs.Changes.{stays-there}
 use Rattle.cc_shown_names.proofs.Names.{neither, names-turned}
 

@@ -2,21 +2,21 @@
 -- meant.
 use Rattle.std.proofs.Common.{arith, ◌≡◌, inl, ℕ, zero, suc, ◌<◌, false, cond, List, [], ◌∷◌, length, take, Option, Some, None, Ok, refl, ap, sym, ◌∙◌, slice_get}
 use Rattle.std.specs.Str.{bytes_eq}
-use Rattle.cc_designators.specs.Designators.{TypedExpr, IsPlace}
-use Rattle.cc_objects.specs.Linked.{with_automatic}
-use Rattle.cc_typed_terms.specs.Primary.{designates, named_by, named, intrinsic_named}
+use Rattle.cc_type.specs.CcDesignators.Designators.{TypedExpr, IsPlace}
+use Rattle.cc_type.specs.CcObjects.Linked.{with_automatic}
+use Rattle.cc_type.specs.CcTypedTerms.Primary.{designates, named_by, named, intrinsic_named}
 use Rattle.cc_program.specs.declared.expr.Intr.{Intr}
 use Rattle.cc_program.specs.declared.expr.Place.{Local}
 use Rattle.cc_program.specs.declared.func.Func.{Func}
 use Rattle.cc_program.specs.declared.program.Program.{Program}
 use Rattle.cc_program.specs.declared.program.Roles.{Roles}
 use Rattle.cc_program.specs.declared.types.CType.{CType}
-use Rattle.cc_scopes.specs.State.{State, Scope, Name, find_name, with_name, or_else, designated, tagged, innermost, named_here, in_innermost}
-use Rattle.cc_scopes.specs.declared.designated.Designated.{Designated}
-use Rattle.cc_scopes.specs.declared.designated.Designated.TheVariants as means
-use Rattle.cc_scopes.proofs.LinkedLemmas.{find-with_name}
-use Rattle.cc_syntax.specs.Types.{Named}
-use Rattle.cc_syntax.specs.Values.{object_place}
+use Rattle.cc_type.specs.CcScopes.State.{State, Scope, Name, find_name, with_name, or_else, designated, tagged, innermost, named_here, in_innermost}
+use Rattle.cc_type.specs.CcScopes.declared.designated.Designated.{Designated}
+use Rattle.cc_type.specs.CcScopes.declared.designated.Designated.TheVariants as means
+use Rattle.cc_type.proofs.CcScopes.LinkedLemmas.{find-with_name}
+use Rattle.cc_type.specs.CcSyntax.Types.{Named}
+use Rattle.cc_type.specs.CcSyntax.Values.{object_place}
 use Rattle.cc_shown_expressions.specs.KnownNames.{KnowsNames}
 use Rattle.cc_shown_expressions.specs.OperationNumbers.{Numbers}
 use Rattle.cc_shown_expressions.specs.Known.{KnowsStructures}

@@ -6,24 +6,24 @@ use Rattle.std.specs.Option.{is_none}
 use Rattle.std.proofs.lemmas.Bool.{lt-ltb, le-ltb}
 use Rattle.std.proofs.lemmas.Iterator.Adapters.{position_from-zero}
 use Rattle.std.proofs.lemmas.Option.{slice_get-map, slice_get_within}
-use Rattle.cc_designators.specs.Designators.{IsPlace}
-use Rattle.cc_typed_terms.specs.Devices.{names_device}
-use Rattle.cc_typed_terms.specs.Primary.{named}
+use Rattle.cc_type.specs.CcDesignators.Designators.{IsPlace}
+use Rattle.cc_type.specs.CcTypedTerms.Devices.{names_device}
+use Rattle.cc_type.specs.CcTypedTerms.Primary.{named}
 use Rattle.cc_program.specs.declared.expr.Place.{Device as DeviceAt}
 use Rattle.cc_program.specs.declared.func.Func.{Func}
 use Rattle.cc_program.specs.declared.object.Device.{Device}
 use Rattle.cc_program.specs.declared.object.Object.{Object}
 use Rattle.cc_program.specs.declared.program.Program.{Program}
-use Rattle.cc_scopes.specs.State.{State, Name, name_or_none}
-use Rattle.cc_scopes.specs.declared.unit.Declared.{Declared}
-use Rattle.cc_syntax.specs.Lists.{come_first, is_count}
-use Rattle.cc_syntax.specs.Names.{device_names}
-use Rattle.cc_syntax.specs.Normal.{has_name, count_named, devices_in_text, next_of, IsNormal}
-use Rattle.cc_syntax.specs.SameTypes.{same_int, same_flag}
-use Rattle.cc_syntax.specs.Sound.{IsSound, is_numbered, is_same_device}
-use Rattle.cc_syntax.specs.Types.{Named}
-use Rattle.cc_syntax.specs.Values.{DevicePlace}
-use Rattle.cc_syntax.proofs.Prefixes.{both_true}
+use Rattle.cc_type.specs.CcScopes.State.{State, Name, name_or_none}
+use Rattle.cc_type.specs.CcScopes.declared.unit.Declared.{Declared}
+use Rattle.cc_type.specs.CcSyntax.Lists.{come_first, is_count}
+use Rattle.cc_type.specs.CcSyntax.Names.{device_names}
+use Rattle.cc_type.specs.CcSyntax.Normal.{has_name, count_named, devices_in_text, next_of, IsNormal}
+use Rattle.cc_type.specs.CcSyntax.SameTypes.{same_int, same_flag}
+use Rattle.cc_type.specs.CcSyntax.Sound.{IsSound, is_numbered, is_same_device}
+use Rattle.cc_type.specs.CcSyntax.Types.{Named}
+use Rattle.cc_type.specs.CcSyntax.Values.{DevicePlace}
+use Rattle.cc_type.proofs.CcSyntax.Prefixes.{both_true}
 use Rattle.cc_shown_declarations.specs.Entries.{written_entry}
 use Rattle.cc_shown_declarations.specs.Order.{appearance, structure_number}
 use Rattle.cc_shown_declarations.specs.States.{first_state}

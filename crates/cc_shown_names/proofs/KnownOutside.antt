@@ -3,11 +3,11 @@
 use Rattle.std.proofs.Common.{◌≡◌, ◌⊎◌, inl, inr, ℕ, ◌+◌, ◌-◌, Bool, true, false, ◌&&◌, nat_eq, List, [], ◌∷◌, map, Option, Some, None, Ok, refl, ap, sym, ◌∙◌, slice_get, eq-eqb}
 use Rattle.std.specs.Prelude.{if◌then◌else◌}
 use Rattle.std.specs.Str.{bytes_eq}
-use Rattle.cc_designators.specs.Designators.{TypedExpr}
-use Rattle.cc_linkage.specs.Linkage.{is_visible, agrees, may_be_by, agrees_with, repeats, is_free_for, may_be_declared, declared, declared_by}
-use Rattle.cc_linkage.specs.declared.linkage.DeclaredAs.TheVariants.{AsExtern}
-use Rattle.cc_typed_terms.specs.Devices.{declared_device, names_device, number_of}
-use Rattle.cc_typed_terms.specs.Primary.{linked_by, linked, designates, named_by, named, intrinsic_named}
+use Rattle.cc_type.specs.CcDesignators.Designators.{TypedExpr}
+use Rattle.cc_type.specs.CcLinkage.Linkage.{is_visible, agrees, may_be_by, agrees_with, repeats, is_free_for, may_be_declared, declared, declared_by}
+use Rattle.cc_type.specs.CcLinkage.declared.linkage.DeclaredAs.TheVariants.{AsExtern}
+use Rattle.cc_type.specs.CcTypedTerms.Devices.{declared_device, names_device, number_of}
+use Rattle.cc_type.specs.CcTypedTerms.Primary.{linked_by, linked, designates, named_by, named, intrinsic_named}
 use Rattle.cc_program.specs.declared.expr.Intr.{Intr}
 use Rattle.cc_program.specs.declared.func.Entry.{Entry}
 use Rattle.cc_program.specs.declared.func.Entry.TheVariants as entries
@@ -18,18 +18,18 @@ use Rattle.cc_program.specs.declared.program.Roles.{Roles}
 use Rattle.cc_program.specs.declared.types.CType.{CType}
 use Rattle.cc_program.specs.declared.types.Shape.{out-Shape}
 use Rattle.cc_program.specs.declared.types.Shape.TheVariants as shape_rolls
-use Rattle.cc_scopes.specs.Definitions.{defined_at, with_entry, entry_added}
-use Rattle.cc_scopes.specs.Linked.{is_linked, has_name, linked_name}
-use Rattle.cc_scopes.specs.State.{State, Scope, Name, find_name, with_name, innermost, named_here, designated, in_innermost, with_scopes, with_names, with_locals, bind, change_name}
-use Rattle.cc_scopes.specs.declared.designated.Designated.{Designated}
-use Rattle.cc_scopes.specs.declared.designated.Designated.TheVariants as means
-use Rattle.cc_scopes.specs.declared.unit.Declared.{Declared}
-use Rattle.cc_syntax.proofs.SameLemmas.{and_true, compared}
+use Rattle.cc_type.specs.CcScopes.Definitions.{defined_at, with_entry, entry_added}
+use Rattle.cc_type.specs.CcScopes.Linked.{is_linked, has_name, linked_name}
+use Rattle.cc_type.specs.CcScopes.State.{State, Scope, Name, find_name, with_name, innermost, named_here, designated, in_innermost, with_scopes, with_names, with_locals, bind, change_name}
+use Rattle.cc_type.specs.CcScopes.declared.designated.Designated.{Designated}
+use Rattle.cc_type.specs.CcScopes.declared.designated.Designated.TheVariants as means
+use Rattle.cc_type.specs.CcScopes.declared.unit.Declared.{Declared}
+use Rattle.cc_type.proofs.CcSyntax.SameLemmas.{and_true, compared}
 use Rattle.cc_type.specs.Functions.{defined_as, entry_at, entered_function}
-use Rattle.cc_unit.specs.Entries.{both_entries}
-use Rattle.cc_unit.specs.declared.unit.Linkage.TheVariants as linkage
-use Rattle.cc_unit.specs.declared.unit.UnitKind.{UnitKind}
-use Rattle.cc_unit.specs.declared.unit.UnitKind.TheVariants as kind
+use Rattle.cc_type.specs.CcUnit.Entries.{both_entries}
+use Rattle.cc_type.specs.CcUnit.declared.unit.Linkage.TheVariants as linkage
+use Rattle.cc_type.specs.CcUnit.declared.unit.UnitKind.{UnitKind}
+use Rattle.cc_type.specs.CcUnit.declared.unit.UnitKind.TheVariants as kind
 use Rattle.cc_shown_names.specs.Definitions.{IsKnownFunction}
 use Rattle.cc_shown_names.proofs.Changes.{mapped-still, length-changed, changed-there, changed-other, unchanged, position-same, linked-same, linked-behind, stays-there, linked-there}
 use Rattle.cc_shown_names.specs.Functions.{type_of_function}

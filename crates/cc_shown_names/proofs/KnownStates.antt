@@ -3,24 +3,24 @@ use Rattle.std.proofs.Common.{arith, ◌≡◌, ℕ, zero, suc, ◌+◌, true, L
 use Rattle.std.specs.List.{filter}
 use Rattle.std.proofs.lemmas.List.{length-map, map-append}
 use Rattle.std.proofs.lemmas.Option.{slice_get-map}
-use Rattle.cc_designators.specs.Designators.{IsPlace, IsFunction}
-use Rattle.cc_objects.specs.Values.{object_by, object_of, objects_in}
-use Rattle.cc_typed_terms.specs.Primary.{function_by, linked_by, linked, designates, named_by, named, intrinsic_named}
+use Rattle.cc_type.specs.CcDesignators.Designators.{IsPlace, IsFunction}
+use Rattle.cc_type.specs.CcObjects.Values.{object_by, object_of, objects_in}
+use Rattle.cc_type.specs.CcTypedTerms.Primary.{function_by, linked_by, linked, designates, named_by, named, intrinsic_named}
 use Rattle.cc_program.specs.declared.expr.Place.{Static}
 use Rattle.cc_program.specs.declared.func.Func.{Func}
 use Rattle.cc_program.specs.declared.object.Object.{Object}
 use Rattle.cc_program.specs.declared.program.Program.{Program}
 use Rattle.cc_program.specs.declared.types.Shape.TheVariants as shape_rolls
 use Rattle.cc_program.specs.declared.value.Leaf.{Leaf}
-use Rattle.cc_scopes.specs.Linked.{is_linked}
-use Rattle.cc_scopes.specs.State.{State, Name, name_or_none, or_else}
-use Rattle.cc_scopes.specs.declared.unit.Declared.{Declared}
-use Rattle.cc_syntax.specs.Names.{device_names}
-use Rattle.cc_syntax.specs.Normal.{has_name, count_named}
-use Rattle.cc_syntax.specs.Sound.{IsSound}
-use Rattle.cc_syntax.specs.Values.{object_place}
-use Rattle.cc_unit.specs.declared.unit.Linkage.TheVariants as linkage
-use Rattle.cc_unit.specs.declared.unit.UnitKind.TheVariants as kind
+use Rattle.cc_type.specs.CcScopes.Linked.{is_linked}
+use Rattle.cc_type.specs.CcScopes.State.{State, Name, name_or_none, or_else}
+use Rattle.cc_type.specs.CcScopes.declared.unit.Declared.{Declared}
+use Rattle.cc_type.specs.CcSyntax.Names.{device_names}
+use Rattle.cc_type.specs.CcSyntax.Normal.{has_name, count_named}
+use Rattle.cc_type.specs.CcSyntax.Sound.{IsSound}
+use Rattle.cc_type.specs.CcSyntax.Values.{object_place}
+use Rattle.cc_type.specs.CcUnit.declared.unit.Linkage.TheVariants as linkage
+use Rattle.cc_type.specs.CcUnit.declared.unit.UnitKind.TheVariants as kind
 use Rattle.cc_shown_declarations.specs.Known.{KnowsStatics}
 use Rattle.cc_shown_declarations.specs.Numbers.{leaf_numbered}
 use Rattle.cc_shown_declarations.specs.Order.{appearance, structure_number}

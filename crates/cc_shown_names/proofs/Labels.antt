@@ -5,18 +5,18 @@ use Rattle.std.proofs.Common.{◌≡◌, ℕ, Bool, true, false, not, ◌&&◌, 
 use Rattle.std.specs.List.{list_all, list_any}
 use Rattle.std.proofs.lemmas.Cmp.{int_eq_equiv}
 use Rattle.std.proofs.lemmas.List.Folds.{list_any-append}
-use Rattle.cc_designators.specs.Designators.{TypedExpr, IsValue}
-use Rattle.cc_num.specs.Integers.{is_value_of}
-use Rattle.cc_num.specs.Promotions.{promoted}
-use Rattle.cc_num.specs.declared.int_type.IntType.{IntType}
-use Rattle.cc_num.proofs.Conversions.{converted-same}
-use Rattle.cc_num.proofs.ResultLaws.{value_from_test}
+use Rattle.cc_type.specs.CcDesignators.Designators.{TypedExpr, IsValue}
+use Rattle.cc_program.specs.CcNum.Integers.{is_value_of}
+use Rattle.cc_program.specs.CcNum.Promotions.{promoted}
+use Rattle.cc_program.specs.CcNum.declared.int_type.IntType.{IntType}
+use Rattle.cc_program.proofs.CcNum.Conversions.{converted-same}
+use Rattle.cc_program.proofs.CcNum.ResultLaws.{value_from_test}
 use Rattle.cc_shown_expressions.proofs.ChoiceRules.{constancy-of}
 use Rattle.cc_shown_expressions.proofs.Rules.{with-scalar, promoted-is, same-conversion}
-use Rattle.cc_operands.specs.Operands.{Operand, integer, converted_to}
-use Rattle.cc_operands.specs.Verdicts.{Judged, must, judge_then}
-use Rattle.cc_operands.specs.declared.rule.Rule.TheVariants as rule
-use Rattle.cc_typed_terms.specs.Values.{valued}
+use Rattle.cc_type.specs.CcOperands.Operands.{Operand, integer, converted_to}
+use Rattle.cc_type.specs.CcOperands.Verdicts.{Judged, must, judge_then}
+use Rattle.cc_type.specs.CcOperands.declared.rule.Rule.TheVariants as rule
+use Rattle.cc_type.specs.CcTypedTerms.Values.{valued}
 use Rattle.cc_program.specs.declared.expr.Expr.{Expr}
 use Rattle.cc_program.specs.declared.func.Func.{Func}
 use Rattle.cc_program.specs.declared.program.Program.{Program}
@@ -24,32 +24,32 @@ use Rattle.cc_program.specs.declared.stmt.Case.{Case, out-Case, roll-Case, out-r
 use Rattle.cc_program.specs.declared.stmt.Stmt.{Stmt, Empty, Switch, out-Stmt}
 use Rattle.cc_program.specs.declared.stmt.Stmt.TheOpen as is
 use Rattle.cc_program.specs.declared.types.CType.{CType}
-use Rattle.cc_scopes.specs.State.{State, Name}
-use Rattle.cc_scopes.specs.Verdicts.{Found, whole, and_then}
-use Rattle.cc_syntax.specs.Folding.{Constant}
-use Rattle.cc_syntax.specs.Operators.{is_promoted}
-use Rattle.cc_syntax.specs.Statements.{same_label, are_apart, label_fits}
-use Rattle.cc_syntax.specs.Statements.{has_label as has_some}
-use Rattle.cc_syntax.specs.Values.{Integer}
-use Rattle.cc_syntax.proofs.Prefixes.{both_true}
-use Rattle.cc_terms.specs.InTurn.{in_turn}
-use Rattle.cc_terms.specs.Terms.{tree_of}
+use Rattle.cc_type.specs.CcScopes.State.{State, Name}
+use Rattle.cc_type.specs.CcScopes.Verdicts.{Found, whole, and_then}
+use Rattle.cc_type.specs.CcSyntax.Folding.{Constant}
+use Rattle.cc_type.specs.CcSyntax.Operators.{is_promoted}
+use Rattle.cc_type.specs.CcSyntax.Statements.{same_label, are_apart, label_fits}
+use Rattle.cc_type.specs.CcSyntax.Statements.{has_label as has_some}
+use Rattle.cc_type.specs.CcSyntax.Values.{Integer}
+use Rattle.cc_type.proofs.CcSyntax.Prefixes.{both_true}
+use Rattle.cc_type.specs.CcTerms.InTurn.{in_turn}
+use Rattle.cc_type.specs.CcTerms.Terms.{tree_of}
 use Rattle.cc_tree.specs.declared.at.At.{At}
 use Rattle.cc_tree.specs.declared.tree.Tree.{Tree}
 use Rattle.cc_tree.specs.declared.unit.Line as line
 use Rattle.cc_tree.specs.declared.unit.Line.{Line, out-Line, map-Line}
 use Rattle.cc_tree.specs.declared.unit.Line.TheOpen as one_line
 use Rattle.cc_tree.specs.declared.unit.Line.TheVariants as line_rolls
-use Rattle.cc_typed_bodies.specs.Lines.{label_found, case_found, switch_found, line_step}
-use Rattle.cc_typed_bodies.specs.Meanings.{LineMeaning, item_found, items_found, cases_inside, switch_body, is_empty, counts, unlabelled}
-use Rattle.cc_typed_bodies.specs.Parts.{value_here}
-use Rattle.cc_typed_bodies.proofs.Equations.{item-gives}
-use Rattle.cc_typed_statements.specs.Jumps.{in_switch}
-use Rattle.cc_typed_statements.specs.Labels.{at_last, with_label, labelled, with_statements, behind, behind_empty, has_label, once, label_in, case_label, label_done}
-use Rattle.cc_typed_statements.specs.Labels.{is_empty as no_cases}
-use Rattle.cc_typed_statements.specs.Switch.{switch_type, switch_of}
-use Rattle.cc_typed_statements.specs.declared.cases.Cases.{Cases}
-use Rattle.cc_typed_statements.specs.declared.jumps.Jumps.{Jumps}
+use Rattle.cc_type.specs.CcTypedBodies.Lines.{label_found, case_found, switch_found, line_step}
+use Rattle.cc_type.specs.CcTypedBodies.Meanings.{LineMeaning, item_found, items_found, cases_inside, switch_body, is_empty, counts, unlabelled}
+use Rattle.cc_type.specs.CcTypedBodies.Parts.{value_here}
+use Rattle.cc_type.proofs.CcTypedBodies.Equations.{item-gives}
+use Rattle.cc_type.specs.CcTypedStatements.Jumps.{in_switch}
+use Rattle.cc_type.specs.CcTypedStatements.Labels.{at_last, with_label, labelled, with_statements, behind, behind_empty, has_label, once, label_in, case_label, label_done}
+use Rattle.cc_type.specs.CcTypedStatements.Labels.{is_empty as no_cases}
+use Rattle.cc_type.specs.CcTypedStatements.Switch.{switch_type, switch_of}
+use Rattle.cc_type.specs.CcTypedStatements.declared.cases.Cases.{Cases}
+use Rattle.cc_type.specs.CcTypedStatements.declared.jumps.Jumps.{Jumps}
 use Rattle.cc_unit_trees.specs.Lines.{block, ShowsLabels, NoLabel, ACase, ADefault}
 use Rattle.cc_shown_expressions.proofs.Constants.{integer-found}
 use Rattle.cc_shown_effects.specs.Numbers.{stmt_numbered, case_numbered}

@@ -3,20 +3,20 @@ use Rattle.std.proofs.Common.{arith, ◌≡◌, ◌≤◌, ℕ, zero, suc, ◌+�
 use Rattle.std.specs.List.{flat_map}
 use Rattle.std.proofs.Math.Seq.{take-add}
 use Rattle.std.proofs.lemmas.List.{map-append, append-nil, drop-drop, take_rest}
-use Rattle.cc_typed_terms.specs.Devices.{declared_device}
+use Rattle.cc_type.specs.CcTypedTerms.Devices.{declared_device}
 use Rattle.cc_program.specs.declared.func.Entry.{Entry}
 use Rattle.cc_program.specs.declared.func.Func.{Func}
 use Rattle.cc_program.specs.declared.program.Program.{Program}
-use Rattle.cc_scopes.specs.Definitions.{defined_at}
-use Rattle.cc_scopes.specs.State.{State, with_names, with_locals, change_at, change_name}
-use Rattle.cc_scopes.specs.declared.unit.Declared.{Declared}
-use Rattle.cc_syntax.specs.Lists.{come_first, is_count}
-use Rattle.cc_syntax.specs.Normal.{has_name, count_named, devices_in, devices_in_text, next_of, IsNormal}
-use Rattle.cc_syntax.proofs.Prefixes.{both_true}
+use Rattle.cc_type.specs.CcScopes.Definitions.{defined_at}
+use Rattle.cc_type.specs.CcScopes.State.{State, with_names, with_locals, change_at, change_name}
+use Rattle.cc_type.specs.CcScopes.declared.unit.Declared.{Declared}
+use Rattle.cc_type.specs.CcSyntax.Lists.{come_first, is_count}
+use Rattle.cc_type.specs.CcSyntax.Normal.{has_name, count_named, devices_in, devices_in_text, next_of, IsNormal}
+use Rattle.cc_type.proofs.CcSyntax.Prefixes.{both_true}
 use Rattle.cc_tree.specs.declared.at.At.{At}
 use Rattle.cc_tree.specs.declared.unit.Item.{Item}
 use Rattle.cc_type.specs.Functions.{entry_of, defined_as}
-use Rattle.cc_unit.specs.declared.unit.UnitKind.TheVariants as kind
+use Rattle.cc_type.specs.CcUnit.declared.unit.UnitKind.TheVariants as kind
 use Rattle.cc_unit_trees.specs.Externals.{AFunction}
 use Rattle.cc_unit_trees.specs.Programs.{ShowsExternals, NoExternal, MoreExternals}
 use Rattle.cc_unit_trees.specs.Units.{ShowsFunction, ShowsDefinition}

@@ -1,27 +1,27 @@
 -- What stands in front of the specifiers of a prototype: nothing, or the attribute of a handler.
 use Rattle.std.proofs.Common.{◌≡◌, ℕ, Bool, true, false, List, [], ◌∷◌, ◌++◌, Option, Some, None, Ok, refl, ap, ◌∙◌}
 use Rattle.std.specs.Prelude.{codes}
-use Rattle.cc_typed_terms.specs.Specifiers.{marked}
+use Rattle.cc_type.specs.CcTypedTerms.Specifiers.{marked}
 use Rattle.cc_expression_trees.specs.Types.{ShowsWords, NoWord, MoreWords, ShowsBase, ShowsVoid, ShowsInt, ShowsStructure, qualifier_words, int_words}
-use Rattle.cc_num.specs.declared.int_type.IntType.{IntType}
-use Rattle.cc_num.specs.declared.int_type.IntType.TheVariants as int
-use Rattle.cc_objects.specs.Categories.{storage_class, storage_at, storage_in}
-use Rattle.cc_operands.specs.Verdicts.{must}
-use Rattle.cc_operands.specs.declared.rule.Rule.TheVariants as rule
+use Rattle.cc_program.specs.CcNum.declared.int_type.IntType.{IntType}
+use Rattle.cc_program.specs.CcNum.declared.int_type.IntType.TheVariants as int
+use Rattle.cc_type.specs.CcObjects.Categories.{storage_class, storage_at, storage_in}
+use Rattle.cc_type.specs.CcOperands.Verdicts.{must}
+use Rattle.cc_type.specs.CcOperands.declared.rule.Rule.TheVariants as rule
 use Rattle.cc_program.specs.declared.func.Entry.{Entry}
 use Rattle.cc_program.specs.declared.program.Program.{Program}
 use Rattle.cc_program.specs.declared.types.CType.{CType}
 use Rattle.cc_program.specs.declared.types.Structure.{Structure}
-use Rattle.cc_scopes.specs.State.{State, Name, or_else}
-use Rattle.cc_scopes.specs.Verdicts.{Found, whole, and_then}
-use Rattle.cc_specifiers.specs.Attributes.{are_meant, entry_by}
-use Rattle.cc_specifiers.specs.Specifiers.{no_specifier, with_mark, with_specifier}
-use Rattle.cc_specifiers.specs.declared.attribute.Attribute.{Attribute}
-use Rattle.cc_specifiers.specs.declared.attribute.Attribute.TheVariants as attribute
-use Rattle.cc_specifiers.specs.declared.attribute.Entity.TheVariants as entity
-use Rattle.cc_specifiers.specs.declared.specifier.Specifier.{Specifier}
-use Rattle.cc_specifiers.specs.declared.specifier.Specifier.TheVariants as specifier
-use Rattle.cc_specifiers.specs.declared.storage.Setting.{Setting}
+use Rattle.cc_type.specs.CcScopes.State.{State, Name, or_else}
+use Rattle.cc_type.specs.CcScopes.Verdicts.{Found, whole, and_then}
+use Rattle.cc_type.specs.CcSpecifiers.Attributes.{are_meant, entry_by}
+use Rattle.cc_type.specs.CcSpecifiers.Specifiers.{no_specifier, with_mark, with_specifier}
+use Rattle.cc_type.specs.CcSpecifiers.declared.attribute.Attribute.{Attribute}
+use Rattle.cc_type.specs.CcSpecifiers.declared.attribute.Attribute.TheVariants as attribute
+use Rattle.cc_type.specs.CcSpecifiers.declared.attribute.Entity.TheVariants as entity
+use Rattle.cc_type.specs.CcSpecifiers.declared.specifier.Specifier.{Specifier}
+use Rattle.cc_type.specs.CcSpecifiers.declared.specifier.Specifier.TheVariants as specifier
+use Rattle.cc_type.specs.CcSpecifiers.declared.storage.Setting.{Setting}
 use Rattle.cc_tree.specs.declared.at.At.{At}
 use Rattle.cc_tree.specs.declared.tree.Attr.{Attr}
 use Rattle.cc_tree.specs.declared.tree.Declr.TheOpen as one
@@ -29,8 +29,8 @@ use Rattle.cc_tree.specs.declared.tree.Spec as spec
 use Rattle.cc_tree.specs.declared.tree.Spec.{Spec, out-Spec}
 use Rattle.cc_tree.specs.declared.tree.Spec.TheVariants as spec_rolls
 use Rattle.cc_unit_trees.specs.Items.{ShowsEntry, NoEntry, Listed, Signal, Interrupt}
-use Rattle.cc_words.specs.declared.word.Word.{Word}
-use Rattle.cc_words.specs.declared.word.Word.TheVariants as w
+use Rattle.cc_program.specs.CcWords.declared.word.Word.{Word}
+use Rattle.cc_program.specs.CcWords.declared.word.Word.TheVariants as w
 use Rattle.cc_shown_declarations.specs.Entries.{written_entry}
 use Rattle.cc_shown_expressions.specs.Known.{KnowsStructures}
 use Rattle.cc_shown_expressions.proofs.Words.{spec-at}

@@ -1,12 +1,12 @@
 -- Lines that show choices and loops are typed to them, where their conditions and what stands in them are.
 use Rattle.std.proofs.Common.{◌≡◌, ℕ, Bool, true, false, List, [], ◌∷◌, ◌++◌, map, Option, Some, None, Ok, refl, ap, sym, ◌∙◌, append_assoc, append-nil}
 use Rattle.std.specs.Prelude.{if◌then◌else◌}
-use Rattle.cc_designators.specs.Designators.{TypedExpr}
+use Rattle.cc_type.specs.CcDesignators.Designators.{TypedExpr}
 use Rattle.cc_shown_expressions.proofs.Rules.{with-scalar}
-use Rattle.cc_operands.specs.Operands.{Operand}
-use Rattle.cc_operands.specs.Verdicts.{Judged, must, judge_then}
-use Rattle.cc_operands.specs.declared.rule.Rule.TheVariants as rule
-use Rattle.cc_typed_terms.specs.Values.{valued}
+use Rattle.cc_type.specs.CcOperands.Operands.{Operand}
+use Rattle.cc_type.specs.CcOperands.Verdicts.{Judged, must, judge_then}
+use Rattle.cc_type.specs.CcOperands.declared.rule.Rule.TheVariants as rule
+use Rattle.cc_type.specs.CcTypedTerms.Values.{valued}
 use Rattle.cc_program.specs.declared.expr.Expr.{Expr}
 use Rattle.cc_program.specs.declared.program.Program.{Program}
 use Rattle.cc_program.specs.declared.stmt.Case.{Case}
@@ -14,24 +14,24 @@ use Rattle.cc_program.specs.declared.stmt.Stmt.{Stmt, If, While, Block, out-Stmt
 use Rattle.cc_program.specs.declared.stmt.Stmt.TheOpen as is
 use Rattle.cc_program.specs.declared.stmt.Stmt.TheVariants as stmt_rolls
 use Rattle.cc_program.specs.declared.types.CType.{CType}
-use Rattle.cc_scopes.specs.State.{State, Name, empty, entered, left}
-use Rattle.cc_scopes.specs.Verdicts.{Found, whole, and_then}
-use Rattle.cc_syntax.specs.Values.{ValueType, is_scalar}
-use Rattle.cc_terms.specs.InTurn.{in_turn}
+use Rattle.cc_type.specs.CcScopes.State.{State, Name, empty, entered, left}
+use Rattle.cc_type.specs.CcScopes.Verdicts.{Found, whole, and_then}
+use Rattle.cc_type.specs.CcSyntax.Values.{ValueType, is_scalar}
+use Rattle.cc_type.specs.CcTerms.InTurn.{in_turn}
 use Rattle.cc_tree.specs.declared.at.At.{At}
 use Rattle.cc_tree.specs.declared.tree.Tree.{Tree}
 use Rattle.cc_tree.specs.declared.unit.Line as line
 use Rattle.cc_tree.specs.declared.unit.Line.{Line, out-Line, map-Line}
 use Rattle.cc_tree.specs.declared.unit.Line.TheOpen as one_line
 use Rattle.cc_tree.specs.declared.unit.Line.TheVariants as line_rolls
-use Rattle.cc_typed_bodies.specs.Lines.{if_found, while_found, line_here, line_step, line_of}
-use Rattle.cc_typed_bodies.specs.Meanings.{LineMeaning, done, scoped, line_found, lines_found, block_found, body_inside, body_found, maybe_body}
-use Rattle.cc_typed_bodies.specs.Parts.{value_here}
-use Rattle.cc_typed_bodies.proofs.Equations.{line-out}
-use Rattle.cc_typed_statements.specs.Conditions.{condition, inside_block, body_of}
-use Rattle.cc_typed_statements.specs.Jumps.{in_loop}
-use Rattle.cc_typed_statements.specs.Statements.{if_of, while_of}
-use Rattle.cc_typed_statements.specs.declared.jumps.Jumps.{Jumps}
+use Rattle.cc_type.specs.CcTypedBodies.Lines.{if_found, while_found, line_here, line_step, line_of}
+use Rattle.cc_type.specs.CcTypedBodies.Meanings.{LineMeaning, done, scoped, line_found, lines_found, block_found, body_inside, body_found, maybe_body}
+use Rattle.cc_type.specs.CcTypedBodies.Parts.{value_here}
+use Rattle.cc_type.proofs.CcTypedBodies.Equations.{line-out}
+use Rattle.cc_type.specs.CcTypedStatements.Conditions.{condition, inside_block, body_of}
+use Rattle.cc_type.specs.CcTypedStatements.Jumps.{in_loop}
+use Rattle.cc_type.specs.CcTypedStatements.Statements.{if_of, while_of}
+use Rattle.cc_type.specs.CcTypedStatements.declared.jumps.Jumps.{Jumps}
 use Rattle.cc_unit_trees.specs.Lines.{block}
 use Rattle.cc_shown_effects.specs.Numbers.{stmt_numbered}
 use Rattle.cc_shown_effects.proofs.Lines.{stmt-at}

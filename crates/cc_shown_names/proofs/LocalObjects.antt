@@ -1,8 +1,8 @@
 -- Automatic objects that are declared one behind another: which the function has then, and what is known outside their scope.
 use Rattle.std.proofs.Common.{◌≡◌, Bool, true, false, not, ◌||◌, List, [], ◌∷◌, ◌++◌, map, length, refl, ap, sym, ◌∙◌, append_assoc, append-nil}
 use Rattle.std.specs.List.{list_all}
-use Rattle.cc_objects.specs.Linked.{with_automatic}
-use Rattle.cc_operands.specs.Qualified.{at_element, no_const, without_const}
+use Rattle.cc_type.specs.CcObjects.Linked.{with_automatic}
+use Rattle.cc_type.specs.CcOperands.Qualified.{at_element, no_const, without_const}
 use Rattle.cc_program.specs.Qualifiers.{of_element, is_const}
 use Rattle.cc_program.specs.declared.types.CType.{CType}
 use Rattle.cc_program.specs.declared.types.Shape.{Shape, Array, roll-Shape, out-roll-Shape}
@@ -11,15 +11,15 @@ use Rattle.cc_program.specs.declared.types.Shape.TheVariants as shape_rolls
 use Rattle.cc_program.specs.declared.types.Sig.{Sig}
 use Rattle.cc_program.proofs.QualifierLemmas.{parts_const, const-opens}
 use Rattle.cc_program.proofs.TypeInduction.{TypeParts, with_shape, by_type}
-use Rattle.cc_scopes.specs.State.{State, Scope, with_name, in_innermost, with_scopes, with_locals, outer_scopes, left}
-use Rattle.cc_scopes.specs.declared.designated.Designated.TheVariants as means
+use Rattle.cc_type.specs.CcScopes.State.{State, Scope, with_name, in_innermost, with_scopes, with_locals, outer_scopes, left}
+use Rattle.cc_type.specs.CcScopes.declared.designated.Designated.TheVariants as means
 use Rattle.cc_shown_expressions.specs.OperationNumbers.{Numbers}
 use Rattle.cc_shown_expressions.specs.Numbers.{type_numbered, named_numbered}
 use Rattle.cc_shown_expressions.proofs.Bases.{opens-as}
 use Rattle.cc_shown_expressions.proofs.Kept.{const-numbered}
-use Rattle.cc_syntax.specs.Sound.{is_automatic}
-use Rattle.cc_syntax.specs.Types.{Named}
-use Rattle.cc_syntax.proofs.Prefixes.{both_true}
+use Rattle.cc_type.specs.CcSyntax.Sound.{is_automatic}
+use Rattle.cc_type.specs.CcSyntax.Types.{Named}
+use Rattle.cc_type.proofs.CcSyntax.Prefixes.{both_true}
 use Rattle.cc_shown_names.specs.Bodies.{with_local_objects}
 
 -- ---- what is not const stays as it is

@@ -2,37 +2,37 @@
 use Rattle.std.proofs.Common.{◌≡◌, ℕ, ◌+◌, Bool, true, false, not, ◌&&◌, ◌||◌, List, [], ◌∷◌, ◌++◌, map, Option, Some, None, Ok, Err, refl, ap, ◌∙◌}
 use Rattle.std.specs.Prelude.{if◌then◌else◌}
 use Rattle.std.specs.Option.{is_some}
-use Rattle.cc_typed_terms.specs.Located.{located}
-use Rattle.cc_typed_terms.specs.Declarators.{derived_type}
+use Rattle.cc_type.specs.CcTypedTerms.Located.{located}
+use Rattle.cc_type.specs.CcTypedTerms.Declarators.{derived_type}
 use Rattle.cc_unit_trees.specs.Units.{ShowsDecl, ShowsOne}
-use Rattle.cc_objects.specs.Categories.{category_of, category_by, setting_of}
-use Rattle.cc_objects.specs.Linked.{with_automatic}
-use Rattle.cc_objects.specs.Names.{object_judged, typedef_judged, name_judged}
-use Rattle.cc_objects.specs.Tags.{is_typedef_word, defines_untagged, aliased, aliased_at, first_name}
-use Rattle.cc_objects.specs.Types.{is_complete_or_unbounded, is_object_in}
-use Rattle.cc_objects.specs.declared.category.Category.{Category}
-use Rattle.cc_objects.specs.declared.category.Category.TheVariants as declares
-use Rattle.cc_operands.specs.Qualified.{is_function_type}
-use Rattle.cc_operands.specs.Verdicts.{Judged, must, judge_then}
-use Rattle.cc_operands.specs.declared.rule.Rule.TheVariants as rule
-use Rattle.cc_typed_terms.specs.Primary.{intrinsic_named}
+use Rattle.cc_type.specs.CcObjects.Categories.{category_of, category_by, setting_of}
+use Rattle.cc_type.specs.CcObjects.Linked.{with_automatic}
+use Rattle.cc_type.specs.CcObjects.Names.{object_judged, typedef_judged, name_judged}
+use Rattle.cc_type.specs.CcObjects.Tags.{is_typedef_word, defines_untagged, aliased, aliased_at, first_name}
+use Rattle.cc_type.specs.CcObjects.Types.{is_complete_or_unbounded, is_object_in}
+use Rattle.cc_type.specs.CcObjects.declared.category.Category.{Category}
+use Rattle.cc_type.specs.CcObjects.declared.category.Category.TheVariants as declares
+use Rattle.cc_type.specs.CcOperands.Qualified.{is_function_type}
+use Rattle.cc_type.specs.CcOperands.Verdicts.{Judged, must, judge_then}
+use Rattle.cc_type.specs.CcOperands.declared.rule.Rule.TheVariants as rule
+use Rattle.cc_type.specs.CcTypedTerms.Primary.{intrinsic_named}
 use Rattle.cc_program.specs.declared.expr.Expr.{Expr}
 use Rattle.cc_program.specs.declared.program.Program.{Program}
 use Rattle.cc_program.specs.declared.stmt.Stmt.{Do}
 use Rattle.cc_program.specs.declared.types.CType.{CType}
 use Rattle.cc_program.specs.declared.types.Shape.{out-Shape}
-use Rattle.cc_scopes.specs.State.{State, Scope, Name, named_here, structures_of, layouts_of}
-use Rattle.cc_scopes.specs.Verdicts.{Found, whole, and_then}
-use Rattle.cc_specifiers.specs.Declarators.{type_found, is_unbounded}
-use Rattle.cc_specifiers.specs.Places.{JudgedAt}
-use Rattle.cc_specifiers.specs.declared.attribute.Attribute.{Attribute}
-use Rattle.cc_specifiers.specs.declared.derivation.Allowed.{Allowed}
-use Rattle.cc_specifiers.specs.declared.derivation.Declarator.{Declarator}
-use Rattle.cc_specifiers.specs.declared.specifier.Specified.{Specified}
-use Rattle.cc_specifiers.specs.declared.storage.Where.TheVariants as stands
-use Rattle.cc_syntax.specs.Kinds.{Kind, bytes_in, is_small, is_object_kind, is_object_type}
-use Rattle.cc_syntax.specs.Programs.{kind_in}
-use Rattle.cc_syntax.specs.Sizes.{AreSized}
+use Rattle.cc_type.specs.CcScopes.State.{State, Scope, Name, named_here, structures_of, layouts_of}
+use Rattle.cc_type.specs.CcScopes.Verdicts.{Found, whole, and_then}
+use Rattle.cc_type.specs.CcSpecifiers.Declarators.{type_found, is_unbounded}
+use Rattle.cc_type.specs.CcSpecifiers.Places.{JudgedAt}
+use Rattle.cc_type.specs.CcSpecifiers.declared.attribute.Attribute.{Attribute}
+use Rattle.cc_type.specs.CcSpecifiers.declared.derivation.Allowed.{Allowed}
+use Rattle.cc_type.specs.CcSpecifiers.declared.derivation.Declarator.{Declarator}
+use Rattle.cc_type.specs.CcSpecifiers.declared.specifier.Specified.{Specified}
+use Rattle.cc_type.specs.CcSpecifiers.declared.storage.Where.TheVariants as stands
+use Rattle.cc_type.specs.CcSyntax.Kinds.{Kind, bytes_in, is_small, is_object_kind, is_object_type}
+use Rattle.cc_type.specs.CcSyntax.Programs.{kind_in}
+use Rattle.cc_type.specs.CcSyntax.Sizes.{AreSized}
 use Rattle.cc_tree.specs.declared.at.At.{At}
 use Rattle.cc_tree.specs.declared.tree.Declr.{Declr}
 use Rattle.cc_tree.specs.declared.tree.Spec.{Spec}
@@ -42,10 +42,10 @@ use Rattle.cc_tree.specs.declared.unit.Line as line
 use Rattle.cc_tree.specs.declared.unit.Line.TheOpen as one_line
 use Rattle.cc_tree.specs.declared.unit.Line.TheVariants as line_rolls
 use Rattle.cc_expression_trees.specs.Types.{ShowsWords, NoWord, MoreWords, ShowsBase, Declares, Plain}
-use Rattle.cc_typed_bodies.specs.Parts.{declared_found}
-use Rattle.cc_typed_bodies.specs.Declarations.{declared_left, named_found, init_found, inits_found, declaration}
-use Rattle.cc_typed_statements.specs.declared.jumps.Jumps.{Jumps}
-use Rattle.cc_words.specs.declared.word.Word.{Word}
+use Rattle.cc_type.specs.CcTypedBodies.Parts.{declared_found}
+use Rattle.cc_type.specs.CcTypedBodies.Declarations.{declared_left, named_found, init_found, inits_found, declaration}
+use Rattle.cc_type.specs.CcTypedStatements.declared.jumps.Jumps.{Jumps}
+use Rattle.cc_program.specs.CcWords.declared.word.Word.{Word}
 use Rattle.cc_shown_expressions.specs.OperationNumbers.{Numbers}
 use Rattle.cc_shown_names.proofs.Lines.{meaning, line-at}
 use Rattle.cc_shown_expressions.specs.Known.{KnowsStructures}

@@ -4,9 +4,9 @@ use Rattle.std.proofs.Common.{arith, ◌≡◌, ℕ, Bool, true, false, not, ◌
 use Rattle.std.specs.Prelude.{if◌then◌else◌}
 use Rattle.std.specs.List.{list_any, list_all}
 use Rattle.std.specs.Str.{bytes_eq}
-use Rattle.cc_linkage.specs.Linkage.{is_main_result, no_types, is_main_shape, may_be_main}
-use Rattle.cc_num.specs.declared.int_type.IntType.TheVariants as int
-use Rattle.cc_typed_terms.specs.Primary.{intrinsic_named}
+use Rattle.cc_type.specs.CcLinkage.Linkage.{is_main_result, no_types, is_main_shape, may_be_main}
+use Rattle.cc_program.specs.CcNum.declared.int_type.IntType.TheVariants as int
+use Rattle.cc_type.specs.CcTypedTerms.Primary.{intrinsic_named}
 use Rattle.cc_program.specs.declared.func.Func.{Func}
 use Rattle.cc_program.specs.declared.object.Object.{Object}
 use Rattle.cc_program.specs.declared.program.Program.{Program}
@@ -15,15 +15,15 @@ use Rattle.cc_program.specs.declared.types.Shape.{Shape, out-Shape}
 use Rattle.cc_program.specs.declared.types.Shape.TheOpen as shape
 use Rattle.cc_program.specs.declared.types.Shape.TheVariants as shape_rolls
 use Rattle.cc_program.specs.declared.types.Sig.{Sig, out-Sig}
-use Rattle.cc_scopes.specs.State.{Name}
-use Rattle.cc_syntax.specs.Names.{device_names, intrinsic_names, file_names, are_names}
-use Rattle.cc_syntax.specs.Operators.{is_unqualified, is_handler}
-use Rattle.cc_syntax.specs.SameTypes.{is_int_shape}
-use Rattle.cc_syntax.specs.Sound.{takes_nothing, is_plain_void, is_plain_int, is_main, form_fits}
-use Rattle.cc_syntax.specs.Values.{is_void}
-use Rattle.cc_syntax.proofs.Prefixes.{both_true}
-use Rattle.cc_syntax.proofs.SameLemmas.{and_true}
-use Rattle.cc_words.specs.Names.{is_name, are_distinct}
+use Rattle.cc_type.specs.CcScopes.State.{Name}
+use Rattle.cc_type.specs.CcSyntax.Names.{device_names, intrinsic_names, file_names, are_names}
+use Rattle.cc_type.specs.CcSyntax.Operators.{is_unqualified, is_handler}
+use Rattle.cc_type.specs.CcSyntax.SameTypes.{is_int_shape}
+use Rattle.cc_type.specs.CcSyntax.Sound.{takes_nothing, is_plain_void, is_plain_int, is_main, form_fits}
+use Rattle.cc_type.specs.CcSyntax.Values.{is_void}
+use Rattle.cc_type.proofs.CcSyntax.Prefixes.{both_true}
+use Rattle.cc_type.proofs.CcSyntax.SameLemmas.{and_true}
+use Rattle.cc_program.specs.CcWords.Names.{is_name, are_distinct}
 use Rattle.cc_shown_names.proofs.Names.{mapped, behind, no-intrinsic}
 use Rattle.cc_shown_names.specs.Functions.{type_of_function}
 use Rattle.cc_shown_expressions.specs.OperationNumbers.{Numbers}

@@ -3,9 +3,9 @@ use Rattle.std.proofs.Common.{arith, ◌≡◌, ◌<◌, ◌≤◌, ℕ, zero, s
 use Rattle.std.specs.Prelude.{if◌then◌else◌}
 use Rattle.std.proofs.lemmas.List.{length-map}
 use Rattle.cc_program.specs.declared.program.Program.{Program}
-use Rattle.cc_scopes.specs.State.{as_structure, structures_of}
-use Rattle.cc_scopes.specs.declared.unit.Declared.{Declared}
-use Rattle.cc_syntax.specs.Sound.{IsSound}
+use Rattle.cc_type.specs.CcScopes.State.{as_structure, structures_of}
+use Rattle.cc_type.specs.CcScopes.declared.unit.Declared.{Declared}
+use Rattle.cc_type.specs.CcSyntax.Sound.{IsSound}
 use Rattle.cc_shown_declarations.specs.Order.{is_among, order_before, appearance}
 use Rattle.cc_shown_declarations.specs.States.{known_as}
 use Rattle.cc_shown_declarations.proofs.Front.{front-of, order-whole}

@@ -5,18 +5,18 @@ use Rattle.std.specs.List.{list_any, list_all}
 use Rattle.std.specs.Str.{bytes_eq}
 use Rattle.std.proofs.lemmas.List.Folds.{list_any-append}
 use Rattle.std.proofs.lemmas.Slice.Eq.{bytes_eq-Decides}
-use Rattle.cc_typed_terms.specs.Primary.{intrinsic_named}
+use Rattle.cc_type.specs.CcTypedTerms.Primary.{intrinsic_named}
 use Rattle.cc_program.specs.declared.expr.Intr.TheVariants as intr
 use Rattle.cc_program.specs.declared.func.Func.{Func}
 use Rattle.cc_program.specs.declared.object.Device.{Device}
 use Rattle.cc_program.specs.declared.object.Object.{Object}
 use Rattle.cc_program.specs.declared.program.Program.{Program}
 use Rattle.cc_program.specs.declared.program.Roles.{Roles}
-use Rattle.cc_scopes.specs.State.{Name}
-use Rattle.cc_syntax.specs.Names.{with_name, device_names, intrinsic_names, file_names, local_names, are_names}
-use Rattle.cc_syntax.specs.Types.{Named}
-use Rattle.cc_syntax.proofs.Prefixes.{both_true}
-use Rattle.cc_words.specs.Names.{is_name, are_distinct}
+use Rattle.cc_type.specs.CcScopes.State.{Name}
+use Rattle.cc_type.specs.CcSyntax.Names.{with_name, device_names, intrinsic_names, file_names, local_names, are_names}
+use Rattle.cc_type.specs.CcSyntax.Types.{Named}
+use Rattle.cc_type.proofs.CcSyntax.Prefixes.{both_true}
+use Rattle.cc_program.specs.CcWords.Names.{is_name, are_distinct}
 
 -- ---- equal names
 

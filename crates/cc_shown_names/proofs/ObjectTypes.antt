@@ -2,20 +2,20 @@
 use Rattle.std.proofs.Common.{◌≡◌, ℕ, zero, suc, Bool, true, false, ◌&&◌, ◌||◌, nat_eq, Option, Some, None, refl, ap, sym, ◌∙◌, eqb-true}
 use Rattle.std.specs.Option.{is_some}
 use Rattle.cc_expression_trees.specs.Constants.{qualified}
-use Rattle.cc_num.specs.Integers.{bytes_of}
-use Rattle.cc_num.specs.declared.int_type.IntType.{IntType}
-use Rattle.cc_num.specs.declared.int_type.IntType.TheVariants as int
-use Rattle.cc_num.specs.declared.target.Target.{Target}
+use Rattle.cc_program.specs.CcNum.Integers.{bytes_of}
+use Rattle.cc_program.specs.CcNum.declared.int_type.IntType.{IntType}
+use Rattle.cc_program.specs.CcNum.declared.int_type.IntType.TheVariants as int
+use Rattle.cc_program.specs.CcNum.declared.target.Target.{Target}
 use Rattle.cc_program.specs.declared.program.Program.{Program}
 use Rattle.cc_program.specs.declared.types.CType.{CType}
 use Rattle.cc_program.specs.declared.types.Shape.{Shape, Int, out-Shape, out-roll-Shape}
 use Rattle.cc_program.specs.declared.types.Shape.TheOpen as shape
 use Rattle.cc_program.specs.declared.types.Shape.TheVariants.{outs-Int}
 use Rattle.cc_program.specs.declared.types.Sig.{Sig}
-use Rattle.cc_specifiers.specs.Bounds.{is_bound}
-use Rattle.cc_specifiers.specs.Declarators.{is_unbounded_shape, is_unbounded}
-use Rattle.cc_syntax.specs.Kinds.{Kind, IsScalar, bytes_in, is_small, is_object_kind, is_object_type, qualified_kind}
-use Rattle.cc_syntax.specs.Programs.{kind_in}
+use Rattle.cc_type.specs.CcSpecifiers.Bounds.{is_bound}
+use Rattle.cc_type.specs.CcSpecifiers.Declarators.{is_unbounded_shape, is_unbounded}
+use Rattle.cc_type.specs.CcSyntax.Kinds.{Kind, IsScalar, bytes_in, is_small, is_object_kind, is_object_type, qualified_kind}
+use Rattle.cc_type.specs.CcSyntax.Programs.{kind_in}
 use Rattle.cc_shown_expressions.specs.Numbers.{type_numbered}
 use Rattle.cc_shown_expressions.proofs.Bases.{type-of-fields, shape-of-level}
 use Rattle.cc_shown_expressions.proofs.Numbering.{level, level-at, shape-level, constant-kept, volatile-kept}

@@ -4,46 +4,46 @@ use Rattle.std.specs.Prelude.{if◌then◌else◌}
 use Rattle.std.specs.Option.{is_some}
 use Rattle.std.specs.Str.{bytes_eq}
 use Rattle.std.proofs.lemmas.List.{map-append}
-use Rattle.cc_typed_terms.specs.Declarators.{derived_type}
-use Rattle.cc_typed_terms.specs.Located.{located}
-use Rattle.cc_typed_terms.specs.Specifiers.{begin}
-use Rattle.cc_linkage.specs.Linkage.{is_main_shape, may_be_main, may_be_declared}
-use Rattle.cc_linkage.specs.declared.linkage.DeclaredAs.{DeclaredAs}
-use Rattle.cc_objects.specs.Categories.{file_category, category_by, category_of, setting_of}
-use Rattle.cc_objects.specs.Names.{object_judged, name_judged}
-use Rattle.cc_objects.specs.Tags.{is_typedef_word, defines_untagged, aliased, aliased_at, first_name}
-use Rattle.cc_objects.specs.Types.{is_complete_or_unbounded, is_object_in}
-use Rattle.cc_objects.specs.declared.category.Category.{Category}
-use Rattle.cc_objects.specs.declared.category.Category.TheVariants as declares
-use Rattle.cc_operands.specs.Qualified.{is_function_type}
-use Rattle.cc_operands.specs.Verdicts.{Judged, must, judge_then}
-use Rattle.cc_operands.specs.declared.rule.Rule.TheVariants as rule
-use Rattle.cc_typed_terms.specs.Primary.{intrinsic_named}
+use Rattle.cc_type.specs.CcTypedTerms.Declarators.{derived_type}
+use Rattle.cc_type.specs.CcTypedTerms.Located.{located}
+use Rattle.cc_type.specs.CcTypedTerms.Specifiers.{begin}
+use Rattle.cc_type.specs.CcLinkage.Linkage.{is_main_shape, may_be_main, may_be_declared}
+use Rattle.cc_type.specs.CcLinkage.declared.linkage.DeclaredAs.{DeclaredAs}
+use Rattle.cc_type.specs.CcObjects.Categories.{file_category, category_by, category_of, setting_of}
+use Rattle.cc_type.specs.CcObjects.Names.{object_judged, name_judged}
+use Rattle.cc_type.specs.CcObjects.Tags.{is_typedef_word, defines_untagged, aliased, aliased_at, first_name}
+use Rattle.cc_type.specs.CcObjects.Types.{is_complete_or_unbounded, is_object_in}
+use Rattle.cc_type.specs.CcObjects.declared.category.Category.{Category}
+use Rattle.cc_type.specs.CcObjects.declared.category.Category.TheVariants as declares
+use Rattle.cc_type.specs.CcOperands.Qualified.{is_function_type}
+use Rattle.cc_type.specs.CcOperands.Verdicts.{Judged, must, judge_then}
+use Rattle.cc_type.specs.CcOperands.declared.rule.Rule.TheVariants as rule
+use Rattle.cc_type.specs.CcTypedTerms.Primary.{intrinsic_named}
 use Rattle.cc_program.specs.declared.expr.Expr.{Expr}
 use Rattle.cc_program.specs.declared.func.Entry.{Entry}
 use Rattle.cc_program.specs.declared.program.Program.{Program}
 use Rattle.cc_program.specs.declared.types.CType.{CType}
 use Rattle.cc_program.specs.declared.types.Shape.{out-Shape}
-use Rattle.cc_scopes.specs.State.{State, Scope, Name, structures_of, layouts_of}
-use Rattle.cc_scopes.specs.Verdicts.{Found, whole, and_then, checked}
-use Rattle.cc_specifiers.specs.Declarators.{type_found, is_unbounded}
-use Rattle.cc_specifiers.specs.Places.{JudgedAt}
-use Rattle.cc_specifiers.specs.Specifiers.{no_specifier, specified}
-use Rattle.cc_specifiers.specs.declared.attribute.Attribute.{Attribute}
-use Rattle.cc_specifiers.specs.declared.derivation.Declarator.{Declarator}
-use Rattle.cc_specifiers.specs.declared.derivation.Derivation.{Derivation}
-use Rattle.cc_specifiers.specs.declared.specifier.Base.{Base}
-use Rattle.cc_specifiers.specs.declared.specifier.Specified.{Specified}
-use Rattle.cc_specifiers.specs.declared.specifier.Specs.{Specs}
-use Rattle.cc_specifiers.specs.declared.storage.Setting.{Setting}
-use Rattle.cc_specifiers.specs.declared.storage.Where.TheVariants as stands
-use Rattle.cc_syntax.specs.Kinds.{is_object_type}
-use Rattle.cc_syntax.specs.Programs.{kind_in}
-use Rattle.cc_syntax.specs.Sizes.{AreSized}
-use Rattle.cc_syntax.specs.Sound.{main_name}
-use Rattle.cc_terms.specs.InTurn.{in_turn}
-use Rattle.cc_terms.specs.Specifiers.{specifier_found, specifiers_found, specified_found}
-use Rattle.cc_terms.specs.Terms.{spec_here, declr_of}
+use Rattle.cc_type.specs.CcScopes.State.{State, Scope, Name, structures_of, layouts_of}
+use Rattle.cc_type.specs.CcScopes.Verdicts.{Found, whole, and_then, checked}
+use Rattle.cc_type.specs.CcSpecifiers.Declarators.{type_found, is_unbounded}
+use Rattle.cc_type.specs.CcSpecifiers.Places.{JudgedAt}
+use Rattle.cc_type.specs.CcSpecifiers.Specifiers.{no_specifier, specified}
+use Rattle.cc_type.specs.CcSpecifiers.declared.attribute.Attribute.{Attribute}
+use Rattle.cc_type.specs.CcSpecifiers.declared.derivation.Declarator.{Declarator}
+use Rattle.cc_type.specs.CcSpecifiers.declared.derivation.Derivation.{Derivation}
+use Rattle.cc_type.specs.CcSpecifiers.declared.specifier.Base.{Base}
+use Rattle.cc_type.specs.CcSpecifiers.declared.specifier.Specified.{Specified}
+use Rattle.cc_type.specs.CcSpecifiers.declared.specifier.Specs.{Specs}
+use Rattle.cc_type.specs.CcSpecifiers.declared.storage.Setting.{Setting}
+use Rattle.cc_type.specs.CcSpecifiers.declared.storage.Where.TheVariants as stands
+use Rattle.cc_type.specs.CcSyntax.Kinds.{is_object_type}
+use Rattle.cc_type.specs.CcSyntax.Programs.{kind_in}
+use Rattle.cc_type.specs.CcSyntax.Sizes.{AreSized}
+use Rattle.cc_type.specs.CcSyntax.Sound.{main_name}
+use Rattle.cc_type.specs.CcTerms.InTurn.{in_turn}
+use Rattle.cc_type.specs.CcTerms.Specifiers.{specifier_found, specifiers_found, specified_found}
+use Rattle.cc_type.specs.CcTerms.Terms.{spec_here, declr_of}
 use Rattle.cc_tree.specs.declared.at.At.{At}
 use Rattle.cc_tree.specs.declared.tree.Declr.{Declr}
 use Rattle.cc_tree.specs.declared.tree.Spec.{Spec}
@@ -53,8 +53,8 @@ use Rattle.cc_tree.specs.declared.unit.Init.{Init}
 use Rattle.cc_tree.specs.declared.unit.Item.TheVariants as item
 use Rattle.cc_expression_trees.specs.Types.{ShowsBase, Declares, Plain}
 use Rattle.cc_type.specs.Units.{item_found}
-use Rattle.cc_typed_bodies.specs.Declarations.{init_allowed, named_found, init_found, inits_found, declaration}
-use Rattle.cc_words.specs.declared.word.Word.{Word}
+use Rattle.cc_type.specs.CcTypedBodies.Declarations.{init_allowed, named_found, init_found, inits_found, declaration}
+use Rattle.cc_program.specs.CcWords.declared.word.Word.{Word}
 use Rattle.cc_shown_names.proofs.ObjectTypes.{object-kind, object-stands}
 use Rattle.cc_shown_names.proofs.Forms.{no-function}
 use Rattle.cc_shown_expressions.specs.Known.{KnowsStructures}

@@ -3,16 +3,16 @@ use Rattle.std.proofs.Common.{arith, ◌≡◌, ℕ, ◌+◌, ◌-◌, ◌<◌, 
 use Rattle.std.specs.Prelude.{if◌then◌else◌}
 use Rattle.std.specs.List.{list_any}
 use Rattle.std.specs.Option.{is_some, is_none}
-use Rattle.cc_typed_terms.specs.Devices.{declared_device, names_device, number_of}
+use Rattle.cc_type.specs.CcTypedTerms.Devices.{declared_device, names_device, number_of}
 use Rattle.cc_program.specs.declared.object.Device.{Device}
 use Rattle.cc_program.specs.declared.program.Program.{Program}
-use Rattle.cc_scopes.specs.State.{State, with_names, with_declared}
-use Rattle.cc_scopes.specs.declared.unit.Declared.{Declared}
-use Rattle.cc_syntax.specs.Normal.{next_of}
-use Rattle.cc_syntax.specs.SameTypes.{same_int, same_flag}
-use Rattle.cc_syntax.specs.Sound.{is_numbered, is_same_device, devices_differ}
-use Rattle.cc_syntax.proofs.Prefixes.{both_true}
-use Rattle.cc_syntax.proofs.SameLemmas.{int_same, int_itself, and_true}
+use Rattle.cc_type.specs.CcScopes.State.{State, with_names, with_declared}
+use Rattle.cc_type.specs.CcScopes.declared.unit.Declared.{Declared}
+use Rattle.cc_type.specs.CcSyntax.Normal.{next_of}
+use Rattle.cc_type.specs.CcSyntax.SameTypes.{same_int, same_flag}
+use Rattle.cc_type.specs.CcSyntax.Sound.{is_numbered, is_same_device, devices_differ}
+use Rattle.cc_type.proofs.CcSyntax.Prefixes.{both_true}
+use Rattle.cc_type.proofs.CcSyntax.SameLemmas.{int_same, int_itself, and_true}
 use Rattle.cc_shown_expressions.specs.OperationNumbers.{Numbers}
 use Rattle.cc_shown_names.specs.Devices.{DeviceFrom, HasName, Again, AtFirst, DevicesFrom, KnowsDevices, between, with_devices}
 use Rattle.cc_shown_names.proofs.Positions.{position-stays, position-new, position-none}

@@ -2,22 +2,22 @@
 use Rattle.std.proofs.Common.{arith, ◌≡◌, inl, ℕ, zero, suc, ◌<◌, ◌≤◌, ◌+◌, true, false, List, [], ◌∷◌, map, length, take, drop, Option, Some, None, Ok, refl, ap, sym, ◌∙◌, slice_get, eqb-true}
 use Rattle.std.specs.Prelude.{if◌then◌else◌}
 use Rattle.std.specs.Str.{bytes_eq}
-use Rattle.cc_designators.specs.Designators.{TypedExpr, IsPlace}
-use Rattle.cc_typed_terms.specs.Primary.{designates, named_by, named, intrinsic_named}
+use Rattle.cc_type.specs.CcDesignators.Designators.{TypedExpr, IsPlace}
+use Rattle.cc_type.specs.CcTypedTerms.Primary.{designates, named_by, named, intrinsic_named}
 use Rattle.cc_program.specs.declared.expr.Intr.{Intr}
 use Rattle.cc_program.specs.declared.expr.Place.{Local}
 use Rattle.cc_program.specs.declared.func.Func.{Func}
 use Rattle.cc_program.specs.declared.program.Program.{Program}
 use Rattle.cc_program.specs.declared.types.CType.{CType}
 use Rattle.cc_program.specs.declared.types.Sig.{out-Sig}
-use Rattle.cc_scopes.specs.State.{State, Name, find_name, or_else, designated, named_here, entered, with_locals}
-use Rattle.cc_scopes.specs.declared.designated.Designated.{Designated}
-use Rattle.cc_scopes.specs.declared.designated.Designated.TheVariants as means
-use Rattle.cc_syntax.specs.SameTypes.{same_shape}
-use Rattle.cc_syntax.specs.Sound.{IsFunc, are_parameters}
-use Rattle.cc_syntax.specs.Types.{Named}
-use Rattle.cc_syntax.specs.Values.{object_place}
-use Rattle.cc_syntax.proofs.Prefixes.{both_true}
+use Rattle.cc_type.specs.CcScopes.State.{State, Name, find_name, or_else, designated, named_here, entered, with_locals}
+use Rattle.cc_type.specs.CcScopes.declared.designated.Designated.{Designated}
+use Rattle.cc_type.specs.CcScopes.declared.designated.Designated.TheVariants as means
+use Rattle.cc_type.specs.CcSyntax.SameTypes.{same_shape}
+use Rattle.cc_type.specs.CcSyntax.Sound.{IsFunc, are_parameters}
+use Rattle.cc_type.specs.CcSyntax.Types.{Named}
+use Rattle.cc_type.specs.CcSyntax.Values.{object_place}
+use Rattle.cc_type.proofs.CcSyntax.Prefixes.{both_true}
 use Rattle.cc_shown_names.specs.Bodies.{first_locals, parameters_alone, KnowsParameters}
 use Rattle.cc_shown_names.proofs.Names.{name-itself, names-turned, own-name}
 use Rattle.cc_shown_names.specs.Functions.{names_from, parameters_scope}

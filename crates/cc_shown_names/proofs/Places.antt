@@ -15,8 +15,8 @@ use Rattle.cc_unit_trees.specs.Programs.{ShowsExternals, NoExternal, MoreExterna
 use Rattle.cc_unit_trees.specs.Units.{ShowsDecl, ShowsOne, ShowsFunction, ShowsDefinition}
 use Rattle.cc_expression_trees.specs.Types.{Core, Plain}
 use Rattle.cc_program.specs.declared.types.CType.{CType}
-use Rattle.cc_words.specs.declared.word.Word.{Word}
-use Rattle.cc_words.specs.declared.word.Word.TheVariants as w
+use Rattle.cc_program.specs.CcWords.declared.word.Word.{Word}
+use Rattle.cc_program.specs.CcWords.declared.word.Word.TheVariants as w
 use Rattle.cc_shown_names.specs.Parts.{HasParts}
 use Rattle.cc_shown_names.specs.States.{place_in, places, place_at}
 

@@ -3,16 +3,16 @@
 use Rattle.std.proofs.Common.{arith, ◌≡◌, ◌⊎◌, inl, inr, ℕ, zero, suc, ◌+◌, Bool, true, false, ◌&&◌, List, [], ◌∷◌, ◌++◌, map, length, Option, Some, None, refl, ap, sym, ◌∙◌, slice_get, nat_eq, eq-eqb}
 use Rattle.std.specs.Prelude.{if◌then◌else◌}
 use Rattle.std.specs.Str.{bytes_eq}
-use Rattle.cc_linkage.specs.Linkage.{is_free_for, repeats, may_be_declared, agrees_with, is_visible, new_declared, declared, declared_by}
-use Rattle.cc_linkage.specs.declared.linkage.DeclaredAs.{DeclaredAs}
+use Rattle.cc_type.specs.CcLinkage.Linkage.{is_free_for, repeats, may_be_declared, agrees_with, is_visible, new_declared, declared, declared_by}
+use Rattle.cc_type.specs.CcLinkage.declared.linkage.DeclaredAs.{DeclaredAs}
 use Rattle.cc_program.specs.declared.program.Program.{Program}
 use Rattle.cc_program.specs.declared.types.CType.{CType}
-use Rattle.cc_scopes.specs.Linked.{is_linked, has_name, linked_from, linked_name}
-use Rattle.cc_scopes.specs.State.{State, Name, name_or_none, find_name, with_name, named_here, with_names, change_at, change_name}
-use Rattle.cc_scopes.specs.declared.designated.Designated.{Designated}
-use Rattle.cc_scopes.specs.declared.designated.Designated.TheVariants as means
-use Rattle.cc_scopes.specs.declared.unit.Declared.{Declared}
-use Rattle.cc_unit.specs.declared.unit.UnitKind.{UnitKind}
+use Rattle.cc_type.specs.CcScopes.Linked.{is_linked, has_name, linked_from, linked_name}
+use Rattle.cc_type.specs.CcScopes.State.{State, Name, name_or_none, find_name, with_name, named_here, with_names, change_at, change_name}
+use Rattle.cc_type.specs.CcScopes.declared.designated.Designated.{Designated}
+use Rattle.cc_type.specs.CcScopes.declared.designated.Designated.TheVariants as means
+use Rattle.cc_type.specs.CcScopes.declared.unit.Declared.{Declared}
+use Rattle.cc_type.specs.CcUnit.declared.unit.UnitKind.{UnitKind}
 use Rattle.cc_shown_names.proofs.Names.{name-itself, names-turned}
 use Rattle.cc_shown_declarations.specs.Order.{appearance}
 use Rattle.cc_shown_declarations.specs.States.{tag_entry}

@@ -2,28 +2,28 @@
 use Rattle.std.proofs.Common.{◌≡◌, ℕ, Bool, true, false, not, List, [], ◌∷◌, map, Option, Some, None, refl, ap, sym, ◌∙◌}
 use Rattle.std.specs.List.{list_all}
 use Rattle.cc_expression_trees.specs.Types.{Function, unnamed, Declares}
-use Rattle.cc_objects.specs.Categories.{function_category, category_by, category_of}
-use Rattle.cc_operands.specs.Qualified.{plain, unqualified}
-use Rattle.cc_typed_terms.specs.Primary.{is_intrinsic}
+use Rattle.cc_type.specs.CcObjects.Categories.{function_category, category_by, category_of}
+use Rattle.cc_type.specs.CcOperands.Qualified.{plain, unqualified}
+use Rattle.cc_type.specs.CcTypedTerms.Primary.{is_intrinsic}
 use Rattle.cc_program.specs.declared.program.Program.{Program}
 use Rattle.cc_program.specs.declared.types.CType.{CType}
 use Rattle.cc_program.specs.declared.types.Shape.{Func}
 use Rattle.cc_program.specs.declared.types.Sig.{Sig, out-Sig}
-use Rattle.cc_scopes.specs.State.{State, Name}
-use Rattle.cc_specifiers.specs.Declarators.{form_of, is_function_form, declares_function}
-use Rattle.cc_specifiers.specs.declared.declarator.Form.{Form}
-use Rattle.cc_specifiers.specs.declared.declarator.Form.TheVariants as form
-use Rattle.cc_specifiers.specs.declared.derivation.Derivation.TheVariants as to
-use Rattle.cc_specifiers.specs.declared.storage.Where.TheVariants as stands
-use Rattle.cc_syntax.specs.Kinds.{is_plain_scalar, is_result}
-use Rattle.cc_syntax.specs.Programs.{kind_in}
-use Rattle.cc_syntax.specs.Sizes.{AreSized}
-use Rattle.cc_syntax.proofs.Prefixes.{both_true}
+use Rattle.cc_type.specs.CcScopes.State.{State, Name}
+use Rattle.cc_type.specs.CcSpecifiers.Declarators.{form_of, is_function_form, declares_function}
+use Rattle.cc_type.specs.CcSpecifiers.declared.declarator.Form.{Form}
+use Rattle.cc_type.specs.CcSpecifiers.declared.declarator.Form.TheVariants as form
+use Rattle.cc_type.specs.CcSpecifiers.declared.derivation.Derivation.TheVariants as to
+use Rattle.cc_type.specs.CcSpecifiers.declared.storage.Where.TheVariants as stands
+use Rattle.cc_type.specs.CcSyntax.Kinds.{is_plain_scalar, is_result}
+use Rattle.cc_type.specs.CcSyntax.Programs.{kind_in}
+use Rattle.cc_type.specs.CcSyntax.Sizes.{AreSized}
+use Rattle.cc_type.proofs.CcSyntax.Prefixes.{both_true}
 use Rattle.cc_tree.specs.declared.at.At.{At}
 use Rattle.cc_tree.specs.declared.tree.Declr.{Declr}
-use Rattle.cc_typed_bodies.specs.Declarations.{init_allowed}
-use Rattle.cc_words.specs.Names.{are_distinct}
-use Rattle.cc_words.specs.declared.word.Word.{Word}
+use Rattle.cc_type.specs.CcTypedBodies.Declarations.{init_allowed}
+use Rattle.cc_program.specs.CcWords.Names.{are_distinct}
+use Rattle.cc_program.specs.CcWords.declared.word.Word.{Word}
 use Rattle.cc_shown_declarations.specs.Parameters.{Entry, entry_numbered, scope_of, entry_names, HaveNewNames}
 use Rattle.cc_shown_declarations.proofs.Forms.{function-form}
 use Rattle.cc_shown_declarations.proofs.Functions.{are-scalars, is-declared}

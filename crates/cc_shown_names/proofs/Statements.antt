@@ -5,7 +5,7 @@ use Rattle.std.specs.List.{list_all, list_any, flat_map}
 use Rattle.std.specs.Option.{is_some}
 use Rattle.std.proofs.lemmas.List.Folds.{list_all-append}
 use Rattle.cc_bodies.specs.Stmts.{label_type}
-use Rattle.cc_num.specs.declared.int_type.IntType.{IntType}
+use Rattle.cc_program.specs.CcNum.declared.int_type.IntType.{IntType}
 use Rattle.cc_program.specs.declared.expr.Expr.{Expr, out-Expr}
 use Rattle.cc_program.specs.declared.func.Func.{Func}
 use Rattle.cc_program.specs.declared.program.Program.{Program}
@@ -15,25 +15,25 @@ use Rattle.cc_program.specs.declared.stmt.Stmt.TheOpen as is
 use Rattle.cc_program.specs.declared.types.CType.{CType}
 use Rattle.cc_program.specs.declared.types.Shape.{out-Shape}
 use Rattle.cc_program.specs.declared.types.Sig.{out-Sig}
-use Rattle.cc_scopes.specs.State.{State, Name}
-use Rattle.cc_syntax.specs.Forms.{form_of}
-use Rattle.cc_syntax.specs.Kinds.{Kind, is_result}
-use Rattle.cc_syntax.specs.Normal.{is_one, is_operand, normal_step, is_normal_stmt, devices_step, devices_of, devices_in}
-use Rattle.cc_syntax.specs.Programs.{type_of, kind_in, sound_step, is_sound_stmt}
-use Rattle.cc_syntax.specs.Sizes.{AreSized}
-use Rattle.cc_syntax.specs.Sound.{IsSound, IsFunc}
-use Rattle.cc_syntax.specs.Statements.{SoundWhere, Labelled, same_label, labels_of, labels_fit, label_fits, are_apart, is_condition}
-use Rattle.cc_syntax.specs.Statements.{has_label as has_some}
-use Rattle.cc_syntax.specs.Values.{ValueType, Integer, is_void, scalar_value, object_place}
-use Rattle.cc_syntax.proofs.Prefixes.{both_true}
-use Rattle.cc_syntax.proofs.SameLemmas.{and_true}
+use Rattle.cc_type.specs.CcScopes.State.{State, Name}
+use Rattle.cc_type.specs.CcSyntax.Forms.{form_of}
+use Rattle.cc_type.specs.CcSyntax.Kinds.{Kind, is_result}
+use Rattle.cc_type.specs.CcSyntax.Normal.{is_one, is_operand, normal_step, is_normal_stmt, devices_step, devices_of, devices_in}
+use Rattle.cc_type.specs.CcSyntax.Programs.{type_of, kind_in, sound_step, is_sound_stmt}
+use Rattle.cc_type.specs.CcSyntax.Sizes.{AreSized}
+use Rattle.cc_type.specs.CcSyntax.Sound.{IsSound, IsFunc}
+use Rattle.cc_type.specs.CcSyntax.Statements.{SoundWhere, Labelled, same_label, labels_of, labels_fit, label_fits, are_apart, is_condition}
+use Rattle.cc_type.specs.CcSyntax.Statements.{has_label as has_some}
+use Rattle.cc_type.specs.CcSyntax.Values.{ValueType, Integer, is_void, scalar_value, object_place}
+use Rattle.cc_type.proofs.CcSyntax.Prefixes.{both_true}
+use Rattle.cc_type.proofs.CcSyntax.SameLemmas.{and_true}
 use Rattle.cc_tree.specs.declared.at.At.{At}
 use Rattle.cc_tree.specs.declared.tree.Tree.{Tree}
 use Rattle.cc_tree.specs.declared.unit.Line as line
 use Rattle.cc_tree.specs.declared.unit.Line.{Line, out-Line}
 use Rattle.cc_tree.specs.declared.unit.Line.TheVariants as line_rolls
-use Rattle.cc_typed_statements.specs.Jumps.{in_loop, in_switch}
-use Rattle.cc_typed_statements.specs.declared.jumps.Jumps.{Jumps}
+use Rattle.cc_type.specs.CcTypedStatements.Jumps.{in_loop, in_switch}
+use Rattle.cc_type.specs.CcTypedStatements.declared.jumps.Jumps.{Jumps}
 use Rattle.cc_expression_trees.specs.Exprs.{ShowsExpr, ShowsValue}
 use Rattle.cc_unit_trees.specs.Effects.{ShowsEffect}
 use Rattle.cc_unit_trees.specs.Lines.{block, ShowsStmt, ShowsDo, ShowsIf, ShowsIfElse, ShowsWhile, ShowsSwitch, ShowsBreak, ShowsContinue, ShowsReturn, ShowsReturnOf, ShowsStmts, NoStmt, MoreStmts, ShowsCase, EmptyCase, FullCase, ShowsCases, NoCase, MoreCases, ShowsLabels}

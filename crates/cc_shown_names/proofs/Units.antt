@@ -5,10 +5,10 @@ use Rattle.std.specs.Str.{bytes_eq}
 use Rattle.std.proofs.lemmas.List.{length-map}
 use Rattle.cc_program.specs.declared.object.Device.{Device}
 use Rattle.cc_program.specs.declared.program.Program.{Program}
-use Rattle.cc_scopes.specs.State.{State, Name, at_first}
-use Rattle.cc_scopes.specs.Verdicts.{checked}
-use Rattle.cc_syntax.specs.Normal.{has_name, count_named, IsNormal}
-use Rattle.cc_syntax.specs.Sound.{IsSound}
+use Rattle.cc_type.specs.CcScopes.State.{State, Name, at_first}
+use Rattle.cc_type.specs.CcScopes.Verdicts.{checked}
+use Rattle.cc_type.specs.CcSyntax.Normal.{has_name, count_named, IsNormal}
+use Rattle.cc_type.specs.CcSyntax.Sound.{IsSound}
 use Rattle.cc_tree.specs.declared.at.At.{At}
 use Rattle.cc_tree.specs.declared.unit.Item.{Item}
 use Rattle.cc_type.specs.Defined.{defined_by}

@@ -1,8 +1,8 @@
 -- Uses of devices, one behind another: in parts, inside a scope, and as the accesses of a statement.
 use Rattle.std.proofs.Common.{◌≡◌, ℕ, false, List, [], ◌∷◌, ◌++◌, Option, Some, None, Ok, refl, ap, sym, ◌∙◌, subst, slice_get}
 use Rattle.std.specs.Option.{is_some}
-use Rattle.cc_designators.specs.Designators.{TypedExpr}
-use Rattle.cc_typed_terms.specs.Primary.{designates, named_by, named, intrinsic_named}
+use Rattle.cc_type.specs.CcDesignators.Designators.{TypedExpr}
+use Rattle.cc_type.specs.CcTypedTerms.Primary.{designates, named_by, named, intrinsic_named}
 use Rattle.cc_program.specs.declared.expr.Expr.{Expr, out-Expr}
 use Rattle.cc_program.specs.declared.expr.Expr.TheOpen as one
 use Rattle.cc_program.specs.declared.expr.Intr.{Intr}
@@ -12,11 +12,11 @@ use Rattle.cc_program.specs.declared.func.Func.{Func}
 use Rattle.cc_program.specs.declared.object.Device.{Device}
 use Rattle.cc_program.specs.declared.program.Program.{Program}
 use Rattle.cc_program.specs.declared.program.Roles.{Roles}
-use Rattle.cc_scopes.specs.State.{State, Name, designated, empty, entered}
-use Rattle.cc_scopes.specs.declared.designated.Designated.{Designated}
-use Rattle.cc_scopes.specs.declared.designated.Designated.TheVariants as means
-use Rattle.cc_syntax.specs.Forms.{form_at, form_of}
-use Rattle.cc_syntax.specs.Normal.{device_in, device_read, devices_accessed}
+use Rattle.cc_type.specs.CcScopes.State.{State, Name, designated, empty, entered}
+use Rattle.cc_type.specs.CcScopes.declared.designated.Designated.{Designated}
+use Rattle.cc_type.specs.CcScopes.declared.designated.Designated.TheVariants as means
+use Rattle.cc_type.specs.CcSyntax.Forms.{form_at, form_of}
+use Rattle.cc_type.specs.CcSyntax.Normal.{device_in, device_read, devices_accessed}
 use Rattle.cc_shown_effects.specs.Accesses.{Accesses, NoneNumbered, Known, First}
 use Rattle.cc_shown_effects.proofs.Assigned.{names-behind}
 use Rattle.cc_shown_effects.specs.Steps.{is_load, is_assign, Reads, APlace, NoPlace, Steps, Assigning, Another}

@@ -5,19 +5,19 @@ use Rattle.std.specs.List.{filter}
 use Rattle.std.specs.Str.{bytes_eq}
 use Rattle.std.proofs.lemmas.List.{append-nil}
 use Rattle.cc_expression_trees.specs.Types.{ShowsWords, ShowsBase, Declares, Plain}
-use Rattle.cc_initialisers.specs.Contents.{contents}
-use Rattle.cc_initialisers.specs.Initialisers.{here as given_here, initialised, bound_given}
-use Rattle.cc_linkage.specs.Linkage.{is_visible, same_element, may_be_by}
-use Rattle.cc_linkage.specs.declared.linkage.DeclaredAs.TheVariants.{AsStatic}
-use Rattle.cc_objects.specs.Categories.{setting_of}
-use Rattle.cc_objects.specs.Linked.{object_kind}
+use Rattle.cc_type.specs.CcInitialisers.Contents.{contents}
+use Rattle.cc_type.specs.CcInitialisers.Initialisers.{here as given_here, initialised, bound_given}
+use Rattle.cc_type.specs.CcLinkage.Linkage.{is_visible, same_element, may_be_by}
+use Rattle.cc_type.specs.CcLinkage.declared.linkage.DeclaredAs.TheVariants.{AsStatic}
+use Rattle.cc_type.specs.CcObjects.Categories.{setting_of}
+use Rattle.cc_type.specs.CcObjects.Linked.{object_kind}
 use Rattle.cc_print.specs.Values.{has_leaves}
-use Rattle.cc_objects.specs.Types.{contents_in, with_bound, element_type, type_given, completed_type, is_object_in, type_agrees, composite_of, composite_by, composite}
-use Rattle.cc_objects.specs.Values.{leaf_given, no_leaf}
-use Rattle.cc_objects.specs.declared.category.Category.TheVariants as declares
-use Rattle.cc_operands.specs.Verdicts.{Judged, must, judge_then}
-use Rattle.cc_operands.specs.declared.rule.Rule.TheVariants as rule
-use Rattle.cc_typed_terms.specs.Primary.{intrinsic_named, leaves_or_none}
+use Rattle.cc_type.specs.CcObjects.Types.{contents_in, with_bound, element_type, type_given, completed_type, is_object_in, type_agrees, composite_of, composite_by, composite}
+use Rattle.cc_type.specs.CcObjects.Values.{leaf_given, no_leaf}
+use Rattle.cc_type.specs.CcObjects.declared.category.Category.TheVariants as declares
+use Rattle.cc_type.specs.CcOperands.Verdicts.{Judged, must, judge_then}
+use Rattle.cc_type.specs.CcOperands.declared.rule.Rule.TheVariants as rule
+use Rattle.cc_type.specs.CcTypedTerms.Primary.{intrinsic_named, leaves_or_none}
 use Rattle.cc_program.specs.Qualifiers.{is_const}
 use Rattle.cc_program.specs.declared.expr.Place.{Static}
 use Rattle.cc_program.specs.declared.object.Object.{Object}
@@ -27,20 +27,20 @@ use Rattle.cc_program.specs.declared.types.Shape.{Shape, out-Shape}
 use Rattle.cc_program.specs.declared.types.Shape.TheOpen as shape
 use Rattle.cc_program.specs.declared.types.Sig.{Sig}
 use Rattle.cc_program.specs.declared.value.Leaf.{Leaf}
-use Rattle.cc_scopes.specs.Definitions.{defined_at}
-use Rattle.cc_scopes.specs.State.{State, Name, structures_of, with_unfinished, change_name}
-use Rattle.cc_scopes.specs.Verdicts.{Found, whole, and_then, Checked, checked}
-use Rattle.cc_scopes.specs.declared.unit.Declared.{Declared}
-use Rattle.cc_specifiers.specs.Bounds.{is_bound}
-use Rattle.cc_specifiers.specs.Declarators.{is_unbounded, bound_or_none}
-use Rattle.cc_specifiers.specs.declared.storage.Where.TheVariants as stands
-use Rattle.cc_syntax.specs.Initial.{bound_shape}
-use Rattle.cc_syntax.specs.Kinds.{is_object_type}
-use Rattle.cc_syntax.specs.Names.{device_names}
-use Rattle.cc_syntax.specs.Programs.{kind_in}
-use Rattle.cc_syntax.specs.Sound.{IsSound, is_object, main_name}
-use Rattle.cc_syntax.proofs.SameLemmas.{compared}
-use Rattle.cc_terms.specs.InTurn.{in_turn}
+use Rattle.cc_type.specs.CcScopes.Definitions.{defined_at}
+use Rattle.cc_type.specs.CcScopes.State.{State, Name, structures_of, with_unfinished, change_name}
+use Rattle.cc_type.specs.CcScopes.Verdicts.{Found, whole, and_then, Checked, checked}
+use Rattle.cc_type.specs.CcScopes.declared.unit.Declared.{Declared}
+use Rattle.cc_type.specs.CcSpecifiers.Bounds.{is_bound}
+use Rattle.cc_type.specs.CcSpecifiers.Declarators.{is_unbounded, bound_or_none}
+use Rattle.cc_type.specs.CcSpecifiers.declared.storage.Where.TheVariants as stands
+use Rattle.cc_type.specs.CcSyntax.Initial.{bound_shape}
+use Rattle.cc_type.specs.CcSyntax.Kinds.{is_object_type}
+use Rattle.cc_type.specs.CcSyntax.Names.{device_names}
+use Rattle.cc_type.specs.CcSyntax.Programs.{kind_in}
+use Rattle.cc_type.specs.CcSyntax.Sound.{IsSound, is_object, main_name}
+use Rattle.cc_type.proofs.CcSyntax.SameLemmas.{compared}
+use Rattle.cc_type.specs.CcTerms.InTurn.{in_turn}
 use Rattle.cc_tree.specs.declared.at.At.{At}
 use Rattle.cc_tree.specs.declared.tree.Declr.{Declr}
 use Rattle.cc_tree.specs.declared.tree.Spec.{Spec}
@@ -48,15 +48,15 @@ use Rattle.cc_tree.specs.declared.unit.Given.{Given}
 use Rattle.cc_tree.specs.declared.unit.Item.{Item}
 use Rattle.cc_tree.specs.declared.unit.Item.TheVariants as item
 use Rattle.cc_type.specs.Units.{item_found, item_next, items_found}
-use Rattle.cc_typed_bodies.specs.Declarations.{declared_left, named_found}
-use Rattle.cc_typed_bodies.specs.Objects.{leaves_found, linked_defined, linked_known, linked_as}
-use Rattle.cc_typed_bodies.specs.Plans.{steps_done}
-use Rattle.cc_unit.specs.declared.unit.UnitKind.TheVariants as kind
+use Rattle.cc_type.specs.CcTypedBodies.Declarations.{declared_left, named_found}
+use Rattle.cc_type.specs.CcTypedBodies.Objects.{leaves_found, linked_defined, linked_known, linked_as}
+use Rattle.cc_type.specs.CcTypedBodies.Plans.{steps_done}
+use Rattle.cc_type.specs.CcUnit.declared.unit.UnitKind.TheVariants as kind
 use Rattle.cc_unit_trees.specs.Externals.{AValue, is_given}
 use Rattle.cc_unit_trees.specs.Items.{ShowsDefinition, ADefinition}
 use Rattle.cc_unit_trees.specs.Programs.{ShowsExternals, NoExternal, MoreExternals}
 use Rattle.cc_unit_trees.specs.Values.{ShowsInitial}
-use Rattle.cc_words.specs.declared.word.Word.TheVariants as w
+use Rattle.cc_program.specs.CcWords.declared.word.Word.TheVariants as w
 use Rattle.cc_shown_declarations.specs.Known.{KnowsStatics}
 use Rattle.cc_shown_declarations.specs.Numbers.{leaf_numbered}
 use Rattle.cc_shown_declarations.specs.Order.{appearance, structure_number}

@@ -1,14 +1,14 @@
 -- What is known where the body of a function begins, in the scope of its parameters, and behind its automatic objects (C99
 -- 6.2.1, 4, 6.2.4, 4).
 use Rattle.std.specs.Prelude.{◌≡◌, ℕ, List, [], ◌∷◌, length, take, drop, Some, None, slice_get}
-use Rattle.cc_objects.specs.Linked.{with_automatic}
+use Rattle.cc_type.specs.CcObjects.Linked.{with_automatic}
 use Rattle.cc_program.specs.declared.func.Func.{Func}
 use Rattle.cc_program.specs.declared.program.Program.{Program}
-use Rattle.cc_scopes.specs.State.{State, named_here}
+use Rattle.cc_type.specs.CcScopes.State.{State, named_here}
 use Rattle.cc_shown_expressions.specs.KnownNames.{KnowsNames}
 use Rattle.cc_shown_expressions.specs.OperationNumbers.{Numbers}
 use Rattle.cc_shown_expressions.specs.Numbers.{type_numbered}
-use Rattle.cc_syntax.specs.Types.{Named}
+use Rattle.cc_type.specs.CcSyntax.Types.{Named}
 
 -- a function with so many of its locals
 abbrev pub first_locals : ℕ → Func → Func

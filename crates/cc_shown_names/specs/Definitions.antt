@@ -5,22 +5,22 @@ use Rattle.cc_unit_trees.specs.Units.{ShowsFunction}
 use Rattle.cc_program.specs.declared.func.Entry.{Entry}
 use Rattle.cc_program.specs.declared.func.Func.{Func}
 use Rattle.cc_program.specs.declared.program.Program.{Program}
-use Rattle.cc_scopes.specs.Linked.{linked_name}
-use Rattle.cc_scopes.specs.State.{State, named_here, with_locals}
-use Rattle.cc_scopes.specs.declared.designated.Designated.TheVariants as means
-use Rattle.cc_scopes.specs.declared.unit.Declared.{Declared}
+use Rattle.cc_type.specs.CcScopes.Linked.{linked_name}
+use Rattle.cc_type.specs.CcScopes.State.{State, named_here, with_locals}
+use Rattle.cc_type.specs.CcScopes.declared.designated.Designated.TheVariants as means
+use Rattle.cc_type.specs.CcScopes.declared.unit.Declared.{Declared}
 use Rattle.cc_shown_names.specs.Bodies.{first_locals}
 use Rattle.cc_shown_names.specs.Functions.{type_of_function, func_numbered}
 use Rattle.cc_shown_expressions.specs.KnownNames.{KnowsNames}
 use Rattle.cc_shown_expressions.specs.OperationNumbers.{Numbers}
 use Rattle.cc_shown_names.specs.Devices.{KnowsDevices, with_devices}
-use Rattle.cc_syntax.specs.Normal.{devices_in, next_of}
+use Rattle.cc_type.specs.CcSyntax.Normal.{devices_in, next_of}
 use Rattle.cc_tree.specs.declared.at.At.{At}
 use Rattle.cc_tree.specs.declared.unit.Item.{Item}
 use Rattle.cc_tree.specs.declared.unit.Item.TheVariants as item
 use Rattle.cc_type.specs.Functions.{defined_as}
-use Rattle.cc_unit.specs.declared.unit.Linkage.TheVariants as linkage
-use Rattle.cc_unit.specs.declared.unit.UnitKind.TheVariants as kind
+use Rattle.cc_type.specs.CcUnit.declared.unit.Linkage.TheVariants as linkage
+use Rattle.cc_type.specs.CcUnit.declared.unit.UnitKind.TheVariants as kind
 
 -- items that show functions, one each
 pub data ShowsFunctions (p : Program) : List Func → List (At Item) → Type 0 where

@@ -2,11 +2,11 @@
 -- that is declared (C99 6.7.8).
 use Rattle.std.specs.Prelude.{◌≡◌, ℕ, ◌+◌, ◌-◌, ◌<◌, ◌≤◌, true, List, [], ◌∷◌, ◌++◌, map, length, take, drop, Some, None, slice_get}
 use Rattle.std.specs.Option.{is_some}
-use Rattle.cc_typed_terms.specs.Devices.{declared_device, number_of}
+use Rattle.cc_type.specs.CcTypedTerms.Devices.{declared_device, number_of}
 use Rattle.cc_program.specs.declared.object.Device.{Device}
 use Rattle.cc_program.specs.declared.program.Program.{Program}
-use Rattle.cc_scopes.specs.State.{State, with_names, with_declared}
-use Rattle.cc_scopes.specs.declared.unit.Declared.{Declared}
+use Rattle.cc_type.specs.CcScopes.State.{State, with_names, with_declared}
+use Rattle.cc_type.specs.CcScopes.declared.unit.Declared.{Declared}
 use Rattle.cc_shown_expressions.specs.OperationNumbers.{Numbers}
 
 module _ (p : Program) (n : Numbers) where

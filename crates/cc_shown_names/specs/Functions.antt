@@ -1,24 +1,24 @@
 -- A function with the numbers that a translation unit gives, what its declarator gives where it is defined, and the scope of its
 -- parameters (C99 6.2.1, 4, 6.9.1).
 use Rattle.std.specs.Prelude.{◌≡◌, ℕ, suc, List, [], ◌∷◌, map, take, Some, None, Ok}
-use Rattle.cc_operands.specs.Qualified.{plain}
+use Rattle.cc_type.specs.CcOperands.Qualified.{plain}
 use Rattle.cc_program.specs.declared.func.Func.{Func}
 use Rattle.cc_program.specs.declared.program.Program.{Program}
 use Rattle.cc_program.specs.declared.types.CType.{CType}
 use Rattle.cc_program.specs.declared.types.Shape.{Func as FuncShape}
-use Rattle.cc_scopes.specs.State.{State, Scope, Name, structures_of, layouts_of}
-use Rattle.cc_scopes.specs.declared.designated.Designated.{Designated}
-use Rattle.cc_scopes.specs.declared.designated.Designated.TheVariants as means
+use Rattle.cc_type.specs.CcScopes.State.{State, Scope, Name, structures_of, layouts_of}
+use Rattle.cc_type.specs.CcScopes.declared.designated.Designated.{Designated}
+use Rattle.cc_type.specs.CcScopes.declared.designated.Designated.TheVariants as means
 use Rattle.cc_shown_effects.specs.Numbers.{stmt_numbered}
 use Rattle.cc_shown_expressions.specs.OperationNumbers.{Numbers}
 use Rattle.cc_shown_expressions.specs.Numbers.{type_numbered, named_numbered, sig_numbered}
-use Rattle.cc_specifiers.specs.Declarators.{type_found}
-use Rattle.cc_specifiers.specs.Derivations.{in_definition}
-use Rattle.cc_specifiers.specs.declared.derivation.Derivation.{Derivation}
-use Rattle.cc_specifiers.specs.declared.derivation.Derivation.TheVariants as to
-use Rattle.cc_specifiers.specs.declared.derivation.Parameter.{Parameter}
-use Rattle.cc_syntax.specs.Types.{Named}
-use Rattle.cc_terms.specs.Terms.{declr_of}
+use Rattle.cc_type.specs.CcSpecifiers.Declarators.{type_found}
+use Rattle.cc_type.specs.CcSpecifiers.Derivations.{in_definition}
+use Rattle.cc_type.specs.CcSpecifiers.declared.derivation.Derivation.{Derivation}
+use Rattle.cc_type.specs.CcSpecifiers.declared.derivation.Derivation.TheVariants as to
+use Rattle.cc_type.specs.CcSpecifiers.declared.derivation.Parameter.{Parameter}
+use Rattle.cc_type.specs.CcSyntax.Types.{Named}
+use Rattle.cc_type.specs.CcTerms.Terms.{declr_of}
 use Rattle.cc_tree.specs.declared.at.At.{At}
 use Rattle.cc_tree.specs.declared.tree.Declr.{Declr}
 use Rattle.cc_type.specs.Functions.{locals_of}

@@ -1,16 +1,16 @@
 -- What is known behind the structures of a program's text, where these names are declared, and behind the whole text.
 use Rattle.std.specs.Prelude.{ℕ, suc, List, [], ◌∷◌, ◌++◌, map, length, take, drop, None, slice_get, unwrap_or}
 use Rattle.std.specs.List.{filter}
-use Rattle.cc_typed_terms.specs.Devices.{declared_device}
+use Rattle.cc_type.specs.CcTypedTerms.Devices.{declared_device}
 use Rattle.cc_program.specs.declared.program.Program.{Program}
-use Rattle.cc_scopes.specs.State.{State, Name, name_or_none, with_names}
-use Rattle.cc_scopes.specs.declared.designated.Designated.{Designated}
-use Rattle.cc_scopes.specs.declared.designated.Designated.TheVariants as means
-use Rattle.cc_scopes.specs.declared.unit.Declared.{Declared}
+use Rattle.cc_type.specs.CcScopes.State.{State, Name, name_or_none, with_names}
+use Rattle.cc_type.specs.CcScopes.declared.designated.Designated.{Designated}
+use Rattle.cc_type.specs.CcScopes.declared.designated.Designated.TheVariants as means
+use Rattle.cc_type.specs.CcScopes.declared.unit.Declared.{Declared}
 use Rattle.cc_shown_declarations.specs.Order.{appearance}
 use Rattle.cc_shown_declarations.specs.States.{tag_entry, known_as, completed_from}
 use Rattle.cc_shown_names.specs.Names.{device_declared, function_declared, function_defined, object_declared, object_given, placed}
-use Rattle.cc_syntax.specs.Normal.{has_name, count_named}
+use Rattle.cc_type.specs.CcSyntax.Normal.{has_name, count_named}
 use Rattle.cc_tree.specs.declared.at.At.{At}
 use Rattle.cc_tree.specs.declared.unit.Init.{Init}
 use Rattle.cc_tree.specs.declared.unit.Item.{Item}

@@ -4,12 +4,12 @@ ghost use Rattle.std.specs.Prelude.{◌≡◌, ◌≤◌, ℕ, List, Ok, Some, d
 ghost use Rattle.std.specs.List.{flat_map, list_all};
 ghost use Rattle.cc_program.specs.declared.func.Func.{Func};
 ghost use Rattle.cc_program.specs.declared.program.Program.{Program};
-ghost use Rattle.cc_scopes.specs.State.{Name, State};
-ghost use Rattle.cc_scopes.specs.Verdicts.{checked};
+ghost use Rattle.cc_type.specs.CcScopes.State.{Name, State};
+ghost use Rattle.cc_type.specs.CcScopes.Verdicts.{checked};
 ghost use Rattle.cc_shown_names.specs.Definitions.{KnowsFile, ShowsFunctions, with_definitions};
 ghost use Rattle.cc_shown_expressions.specs.OperationNumbers.{Numbers};
-ghost use Rattle.cc_syntax.specs.Normal.{devices_in, is_normal_body, next_of};
-ghost use Rattle.cc_syntax.specs.Sound.{IsSound};
+ghost use Rattle.cc_type.specs.CcSyntax.Normal.{devices_in, is_normal_body, next_of};
+ghost use Rattle.cc_type.specs.CcSyntax.Sound.{IsSound};
 ghost use Rattle.cc_tree.specs.declared.at.At.{At};
 ghost use Rattle.cc_tree.specs.declared.unit.Item.{Item};
 ghost use Rattle.cc_type.specs.Units.{items_found};

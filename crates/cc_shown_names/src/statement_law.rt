@@ -6,21 +6,21 @@ ghost use Rattle.cc_program.specs.declared.func.Func.{Func};
 ghost use Rattle.cc_program.specs.declared.program.Program.{Program};
 ghost use Rattle.cc_program.specs.declared.stmt.Stmt.{Stmt};
 ghost use Rattle.cc_program.specs.declared.types.Sig.{out-Sig};
-ghost use Rattle.cc_scopes.specs.State.{Name, State};
+ghost use Rattle.cc_type.specs.CcScopes.State.{Name, State};
 ghost use Rattle.cc_shown_effects.specs.Numbers.{stmt_numbered};
 ghost use Rattle.cc_shown_expressions.specs.KnownNames.{KnowsNames};
 ghost use Rattle.cc_shown_expressions.specs.OperationNumbers.{Numbers};
 ghost use Rattle.cc_shown_names.specs.Devices.{DevicesFrom, KnowsDevices, with_devices};
 ghost use Rattle.cc_shown_expressions.specs.Numbers.{type_numbered};
 ghost use Rattle.cc_unit_trees.specs.Lines.{ShowsStmts};
-ghost use Rattle.cc_syntax.specs.Normal.{devices_in, is_normal_stmt, next_of};
-ghost use Rattle.cc_syntax.specs.Programs.{is_sound_stmt};
-ghost use Rattle.cc_syntax.specs.Sound.{IsSound, devices_differ};
+ghost use Rattle.cc_type.specs.CcSyntax.Normal.{devices_in, is_normal_stmt, next_of};
+ghost use Rattle.cc_type.specs.CcSyntax.Programs.{is_sound_stmt};
+ghost use Rattle.cc_type.specs.CcSyntax.Sound.{IsSound, devices_differ};
 ghost use Rattle.cc_tree.specs.declared.at.At.{At};
 ghost use Rattle.cc_tree.specs.declared.unit.Line.{Line};
-ghost use Rattle.cc_typed_bodies.specs.Lines.{line_here};
-ghost use Rattle.cc_typed_bodies.specs.Meanings.{lines_found};
-ghost use Rattle.cc_typed_statements.specs.declared.jumps.Jumps.{Jumps};
+ghost use Rattle.cc_type.specs.CcTypedBodies.Lines.{line_here};
+ghost use Rattle.cc_type.specs.CcTypedBodies.Meanings.{lines_found};
+ghost use Rattle.cc_type.specs.CcTypedStatements.declared.jumps.Jumps.{Jumps};
 
 /// What holds of lines that show sound statements in normal form of a function of a sound program, where its structures and
 /// names are known (C99 6.8). The call does nothing.

@@ -1,14 +1,14 @@
 //! What holds of a tree that shows a program in normal form.
 
 ghost use Rattle.std.specs.Prelude.{◌≡◌, ◌<◌, ◌≤◌, ℕ, List, length, map, Ok};
-ghost use Rattle.cc_lex.specs.Tokens.{Tokens};
-ghost use Rattle.cc_lex.specs.declared.token.Token.{Token};
+ghost use Rattle.cc_type.specs.CcLex.Tokens.{Tokens};
+ghost use Rattle.cc_type.specs.CcLex.declared.token.Token.{Token};
 ghost use Rattle.cc_program.specs.declared.program.Program.{Program};
-ghost use Rattle.cc_scopes.specs.State.{Name, at_first};
-ghost use Rattle.cc_scopes.specs.Verdicts.{checked};
+ghost use Rattle.cc_type.specs.CcScopes.State.{Name, at_first};
+ghost use Rattle.cc_type.specs.CcScopes.Verdicts.{checked};
 ghost use Rattle.cc_shown_names.specs.Parts.{HasParts};
 ghost use Rattle.cc_shown_names.specs.States.{last_state, objects_given, place_at, places, unit_state};
-ghost use Rattle.cc_syntax.specs.Normal.{IsNormal};
+ghost use Rattle.cc_type.specs.CcSyntax.Normal.{IsNormal};
 ghost use Rattle.cc_tree.specs.Sentences.{IsSentence};
 ghost use Rattle.cc_tree.specs.declared.at.At.{At};
 ghost use Rattle.cc_tree.specs.declared.unit.Item.{Item};

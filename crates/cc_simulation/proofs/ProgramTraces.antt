@@ -17,9 +17,9 @@ use Rattle.cc_status.specs.declared.status.Status.{Status}
 use Rattle.cc_status.specs.declared.status.Status.TheVariants as status
 use Rattle.cc_status.specs.declared.status.What.{What}
 use Rattle.cc_status.specs.declared.status.What.TheVariants as what
-use Rattle.cc_syntax.proofs.StructureLemmas.{sound_sizes}
-use Rattle.cc_syntax.specs.Layout.{HasSizes}
-use Rattle.cc_syntax.specs.Sound.{IsSound}
+use Rattle.cc_states.proofs.CcSyntax.StructureLemmas.{sound_sizes}
+use Rattle.cc_states.specs.CcSyntax.Layout.{HasSizes}
+use Rattle.cc_states.specs.CcSyntax.Sound.{IsSound}
 
 -- ---- rows
 

@@ -20,7 +20,7 @@ use Rattle.cc_status.specs.declared.status.Status.{Status}
 use Rattle.cc_status.specs.declared.status.Status.TheVariants as status
 use Rattle.cc_status.specs.declared.status.What.{What}
 use Rattle.cc_status.specs.declared.status.What.TheVariants as what
-use Rattle.cc_syntax.specs.Sound.{IsSound}
+use Rattle.cc_states.specs.CcSyntax.Sound.{IsSound}
 
 -- the first file that is not read, in the order of the words; the rows of the profile are judged as soon as it is read
 pub data FilesEnd (files : Files) (rose : Type 0) (a : Asked) : Status → Type 0 where

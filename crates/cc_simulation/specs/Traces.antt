@@ -12,7 +12,7 @@ use Rattle.cc_run.specs.Driven.{driven}
 use Rattle.cc_run.specs.Inputs.{input_in}
 use Rattle.cc_run.specs.Trace.{trace_text}
 use Rattle.cc_simulation.specs.Asked.{Asked}
-use Rattle.cc_syntax.specs.Sound.{IsSound}
+use Rattle.cc_states.specs.CcSyntax.Sound.{IsSound}
 
 -- each row of the text gives an input, and these are they
 abbrev pub AreInputs : List ℕ → List ℤ → Type 0

@@ -6,7 +6,7 @@ ghost use Rattle.cc_run.specs.Driven.{turns_ascend};
 ghost use Rattle.cc_simulation.specs.Ends.{ProgramEnds, RowsEnd, TellsInput, TellsArrival, for_inputs as inputs_status, for_arrivals as arrivals_status, is_run_refusal};
 ghost use Rattle.cc_simulation.specs.Traces.{AreInputs, AreArrivals, IsRunnable, IsTrace};
 ghost use Rattle.cc_status.specs.declared.status.Status.TheVariants as status;
-ghost use Rattle.cc_syntax.specs.Sound.{IsSound};
+ghost use Rattle.cc_states.specs.CcSyntax.Sound.{IsSound};
 
 use cc_material::above;
 use cc_program::Program;

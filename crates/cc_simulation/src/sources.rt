@@ -6,7 +6,7 @@ ghost use Rattle.cc_material.specs.Material.{TellsFile};
 ghost use Rattle.cc_simulation.specs.Ends.{ProgramEnds, SourcesEnd, is_run_refusal};
 ghost use Rattle.cc_simulation.specs.Traces.{IsMade, IsRunnable, IsTrace};
 ghost use Rattle.cc_status.specs.declared.status.Status.TheVariants as status;
-ghost use Rattle.cc_syntax.specs.Sound.{IsSound};
+ghost use Rattle.cc_states.specs.CcSyntax.Sound.{IsSound};
 
 use crate::material::Material;
 use crate::program::trace_of;

@@ -23,16 +23,16 @@ use Rattle.cc_slots_points.proofs.Tests.{here, there}
 use Rattle.cc_slots_points.specs.Lists.{AreAccessesOf, IsAccessAt, Names}
 use Rattle.cc_slots_types.specs.declared.class.Class.{Class}
 use Rattle.cc_slots_types.specs.declared.class.Class.TheVariants.{Lone, Read, Written}
-use Rattle.cc_state.proofs.Sets.{known}
-use Rattle.cc_state_facts.specs.declared.facts.Facts.{Facts}
-use Rattle.cc_state_facts.specs.declared.facts.Key.{Key}
-use Rattle.cc_state_facts.specs.declared.facts.PointFact.{PointFact}
-use Rattle.cc_state_facts.specs.Facts.{fact_at, levels_of, mark_of}
-use Rattle.cc_state_facts.specs.Levels.{one_may_enter}
-use Rattle.cc_state_keys.specs.Keys.{key_number}
-use Rattle.cc_state_operators.specs.Domains.{Domain}
-use Rattle.cc_state_reads.specs.Reads.{registers_at}
-use Rattle.cc_syntax.specs.Programs.{place_type}
+use Rattle.cc_state_points.proofs.CcState.Sets.{known}
+use Rattle.cc_state_points.specs.CcStateFacts.declared.facts.Facts.{Facts}
+use Rattle.cc_state_points.specs.CcStateFacts.declared.facts.Key.{Key}
+use Rattle.cc_state_points.specs.CcStateFacts.declared.facts.PointFact.{PointFact}
+use Rattle.cc_state_points.specs.CcStateFacts.Facts.{fact_at, levels_of, mark_of}
+use Rattle.cc_state_points.specs.CcStateFacts.Levels.{one_may_enter}
+use Rattle.cc_state_points.specs.CcStateKeys.Keys.{key_number}
+use Rattle.cc_state_points.specs.CcStateOperators.Domains.{Domain}
+use Rattle.cc_state_points.specs.CcStateReads.Reads.{registers_at}
+use Rattle.cc_state_points.specs.CcSyntax.Programs.{place_type}
 
 -- ---- tests
 

@@ -4,7 +4,7 @@ use Rattle.std.proofs.lemmas.Bool.{cases_lt}
 use Rattle.std.proofs.lemmas.Bool.Decides.{nat_tests}
 use Rattle.cc_code.specs.Codings.{kind_of}
 use Rattle.cc_code.specs.Members.{count_of, has_coding}
-use Rattle.cc_places.specs.declared.abs.Abs.{Abs}
+use Rattle.cc_state_points.specs.CcPlaces.declared.abs.Abs.{Abs}
 use Rattle.cc_plan_legal.specs.declared.candidate.Form.{Form}
 use Rattle.cc_plan_legal.specs.declared.candidate.Form.TheVariants as form
 use Rattle.cc_plan_legal.specs.Candidates.{candidate_of, form_by}
@@ -15,7 +15,7 @@ use Rattle.cc_slots_accesses.specs.Arrays.{is_array}
 use Rattle.cc_slots.specs.Reasons.{AreBits, IsCoded, IsWide, IsNotShorter, IsLong, SavesNothing}
 use Rattle.cc_slots_types.specs.declared.slot.Slot.{Slot}
 use Rattle.cc_slots_types.specs.Slots.{least_bits_of}
-use Rattle.cc_state_facts.specs.declared.facts.Key.{Key}
+use Rattle.cc_state_points.specs.CcStateFacts.declared.facts.Key.{Key}
 
 not_zero : (n : ℕ) → nat_eq n 0 ≡ false → 1 ≤ n
 not_zero n e = grind (arith, nat_tests)

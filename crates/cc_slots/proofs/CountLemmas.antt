@@ -5,10 +5,10 @@ use Rattle.std.specs.Option.{option_map_or}
 use Rattle.std.proofs.Math.Nat.{mul-le-mul_left}
 use Rattle.std.proofs.lemmas.Option.{none-some, same_Some}
 use Rattle.cc_layout.specs.Seats.{end_with, layout_in, ram}
-use Rattle.cc_num.specs.declared.int_type.IntType.{IntType}
-use Rattle.cc_num.specs.declared.int_type.IntType.TheVariants as int
-use Rattle.cc_num.specs.declared.target.Target.{Target}
-use Rattle.cc_num.specs.Integers.{bytes_of}
+use Rattle.cc_program.specs.CcNum.declared.int_type.IntType.{IntType}
+use Rattle.cc_program.specs.CcNum.declared.int_type.IntType.TheVariants as int
+use Rattle.cc_program.specs.CcNum.declared.target.Target.{Target}
+use Rattle.cc_program.specs.CcNum.Integers.{bytes_of}
 use Rattle.cc_program.specs.Qualifiers.{is_const}
 use Rattle.cc_program.specs.declared.object.Object.{Object}
 use Rattle.cc_program.specs.declared.program.Program.{Program}
@@ -21,16 +21,16 @@ use Rattle.cc_program.proofs.Each.{Each}
 use Rattle.cc_slots.specs.Counts.{scalar_count, scalars_of}
 use Rattle.cc_slots_accesses.specs.Arrays.{length_of, length_shape}
 use Rattle.cc_slots_structures.proofs.CopySizes.{IsLarge, copies_less, ram_copies}
-use Rattle.cc_state.specs.Shape.{IsSlot, declared_type, member_ctype, object_ctype, is_row_shape, is_scalar_type, is_slot_type}
-use Rattle.cc_state_facts.specs.declared.facts.Key.{Key}
-use Rattle.cc_state_facts.specs.declared.facts.Key.TheVariants as key
-use Rattle.cc_syntax.specs.declared.sizes.Layout.{Layout}
-use Rattle.cc_syntax.specs.Layout.{end_behind, end_of, greatest_align, layouts, next_layout, shape_layout, structure, type_layout}
-use Rattle.cc_syntax.specs.Types.{Named}
-use Rattle.cc_syntax.specs.Values.{scalar_shape}
-use Rattle.cc_syntax.proofs.Alignment.{aligned_low}
-use Rattle.cc_syntax.proofs.TypeLayouts.{layout-opens, parts_layout}
-use Rattle.cc_syntax.proofs.Whole.{IsWhole, layouts-whole, structure-whole, type-whole}
+use Rattle.cc_state_points.specs.CcState.Shape.{IsSlot, declared_type, member_ctype, object_ctype, is_row_shape, is_scalar_type, is_slot_type}
+use Rattle.cc_state_points.specs.CcStateFacts.declared.facts.Key.{Key}
+use Rattle.cc_state_points.specs.CcStateFacts.declared.facts.Key.TheVariants as key
+use Rattle.cc_state_points.specs.CcSyntax.declared.sizes.Layout.{Layout}
+use Rattle.cc_state_points.specs.CcSyntax.Layout.{end_behind, end_of, greatest_align, layouts, next_layout, shape_layout, structure, type_layout}
+use Rattle.cc_state_points.specs.CcSyntax.Types.{Named}
+use Rattle.cc_state_points.specs.CcSyntax.Values.{scalar_shape}
+use Rattle.cc_state_points.proofs.CcSyntax.Alignment.{aligned_low}
+use Rattle.cc_state_points.proofs.CcSyntax.TypeLayouts.{layout-opens, parts_layout}
+use Rattle.cc_state_points.proofs.CcSyntax.Whole.{IsWhole, layouts-whole, structure-whole, type-whole}
 
 -- ---- scalars have bytes
 

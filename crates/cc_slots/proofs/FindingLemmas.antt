@@ -3,7 +3,7 @@ use Rattle.std.proofs.Common.{arith, ◌≡◌, ◌≤◌, ◌<◌, ◌*◌, ℕ
 use Rattle.std.specs.Prelude.{◌⊎◌, ◌↔◌, IsTrue}
 use Rattle.std.specs.Option.{option_map_or}
 use Rattle.cc_code.specs.Members.{has_coding}
-use Rattle.cc_places.specs.declared.abs.Abs.{Abs}
+use Rattle.cc_state_points.specs.CcPlaces.declared.abs.Abs.{Abs}
 use Rattle.cc_plan_legal.specs.Short.{packed_bytes}
 use Rattle.cc_program.specs.Qualifiers.{is_const, is_volatile}
 use Rattle.cc_program.specs.declared.program.Program.{Program}
@@ -23,13 +23,13 @@ use Rattle.cc_slots_structures.specs.Stands.{is_open}
 use Rattle.cc_slots_types.specs.declared.class.Class.{Class}
 use Rattle.cc_slots_types.specs.declared.reason.Reason.{Reason}
 use Rattle.cc_slots_types.specs.declared.reason.Reason.TheVariants as reason
-use Rattle.cc_state.specs.Shape.{ctype_of}
-use Rattle.cc_state_facts.specs.declared.facts.Facts.{Facts}
-use Rattle.cc_state_facts.specs.declared.facts.Key.{Key}
-use Rattle.cc_state_facts.specs.declared.facts.Key.TheVariants as key
-use Rattle.cc_state_keys.specs.Addressed.{IsAddressed}
-use Rattle.cc_state_keys.specs.Keys.{key_number}
-use Rattle.cc_state_operators.specs.Domains.{Domain}
+use Rattle.cc_state_points.specs.CcState.Shape.{ctype_of}
+use Rattle.cc_state_points.specs.CcStateFacts.declared.facts.Facts.{Facts}
+use Rattle.cc_state_points.specs.CcStateFacts.declared.facts.Key.{Key}
+use Rattle.cc_state_points.specs.CcStateFacts.declared.facts.Key.TheVariants as key
+use Rattle.cc_state_points.specs.CcStateKeys.Addressed.{IsAddressed}
+use Rattle.cc_state_points.specs.CcStateKeys.Keys.{key_number}
+use Rattle.cc_state_points.specs.CcStateOperators.Domains.{Domain}
 
 either : (a b : Bool) → (a || b) ≡ true → (a ≡ true) ⊎ (b ≡ true)
 either true b h = inl refl

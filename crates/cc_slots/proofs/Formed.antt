@@ -4,7 +4,7 @@ use Rattle.std.specs.Prelude.{is_some}
 use Rattle.std.specs.List.{Contains, filter}
 use Rattle.std.proofs.lemmas.List.Quantifiers.{position-Some}
 use Rattle.std.proofs.lemmas.Option.{none-some, slice_get-get_or}
-use Rattle.cc_places.specs.declared.abs.Abs.{Abs}
+use Rattle.cc_state_points.specs.CcPlaces.declared.abs.Abs.{Abs}
 use Rattle.cc_program.specs.declared.expr.Expr.{Expr}
 use Rattle.cc_program.specs.declared.expr.Expr.TheOpen as one
 use Rattle.cc_program.specs.declared.expr.Place.{Place, out-Place, roll-Place, out-roll-Place, map-Place, fold_out-Place}
@@ -16,17 +16,17 @@ use Rattle.cc_slots_accesses.proofs.Listed.{contains_at, same_key}
 use Rattle.cc_slots_accesses.proofs.NamedLemmas.{own_classes}
 use Rattle.cc_slots_accesses.specs.Accesses.{MayName, NamesByForm}
 use Rattle.cc_slots_points.proofs.Tests.{own_key}
-use Rattle.cc_state.proofs.Sets.{known}
-use Rattle.cc_state_facts.specs.declared.facts.Facts.{Facts}
-use Rattle.cc_state_facts.specs.declared.facts.Key.{Key}
-use Rattle.cc_state_facts.specs.declared.facts.Key.TheVariants as key
-use Rattle.cc_state_facts.specs.Facts.{fact_at}
-use Rattle.cc_state_keys.specs.Addressed.{InExpr, InPlace, expr_in, place_in, in_expr, in_place, own_step}
-use Rattle.cc_state_keys.specs.Keys.{is_key, key_number, keys_of}
-use Rattle.cc_state_operators.specs.Domains.{Domain}
-use Rattle.cc_state_reads.specs.Named.{AreClasses, OfLocal, OfStatic, OfElement, OfMember, is_among, member_class}
-use Rattle.cc_state_reads.specs.Reads.{AreNamed, registers_at}
-use Rattle.cc_syntax.specs.Programs.{place_type}
+use Rattle.cc_state_points.proofs.CcState.Sets.{known}
+use Rattle.cc_state_points.specs.CcStateFacts.declared.facts.Facts.{Facts}
+use Rattle.cc_state_points.specs.CcStateFacts.declared.facts.Key.{Key}
+use Rattle.cc_state_points.specs.CcStateFacts.declared.facts.Key.TheVariants as key
+use Rattle.cc_state_points.specs.CcStateFacts.Facts.{fact_at}
+use Rattle.cc_state_points.specs.CcStateKeys.Addressed.{InExpr, InPlace, expr_in, place_in, in_expr, in_place, own_step}
+use Rattle.cc_state_points.specs.CcStateKeys.Keys.{is_key, key_number, keys_of}
+use Rattle.cc_state_points.specs.CcStateOperators.Domains.{Domain}
+use Rattle.cc_state_points.specs.CcStateReads.Named.{AreClasses, OfLocal, OfStatic, OfElement, OfMember, is_among, member_class}
+use Rattle.cc_state_points.specs.CcStateReads.Reads.{AreNamed, registers_at}
+use Rattle.cc_state_points.specs.CcSyntax.Programs.{place_type}
 
 module _ (p : Program) (id : ℕ) (f : Func) where
   abbrev Own : Place → Option Key

@@ -9,8 +9,8 @@ use Rattle.cc_slots.specs.Judged.{levels_from, with_levels}
 use Rattle.cc_slots_accesses.specs.declared.access.Access.{Access}
 use Rattle.cc_slots_accesses.proofs.Listed.{contains_at}
 use Rattle.cc_slots_points.proofs.Tests.{here, there}
-use Rattle.cc_state_facts.specs.Levels.{AreLevelsWithin, all_levels, has_level, may_enter, one_may_enter}
-use Rattle.cc_state_facts.proofs.LevelBits.{or_left, or_right}
+use Rattle.cc_state_points.specs.CcStateFacts.Levels.{AreLevelsWithin, all_levels, has_level, may_enter, one_may_enter}
+use Rattle.cc_state_points.proofs.CcStateFacts.LevelBits.{or_left, or_right}
 
 one_from_eq : (p : ℕ) → nat_eq p 1 ≡ true → p ≡ 1
 one_from_eq p h = grind arith

@@ -11,9 +11,9 @@ use Rattle.cc_program.specs.declared.program.Program.{Program}
 use Rattle.cc_slots.specs.Marks.{AreMarks}
 use Rattle.cc_slots_accesses.proofs.Listed.{is_one, no_member, only_one}
 use Rattle.cc_slots_accesses.proofs.PutAll.{number_below, one_key}
-use Rattle.cc_state_facts.specs.declared.facts.Key.{Key}
-use Rattle.cc_state_facts.specs.Facts.{mark_of}
-use Rattle.cc_state_keys.specs.Keys.{key_number, keys_of}
+use Rattle.cc_state_points.specs.CcStateFacts.declared.facts.Key.{Key}
+use Rattle.cc_state_points.specs.CcStateFacts.Facts.{mark_of}
+use Rattle.cc_state_points.specs.CcStateKeys.Keys.{key_number, keys_of}
 
 same_or : (m n : ℕ) → (m ≡ n) ⊎ (m ≢ n)
 same_or m n = by (cases_lt m n) (cases_lt n m)

@@ -1,13 +1,13 @@
 -- The sizes of scalar types.
 use Rattle.std.proofs.Common.{◌≡◌, List, ap}
-use Rattle.cc_num.specs.declared.int_type.IntType.{IntType}
-use Rattle.cc_num.specs.declared.target.Target.{Target}
-use Rattle.cc_num.specs.Integers.{bytes_of}
+use Rattle.cc_program.specs.CcNum.declared.int_type.IntType.{IntType}
+use Rattle.cc_program.specs.CcNum.declared.target.Target.{Target}
+use Rattle.cc_program.specs.CcNum.Integers.{bytes_of}
 use Rattle.cc_program.specs.declared.types.CType.{CType}
 use Rattle.cc_program.specs.declared.types.Shape.{Int, Pointer}
 use Rattle.cc_program.specs.declared.types.Structure.{Structure}
-use Rattle.cc_syntax.specs.Layout.{size_of}
-use Rattle.cc_syntax.proofs.Shapes.{layout-Int, layout-Pointer}
+use Rattle.cc_state_points.specs.CcSyntax.Layout.{size_of}
+use Rattle.cc_state_points.proofs.CcSyntax.Shapes.{layout-Int, layout-Pointer}
 
 module _ (t : CType) (structures : List Structure) (target : Target) where
   pub size-Int : (i : IntType) → t.shape ≡ Int i → size_of t structures target ≡ bytes_of i target

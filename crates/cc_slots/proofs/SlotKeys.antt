@@ -11,14 +11,14 @@ use Rattle.cc_program.specs.declared.types.Shape.TheOpen as shape
 use Rattle.cc_program.specs.declared.types.Sig.{Sig, fold-Sig}
 use Rattle.cc_program.specs.declared.types.Structure.{Structure}
 use Rattle.cc_slots.specs.Keys.{is_member_slot, is_object_slot, member_slots, slot_keys}
-use Rattle.cc_state.proofs.Lists.{at_contained, contains_at, made_there, no_member}
-use Rattle.cc_state.proofs.Numbered.{key_numbered}
-use Rattle.cc_state.specs.Shape.{IsSlot, declared_type, is_row_shape, is_scalar_type, is_slot_type, member_ctype, object_ctype}
-use Rattle.cc_state_facts.specs.declared.facts.Key.{Key}
-use Rattle.cc_state_facts.specs.declared.facts.Key.TheVariants as key
-use Rattle.cc_state_keys.specs.Keys.{are_scalars, has_member_key, has_object_key, key_number, keys_of, local_keys, member_keys, scalars_step}
-use Rattle.cc_state_keys.specs.Lists.{all_from, made_from, only_if}
-use Rattle.cc_syntax.specs.Values.{scalar_shape}
+use Rattle.cc_state_points.proofs.CcState.Lists.{at_contained, contains_at, made_there, no_member}
+use Rattle.cc_state_points.proofs.CcState.Numbered.{key_numbered}
+use Rattle.cc_state_points.specs.CcState.Shape.{IsSlot, declared_type, is_row_shape, is_scalar_type, is_slot_type, member_ctype, object_ctype}
+use Rattle.cc_state_points.specs.CcStateFacts.declared.facts.Key.{Key}
+use Rattle.cc_state_points.specs.CcStateFacts.declared.facts.Key.TheVariants as key
+use Rattle.cc_state_points.specs.CcStateKeys.Keys.{are_scalars, has_member_key, has_object_key, key_number, keys_of, local_keys, member_keys, scalars_step}
+use Rattle.cc_state_points.specs.CcStateKeys.Lists.{all_from, made_from, only_if}
+use Rattle.cc_state_points.specs.CcSyntax.Values.{scalar_shape}
 
 -- ---- the types of slots are scalars, and arrays of them
 

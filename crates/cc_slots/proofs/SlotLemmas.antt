@@ -5,7 +5,7 @@ use Rattle.std.proofs.lemmas.List.{map-append}
 use Rattle.std.proofs.lemmas.List.Elements.{All-nil, All-push}
 use Rattle.cc_code.specs.Members.{has_coding}
 use Rattle.cc_layout.specs.Seats.{ram}
-use Rattle.cc_places.specs.declared.abs.Abs.{Abs}
+use Rattle.cc_state_points.specs.CcPlaces.declared.abs.Abs.{Abs}
 use Rattle.cc_program.specs.declared.program.Program.{Program}
 use Rattle.cc_sets.specs.declared.vals.Vals.{Vals}
 use Rattle.cc_slots.proofs.AccessLemmas.{are_reads, are_writes, is_class}
@@ -20,13 +20,13 @@ use Rattle.cc_slots_accesses.specs.Accesses.{AreAccesses, IsClass}
 use Rattle.cc_slots_points.specs.Lists.{AreAccessesOf}
 use Rattle.cc_slots_structures.specs.Copies.{capped}
 use Rattle.cc_slots_types.specs.declared.slot.Slot.{Slot}
-use Rattle.cc_state.specs.Shape.{IsSlot}
-use Rattle.cc_state_facts.specs.declared.facts.Facts.{Facts}
-use Rattle.cc_state_facts.specs.declared.facts.Key.{Key}
-use Rattle.cc_state_keys.specs.Addressed.{IsAddressed}
-use Rattle.cc_state_keys.specs.Keys.{key_number}
-use Rattle.cc_state_operators.specs.Domains.{Domain}
-use Rattle.cc_state_reads.specs.Reads.{whole_of}
+use Rattle.cc_state_points.specs.CcState.Shape.{IsSlot}
+use Rattle.cc_state_points.specs.CcStateFacts.declared.facts.Facts.{Facts}
+use Rattle.cc_state_points.specs.CcStateFacts.declared.facts.Key.{Key}
+use Rattle.cc_state_points.specs.CcStateKeys.Addressed.{IsAddressed}
+use Rattle.cc_state_points.specs.CcStateKeys.Keys.{key_number}
+use Rattle.cc_state_points.specs.CcStateOperators.Domains.{Domain}
+use Rattle.cc_state_points.specs.CcStateReads.Reads.{whole_of}
 
 low_count : (n bound : ℕ) → n ≤ bound → bound ≤ 65536 → capped n ≡ n
 low_count n bound h k = omega (arith, h, k)

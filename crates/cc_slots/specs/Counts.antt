@@ -12,11 +12,11 @@ use Rattle.cc_program.specs.declared.types.Sig.{Sig}
 use Rattle.cc_program.specs.declared.types.Structure.{Structure}
 use Rattle.cc_slots_accesses.specs.Arrays.{length_of}
 use Rattle.cc_slots_structures.specs.Copies.{copies_in_ram}
-use Rattle.cc_state.specs.Shape.{ctype_of}
-use Rattle.cc_state_facts.specs.declared.facts.Key.{Key}
-use Rattle.cc_state_facts.specs.declared.facts.Key.TheVariants as key
-use Rattle.cc_syntax.specs.Layout.{size_of}
-use Rattle.cc_syntax.specs.Types.{Named}
+use Rattle.cc_state_points.specs.CcState.Shape.{ctype_of}
+use Rattle.cc_state_points.specs.CcStateFacts.declared.facts.Key.{Key}
+use Rattle.cc_state_points.specs.CcStateFacts.declared.facts.Key.TheVariants as key
+use Rattle.cc_state_points.specs.CcSyntax.Layout.{size_of}
+use Rattle.cc_state_points.specs.CcSyntax.Types.{Named}
 
 -- ---- names: that of the object; of a member that of the structure, a dot and its own
 

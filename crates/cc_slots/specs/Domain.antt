@@ -2,7 +2,7 @@
 use Rattle.cc_sets.specs.declared.vals.Vals.{Vals}
 use Rattle.cc_sets.specs.Results.{IsConverted, IsKept, OneResult, OpResult}
 use Rattle.cc_sets.specs.Rungs.{IsHull, ValsBelow, ValsHas, vals_members}
-use Rattle.cc_state_operators.specs.Domains.{Domain, domain}
+use Rattle.cc_state_points.specs.CcStateOperators.Domains.{Domain, domain}
 
 abbrev pub vals_domain : Domain Vals
 vals_domain =

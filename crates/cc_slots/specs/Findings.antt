@@ -10,9 +10,9 @@ use Rattle.cc_slots_accesses.specs.declared.access.Access.{Access}
 use Rattle.cc_slots_accesses.specs.Arrays.{is_array}
 use Rattle.cc_slots_structures.specs.Stands.{is_automatic, is_open}
 use Rattle.cc_slots_types.specs.declared.class.Class.{Class}
-use Rattle.cc_state.specs.Shape.{ctype_of}
-use Rattle.cc_state_facts.specs.declared.facts.Key.{Key}
-use Rattle.cc_state_facts.specs.declared.facts.Key.TheVariants as key
+use Rattle.cc_state_points.specs.CcState.Shape.{ctype_of}
+use Rattle.cc_state_points.specs.CcStateFacts.declared.facts.Key.{Key}
+use Rattle.cc_state_points.specs.CcStateFacts.declared.facts.Key.TheVariants as key
 
 -- a member of a structure that stands nowhere at a place that is not const; a member of one that stands in a local
 abbrev pub is_closed_key : Program → Key → Bool

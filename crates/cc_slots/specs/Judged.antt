@@ -5,7 +5,7 @@ use Rattle.std.specs.List.{list_any}
 use Rattle.cc_slots_accesses.specs.declared.access.Access.{Access}
 use Rattle.cc_slots_types.specs.declared.class.Class.{Class}
 use Rattle.cc_slots_types.specs.declared.class.Class.TheVariants.{Lone, Read, Written}
-use Rattle.cc_state_facts.specs.Levels.{one_may_enter}
+use Rattle.cc_state_points.specs.CcStateFacts.Levels.{one_may_enter}
 
 abbrev pub is_reached_read : Access → Bool
 is_reached_read x = x.is_reached && not x.writes

@@ -4,11 +4,11 @@ use Rattle.std.specs.Prelude.{ℕ, Bool, ◌++◌, List}
 use Rattle.cc_program.specs.declared.object.Object.{Object}
 use Rattle.cc_program.specs.declared.program.Program.{Program}
 use Rattle.cc_program.specs.declared.types.Structure.{Structure}
-use Rattle.cc_state.specs.Shape.{is_slot_type}
-use Rattle.cc_state_facts.specs.declared.facts.Key.{Key}
-use Rattle.cc_state_facts.specs.declared.facts.Key.TheVariants as key
-use Rattle.cc_state_keys.specs.Lists.{made_from, all_from}
-use Rattle.cc_syntax.specs.Types.{Named}
+use Rattle.cc_state_points.specs.CcState.Shape.{is_slot_type}
+use Rattle.cc_state_points.specs.CcStateFacts.declared.facts.Key.{Key}
+use Rattle.cc_state_points.specs.CcStateFacts.declared.facts.Key.TheVariants as key
+use Rattle.cc_state_points.specs.CcStateKeys.Lists.{made_from, all_from}
+use Rattle.cc_state_points.specs.CcSyntax.Types.{Named}
 
 abbrev pub is_object_slot : ℕ → Object → Bool
 is_object_slot i o = is_slot_type (key.Object i) o.ctype

@@ -1,7 +1,7 @@
 -- A slot as it is made of all accesses of its key, of whether its address is taken, and of its values in the whole run.
 use Rattle.std.specs.Prelude.{◌≡◌, Bool, List}
 use Rattle.cc_code.specs.Members.{has_coding}
-use Rattle.cc_places.specs.declared.abs.Abs.{Abs}
+use Rattle.cc_state_points.specs.CcPlaces.declared.abs.Abs.{Abs}
 use Rattle.cc_program.specs.declared.program.Program.{Program}
 use Rattle.cc_sets.specs.declared.vals.Vals.{Vals}
 use Rattle.cc_slots.specs.Counts.{scalar_bytes, scalar_count, slot_name}
@@ -12,7 +12,7 @@ use Rattle.cc_slots.specs.Reasons.{AreBits}
 use Rattle.cc_slots_accesses.specs.declared.access.Access.{Access}
 use Rattle.cc_slots_structures.specs.Copies.{capped}
 use Rattle.cc_slots_types.specs.declared.slot.Slot.{Slot}
-use Rattle.cc_state_facts.specs.declared.facts.Key.{Key}
+use Rattle.cc_state_points.specs.CcStateFacts.declared.facts.Key.{Key}
 
 pub record IsMadeSlot (p : Program) (k : Key) (accesses : List Access) (addressed : Bool) (set : Abs Vals) (slot : Slot) : Type 0 where
   pub key : slot.key ≡ k

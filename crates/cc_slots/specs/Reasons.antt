@@ -3,7 +3,7 @@ use Rattle.std.specs.Prelude.{◌≡◌, ◌≢◌, ◌⊎◌, ◌<◌, ◌≤�
 use Rattle.cc_code.specs.declared.kinds.Coding.{Coding}
 use Rattle.cc_code.specs.Codings.{IsCodingOf}
 use Rattle.cc_code.specs.Members.{has_coding}
-use Rattle.cc_places.specs.declared.abs.Abs.{Abs}
+use Rattle.cc_state_points.specs.CcPlaces.declared.abs.Abs.{Abs}
 use Rattle.cc_plan_legal.specs.Short.{packed_bytes}
 use Rattle.cc_program.specs.declared.expr.Place.{Place}
 use Rattle.cc_program.specs.declared.program.Program.{Program}
@@ -21,17 +21,17 @@ use Rattle.cc_slots_types.specs.declared.class.Class.TheVariants.{Lone}
 use Rattle.cc_slots_types.specs.declared.reason.Reason.{Reason}
 use Rattle.cc_slots_types.specs.declared.reason.Reason.TheVariants as reason
 use Rattle.cc_slots_types.specs.Slots.{least_bits_of}
-use Rattle.cc_state.specs.Shape.{ctype_of}
-use Rattle.cc_state_facts.specs.declared.facts.Facts.{Facts}
-use Rattle.cc_state_facts.specs.declared.facts.Key.{Key}
-use Rattle.cc_state_facts.specs.declared.facts.Key.TheVariants as key
-use Rattle.cc_state_facts.specs.declared.facts.PointFact.{PointFact}
-use Rattle.cc_state_facts.specs.Facts.{fact_at, levels_of}
-use Rattle.cc_state_facts.specs.Levels.{one_may_enter}
-use Rattle.cc_state_keys.specs.Addressed.{IsAddressed}
-use Rattle.cc_state_operators.specs.Domains.{Domain}
-use Rattle.cc_state_reads.specs.Reads.{registers_at}
-use Rattle.cc_syntax.specs.Programs.{place_type}
+use Rattle.cc_state_points.specs.CcState.Shape.{ctype_of}
+use Rattle.cc_state_points.specs.CcStateFacts.declared.facts.Facts.{Facts}
+use Rattle.cc_state_points.specs.CcStateFacts.declared.facts.Key.{Key}
+use Rattle.cc_state_points.specs.CcStateFacts.declared.facts.Key.TheVariants as key
+use Rattle.cc_state_points.specs.CcStateFacts.declared.facts.PointFact.{PointFact}
+use Rattle.cc_state_points.specs.CcStateFacts.Facts.{fact_at, levels_of}
+use Rattle.cc_state_points.specs.CcStateFacts.Levels.{one_may_enter}
+use Rattle.cc_state_points.specs.CcStateKeys.Addressed.{IsAddressed}
+use Rattle.cc_state_points.specs.CcStateOperators.Domains.{Domain}
+use Rattle.cc_state_points.specs.CcStateReads.Reads.{registers_at}
+use Rattle.cc_state_points.specs.CcSyntax.Programs.{place_type}
 
 -- ---- what the text says, and the facts
 

@@ -7,10 +7,10 @@ use Rattle.cc_slots.specs.Keys.{slot_keys}
 use Rattle.cc_slots.specs.Reasons.{AreBits, IsReason}
 use Rattle.cc_slots_accesses.specs.Accesses.{AreAccesses, IsClass}
 use Rattle.cc_slots_types.specs.declared.slot.Slot.{Slot}
-use Rattle.cc_state_facts.specs.declared.facts.Facts.{Facts}
-use Rattle.cc_state_facts.specs.declared.facts.Key.{Key}
-use Rattle.cc_state_operators.specs.Domains.{Domain}
-use Rattle.cc_state_reads.specs.Reads.{whole_of}
+use Rattle.cc_state_points.specs.CcStateFacts.declared.facts.Facts.{Facts}
+use Rattle.cc_state_points.specs.CcStateFacts.declared.facts.Key.{Key}
+use Rattle.cc_state_points.specs.CcStateOperators.Domains.{Domain}
+use Rattle.cc_state_points.specs.CcStateReads.Reads.{whole_of}
 
 module _ (p : Program) (d : Domain Vals) (facts : Facts Vals) where
   pub record IsSlotOf (slot : Slot) : Type 0 where

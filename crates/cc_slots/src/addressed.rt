@@ -2,15 +2,15 @@
 
 ghost use Rattle.std.specs.Prelude.{◌≡◌, ℕ, [], true, false, Some, None, length, replicate, slice_set, IfOk};
 ghost use Rattle.cc_slots.specs.Marks.{AreMarks};
-ghost use Rattle.cc_state_facts.specs.Facts.{mark_of as mark_of_number};
-ghost use Rattle.cc_state_keys.specs.Addressed.{taken_keys as taken_keys_of};
-ghost use Rattle.cc_state_keys.specs.Keys.{key_number as key_number_of, keys_of};
-ghost use Rattle.cc_syntax.specs.Sound.{IsTypedProgram};
+ghost use Rattle.cc_state_points.specs.CcStateFacts.Facts.{mark_of as mark_of_number};
+ghost use Rattle.cc_state_points.specs.CcStateKeys.Addressed.{taken_keys as taken_keys_of};
+ghost use Rattle.cc_state_points.specs.CcStateKeys.Keys.{key_number as key_number_of, keys_of};
+ghost use Rattle.cc_state_points.specs.CcSyntax.Sound.{IsTypedProgram};
 
-use cc_num::{NoMemory, at};
 use cc_program::Program;
-use cc_state_facts::Key;
-use cc_state_keys::{key_number, taken_keys};
+use cc_program::num::{NoMemory, at};
+use cc_state_points::state_facts::Key;
+use cc_state_points::state_keys::{key_number, taken_keys};
 use std::alloc::Global;
 
 /// The mark of a key, by its number.

@@ -8,9 +8,9 @@ ghost use Rattle.cc_slots.specs.Reasons.{AreBits};
 ghost use Rattle.cc_slots_types.specs.Slots.{least_bits_of};
 
 use cc_code::{coding, count_of};
-use cc_places::Abs;
 use cc_sets::Vals;
-use cc_state_facts::Key;
+use cc_state_points::places::Abs;
+use cc_state_points::state_facts::Key;
 
 /// Whether some values have a code, and how many bits it has.
 #[derive(Clone, Copy)]

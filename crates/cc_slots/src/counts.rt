@@ -5,14 +5,14 @@ ghost use Rattle.std.specs.Option.{option_copied};
 ghost use Rattle.cc_slots.specs.Counts.{name_in as name_in_of, scalar_of as scalar_of_type, scalar_bytes as scalar_bytes_of, scalar_count as scalar_count_of, scalars_of as scalars_of_object, slot_name as slot_name_of};
 ghost use Rattle.cc_slots_structures.specs.Copies.{capped};
 ghost use Rattle.cc_slots_structures.specs.Standings.{AreStandings};
-ghost use Rattle.cc_state.specs.Shape.{IsSlot, is_scalar_type};
-ghost use Rattle.cc_syntax.specs.Layout.{size_of as size_of_type};
+ghost use Rattle.cc_state_points.specs.CcState.Shape.{IsSlot, is_scalar_type};
+ghost use Rattle.cc_state_points.specs.CcSyntax.Layout.{size_of as size_of_type};
 
-use cc_num::{List, Name, NoMemory, at};
+use cc_program::num::{List, Name, NoMemory, at};
 use cc_program::{CType, Object, Program, Shape, Structure, copy_list};
 use cc_slots_accesses::{ctype_of, length_of};
 use cc_slots_structures::Standing;
-use cc_state_facts::Key;
+use cc_state_points::state_facts::Key;
 use std::alloc::Global;
 
 /// The name of a member of a structure: that of the structure, a dot and its own.

@@ -5,17 +5,17 @@ ghost use Rattle.std.specs.Option.{option_map_or};
 ghost use Rattle.cc_program.specs.Qualifiers.{is_const as is_const_type, is_volatile as is_volatile_type};
 ghost use Rattle.cc_slots.specs.Findings.{findings_of as findings_of_key, is_automatic_key, is_closed_key};
 ghost use Rattle.cc_slots_structures.specs.Standings.{AreStandings};
-ghost use Rattle.cc_state.specs.Shape.{IsSlot, ctype_of as ctype_of_key};
+ghost use Rattle.cc_state_points.specs.CcState.Shape.{IsSlot, ctype_of as ctype_of_key};
 
 use crate::codes::{Code, is_wide};
 use crate::first::Findings;
 use crate::judged::{is_torn, is_unbounded, is_volatile_somewhere};
-use cc_num::at;
 use cc_program::Program;
+use cc_program::num::at;
 use cc_slots_accesses::{Access, array_length, ctype_of};
 use cc_slots_structures::Standing;
 use cc_slots_types::Class;
-use cc_state_facts::Key;
+use cc_state_points::state_facts::Key;
 
 fn is_declared_volatile(p: &Program, key: Key) -> bool
     ensures { result ≡ option_map_or is_volatile_type (ctype_of_key p.now key) false }

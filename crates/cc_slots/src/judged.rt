@@ -4,10 +4,10 @@ ghost use Rattle.std.specs.Prelude.{◌≡◌, IfOk};
 ghost use Rattle.std.specs.List.{list_any};
 ghost use Rattle.cc_slots.specs.Judged.{class_by as class_by_of, class_of as class_of_accesses, is_entered as is_entered_of, is_lone as is_lone_of, is_reached_read as is_reached_read_of, is_reached_write as is_reached_write_of, is_torn as is_torn_of, is_unbounded as is_unbounded_of, is_volatile_somewhere as is_volatile_somewhere_of, levels_from as levels_from_of, points_of, reads_in_handler as reads_in_handler_of, with_levels as with_levels_of, writes_in_handler as writes_in_handler_of};
 
-use cc_num::{List, NoMemory};
+use cc_program::num::{List, NoMemory};
 use cc_slots_accesses::Access;
 use cc_slots_types::Class;
-use cc_state_facts::{levels_of_both, one_may_enter};
+use cc_state_points::state_facts::{levels_of_both, one_may_enter};
 use std::alloc::Global;
 
 fn is_reached_read(x: Access) -> bool

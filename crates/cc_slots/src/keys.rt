@@ -3,15 +3,15 @@
 ghost use Rattle.std.specs.Prelude.{◌≡◌, ◌<◌, ◌^◌, ◌++◌, length, IfOk, OnOk};
 ghost use Rattle.cc_program.specs.declared.types.Shape.{out-Shape};
 ghost use Rattle.cc_slots.specs.Keys.{is_object_slot as is_object_slot_of, is_member_slot as is_member_slot_of, member_slots, slot_keys as slot_keys_of};
-ghost use Rattle.cc_state.specs.Shape.{is_row_shape, is_scalar_type};
-ghost use Rattle.cc_state_facts.specs.declared.facts.Key.TheVariants as key;
-ghost use Rattle.cc_state_keys.specs.Lists.{all_from, made_from, only_if};
-ghost use Rattle.cc_syntax.specs.Sound.{IsTypedProgram};
-ghost use Rattle.cc_syntax.specs.Types.{AreShort};
+ghost use Rattle.cc_state_points.specs.CcState.Shape.{is_row_shape, is_scalar_type};
+ghost use Rattle.cc_state_points.specs.CcStateFacts.declared.facts.Key.TheVariants as key;
+ghost use Rattle.cc_state_points.specs.CcStateKeys.Lists.{all_from, made_from, only_if};
+ghost use Rattle.cc_state_points.specs.CcSyntax.Sound.{IsTypedProgram};
+ghost use Rattle.cc_state_points.specs.CcSyntax.Types.{AreShort};
 
-use cc_num::{Name, NoMemory};
+use cc_program::num::{Name, NoMemory};
 use cc_program::{CType, Object, Program, Shape, Structure};
-use cc_state_facts::Key;
+use cc_state_points::state_facts::Key;
 use std::alloc::Global;
 
 fn is_scalar(t: &CType) -> bool

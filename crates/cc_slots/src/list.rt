@@ -2,7 +2,7 @@
 
 ghost use Rattle.std.specs.Prelude.{◌≡◌, ◌≤◌, ◌<◌, ℕ, Some, length, slice_get, IfOk};
 ghost use Rattle.std.specs.List.{Contains};
-ghost use Rattle.cc_flow.specs.Points.{count_of, flow_of};
+ghost use Rattle.cc_state_points.specs.CcFlow.Points.{count_of, flow_of};
 ghost use Rattle.cc_layout.specs.Seats.{ram as ram_of};
 ghost use Rattle.cc_slots.specs.Domain.{vals_domain};
 ghost use Rattle.cc_slots.specs.Keys.{slot_keys as slot_keys_of};
@@ -12,10 +12,10 @@ ghost use Rattle.cc_slots.specs.Slots.{AreSlots, AreSlotsOf, IsSlotOf};
 ghost use Rattle.cc_slots_accesses.specs.Puts.{of_number};
 ghost use Rattle.cc_slots_points.specs.Lists.{AreLists};
 ghost use Rattle.cc_slots_structures.specs.Standings.{AreStandings};
-ghost use Rattle.cc_state.specs.Shape.{HaveShape, IsSlot};
-ghost use Rattle.cc_state_keys.specs.Addressed.{taken_keys as taken_keys_of};
-ghost use Rattle.cc_state_keys.specs.Keys.{key_number as key_number_of, keys_of};
-ghost use Rattle.cc_syntax.specs.Normal.{IsNormal};
+ghost use Rattle.cc_state_points.specs.CcState.Shape.{HaveShape, IsSlot};
+ghost use Rattle.cc_state_points.specs.CcStateKeys.Addressed.{taken_keys as taken_keys_of};
+ghost use Rattle.cc_state_points.specs.CcStateKeys.Keys.{key_number as key_number_of, keys_of};
+ghost use Rattle.cc_state_points.specs.CcSyntax.Normal.{IsNormal};
 
 use crate::addressed::{addressed, mark_of};
 use crate::codes::code_of;
@@ -24,18 +24,18 @@ use crate::findings::findings_of;
 use crate::first::first_reason;
 use crate::judged::{class_of, reads, writes};
 use crate::keys::slot_keys;
-use cc_flow::Flow;
-use cc_lattice::copied;
-use cc_num::{List, NoMemory, at};
-use cc_places::Abs;
 use cc_program::Program;
+use cc_program::num::{List, NoMemory, at};
 use cc_sets::Vals;
 use cc_slots_accesses::Access;
 use cc_slots_points::accesses;
 use cc_slots_structures::{Standing, standings};
 use cc_slots_types::Slot;
-use cc_state_facts::{Facts, Key};
-use cc_state_keys::key_number;
+use cc_state_points::flow::Flow;
+use cc_state_points::lattice::copied;
+use cc_state_points::places::Abs;
+use cc_state_points::state_facts::{Facts, Key};
+use cc_state_points::state_keys::key_number;
 use std::alloc::Global;
 
 /// A slot, of which all accesses, whether its address is taken, and its values in the whole run are given.

@@ -3,9 +3,9 @@ use Rattle.std.proofs.Common.{◌≡◌, ℕ, Bool, true, false, ◌||◌, List,
 use Rattle.std.specs.Prelude.{◌⊎◌, ◌↔◌, option_map, option_and_then}
 use Rattle.std.specs.List.{Contains, filter, flat_map}
 use Rattle.std.proofs.lemmas.Option.{same_Some}
-use Rattle.cc_places.specs.declared.abs.Abs.{Abs}
-use Rattle.cc_places.specs.declared.abs.Abs.TheVariants as abs
-use Rattle.cc_places.specs.declared.addrs.Addrs.{Addrs}
+use Rattle.cc_rules_flows.specs.CcPlaces.declared.abs.Abs.{Abs}
+use Rattle.cc_rules_flows.specs.CcPlaces.declared.abs.Abs.TheVariants as abs
+use Rattle.cc_rules_flows.specs.CcPlaces.declared.addrs.Addrs.{Addrs}
 use Rattle.cc_program.specs.declared.expr.Expr.{Expr}
 use Rattle.cc_program.specs.declared.expr.Expr.TheOpen as one
 use Rattle.cc_program.specs.declared.expr.Place.{Place, out-Place, map-Place, fold_out-Place}
@@ -14,16 +14,16 @@ use Rattle.cc_program.specs.declared.program.Program.{Program}
 use Rattle.cc_slots_accesses.proofs.Listed.{is_one, only_one, passes, same_key}
 use Rattle.cc_slots_accesses.proofs.Owns.{own_type}
 use Rattle.cc_slots_accesses.specs.Accesses.{NamesByForm}
-use Rattle.cc_state_facts.specs.declared.facts.Key.{Key}
-use Rattle.cc_state_facts.specs.declared.facts.Key.TheVariants as key
+use Rattle.cc_rules_flows.specs.CcStateFacts.declared.facts.Key.{Key}
+use Rattle.cc_rules_flows.specs.CcStateFacts.declared.facts.Key.TheVariants as key
 use Rattle.cc_state_keys.specs.Addressed.{InExpr, InPlace, expr_in, place_in, in_expr, in_place, own_step}
 use Rattle.cc_state_keys.specs.Keys.{is_key, keys_of, structure_of}
 use Rattle.cc_state_keys.specs.Lists.{only}
-use Rattle.cc_state_operators.specs.Domains.{Domain}
-use Rattle.cc_state_reads.specs.Named.{AreClasses, OfLocal, OfStatic, OfDevice, OfElement, OfMember, OfTarget, is_among, member_class, target_class}
-use Rattle.cc_state_reads.specs.Reads.{AreNamed}
-use Rattle.cc_state_values.specs.Values.{IsVal}
-use Rattle.cc_syntax.specs.Programs.{place_type}
+use Rattle.cc_rules_flows.specs.CcStateOperators.Domains.{Domain}
+use Rattle.cc_rules_flows.specs.CcStateReads.Named.{AreClasses, OfLocal, OfStatic, OfDevice, OfElement, OfMember, OfTarget, is_among, member_class, target_class}
+use Rattle.cc_rules_flows.specs.CcStateReads.Reads.{AreNamed}
+use Rattle.cc_rules_flows.specs.CcStateValues.Values.{IsVal}
+use Rattle.cc_rules_flows.specs.CcSyntax.Programs.{place_type}
 
 module _ (p : Program) (id : ℕ) (f : Func) where
   abbrev Own : Place → Option Key

@@ -14,7 +14,7 @@ use Rattle.cc_program.specs.declared.program.Program.{Program}
 use Rattle.cc_slots_accesses.specs.declared.access.Access.{Access}
 use Rattle.cc_slots_accesses.specs.Puts.{ends_at, of_number, put_behind, IsPut}
 use Rattle.cc_slots_accesses.proofs.Listed.{is_one, only_one, same_key}
-use Rattle.cc_state_facts.specs.declared.facts.Key.{Key}
+use Rattle.cc_rules_flows.specs.CcStateFacts.declared.facts.Key.{Key}
 use Rattle.cc_state_keys.specs.Keys.{is_key, key_number, keys_of}
 
 same_or : (m n : ℕ) → (m ≡ n) ⊎ (m ≢ n)

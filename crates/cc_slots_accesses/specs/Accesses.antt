@@ -1,7 +1,7 @@
 -- Which statements access the cells of a key, and what the functions that are reached from a handler do with it.
 use Rattle.std.specs.Prelude.{◌≡◌, ◌<◌, ℕ, Bool, true, false, List, Some}
 use Rattle.std.specs.List.{AllPairs, Contains}
-use Rattle.cc_flow.specs.declared.types.Point.{Point}
+use Rattle.cc_rules_flows.specs.CcFlow.declared.types.Point.{Point}
 use Rattle.cc_program.specs.declared.expr.Expr.{Expr}
 use Rattle.cc_program.specs.declared.expr.Place.{Place}
 use Rattle.cc_program.specs.declared.func.Func.{Func}
@@ -11,13 +11,13 @@ use Rattle.cc_rules_flows.specs.Acts.{Act, Reads, Writes, act_of}
 use Rattle.cc_rules_flows.specs.Nexts.{IsPoint, statement_of}
 use Rattle.cc_slots_types.specs.declared.class.Class.{Class}
 use Rattle.cc_slots_types.specs.declared.class.Class.TheVariants as class
-use Rattle.cc_state_facts.specs.declared.facts.Facts.{Facts}
-use Rattle.cc_state_facts.specs.declared.facts.Key.{Key}
-use Rattle.cc_state_facts.specs.declared.facts.PointFact.{PointFact}
-use Rattle.cc_state_facts.specs.Facts.{fact_at, mark_of}
+use Rattle.cc_rules_flows.specs.CcStateFacts.declared.facts.Facts.{Facts}
+use Rattle.cc_rules_flows.specs.CcStateFacts.declared.facts.Key.{Key}
+use Rattle.cc_rules_flows.specs.CcStateFacts.declared.facts.PointFact.{PointFact}
+use Rattle.cc_rules_flows.specs.CcStateFacts.Facts.{fact_at, mark_of}
 use Rattle.cc_state_keys.specs.Addressed.{in_place}
-use Rattle.cc_state_operators.specs.Domains.{Domain}
-use Rattle.cc_state_reads.specs.Reads.{AreNamed, registers_at}
+use Rattle.cc_rules_flows.specs.CcStateOperators.Domains.{Domain}
+use Rattle.cc_rules_flows.specs.CcStateReads.Reads.{AreNamed, registers_at}
 
 -- a statement reads or writes a place that is no register
 pub data Accesses : Bool → Act → Place → Type 0 where

@@ -7,7 +7,7 @@ use Rattle.cc_program.specs.declared.types.Shape.{Shape, out-Shape}
 use Rattle.cc_program.specs.declared.types.Shape.TheOpen as shape
 use Rattle.cc_program.specs.declared.types.Sig.{Sig}
 use Rattle.cc_state.specs.Shape.{ctype_of}
-use Rattle.cc_state_facts.specs.declared.facts.Key.{Key}
+use Rattle.cc_rules_flows.specs.CcStateFacts.declared.facts.Key.{Key}
 
 -- how many elements an array has
 abbrev pub length_shape : shape.Shape-F Shape CType Sig → Option ℕ

@@ -3,10 +3,10 @@ use Rattle.std.specs.Prelude.{◌≡◌, ◌⊎◌, ◌↔◌, Bool, true, List}
 use Rattle.std.specs.List.{Contains}
 use Rattle.cc_program.specs.declared.expr.Place.{Place}
 use Rattle.cc_slots_accesses.specs.Accesses.{NamesByForm}
-use Rattle.cc_state_facts.specs.declared.facts.Key.{Key}
-use Rattle.cc_state_operators.specs.Domains.{Domain}
-use Rattle.cc_state_reads.specs.Contexts.{AreNamedIn}
-use Rattle.cc_state_values.specs.declared.context.Context.{Context}
+use Rattle.cc_rules_flows.specs.CcStateFacts.declared.facts.Key.{Key}
+use Rattle.cc_rules_flows.specs.CcStateOperators.Domains.{Domain}
+use Rattle.cc_rules_flows.specs.CcStateReads.Contexts.{AreNamedIn}
+use Rattle.cc_rules_flows.specs.CcStateValues.declared.context.Context.{Context}
 
 module _ {I : Type 0} (d : Domain I) (c : Context I) where
   abbrev pub NamesThere : Place → Key → Type 0

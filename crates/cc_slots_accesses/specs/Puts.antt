@@ -4,7 +4,7 @@ use Rattle.std.specs.List.{Contains}
 use Rattle.std.specs.Option.{option_map_or}
 use Rattle.cc_program.specs.declared.program.Program.{Program}
 use Rattle.cc_slots_accesses.specs.declared.access.Access.{Access}
-use Rattle.cc_state_facts.specs.declared.facts.Key.{Key}
+use Rattle.cc_rules_flows.specs.CcStateFacts.declared.facts.Key.{Key}
 use Rattle.cc_state_keys.specs.Keys.{key_number}
 
 -- the last one is at a point

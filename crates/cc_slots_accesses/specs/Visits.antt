@@ -5,11 +5,11 @@ use Rattle.cc_slots_accesses.specs.declared.access.Access.{Access}
 use Rattle.cc_slots_accesses.specs.Known.{IsKnownAccess}
 use Rattle.cc_slots_accesses.specs.Named.{AreKeysIn}
 use Rattle.cc_slots_accesses.specs.Puts.{IsPut}
-use Rattle.cc_state_facts.specs.declared.facts.Facts.{Facts}
-use Rattle.cc_state_facts.specs.declared.facts.Key.{Key}
-use Rattle.cc_state_facts.specs.declared.facts.PointFact.{PointFact}
-use Rattle.cc_state_operators.specs.Domains.{Domain}
-use Rattle.cc_state_values.specs.declared.context.Context.{Context}
+use Rattle.cc_rules_flows.specs.CcStateFacts.declared.facts.Facts.{Facts}
+use Rattle.cc_rules_flows.specs.CcStateFacts.declared.facts.Key.{Key}
+use Rattle.cc_rules_flows.specs.CcStateFacts.declared.facts.PointFact.{PointFact}
+use Rattle.cc_rules_flows.specs.CcStateOperators.Domains.{Domain}
+use Rattle.cc_rules_flows.specs.CcStateValues.declared.context.Context.{Context}
 
 pub record IsVisit {I : Type 0} (d : Domain I) (c : Context I) (facts : Facts I) (fact : Option (PointFact I)) (point : ℕ) (writes : Bool) (a : Place) (old new : List (List Access)) : Type 0 where
   pub access : Access

@@ -5,9 +5,9 @@ ghost use Rattle.std.specs.Option.{option_copied};
 ghost use Rattle.cc_slots_accesses.specs.Arrays.{array_length as array_length_of, length_of as length_of_type};
 ghost use Rattle.cc_state.specs.Shape.{ctype_of as ctype_of_key};
 
-use cc_num::at;
+use cc_program::num::at;
 use cc_program::{CType, Program, Shape};
-use cc_state_facts::Key;
+use cc_rules_flows::state_facts::Key;
 
 /// The declared type of a key.
 pub fn ctype_of(p: &Program, key: Key) -> Option<&CType>

@@ -4,22 +4,22 @@ ghost use Rattle.std.specs.Prelude.{◌≡◌, ◌↔◌, true, IsTrue, IfOk, is
 ghost use Rattle.std.specs.Option.{option_copied};
 ghost use Rattle.cc_slots_accesses.specs.Known.{IsKnownAccess, is_volatile_in, is_volatile_place as is_volatile_place_of, may_be_on as may_be_on_of};
 ghost use Rattle.cc_slots_accesses.specs.Outside.{MayBeOutsideIn};
-ghost use Rattle.cc_state_facts.specs.declared.facts.Key.{Key as KeyOf};
-ghost use Rattle.cc_state_facts.specs.Facts.{levels_of as levels_of_number, mark_of as mark_of_number};
-ghost use Rattle.cc_state_operators.specs.Domains.{domain};
-ghost use Rattle.cc_state_values.specs.Contexts.{HaveSetsIn, IsPurePlaceIn};
-ghost use Rattle.cc_syntax.specs.Programs.{place_type as place_type_of};
-ghost use Rattle.cc_syntax.specs.Sizes.{AreSized};
-ghost use Rattle.cc_typed.specs.View.{place_view};
+ghost use Rattle.cc_rules_flows.specs.CcStateFacts.declared.facts.Key.{Key as KeyOf};
+ghost use Rattle.cc_rules_flows.specs.CcStateFacts.Facts.{levels_of as levels_of_number, mark_of as mark_of_number};
+ghost use Rattle.cc_rules_flows.specs.CcStateOperators.Domains.{domain};
+ghost use Rattle.cc_rules_flows.specs.CcStateValues.Contexts.{HaveSetsIn, IsPurePlaceIn};
+ghost use Rattle.cc_rules_flows.specs.CcSyntax.Programs.{place_type as place_type_of};
+ghost use Rattle.cc_rules_flows.specs.CcSyntax.Sizes.{AreSized};
+ghost use Rattle.cc_rules_flows.specs.CcTyped.View.{place_view};
 
 use crate::access::Access;
 use crate::places::{may_be_outside, place_type};
-use cc_lattice::IntDomain;
-use cc_num::{NoMemory, at};
 use cc_program::Place;
-use cc_state_facts::{Facts, PointFact};
-use cc_state_values::Context;
-use cc_typed::PlaceType;
+use cc_program::num::{NoMemory, at};
+use cc_rules_flows::lattice::IntDomain;
+use cc_rules_flows::state_facts::{Facts, PointFact};
+use cc_rules_flows::state_values::Context;
+use cc_rules_flows::typed::PlaceType;
 use std::alloc::Global;
 
 fn is_volatile_place(a: PlaceType) -> bool

@@ -4,7 +4,7 @@ ghost use Rattle.std.specs.Prelude.{◌≡◌, ◌<◌, [], length, slice_set, s
 ghost use Rattle.cc_slots_accesses.specs.Puts.{ends_at as ends_at_of, put_behind};
 
 use crate::access::Access;
-use cc_num::{List, NoMemory, at};
+use cc_program::num::{List, NoMemory, at};
 use std::alloc::Global;
 use std::mem;
 

@@ -3,17 +3,17 @@
 ghost use Rattle.std.specs.Prelude.{◌≡◌, true, IfOk};
 ghost use Rattle.cc_slots_accesses.specs.Named.{AreKeysIn};
 ghost use Rattle.cc_state_keys.specs.Keys.{keys_of};
-ghost use Rattle.cc_state_operators.specs.Domains.{domain};
-ghost use Rattle.cc_state_values.specs.Contexts.{HaveSetsIn, IsPurePlaceIn};
-ghost use Rattle.cc_syntax.specs.Sizes.{AreSized};
+ghost use Rattle.cc_rules_flows.specs.CcStateOperators.Domains.{domain};
+ghost use Rattle.cc_rules_flows.specs.CcStateValues.Contexts.{HaveSetsIn, IsPurePlaceIn};
+ghost use Rattle.cc_rules_flows.specs.CcSyntax.Sizes.{AreSized};
 
 use crate::places::own_key;
-use cc_lattice::IntDomain;
-use cc_num::NoMemory;
 use cc_program::Place;
-use cc_state_facts::Key;
-use cc_state_reads::keys_named;
-use cc_state_values::Context;
+use cc_program::num::NoMemory;
+use cc_rules_flows::lattice::IntDomain;
+use cc_rules_flows::state_facts::Key;
+use cc_rules_flows::state_reads::keys_named;
+use cc_rules_flows::state_values::Context;
 use std::alloc::Global;
 
 /// The keys that the place of an access names: that of its form, or, where a run may come there, those of the cells to which a

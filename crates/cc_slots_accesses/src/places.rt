@@ -4,22 +4,22 @@ ghost use Rattle.std.specs.Prelude.{◌≡◌, ◌↔◌, IsTrue, IfOk, option_m
 ghost use Rattle.cc_program.specs.declared.expr.Expr.TheOpen as layer;
 ghost use Rattle.cc_slots_accesses.specs.Arrays.{array_length as array_length_of};
 ghost use Rattle.cc_slots_accesses.specs.Outside.{HasOutside, MayBeOutsideIn};
-ghost use Rattle.cc_state_facts.specs.declared.facts.Key.{Key as KeyOf};
+ghost use Rattle.cc_rules_flows.specs.CcStateFacts.declared.facts.Key.{Key as KeyOf};
 ghost use Rattle.cc_state_keys.specs.Addressed.{in_place};
-ghost use Rattle.cc_state_operators.specs.Domains.{domain};
-ghost use Rattle.cc_state_values.specs.Contexts.{HaveSetsIn, IsPurePlaceIn};
-ghost use Rattle.cc_syntax.specs.Sizes.{AreSized};
-ghost use Rattle.cc_typed.specs.View.{place_view};
+ghost use Rattle.cc_rules_flows.specs.CcStateOperators.Domains.{domain};
+ghost use Rattle.cc_rules_flows.specs.CcStateValues.Contexts.{HaveSetsIn, IsPurePlaceIn};
+ghost use Rattle.cc_rules_flows.specs.CcSyntax.Sizes.{AreSized};
+ghost use Rattle.cc_rules_flows.specs.CcTyped.View.{place_view};
 
 use crate::arrays::array_length;
-use cc_lattice::IntDomain;
-use cc_num::NoMemory;
-use cc_places::Abs;
 use cc_program::Place;
-use cc_state_facts::Key;
+use cc_program::num::NoMemory;
+use cc_rules_flows::lattice::IntDomain;
+use cc_rules_flows::places::Abs;
+use cc_rules_flows::state_facts::Key;
+use cc_rules_flows::state_values::{Context, value_of};
+use cc_rules_flows::typed::{PlaceType, Scope};
 use cc_state_keys::member_key;
-use cc_state_values::{Context, value_of};
-use cc_typed::{PlaceType, Scope};
 use std::alloc::Global;
 
 /// The type of a place.

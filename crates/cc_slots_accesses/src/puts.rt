@@ -6,9 +6,9 @@ ghost use Rattle.cc_state_keys.specs.Keys.{key_number as key_number_of, keys_of}
 
 use crate::access::Access;
 use crate::lists::put;
-use cc_num::{List, NoMemory};
 use cc_program::Program;
-use cc_state_facts::Key;
+use cc_program::num::{List, NoMemory};
+use cc_rules_flows::state_facts::Key;
 use cc_state_keys::key_number;
 use std::alloc::Global;
 

@@ -4,19 +4,19 @@ ghost use Rattle.std.specs.Prelude.{◌≡◌, true, length, is_some, OnOk};
 ghost use Rattle.std.specs.Option.{option_copied};
 ghost use Rattle.cc_slots_accesses.specs.Visits.{IsVisit};
 ghost use Rattle.cc_state_keys.specs.Keys.{keys_of};
-ghost use Rattle.cc_state_operators.specs.Domains.{domain};
-ghost use Rattle.cc_state_values.specs.Contexts.{HaveSetsIn, IsPurePlaceIn};
-ghost use Rattle.cc_syntax.specs.Sizes.{AreSized};
+ghost use Rattle.cc_rules_flows.specs.CcStateOperators.Domains.{domain};
+ghost use Rattle.cc_rules_flows.specs.CcStateValues.Contexts.{HaveSetsIn, IsPurePlaceIn};
+ghost use Rattle.cc_rules_flows.specs.CcSyntax.Sizes.{AreSized};
 
 use crate::access::Access;
 use crate::known::{access_to, is_reached};
 use crate::named::keys_at;
 use crate::puts::put_all;
-use cc_lattice::IntDomain;
-use cc_num::{List, NoMemory};
 use cc_program::Place;
-use cc_state_facts::{Facts, PointFact};
-use cc_state_values::Context;
+use cc_program::num::{List, NoMemory};
+use cc_rules_flows::lattice::IntDomain;
+use cc_rules_flows::state_facts::{Facts, PointFact};
+use cc_rules_flows::state_values::Context;
 use std::alloc::Global;
 
 /// Puts an access to a place behind those of each key that the place names there; a list for each key of the program. Asked for: sets

@@ -2,22 +2,22 @@
 use Rattle.std.proofs.Common.{◌≡◌, ℕ, Bool, true, false, List, Some, None, refl, ap, sym, subst, ◌∙◌}
 use Rattle.std.specs.Prelude.{slice_get}
 use Rattle.std.proofs.lemmas.Option.{same_Some, none-some}
-use Rattle.cc_flow.specs.declared.types.Point.{Point}
-use Rattle.cc_flow.specs.Points.{flow_of}
+use Rattle.cc_state_points.specs.CcFlow.declared.types.Point.{Point}
+use Rattle.cc_state_points.specs.CcFlow.Points.{flow_of}
 use Rattle.cc_program.specs.declared.expr.Expr.{Expr}
 use Rattle.cc_program.specs.declared.expr.Place.{Place}
 use Rattle.cc_program.specs.declared.func.Func.{Func}
 use Rattle.cc_program.specs.declared.program.Program.{Program}
 use Rattle.cc_program.specs.declared.stmt.Stmt.{Stmt}
-use Rattle.cc_rules_flows.specs.Acts.{Act, Sets, Reads, Writes, Calls, Saves, Turns, Restores, Tests, Chooses, Returns, Passes, act_of}
-use Rattle.cc_rules_flows.specs.Nexts.{statement_of}
+use Rattle.cc_state_points.specs.CcRulesFlows.Acts.{Act, Sets, Reads, Writes, Calls, Saves, Turns, Restores, Tests, Chooses, Returns, Passes, act_of}
+use Rattle.cc_state_points.specs.CcRulesFlows.Nexts.{statement_of}
 use Rattle.cc_slots_accesses.specs.declared.access.Access.{Access}
 use Rattle.cc_slots_accesses.specs.Accesses.{Accesses, AReader, AWriter, AccessesAt}
 use Rattle.cc_slots_points.specs.Points.{IsContextOf, IsDone, IsPassed, Quiet, Visited}
-use Rattle.cc_state_facts.specs.declared.facts.Facts.{Facts}
-use Rattle.cc_state_facts.specs.Facts.{fact_at}
-use Rattle.cc_state_operators.specs.Domains.{Domain}
-use Rattle.cc_state_values.specs.declared.context.Context.{Context}
+use Rattle.cc_state_points.specs.CcStateFacts.declared.facts.Facts.{Facts}
+use Rattle.cc_state_points.specs.CcStateFacts.Facts.{fact_at}
+use Rattle.cc_state_points.specs.CcStateOperators.Domains.{Domain}
+use Rattle.cc_state_points.specs.CcStateValues.declared.context.Context.{Context}
 
 -- ---- one access
 

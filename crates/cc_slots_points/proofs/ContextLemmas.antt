@@ -2,14 +2,14 @@
 use Rattle.std.proofs.Common.{◌≡◌, ℕ, Bool, true, List, Option, Some, ap, sym, subst, inl, inr}
 use Rattle.std.specs.Prelude.{◌↔◌, IsTrue, is_some}
 use Rattle.std.specs.List.{Contains}
-use Rattle.cc_flow.specs.declared.types.Point.{Point}
-use Rattle.cc_places.specs.declared.abs.Abs.{Abs}
+use Rattle.cc_state_points.specs.CcFlow.declared.types.Point.{Point}
+use Rattle.cc_state_points.specs.CcPlaces.declared.abs.Abs.{Abs}
 use Rattle.cc_program.specs.declared.expr.Place.{Place}
 use Rattle.cc_program.specs.declared.func.Func.{Func}
 use Rattle.cc_program.specs.declared.program.Program.{Program}
 use Rattle.cc_program.specs.declared.stmt.Stmt.{Stmt}
-use Rattle.cc_rules_flows.specs.Acts.{Act, Sets, Reads, Writes, Calls, Saves, Turns, Restores, Tests, Chooses, Returns, Passes, act_of}
-use Rattle.cc_rules_flows.specs.Nexts.{statement_of}
+use Rattle.cc_state_points.specs.CcRulesFlows.Acts.{Act, Sets, Reads, Writes, Calls, Saves, Turns, Restores, Tests, Chooses, Returns, Passes, act_of}
+use Rattle.cc_state_points.specs.CcRulesFlows.Nexts.{statement_of}
 use Rattle.cc_slots_accesses.specs.declared.access.Access.{Access}
 use Rattle.cc_slots_accesses.specs.Accesses.{AccessesAt, MayName, NamesByForm}
 use Rattle.cc_slots_accesses.specs.Known.{is_volatile_in}
@@ -18,21 +18,21 @@ use Rattle.cc_slots_accesses.specs.Puts.{IsPut}
 use Rattle.cc_slots_accesses.specs.Visits.{IsVisit}
 use Rattle.cc_slots_points.specs.Lists.{IsAccessAt, Names}
 use Rattle.cc_slots_points.specs.Points.{HasPurePlace, IsContextOf}
-use Rattle.cc_state.specs.Points.{IsPointOf}
-use Rattle.cc_state.specs.Shape.{HaveShape}
-use Rattle.cc_state.proofs.Sets.{known, sets_at}
-use Rattle.cc_state_facts.specs.declared.facts.Facts.{Facts}
-use Rattle.cc_state_facts.specs.declared.facts.Key.{Key}
-use Rattle.cc_state_facts.specs.Facts.{fact_at, levels_of, mark_of}
-use Rattle.cc_state_operators.specs.Domains.{Domain}
+use Rattle.cc_state_points.specs.CcState.Points.{IsPointOf}
+use Rattle.cc_state_points.specs.CcState.Shape.{HaveShape}
+use Rattle.cc_state_points.proofs.CcState.Sets.{known, sets_at}
+use Rattle.cc_state_points.specs.CcStateFacts.declared.facts.Facts.{Facts}
+use Rattle.cc_state_points.specs.CcStateFacts.declared.facts.Key.{Key}
+use Rattle.cc_state_points.specs.CcStateFacts.Facts.{fact_at, levels_of, mark_of}
+use Rattle.cc_state_points.specs.CcStateOperators.Domains.{Domain}
 use Rattle.cc_state_points.proofs.Acting.{operands_at}
 use Rattle.cc_state_points.specs.Operands.{AreOperands}
-use Rattle.cc_state_reads.specs.Reads.{AreNamed, registers_at}
-use Rattle.cc_state_values.specs.declared.context.Context.{Context}
-use Rattle.cc_state_values.specs.Contexts.{HaveSetsIn, set_in}
-use Rattle.cc_state_values.specs.Typed.{HaveSets}
-use Rattle.cc_syntax.specs.Normal.{IsNormal}
-use Rattle.cc_syntax.specs.Programs.{place_type}
+use Rattle.cc_state_points.specs.CcStateReads.Reads.{AreNamed, registers_at}
+use Rattle.cc_state_points.specs.CcStateValues.declared.context.Context.{Context}
+use Rattle.cc_state_points.specs.CcStateValues.Contexts.{HaveSetsIn, set_in}
+use Rattle.cc_state_points.specs.CcStateValues.Typed.{HaveSets}
+use Rattle.cc_state_points.specs.CcSyntax.Normal.{IsNormal}
+use Rattle.cc_state_points.specs.CcSyntax.Programs.{place_type}
 
 module _ {I : Type 0} (p : Program) (facts : Facts I) (n id : ℕ) (f : Func) (c : Context I) (h : IsContextOf p facts n id f c) where
   module _ (P : Program → ℕ → Func → Type 0) where

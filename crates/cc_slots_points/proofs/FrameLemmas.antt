@@ -4,7 +4,7 @@ use Rattle.std.specs.Prelude.{◌⊎◌, slice_get}
 use Rattle.std.proofs.lemmas.Bool.{cases_lt}
 use Rattle.std.proofs.lemmas.Option.{none-some, same_Some, slice_get_cases, slice_get_within}
 use Rattle.cc_program.specs.declared.func.Func.{Func}
-use Rattle.cc_rules_flows.proofs.CaseBodies.{get_before, get_behind}
+use Rattle.cc_state_points.proofs.CcRulesFlows.CaseBodies.{get_before, get_behind}
 use Rattle.cc_slots_points.specs.declared.frames.Frame.{Frame}
 use Rattle.cc_slots_points.specs.Frames.{AreFrames, IsFrame}
 

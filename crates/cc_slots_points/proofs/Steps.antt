@@ -7,7 +7,7 @@ use Rattle.std.proofs.lemmas.Bool.{cases_lt}
 use Rattle.std.proofs.lemmas.List.Elements.{Contains-append_cases, Contains-append_left, Contains-append_right}
 use Rattle.std.proofs.lemmas.List.Quantifiers.{all_pairs_push}
 use Rattle.std.proofs.lemmas.Option.{slice_get-get_or, slice_get_within}
-use Rattle.cc_flow.specs.Points.{flow_of}
+use Rattle.cc_state_points.specs.CcFlow.Points.{flow_of}
 use Rattle.cc_program.specs.declared.expr.Place.{Place}
 use Rattle.cc_program.specs.declared.func.Func.{Func}
 use Rattle.cc_program.specs.declared.program.Program.{Program}
@@ -20,10 +20,10 @@ use Rattle.cc_slots_points.proofs.ContextLemmas.{IsSeen, is_seen}
 use Rattle.cc_slots_points.proofs.Tests.{here, own_key, there, unequal}
 use Rattle.cc_slots_points.specs.Lists.{AreAccessesBelow, AreLists, AreListsBelow, IsAccessAt, IsListed, Names}
 use Rattle.cc_slots_points.specs.Points.{IsPassed, Quiet, Visited}
-use Rattle.cc_state_facts.specs.declared.facts.Facts.{Facts}
-use Rattle.cc_state_facts.specs.declared.facts.Key.{Key}
-use Rattle.cc_state_keys.specs.Keys.{is_key, key_number, keys_of}
-use Rattle.cc_state_operators.specs.Domains.{Domain}
+use Rattle.cc_state_points.specs.CcStateFacts.declared.facts.Facts.{Facts}
+use Rattle.cc_state_points.specs.CcStateFacts.declared.facts.Key.{Key}
+use Rattle.cc_state_points.specs.CcStateKeys.Keys.{is_key, key_number, keys_of}
+use Rattle.cc_state_points.specs.CcStateOperators.Domains.{Domain}
 
 -- ---- an access of a later point is put
 

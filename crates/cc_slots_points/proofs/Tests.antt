@@ -4,9 +4,9 @@ use Rattle.std.specs.Prelude.{◌==◌}
 use Rattle.std.specs.Result.{OnOk}
 use Rattle.std.specs.List.{Contains, list_any}
 use Rattle.std.proofs.lemmas.List.Folds.{Any-from_list_any, list_any_at}
-use Rattle.cc_state_facts.specs.declared.facts.Key.{Key}
-use Rattle.cc_state_facts.specs.declared.facts.Key.TheVariants as key
-use Rattle.cc_state_keys.specs.Keys.{is_key}
+use Rattle.cc_state_points.specs.CcStateFacts.declared.facts.Key.{Key}
+use Rattle.cc_state_points.specs.CcStateFacts.declared.facts.Key.TheVariants as key
+use Rattle.cc_state_points.specs.CcStateKeys.Keys.{is_key}
 
 pub there : {A : Type 0} (test : A → Bool) (xs : List A) → list_any test xs ≡ true → (x : A) × Contains xs x × (test x ≡ true)
 there test xs h = let w = Any-from_list_any test xs h in (w.1, (w.0, w.2, w.3), w.4)

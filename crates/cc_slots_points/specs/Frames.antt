@@ -1,9 +1,9 @@
 -- The registers of functions, as the code has them.
 use Rattle.std.specs.Prelude.{◌≡◌, ◌<◌, ◌≤◌, ◌^◌, ℕ, List, length, Some, slice_get}
 use Rattle.cc_program.specs.declared.func.Func.{Func}
-use Rattle.cc_registers.specs.Kept.{AreKept}
+use Rattle.cc_state_points.specs.CcRegisters.Kept.{AreKept}
 use Rattle.cc_slots_points.specs.declared.frames.Frame.{Frame}
-use Rattle.cc_state_keys.specs.Tracked.{registers as all_registers}
+use Rattle.cc_state_points.specs.CcStateKeys.Tracked.{registers as all_registers}
 
 -- no more locals than ids name
 abbrev pub HaveFewLocals : List Func → Type 0

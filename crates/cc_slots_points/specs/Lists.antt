@@ -9,13 +9,13 @@ use Rattle.cc_slots_accesses.specs.Accesses.{AccessesAt, MayName, NamesByForm}
 use Rattle.cc_slots_accesses.specs.Known.{is_volatile_in, may_be_on}
 use Rattle.cc_slots_accesses.specs.Outside.{MayBeOutside}
 use Rattle.cc_slots_accesses.specs.Puts.{of_number}
-use Rattle.cc_state_facts.specs.declared.facts.Facts.{Facts}
-use Rattle.cc_state_facts.specs.declared.facts.Key.{Key}
-use Rattle.cc_state_facts.specs.Facts.{fact_at, levels_of, mark_of}
-use Rattle.cc_state_keys.specs.Keys.{key_number, keys_of}
-use Rattle.cc_state_operators.specs.Domains.{Domain}
-use Rattle.cc_state_reads.specs.Reads.{registers_at}
-use Rattle.cc_syntax.specs.Programs.{place_type}
+use Rattle.cc_state_points.specs.CcStateFacts.declared.facts.Facts.{Facts}
+use Rattle.cc_state_points.specs.CcStateFacts.declared.facts.Key.{Key}
+use Rattle.cc_state_points.specs.CcStateFacts.Facts.{fact_at, levels_of, mark_of}
+use Rattle.cc_state_points.specs.CcStateKeys.Keys.{key_number, keys_of}
+use Rattle.cc_state_points.specs.CcStateOperators.Domains.{Domain}
+use Rattle.cc_state_points.specs.CcStateReads.Reads.{registers_at}
+use Rattle.cc_state_points.specs.CcSyntax.Programs.{place_type}
 
 module _ {I : Type 0} (d : Domain I) (p : Program) (facts : Facts I) where
   module _ (k : Key) where

@@ -3,18 +3,18 @@ use Rattle.std.specs.Prelude.{◌≡◌, ℕ, Bool, true, false, List, Option, i
 use Rattle.cc_program.specs.declared.expr.Place.{Place}
 use Rattle.cc_program.specs.declared.func.Func.{Func}
 use Rattle.cc_program.specs.declared.program.Program.{Program}
-use Rattle.cc_rules_flows.specs.Acts.{Act, Sets, Reads, Writes, Calls, Saves, Turns, Restores, Tests, Chooses, Returns, Passes}
+use Rattle.cc_state_points.specs.CcRulesFlows.Acts.{Act, Sets, Reads, Writes, Calls, Saves, Turns, Restores, Tests, Chooses, Returns, Passes}
 use Rattle.cc_slots_accesses.specs.declared.access.Access.{Access}
 use Rattle.cc_slots_accesses.specs.Accesses.{AccessesAt}
 use Rattle.cc_slots_accesses.specs.Visits.{IsVisit}
-use Rattle.cc_state_facts.specs.declared.facts.Facts.{Facts}
-use Rattle.cc_state_facts.specs.declared.facts.PointFact.{PointFact}
-use Rattle.cc_state_facts.specs.Facts.{fact_at}
-use Rattle.cc_state_operators.specs.Domains.{Domain}
-use Rattle.cc_state_reads.specs.Reads.{registers_at}
-use Rattle.cc_state_values.specs.declared.context.Context.{Context}
-use Rattle.cc_state_values.specs.Contexts.{set_in}
-use Rattle.cc_state_values.specs.Typed.{IsPurePlace}
+use Rattle.cc_state_points.specs.CcStateFacts.declared.facts.Facts.{Facts}
+use Rattle.cc_state_points.specs.CcStateFacts.declared.facts.PointFact.{PointFact}
+use Rattle.cc_state_points.specs.CcStateFacts.Facts.{fact_at}
+use Rattle.cc_state_points.specs.CcStateOperators.Domains.{Domain}
+use Rattle.cc_state_points.specs.CcStateReads.Reads.{registers_at}
+use Rattle.cc_state_points.specs.CcStateValues.declared.context.Context.{Context}
+use Rattle.cc_state_points.specs.CcStateValues.Contexts.{set_in}
+use Rattle.cc_state_points.specs.CcStateValues.Typed.{IsPurePlace}
 
 -- where expressions of a point's function are worked; its registers have sets where the point is reached
 pub record IsContextOf {I : Type 0} (p : Program) (facts : Facts I) (n number : ℕ) (f : Func) (c : Context I) : Type 0 where

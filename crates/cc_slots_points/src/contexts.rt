@@ -4,16 +4,16 @@ ghost use Rattle.std.specs.Prelude.{◌≡◌, ℕ, Some};
 ghost use Rattle.std.specs.Option.{option_copied};
 ghost use Rattle.cc_slots_points.specs.Frames.{IsFrame};
 ghost use Rattle.cc_slots_points.specs.Points.{IsContextOf};
-ghost use Rattle.cc_state_facts.specs.declared.facts.Facts.{Facts as FactsOf};
-ghost use Rattle.cc_state_facts.specs.declared.facts.PointFact.{PointFact as PointFactOf};
-ghost use Rattle.cc_state_facts.specs.Facts.{fact_at as fact_at_point};
+ghost use Rattle.cc_state_points.specs.CcStateFacts.declared.facts.Facts.{Facts as FactsOf};
+ghost use Rattle.cc_state_points.specs.CcStateFacts.declared.facts.PointFact.{PointFact as PointFactOf};
+ghost use Rattle.cc_state_points.specs.CcStateFacts.Facts.{fact_at as fact_at_point};
 
 use crate::frames::Frame;
-use cc_num::at;
-use cc_places::Abs;
+use cc_program::num::at;
 use cc_program::{Func, Program};
-use cc_state_facts::{Facts, PointFact, Shared};
-use cc_state_values::Context;
+use cc_state_points::places::Abs;
+use cc_state_points::state_facts::{Facts, PointFact, Shared};
+use cc_state_points::state_values::Context;
 
 /// What is known at a point.
 pub(crate) fn fact_at<I>(facts: &Facts<I>, point: u32) -> Option<&PointFact<I>>

@@ -3,10 +3,10 @@
 ghost use Rattle.std.specs.Prelude.{◌≡◌, ◌<◌, ◌^◌, length, IfOk};
 ghost use Rattle.cc_slots_points.specs.Frames.{AreFrames, HaveFewLocals, IsFrame};
 
-use cc_num::{List, NoMemory};
 use cc_program::Func;
-use cc_registers::registers_of;
-use cc_state_keys::registers;
+use cc_program::num::{List, NoMemory};
+use cc_state_points::registers::registers_of;
+use cc_state_points::state_keys::registers;
 use std::alloc::Global;
 
 /// Which locals of a function are registers.

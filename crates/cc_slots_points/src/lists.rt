@@ -1,22 +1,22 @@
 //! The accesses of all points.
 
 ghost use Rattle.std.specs.Prelude.{◌≡◌, ◌≤◌, ℕ, [], length, IfOk, OnOk};
-ghost use Rattle.cc_flow.specs.Points.{count_of, flow_of};
+ghost use Rattle.cc_state_points.specs.CcFlow.Points.{count_of, flow_of};
 ghost use Rattle.cc_slots_accesses.specs.Puts.{of_number};
 ghost use Rattle.cc_slots_points.specs.Frames.{AreFrames};
 ghost use Rattle.cc_slots_points.specs.Lists.{AreLists, AreListsBelow};
-ghost use Rattle.cc_state.specs.Shape.{HaveShape};
-ghost use Rattle.cc_state_operators.specs.Domains.{domain};
-ghost use Rattle.cc_syntax.specs.Normal.{IsNormal};
+ghost use Rattle.cc_state_points.specs.CcState.Shape.{HaveShape};
+ghost use Rattle.cc_state_points.specs.CcStateOperators.Domains.{domain};
+ghost use Rattle.cc_state_points.specs.CcSyntax.Normal.{IsNormal};
 
 use crate::frames::{Frame, frames};
 use crate::points::pass;
-use cc_flow::Flow;
-use cc_lattice::IntDomain;
-use cc_num::{List, NoMemory};
 use cc_program::Program;
+use cc_program::num::{List, NoMemory};
 use cc_slots_accesses::Access;
-use cc_state_facts::Facts;
+use cc_state_points::flow::Flow;
+use cc_state_points::lattice::IntDomain;
+use cc_state_points::state_facts::Facts;
 use std::alloc::Global;
 
 /// As many lists, each with nothing in it.

@@ -2,31 +2,31 @@
 
 ghost use Rattle.std.specs.Prelude.{◌≡◌, ◌<◌, true, Some, length, is_some, slice_get, OnOk};
 ghost use Rattle.std.specs.Option.{option_copied};
-ghost use Rattle.cc_flow.specs.Points.{flow_of};
-ghost use Rattle.cc_registers.specs.Kept.{AreKept};
-ghost use Rattle.cc_rules_flows.specs.Acts.{act_of as act_of_stmt};
-ghost use Rattle.cc_rules_flows.specs.Nexts.{statement_of};
-ghost use Rattle.cc_rules_flows.specs.View.{act_view};
+ghost use Rattle.cc_state_points.specs.CcFlow.Points.{flow_of};
+ghost use Rattle.cc_state_points.specs.CcRegisters.Kept.{AreKept};
+ghost use Rattle.cc_state_points.specs.CcRulesFlows.Acts.{act_of as act_of_stmt};
+ghost use Rattle.cc_state_points.specs.CcRulesFlows.Nexts.{statement_of};
+ghost use Rattle.cc_state_points.specs.CcRulesFlows.View.{act_view};
 ghost use Rattle.cc_slots_points.specs.Frames.{AreFrames, IsFrame};
 ghost use Rattle.cc_slots_points.specs.Points.{HasPurePlace, IsDone, IsPassed};
-ghost use Rattle.cc_state.specs.Points.{IsPointOf};
-ghost use Rattle.cc_state.specs.Shape.{HaveShape};
-ghost use Rattle.cc_state_keys.specs.Keys.{keys_of};
-ghost use Rattle.cc_state_operators.specs.Domains.{domain};
-ghost use Rattle.cc_state_values.specs.Contexts.{HaveSetsIn};
-ghost use Rattle.cc_syntax.specs.Normal.{IsNormal};
-ghost use Rattle.cc_syntax.specs.Sizes.{AreSized};
+ghost use Rattle.cc_state_points.specs.CcState.Points.{IsPointOf};
+ghost use Rattle.cc_state_points.specs.CcState.Shape.{HaveShape};
+ghost use Rattle.cc_state_points.specs.CcStateKeys.Keys.{keys_of};
+ghost use Rattle.cc_state_points.specs.CcStateOperators.Domains.{domain};
+ghost use Rattle.cc_state_points.specs.CcStateValues.Contexts.{HaveSetsIn};
+ghost use Rattle.cc_state_points.specs.CcSyntax.Normal.{IsNormal};
+ghost use Rattle.cc_state_points.specs.CcSyntax.Sizes.{AreSized};
 
 use crate::contexts::{context_of, end, fact_at};
 use crate::frames::Frame;
-use cc_flow::{Flow, Point};
-use cc_lattice::IntDomain;
-use cc_num::{List, NoMemory, at};
+use cc_program::num::{List, NoMemory, at};
 use cc_program::{Func, Program, Stmt};
-use cc_rules_flows::{Act, Body, statement_at};
 use cc_slots_accesses::{Access, visit};
-use cc_state_facts::{Facts, PointFact};
-use cc_state_values::Context;
+use cc_state_points::flow::{Flow, Point};
+use cc_state_points::lattice::IntDomain;
+use cc_state_points::rules_flows::{Act, Body, statement_at};
+use cc_state_points::state_facts::{Facts, PointFact};
+use cc_state_points::state_values::Context;
 use std::alloc::Global;
 
 /// Puts the access of a statement that does this, where it is one, behind those of the keys that its place names.

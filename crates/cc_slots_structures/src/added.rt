@@ -7,7 +7,7 @@ ghost use Rattle.cc_slots_structures.specs.Copies.{copies_at, copies_in, copies_
 ghost use Rattle.cc_slots_structures.specs.Stands.{stands_at, stands_in, stands_in_locals, stands_in_objects};
 
 use crate::standing::{Standing, both, of_elements, of_local, of_object, of_type};
-use cc_num::Name;
+use cc_program::num::Name;
 use cc_program::{CType, Func, Object, Shape};
 
 /// A structure stands at one more place, where it is one of the first.

@@ -6,8 +6,8 @@ ghost use Rattle.cc_slots_structures.specs.Standings.{AreStandings};
 
 use crate::added::{add_locals, add_members, add_objects};
 use crate::standing::{Standing, nowhere};
-use cc_num::NoMemory;
 use cc_program::Program;
+use cc_program::num::NoMemory;
 use std::alloc::Global;
 
 /// So many standings of what stands nowhere.

@@ -5,8 +5,8 @@ ghost use Rattle.cc_slots_types.specs.Slots.{group_of, least_bits_of};
 
 use crate::class::Class;
 use crate::reason::Reason;
-use cc_num::{List, Name};
 use cc_places::Abs;
+use cc_program::num::{List, Name};
 use cc_sets::Vals;
 use cc_state_facts::Key;
 

@@ -7,15 +7,15 @@ use Rattle.cc_program.specs.declared.func.Func.{Func}
 use Rattle.cc_program.specs.declared.object.Object.{Object}
 use Rattle.cc_program.specs.declared.program.Program.{Program}
 use Rattle.cc_program.specs.declared.types.Sig.{out-Sig}
-use Rattle.cc_syntax.specs.Kinds.{is_result, is_plain_scalar}
-use Rattle.cc_syntax.specs.Programs.{kind_in, IsInitial, is_sound_body}
-use Rattle.cc_syntax.specs.Lists.{come_first}
-use Rattle.cc_syntax.specs.Names.{are_names, local_names, file_names, tags}
-use Rattle.cc_syntax.specs.Sound.{IsFunc, IsSound, form_fits, entry_fits, are_parameters, have_ids, is_local, is_automatic, is_only_named, are_structures, is_device, devices_differ, is_object, handlers_are_there, is_main_there}
-use Rattle.cc_syntax.specs.Sizes.{AreSized}
-use Rattle.cc_syntax.specs.Types.{is_complete}
-use Rattle.cc_syntax.proofs.Prefixes.{both_true}
-use Rattle.cc_syntax.proofs.StructureLemmas.{object_complete}
+use Rattle.cc_typed.specs.CcSyntax.Kinds.{is_result, is_plain_scalar}
+use Rattle.cc_typed.specs.CcSyntax.Programs.{kind_in, IsInitial, is_sound_body}
+use Rattle.cc_typed.specs.CcSyntax.Lists.{come_first}
+use Rattle.cc_typed.specs.CcSyntax.Names.{are_names, local_names, file_names, tags}
+use Rattle.cc_typed.specs.CcSyntax.Sound.{IsFunc, IsSound, form_fits, entry_fits, are_parameters, have_ids, is_local, is_automatic, is_only_named, are_structures, is_device, devices_differ, is_object, handlers_are_there, is_main_there}
+use Rattle.cc_typed.specs.CcSyntax.Sizes.{AreSized}
+use Rattle.cc_typed.specs.CcSyntax.Types.{is_complete}
+use Rattle.cc_typed.proofs.CcSyntax.Prefixes.{both_true}
+use Rattle.cc_typed.proofs.CcSyntax.StructureLemmas.{object_complete}
 use Rattle.cc_sound.specs.Functions.{is_signature, is_func, are_sizes_few, are_all_names, are_declared, are_run, is_checked}
 
 true_both : (a b : Bool) → a ≡ true → b ≡ true → a && b ≡ true

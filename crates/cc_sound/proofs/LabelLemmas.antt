@@ -2,10 +2,10 @@
 use Rattle.std.proofs.Common.{◌≡◌, ◌≤◌, ◌+◌, ℕ, length, drop, slice_get, Some, ℤ, Bool, true, false, not, ◌&&◌, ◌||◌, List, [], ◌∷◌, ◌++◌, Option, refl, ap, sym, ◌∙◌}
 use Rattle.std.specs.List.{list_all, list_any, flat_map}
 use Rattle.std.proofs.lemmas.List.Folds.{list_all-append, list_any-append}
-use Rattle.cc_num.specs.declared.int_type.IntType.{IntType}
-use Rattle.cc_num.specs.declared.target.Target.{Target}
+use Rattle.cc_program.specs.CcNum.declared.int_type.IntType.{IntType}
+use Rattle.cc_program.specs.CcNum.declared.target.Target.{Target}
 use Rattle.cc_program.specs.declared.stmt.Case.{Case, out-Case}
-use Rattle.cc_syntax.specs.Statements.{same_label, are_apart, label_fits, labels_of}
+use Rattle.cc_typed.specs.CcSyntax.Statements.{same_label, are_apart, label_fits, labels_of}
 use Rattle.cc_sound.specs.Cases.{apart_from}
 use Rattle.cc_sound.proofs.DropLemmas.{dropped, drop_past}
 

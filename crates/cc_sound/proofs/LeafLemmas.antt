@@ -1,7 +1,7 @@
 -- The leaves of a type, by its shape: what a rule of the definition says of a derivation that ends in it.
 use Rattle.std.proofs.Common.{arith, ◌≡◌, ◌↔◌, ℕ, zero, suc, ℤ, Bool, true, false, List, [], ◌∷◌, refl, ap, sym, ◌∙◌, subst, Option, Some, None, slice_get, if◌then◌else◌}
-use Rattle.cc_num.specs.declared.int_type.IntType.{IntType}
-use Rattle.cc_num.specs.Integers.{is_value_of}
+use Rattle.cc_program.specs.CcNum.declared.int_type.IntType.{IntType}
+use Rattle.cc_program.specs.CcNum.Integers.{is_value_of}
 use Rattle.cc_program.specs.declared.program.Program.{Program}
 use Rattle.cc_program.specs.declared.types.CType.{CType}
 use Rattle.cc_program.specs.declared.types.Shape.{Int, Pointer, Array, Struct, out-Shape}
@@ -12,10 +12,10 @@ use Rattle.cc_program.specs.declared.types.Structure.{Structure}
 use Rattle.cc_program.specs.declared.value.Address.{Address}
 use Rattle.cc_program.specs.declared.value.Leaf.{Leaf}
 use Rattle.cc_program.specs.declared.value.Leaf.TheVariants as leaf
-use Rattle.cc_syntax.specs.Initial.{OfInteger, OfPointer, OfArray, OfStructure, NoElement, Element, NoMember, Member}
-use Rattle.cc_syntax.specs.Programs.{is_address, AreLeaves, AreElements, AreMembers}
-use Rattle.cc_syntax.specs.Types.{Named}
-use Rattle.cc_syntax.specs.Values.{ValueType, pointer_to}
+use Rattle.cc_typed.specs.CcSyntax.Initial.{OfInteger, OfPointer, OfArray, OfStructure, NoElement, Element, NoMember, Member}
+use Rattle.cc_typed.specs.CcSyntax.Programs.{is_address, AreLeaves, AreElements, AreMembers}
+use Rattle.cc_typed.specs.CcSyntax.Types.{Named}
+use Rattle.cc_typed.specs.CcSyntax.Values.{ValueType, pointer_to}
 use Rattle.cc_sound.specs.Leaves.{integer_behind, pointer_behind}
 
 some_same : {A : Type 0} → {x y : A} → Some x ≡ Some y → x ≡ y

@@ -8,9 +8,9 @@ use Rattle.cc_program.specs.declared.types.Shape.TheOpen as shape
 use Rattle.cc_program.specs.declared.types.Shape.TheVariants.{outs-Array, outs-Struct}
 use Rattle.cc_program.specs.declared.types.Sig.{Sig}
 use Rattle.cc_program.specs.declared.types.Structure.{Structure}
-use Rattle.cc_syntax.specs.Types.{Named, has_members, complete_shape, is_complete, IsInOrder}
-use Rattle.cc_syntax.proofs.Prefixes.{both_true, get_taken, take_length}
-use Rattle.cc_syntax.proofs.TypeLayouts.{parts_complete, complete-opens}
+use Rattle.cc_typed.specs.CcSyntax.Types.{Named, has_members, complete_shape, is_complete, IsInOrder}
+use Rattle.cc_typed.proofs.CcSyntax.Prefixes.{both_true, get_taken, take_length}
+use Rattle.cc_typed.proofs.CcSyntax.TypeLayouts.{parts_complete, complete-opens}
 
 module _ (structures : List Structure) where
   opened : (t : CType) (x : shape.Shape-F Shape CType Sig) → out-Shape t.shape ≡ x → is_complete structures t ≡ true → complete_shape structures (parts_complete structures x) ≡ true

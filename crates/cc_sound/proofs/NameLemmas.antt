@@ -3,13 +3,13 @@ use Rattle.std.proofs.Common.{◌≡◌, ℕ, Bool, true, false, not, ◌&&◌, 
 use Rattle.std.specs.List.{list_any, list_all}
 use Rattle.std.specs.Str.{bytes_eq}
 use Rattle.std.proofs.lemmas.List.Folds.{list_any-append, list_all-append}
-use Rattle.cc_words.specs.Names.{is_name, are_distinct}
+use Rattle.cc_program.specs.CcWords.Names.{is_name, are_distinct}
 use Rattle.cc_program.specs.declared.func.Func.{Func}
 use Rattle.cc_program.specs.declared.object.Device.{Device}
 use Rattle.cc_program.specs.declared.object.Object.{Object}
 use Rattle.cc_program.specs.declared.types.Structure.{Structure}
-use Rattle.cc_syntax.specs.Names.{with_name, device_names, local_names}
-use Rattle.cc_syntax.specs.Types.{Named}
+use Rattle.cc_typed.specs.CcSyntax.Names.{with_name, device_names, local_names}
+use Rattle.cc_typed.specs.CcSyntax.Types.{Named}
 use Rattle.cc_sound.specs.Spaces.{is_named, is_new, has_name}
 
 any_in : {A : Type 0} (name : A → List ℕ) (x : List ℕ) (ys : List A) → list_any (λ y. bytes_eq x (name y)) ys ≡ list_any (bytes_eq x) (map name ys)

@@ -2,7 +2,7 @@
 use Rattle.std.proofs.Common.{arith, ◌≡◌, ◌-◌, ℕ, zero, suc, List, [], ◌∷◌, length, refl, ap, sym, ◌∙◌, Option, slice_get}
 use Rattle.cc_program.specs.declared.value.Part.{Part}
 use Rattle.cc_program.specs.declared.value.Part.TheVariants as part
-use Rattle.cc_syntax.specs.Initial.{leads_to_element}
+use Rattle.cc_typed.specs.CcSyntax.Initial.{leads_to_element}
 use Rattle.cc_sound.specs.Leaves.{is_index}
 
 leads_at : (path : List Part) (k : ℕ) (o : Option Part) → length path ≡ suc k → slice_get path k ≡ o → leads_to_element path ≡ is_index o

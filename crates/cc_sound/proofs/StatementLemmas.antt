@@ -8,8 +8,8 @@ use Rattle.cc_program.specs.declared.expr.Expr.{Expr}
 use Rattle.cc_program.specs.declared.stmt.Stmt.{Stmt, Switch, fold-Stmt, fold-roll-Stmt}
 use Rattle.cc_program.specs.declared.stmt.Stmt.TheVariants.{rolls-Switch}
 use Rattle.cc_program.specs.declared.stmt.Stmt.TheOpen as is
-use Rattle.cc_syntax.specs.Statements.{SoundWhere, Labelled, sound_case, labels_of, has_label, labels_fit, are_apart}
-use Rattle.cc_syntax.specs.Programs.{sound_step, is_sound_stmt, typed}
+use Rattle.cc_typed.specs.CcSyntax.Statements.{SoundWhere, Labelled, sound_case, labels_of, has_label, labels_fit, are_apart}
+use Rattle.cc_typed.specs.CcSyntax.Programs.{sound_step, is_sound_stmt, typed}
 use Rattle.cc_sound.specs.Cases.{switches, is_sound_case}
 
 module _ (p : Program) (f : Func) where

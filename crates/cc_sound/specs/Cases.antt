@@ -5,8 +5,8 @@ use Rattle.cc_program.specs.declared.expr.Expr.{Expr}
 use Rattle.cc_program.specs.declared.func.Func.{Func}
 use Rattle.cc_program.specs.declared.program.Program.{Program}
 use Rattle.cc_program.specs.declared.stmt.Case.{Case, out-Case}
-use Rattle.cc_syntax.specs.Statements.{same_label, are_apart, labels_fit, labels_of, has_label}
-use Rattle.cc_syntax.specs.Programs.{typed, is_sound_stmt}
+use Rattle.cc_typed.specs.CcSyntax.Statements.{same_label, are_apart, labels_fit, labels_of, has_label}
+use Rattle.cc_typed.specs.CcSyntax.Programs.{typed, is_sound_stmt}
 
 -- each of the first labels differs from those behind it, and from the others
 abbrev pub apart_from : List (Option ℤ) → List (Option ℤ) → Bool

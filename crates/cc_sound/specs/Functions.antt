@@ -4,11 +4,11 @@ use Rattle.std.specs.List.{list_all}
 use Rattle.cc_program.specs.declared.func.Func.{Func}
 use Rattle.cc_program.specs.declared.program.Program.{Program}
 use Rattle.cc_program.specs.declared.types.Sig.{out-Sig}
-use Rattle.cc_syntax.specs.Kinds.{is_result, is_plain_scalar}
-use Rattle.cc_syntax.specs.Programs.{kind_in, is_sound_body}
-use Rattle.cc_syntax.specs.Lists.{come_first}
-use Rattle.cc_syntax.specs.Names.{are_names, local_names, file_names, tags}
-use Rattle.cc_syntax.specs.Sound.{form_fits, entry_fits, are_parameters, have_ids, is_local, is_automatic, is_only_named, are_structures, is_device, devices_differ, is_object, handlers_are_there, is_main_there}
+use Rattle.cc_typed.specs.CcSyntax.Kinds.{is_result, is_plain_scalar}
+use Rattle.cc_typed.specs.CcSyntax.Programs.{kind_in, is_sound_body}
+use Rattle.cc_typed.specs.CcSyntax.Lists.{come_first}
+use Rattle.cc_typed.specs.CcSyntax.Names.{are_names, local_names, file_names, tags}
+use Rattle.cc_typed.specs.CcSyntax.Sound.{form_fits, entry_fits, are_parameters, have_ids, is_local, is_automatic, is_only_named, are_structures, is_device, devices_differ, is_object, handlers_are_there, is_main_there}
 
 -- but for its names and its statements
 abbrev pub is_signature : Program → Func → Bool

@@ -1,14 +1,14 @@
 -- Whether a step leads to an element, and what stands behind the first leaf of a list, where it fits.
 use Rattle.std.specs.Prelude.{Bool, true, false, List, [], ◌∷◌, Option, Some, None, if◌then◌else◌}
-use Rattle.cc_num.specs.declared.int_type.IntType.{IntType}
-use Rattle.cc_num.specs.Integers.{is_value_of}
+use Rattle.cc_program.specs.CcNum.declared.int_type.IntType.{IntType}
+use Rattle.cc_program.specs.CcNum.Integers.{is_value_of}
 use Rattle.cc_program.specs.declared.program.Program.{Program}
 use Rattle.cc_program.specs.declared.value.Leaf.{Leaf}
 use Rattle.cc_program.specs.declared.value.Leaf.TheVariants as leaf
 use Rattle.cc_program.specs.declared.value.Part.{Part}
 use Rattle.cc_program.specs.declared.value.Part.TheVariants as part
-use Rattle.cc_syntax.specs.Programs.{is_address}
-use Rattle.cc_syntax.specs.Values.{ValueType}
+use Rattle.cc_typed.specs.CcSyntax.Programs.{is_address}
+use Rattle.cc_typed.specs.CcSyntax.Values.{ValueType}
 
 abbrev pub is_index : Option Part → Bool
 is_index None = false

@@ -5,17 +5,17 @@ ghost use Rattle.std.specs.List.{list_all};
 ghost use Rattle.std.specs.Option.{option_copied};
 ghost use Rattle.cc_program.specs.declared.types.Shape.{out-Shape};
 ghost use Rattle.cc_program.specs.declared.value.Leaf.{Leaf as OfLeaf};
-ghost use Rattle.cc_syntax.specs.Initial.{bound_of, place_at as place_at_of, names_element as names_element_of, leads_to_element as leads_to_element_of, names_whole as names_whole_of, names as names_of, is_zero as is_zero_of};
-ghost use Rattle.cc_syntax.specs.Programs.{static_place as static_place_of, is_address as is_address_of, AreLeaves, AreElements, AreMembers, IsInitial};
-ghost use Rattle.cc_syntax.specs.Expressions.{of_one};
-ghost use Rattle.cc_syntax.specs.Lists.{is_count as is_count_of};
-ghost use Rattle.cc_syntax.specs.Types.{IsInOrder, is_complete};
-ghost use Rattle.cc_syntax.specs.Values.{address_of};
+ghost use Rattle.cc_typed.specs.CcSyntax.Initial.{bound_of, place_at as place_at_of, names_element as names_element_of, leads_to_element as leads_to_element_of, names_whole as names_whole_of, names as names_of, is_zero as is_zero_of};
+ghost use Rattle.cc_typed.specs.CcSyntax.Programs.{static_place as static_place_of, is_address as is_address_of, AreLeaves, AreElements, AreMembers, IsInitial};
+ghost use Rattle.cc_typed.specs.CcSyntax.Expressions.{of_one};
+ghost use Rattle.cc_typed.specs.CcSyntax.Lists.{is_count as is_count_of};
+ghost use Rattle.cc_typed.specs.CcSyntax.Types.{IsInOrder, is_complete};
+ghost use Rattle.cc_typed.specs.CcSyntax.Values.{address_of};
 ghost use Rattle.cc_sound.specs.Leaves.{is_index as is_index_of, integer_behind, pointer_behind, is_end as is_end_of};
 ghost use Rattle.cc_typed.specs.View.{value_view, place_view};
 
-use cc_num::{IntType, Name, at};
-use cc_syntax::{Address, CType, Leaf, Object, Part, Program, Root, Shape, Structure};
+use cc_program::num::{IntType, Name, at};
+use cc_typed::syntax::{Address, CType, Leaf, Object, Part, Program, Root, Shape, Structure};
 use cc_typed::{
     PlaceType, ValueType, bound_of, function_type, is_assignable_some, place_at, pointer_to,
     static_type,

@@ -3,13 +3,13 @@
 ghost use Rattle.std.specs.Prelude.{◌≡◌, ◌&&◌, ◌||◌, ◌++◌, not, map, true};
 ghost use Rattle.std.specs.List.{list_all, list_any};
 ghost use Rattle.std.specs.Str.{bytes_eq};
-ghost use Rattle.cc_words.specs.Names.{is_name as is_name_of, are_distinct};
-ghost use Rattle.cc_syntax.specs.Names.{are_names, device_names, file_names, intrinsic_names, local_names, with_name};
+ghost use Rattle.cc_program.specs.CcWords.Names.{is_name as is_name_of, are_distinct};
+ghost use Rattle.cc_typed.specs.CcSyntax.Names.{are_names, device_names, file_names, intrinsic_names, local_names, with_name};
 ghost use Rattle.cc_sound.specs.Spaces.{is_named as is_named_of, is_new as is_new_of, has_name as has_name_of};
 
-use cc_num::Name;
-use cc_syntax::{CType, Device, Func, Object, Program, Roles, Structure};
-use cc_words::is_name;
+use cc_program::num::Name;
+use cc_program::words::is_name;
+use cc_typed::syntax::{CType, Device, Func, Object, Program, Roles, Structure};
 
 /// Whether two names are the same.
 pub fn same(name: &[u8], other: &[u8]) -> bool

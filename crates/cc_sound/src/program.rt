@@ -5,21 +5,21 @@ ghost use Rattle.std.specs.List.{list_all, list_any};
 ghost use Rattle.std.specs.Option.{option_copied};
 ghost use Rattle.cc_program.specs.declared.types.Sig.{out-Sig};
 ghost use Rattle.cc_program.specs.declared.types.Shape.{out-Shape};
-ghost use Rattle.cc_syntax.specs.Kinds.{is_plain_scalar as is_plain_scalar_of};
-ghost use Rattle.cc_syntax.specs.Programs.{kind_in as kind_in_of, IsInitial};
-ghost use Rattle.cc_syntax.specs.Sound.{is_numbered as is_numbered_of, have_ids as have_ids_of, is_only_named as is_only_named_of, is_member as is_member_of, is_structure as is_structure_of, are_structures as are_structures_of, is_device as is_device_of, is_same_device as is_same_device_of, devices_differ as devices_differ_of, is_object as is_object_of, is_handler_name as is_handler_name_of, entry_fits as entry_fits_of, handlers_are_there as handlers_are_there_of, takes_nothing as takes_nothing_of, is_plain_void as is_plain_void_of, is_plain_int as is_plain_int_of, is_main as is_main_of, form_fits as form_fits_of, is_main_there as is_main_there_of, are_parameters as are_parameters_of, is_local as is_local_of, is_automatic as is_automatic_of, IsSound};
-ghost use Rattle.cc_syntax.specs.Lists.{come_first};
-ghost use Rattle.cc_syntax.specs.Names.{are_names, file_names};
-ghost use Rattle.cc_syntax.specs.Operators.{is_handler as is_handler_of};
+ghost use Rattle.cc_typed.specs.CcSyntax.Kinds.{is_plain_scalar as is_plain_scalar_of};
+ghost use Rattle.cc_typed.specs.CcSyntax.Programs.{kind_in as kind_in_of, IsInitial};
+ghost use Rattle.cc_typed.specs.CcSyntax.Sound.{is_numbered as is_numbered_of, have_ids as have_ids_of, is_only_named as is_only_named_of, is_member as is_member_of, is_structure as is_structure_of, are_structures as are_structures_of, is_device as is_device_of, is_same_device as is_same_device_of, devices_differ as devices_differ_of, is_object as is_object_of, is_handler_name as is_handler_name_of, entry_fits as entry_fits_of, handlers_are_there as handlers_are_there_of, takes_nothing as takes_nothing_of, is_plain_void as is_plain_void_of, is_plain_int as is_plain_int_of, is_main as is_main_of, form_fits as form_fits_of, is_main_there as is_main_there_of, are_parameters as are_parameters_of, is_local as is_local_of, is_automatic as is_automatic_of, IsSound};
+ghost use Rattle.cc_typed.specs.CcSyntax.Lists.{come_first};
+ghost use Rattle.cc_typed.specs.CcSyntax.Names.{are_names, file_names};
+ghost use Rattle.cc_typed.specs.CcSyntax.Operators.{is_handler as is_handler_of};
 ghost use Rattle.cc_sound.specs.Functions.{is_signature as is_signature_of, is_func as is_func_of, are_sizes_few as are_sizes_few_of, are_all_names as are_all_names_of, are_declared as are_declared_of, are_run as are_run_of, is_checked as is_checked_of};
-ghost use Rattle.cc_syntax.specs.Sizes.{AreSized};
+ghost use Rattle.cc_typed.specs.CcSyntax.Sizes.{AreSized};
 ghost use Rattle.cc_typed.specs.View.{kind_view};
 
 use crate::initial::is_initial;
 use crate::names::{are_file_names, are_local_names, are_members, are_tags, has_func, same};
 use crate::statements::Function;
-use cc_num::{IntType, Name, Target, at};
-use cc_syntax::{CType, Device, Entry, Func, Program, Shape, Structure};
+use cc_program::num::{IntType, Name, Target, at};
+use cc_typed::syntax::{CType, Device, Entry, Func, Program, Shape, Structure};
 use cc_typed::{
     is_object_type, is_plain_scalar, is_result, is_unqualified, is_void, kind_in, kind_of,
     same_flag, same_int, same_shape,

@@ -4,15 +4,15 @@ ghost use Rattle.std.specs.Prelude.{◌≡◌, option_map, map, length};
 ghost use Rattle.std.specs.List.{list_all, list_any, flat_map};
 ghost use Rattle.cc_program.specs.declared.types.Sig.{out-Sig};
 ghost use Rattle.cc_program.specs.declared.stmt.Case.{out-Case};
-ghost use Rattle.cc_syntax.specs.Statements.{same_label as same_label_of, are_apart, label_fits as label_fits_of, labels_fit as labels_fit_of, is_condition as is_condition_of, has_label as has_label_of};
-ghost use Rattle.cc_syntax.specs.Programs.{is_typed as is_typed_of, is_optional_condition as is_optional_condition_of, returns as returns_of, is_sound_stmt as is_sound_stmt_of, typed as typed_of};
-ghost use Rattle.cc_syntax.specs.Statements.{labels_of};
+ghost use Rattle.cc_typed.specs.CcSyntax.Statements.{same_label as same_label_of, are_apart, label_fits as label_fits_of, labels_fit as labels_fit_of, is_condition as is_condition_of, has_label as has_label_of};
+ghost use Rattle.cc_typed.specs.CcSyntax.Programs.{is_typed as is_typed_of, is_optional_condition as is_optional_condition_of, returns as returns_of, is_sound_stmt as is_sound_stmt_of, typed as typed_of};
+ghost use Rattle.cc_typed.specs.CcSyntax.Statements.{labels_of};
 ghost use Rattle.cc_sound.specs.Cases.{apart_from, switches as switches_of, is_sound_case as is_sound_case_of};
-ghost use Rattle.cc_syntax.specs.Sizes.{AreSized};
+ghost use Rattle.cc_typed.specs.CcSyntax.Sizes.{AreSized};
 ghost use Rattle.cc_typed.specs.View.{value_view};
 
-use cc_num::{Boxed, IntType, List, Target};
-use cc_syntax::{Case, Expr, Func, Program, Stmt};
+use cc_program::num::{Boxed, IntType, List, Target};
+use cc_typed::syntax::{Case, Expr, Func, Program, Stmt};
 use cc_typed::{Scope, ValueType, is_assignable_some, is_promoted, is_void, scalar_value};
 
 fn same_label(label: Option<i128>, other: Option<i128>) -> bool

@@ -4,7 +4,7 @@ use Rattle.std.specs.Prelude.{is_some, if◌then◌else◌}
 use Rattle.std.specs.List.{list_all}
 use Rattle.cc_sound_declarations.specs.Scalars.{OneScalar}
 use Rattle.cc_sound_declarations.specs.Values.{IsGiven, AreGiven}
-use Rattle.cc_objects.specs.Values.{assignments}
+use Rattle.cc_typed_bodies.specs.CcObjects.Values.{assignments}
 use Rattle.cc_operand_types.proofs.Rolls.{type-Assign}
 use Rattle.cc_program.specs.declared.expr.Expr.{Expr, Assign}
 use Rattle.cc_program.specs.declared.expr.Place.{Place}
@@ -12,11 +12,11 @@ use Rattle.cc_operand_types.proofs.Rules.{assignment_follows}
 use Rattle.cc_operand_types.proofs.Typed.{reduced_typed}
 use Rattle.cc_sound_declarations.specs.Places.{IsScalarPlace, ArePlaces}
 use Rattle.cc_operand_types.specs.Reduced.{ReducedLocals}
-use Rattle.cc_syntax.specs.Operators.{assignment_type, when}
-use Rattle.cc_syntax.specs.Types.{Named}
-use Rattle.cc_syntax.specs.Values.{ValueType, ObjectPlace, scalar_value}
-use Rattle.cc_syntax.specs.Views.{View}
-use Rattle.cc_syntax.specs.Expressions.{type_of}
+use Rattle.cc_typed_bodies.specs.CcSyntax.Operators.{assignment_type, when}
+use Rattle.cc_typed_bodies.specs.CcSyntax.Types.{Named}
+use Rattle.cc_typed_bodies.specs.CcSyntax.Values.{ValueType, ObjectPlace, scalar_value}
+use Rattle.cc_typed_bodies.specs.CcSyntax.Views.{View}
+use Rattle.cc_typed_bodies.specs.CcSyntax.Expressions.{type_of}
 
 module _ (v : View) (locals declared : List Named) (reduced : ReducedLocals locals declared) where
   abbrev HasType : Expr → Bool

@@ -4,15 +4,15 @@ use Rattle.std.specs.Prelude.{option_map, slice_get}
 use Rattle.cc_sound_declarations.specs.Scalars.{OneScalar, scalars_of}
 use Rattle.cc_sound_declarations.proofs.Values.{values_are}
 use Rattle.cc_sound_declarations.specs.Values.{AreGiven, MayStand}
-use Rattle.cc_initialisers.specs.Contents.{Contents, contents}
-use Rattle.cc_initialisers.specs.Initialisers.{here as given_here, initialised}
-use Rattle.cc_initialisers.specs.Scalars.{scalars_from}
-use Rattle.cc_objects.specs.Linked.{with_automatic}
-use Rattle.cc_objects.specs.Types.{contents_in, element_type, given_incomplete, completed_type, is_complete_or_unbounded, type_given}
-use Rattle.cc_objects.specs.Values.{assignments, expr_given, no_expr}
+use Rattle.cc_typed_bodies.specs.CcInitialisers.Contents.{Contents, contents}
+use Rattle.cc_typed_bodies.specs.CcInitialisers.Initialisers.{here as given_here, initialised}
+use Rattle.cc_typed_bodies.specs.CcInitialisers.Scalars.{scalars_from}
+use Rattle.cc_typed_bodies.specs.CcObjects.Linked.{with_automatic}
+use Rattle.cc_typed_bodies.specs.CcObjects.Types.{contents_in, element_type, given_incomplete, completed_type, is_complete_or_unbounded, type_given}
+use Rattle.cc_typed_bodies.specs.CcObjects.Values.{assignments, expr_given, no_expr}
 use Rattle.cc_operand_types.proofs.Agreement.{complete_alike}
 use Rattle.cc_operand_types.proofs.Rolls.{place-roll}
-use Rattle.cc_operands.specs.Qualified.{without_const}
+use Rattle.cc_typed_bodies.specs.CcOperands.Qualified.{without_const}
 use Rattle.cc_program.proofs.Each.{Each}
 use Rattle.cc_program.specs.Qualifiers.{is_const, is_volatile}
 use Rattle.cc_program.specs.declared.expr.Expr.{Expr}
@@ -26,8 +26,8 @@ use Rattle.cc_program.specs.declared.types.Shape.TheOpen as shape
 use Rattle.cc_program.specs.declared.types.Sig.{Sig}
 use Rattle.cc_sound_declarations.proofs.Places.{scalars_placed}
 use Rattle.cc_sound_declarations.specs.Places.{IsScalarPlace, ArePlaces}
-use Rattle.cc_scopes.specs.State.{State, Name, structures_of, with_unfinished}
-use Rattle.cc_scopes.specs.Verdicts.{whole, and_then}
+use Rattle.cc_typed_bodies.specs.CcScopes.State.{State, Name, structures_of, with_unfinished}
+use Rattle.cc_typed_bodies.specs.CcScopes.Verdicts.{whole, and_then}
 use Rattle.cc_sound_declarations.specs.Assigns.{AssignsTyped, HasObjects}
 use Rattle.cc_sound_declarations.proofs.Complete.{given_complete}
 use Rattle.cc_sound_declarations.proofs.Gives.{Gives, Typed}
@@ -49,13 +49,13 @@ use Rattle.cc_sound_terms.proofs.Closings.{closings_alike}
 use Rattle.cc_sound_terms.specs.Closings.{Closings}
 use Rattle.cc_sound_terms.specs.Typing.{Knows, KnowsTypes}
 use Rattle.cc_operand_types.proofs.WithoutConst.{reduced_const}
-use Rattle.cc_specifiers.specs.Declarators.{is_unbounded}
+use Rattle.cc_typed_bodies.specs.CcSpecifiers.Declarators.{is_unbounded}
 use Rattle.cc_sound_declarations.proofs.Contents.{contents_same}
-use Rattle.cc_syntax.specs.Expressions.{place_type}
-use Rattle.cc_syntax.specs.Kinds.{is_object_type}
-use Rattle.cc_syntax.specs.Types.{Named, is_complete}
-use Rattle.cc_syntax.specs.Values.{ValueType, ObjectPlace, is_scalar, object_place, pointer_shape, scalar_shape, scalar_value}
-use Rattle.cc_syntax.specs.Views.{View, kind_in}
+use Rattle.cc_typed_bodies.specs.CcSyntax.Expressions.{place_type}
+use Rattle.cc_typed_bodies.specs.CcSyntax.Kinds.{is_object_type}
+use Rattle.cc_typed_bodies.specs.CcSyntax.Types.{Named, is_complete}
+use Rattle.cc_typed_bodies.specs.CcSyntax.Values.{ValueType, ObjectPlace, is_scalar, object_place, pointer_shape, scalar_shape, scalar_value}
+use Rattle.cc_typed_bodies.specs.CcSyntax.Views.{View, kind_in}
 use Rattle.cc_tree.specs.declared.at.At.{At}
 use Rattle.cc_tree.specs.declared.unit.Given.{Given}
 use Rattle.cc_sound_declarations.proofs.Assignments.{all_typed}

@@ -2,17 +2,17 @@
 use Rattle.std.proofs.Common.{◌≡◌, ℕ, Bool, true, false, ◌&&◌, List, [], ◌∷◌, ◌++◌, map, Option, Some, None, Ok, refl, ap, sym, ◌∙◌}
 use Rattle.std.specs.Prelude.{is_some, if◌then◌else◌}
 use Rattle.std.specs.List.{list_all, list_any}
-use Rattle.cc_typed_terms.specs.Declarators.{derived_type}
-use Rattle.cc_typed_terms.specs.Located.{located}
-use Rattle.cc_linkage.specs.declared.linkage.DeclaredAs.{DeclaredAs}
-use Rattle.cc_objects.specs.Categories.{block_category, category_by, category_of, entity_of, is_given, setting_of}
-use Rattle.cc_objects.specs.Names.{name_judged}
-use Rattle.cc_objects.specs.Tags.{defines_untagged, aliased_at, first_name, is_typedef_word, aliased, sole_tag, tag_declared, sole_spec, sole_declared, in_front}
-use Rattle.cc_objects.specs.Types.{is_complete_or_unbounded, composite}
-use Rattle.cc_objects.specs.declared.category.Category.{Category}
-use Rattle.cc_objects.specs.declared.category.Category.TheVariants as declares
-use Rattle.cc_operands.specs.Qualified.{plain, is_function_type}
-use Rattle.cc_syntax.specs.Views.{View}
+use Rattle.cc_typed_bodies.specs.CcTypedTerms.Declarators.{derived_type}
+use Rattle.cc_typed_bodies.specs.CcTypedTerms.Located.{located}
+use Rattle.cc_typed_bodies.specs.CcLinkage.declared.linkage.DeclaredAs.{DeclaredAs}
+use Rattle.cc_typed_bodies.specs.CcObjects.Categories.{block_category, category_by, category_of, entity_of, is_given, setting_of}
+use Rattle.cc_typed_bodies.specs.CcObjects.Names.{name_judged}
+use Rattle.cc_typed_bodies.specs.CcObjects.Tags.{defines_untagged, aliased_at, first_name, is_typedef_word, aliased, sole_tag, tag_declared, sole_spec, sole_declared, in_front}
+use Rattle.cc_typed_bodies.specs.CcObjects.Types.{is_complete_or_unbounded, composite}
+use Rattle.cc_typed_bodies.specs.CcObjects.declared.category.Category.{Category}
+use Rattle.cc_typed_bodies.specs.CcObjects.declared.category.Category.TheVariants as declares
+use Rattle.cc_typed_bodies.specs.CcOperands.Qualified.{plain, is_function_type}
+use Rattle.cc_typed_bodies.specs.CcSyntax.Views.{View}
 use Rattle.cc_program.proofs.Each.{Each}
 use Rattle.cc_program.specs.declared.expr.Expr.{Expr}
 use Rattle.cc_program.specs.declared.program.Roles.{Roles}
@@ -21,13 +21,13 @@ use Rattle.cc_program.specs.declared.types.Shape.{Shape, Array, out-Shape}
 use Rattle.cc_program.specs.declared.types.Shape.TheOpen as shape
 use Rattle.cc_program.specs.declared.types.Shape.TheVariants.{outs-Array}
 use Rattle.cc_program.specs.declared.types.Sig.{Sig}
-use Rattle.cc_scopes.specs.Linked.{linked_name}
-use Rattle.cc_scopes.specs.Standings.{with_alias, is_none}
-use Rattle.cc_scopes.specs.State.{State, Name, Scope, structures_of, layouts_of}
-use Rattle.cc_scopes.specs.Structures.{new_structure, tag_by}
-use Rattle.cc_scopes.specs.Verdicts.{whole, and_then}
-use Rattle.cc_scopes.specs.State as states
-use Rattle.cc_scopes.specs.declared.designated.Tagged.{Tagged}
+use Rattle.cc_typed_bodies.specs.CcScopes.Linked.{linked_name}
+use Rattle.cc_typed_bodies.specs.CcScopes.Standings.{with_alias, is_none}
+use Rattle.cc_typed_bodies.specs.CcScopes.State.{State, Name, Scope, structures_of, layouts_of}
+use Rattle.cc_typed_bodies.specs.CcScopes.Structures.{new_structure, tag_by}
+use Rattle.cc_typed_bodies.specs.CcScopes.Verdicts.{whole, and_then}
+use Rattle.cc_typed_bodies.specs.CcScopes.State as states
+use Rattle.cc_typed_bodies.specs.CcScopes.declared.designated.Tagged.{Tagged}
 use Rattle.cc_sound_declarations.specs.Declaring.{AreDeclared, DeclaresGiven, Declares}
 use Rattle.cc_sound_declarations.proofs.Declaring.{declares_itself, of_extends}
 use Rattle.cc_sound_declarations.proofs.Steps.{restructured}
@@ -39,26 +39,26 @@ use Rattle.cc_sound_terms.proofs.Cycle.{declr_holds}
 use Rattle.cc_sound_terms.proofs.Founds.{answer_is, then_found, whole_found, located_found}
 use Rattle.cc_sound_terms.proofs.Laws.{specifiers_stand}
 use Rattle.cc_sound_terms.proofs.Types.{new_is, derived_holds}
-use Rattle.cc_specifiers.specs.Attributes.{attributes, entry_by}
-use Rattle.cc_specifiers.specs.Declarators.{declares_function, form_of, type_found}
-use Rattle.cc_specifiers.specs.declared.attribute.Attribute.{Attribute}
-use Rattle.cc_specifiers.specs.declared.derivation.Declarator.{Declarator}
-use Rattle.cc_specifiers.specs.declared.specifier.Specified.{Specified}
-use Rattle.cc_specifiers.specs.declared.storage.Where.{Where}
-use Rattle.cc_syntax.specs.SameTypes.{is_func_shape}
-use Rattle.cc_syntax.specs.Types.{Named}
-use Rattle.cc_syntax.proofs.Prefixes.{both_true}
-use Rattle.cc_terms.specs.InTurn.{in_turn}
-use Rattle.cc_terms.specs.Specifiers.{specified_found}
-use Rattle.cc_terms.specs.Terms.{spec_here, declr_of}
+use Rattle.cc_typed_bodies.specs.CcSpecifiers.Attributes.{attributes, entry_by}
+use Rattle.cc_typed_bodies.specs.CcSpecifiers.Declarators.{declares_function, form_of, type_found}
+use Rattle.cc_typed_bodies.specs.CcSpecifiers.declared.attribute.Attribute.{Attribute}
+use Rattle.cc_typed_bodies.specs.CcSpecifiers.declared.derivation.Declarator.{Declarator}
+use Rattle.cc_typed_bodies.specs.CcSpecifiers.declared.specifier.Specified.{Specified}
+use Rattle.cc_typed_bodies.specs.CcSpecifiers.declared.storage.Where.{Where}
+use Rattle.cc_typed_bodies.specs.CcSyntax.SameTypes.{is_func_shape}
+use Rattle.cc_typed_bodies.specs.CcSyntax.Types.{Named}
+use Rattle.cc_typed_bodies.proofs.CcSyntax.Prefixes.{both_true}
+use Rattle.cc_typed_bodies.specs.CcTerms.InTurn.{in_turn}
+use Rattle.cc_typed_bodies.specs.CcTerms.Specifiers.{specified_found}
+use Rattle.cc_typed_bodies.specs.CcTerms.Terms.{spec_here, declr_of}
 use Rattle.cc_tree.specs.declared.at.At.{At}
 use Rattle.cc_tree.specs.declared.tree.Spec.{Spec, out-Spec}
 use Rattle.cc_tree.specs.declared.unit.Decl.{Decl}
 use Rattle.cc_tree.specs.declared.unit.Given.{Given}
 use Rattle.cc_tree.specs.declared.unit.Init.{Init}
 use Rattle.cc_typed_bodies.specs.Declarations.{marked, init_allowed, declared_left, declared_with, named_found, init_found, init_next, inits_found, declaration}
-use Rattle.cc_words.specs.declared.word.Word.{Word}
-use Rattle.cc_words.specs.declared.word.Word.TheVariants as w
+use Rattle.cc_program.specs.CcWords.declared.word.Word.{Word}
+use Rattle.cc_program.specs.CcWords.declared.word.Word.TheVariants as w
 use Rattle.cc_sound_declarations.specs.Ranges.{value_fits, init_fits, decl_fits}
 use Rattle.cc_sound_declarations.proofs.Forms.{form_is, function_derived}
 use Rattle.cc_sound_declarations.proofs.Given.{Leaves, left_as, nothing_left, then_left, left_from, same_declared, behind_types}

@@ -1,12 +1,12 @@
 -- What is known of closing braces behind a name that is brought into scope: it closes no structure, and stands for no type.
 use Rattle.std.proofs.Common.{◌≡◌, ℕ, List, [], ◌∷◌, ◌++◌, length, refl, sym, subst}
-use Rattle.cc_operands.specs.Qualified.{without_const}
+use Rattle.cc_typed_bodies.specs.CcOperands.Qualified.{without_const}
 use Rattle.cc_program.specs.declared.types.CType.{CType}
-use Rattle.cc_scopes.specs.State.{KnownStructure, State, Name, bind, with_declared, with_locals}
-use Rattle.cc_scopes.specs.declared.designated.Designated.{Designated}
-use Rattle.cc_scopes.specs.declared.designated.Designated.TheVariants as means
-use Rattle.cc_scopes.specs.declared.unit.Declared.{Declared}
-use Rattle.cc_objects.specs.Linked.{with_automatic}
+use Rattle.cc_typed_bodies.specs.CcScopes.State.{KnownStructure, State, Name, bind, with_declared, with_locals}
+use Rattle.cc_typed_bodies.specs.CcScopes.declared.designated.Designated.{Designated}
+use Rattle.cc_typed_bodies.specs.CcScopes.declared.designated.Designated.TheVariants as means
+use Rattle.cc_typed_bodies.specs.CcScopes.declared.unit.Declared.{Declared}
+use Rattle.cc_typed_bodies.specs.CcObjects.Linked.{with_automatic}
 use Rattle.cc_sound_declarations.specs.Declaring.{DeclaresGiven}
 use Rattle.cc_sound_terms.proofs.Behind.{bind_adds, stands_behind}
 use Rattle.cc_sound_terms.proofs.Closings.{closings_itself, closings_through}
@@ -15,8 +15,8 @@ use Rattle.cc_sound_terms.specs.Closings.{Closings}
 use Rattle.cc_sound_terms.specs.Growing.{StructuresKept}
 use Rattle.cc_sound_terms.specs.Ordered.{IsOrdered}
 use Rattle.cc_sound_terms.specs.Typing.{KnowsTypes}
-use Rattle.cc_syntax.specs.Types.{Named}
-use Rattle.cc_syntax.specs.Views.{View}
+use Rattle.cc_typed_bodies.specs.CcSyntax.Types.{Named}
+use Rattle.cc_typed_bodies.specs.CcSyntax.Views.{View}
 
 linked_no_type : (i : ℕ) (w : CType) → means.Linked i ≡ means.TypeNamed w → ⊥
 linked_no_type i w h = cc

@@ -1,31 +1,31 @@
 -- The type of an object to which an initialiser gives its bound is complete, as its element is: of an array without a bound that is judged where its declarator is read.
 use Rattle.std.proofs.Common.{◌≡◌, ◌<◌, ℕ, Bool, true, false, not, ◌&&◌, ◌||◌, List, [], ◌∷◌, Option, Some, None, Ok, Err, refl, ap, sym, ◌∙◌, subst, leb-true, lt-ltb}
 use Rattle.std.specs.Prelude.{nat_le, nat_lt, if◌then◌else◌}
-use Rattle.cc_initialisers.specs.Initialisers.{bound_given}
-use Rattle.cc_num.specs.declared.target.Target.{Target}
-use Rattle.cc_objects.specs.Types.{element_or, element_type, with_bound, contents_in, type_given, is_object_in, is_complete_or_unbounded}
-use Rattle.cc_operands.specs.Qualified.{plain}
-use Rattle.cc_operands.specs.declared.rule.Rule.{Rule}
+use Rattle.cc_typed_bodies.specs.CcInitialisers.Initialisers.{bound_given}
+use Rattle.cc_program.specs.CcNum.declared.target.Target.{Target}
+use Rattle.cc_typed_bodies.specs.CcObjects.Types.{element_or, element_type, with_bound, contents_in, type_given, is_object_in, is_complete_or_unbounded}
+use Rattle.cc_typed_bodies.specs.CcOperands.Qualified.{plain}
+use Rattle.cc_typed_bodies.specs.CcOperands.declared.rule.Rule.{Rule}
 use Rattle.cc_program.specs.declared.types.CType.{CType}
 use Rattle.cc_program.specs.declared.types.Shape.{Shape, Array, out-Shape}
 use Rattle.cc_program.specs.declared.types.Shape.TheOpen as shape
 use Rattle.cc_program.specs.declared.types.Shape.TheVariants.{outs-Pointer, outs-Array, outs-Func}
 use Rattle.cc_program.specs.declared.types.Sig.{Sig, roll-Sig}
 use Rattle.cc_program.specs.declared.types.Structure.{Structure}
-use Rattle.cc_scopes.specs.State.{State, Scope, structures_of, layouts_of}
-use Rattle.cc_specifiers.specs.Bounds.{is_bound}
-use Rattle.cc_specifiers.specs.Declarators.{bound_or_none, function_to, derive_one, derive, is_unbounded_shape, is_unbounded, broken_unless, breach, fault_or, derived_further, derived}
-use Rattle.cc_specifiers.specs.Objects.{size_of, is_object}
-use Rattle.cc_specifiers.specs.Places.{JudgedAt}
-use Rattle.cc_specifiers.specs.declared.derivation.Derivation.{Derivation}
-use Rattle.cc_specifiers.specs.declared.derivation.Derivation.TheVariants as to
-use Rattle.cc_specifiers.specs.declared.derivation.Parameter.{Parameter}
-use Rattle.cc_syntax.proofs.Prefixes.{both_true}
-use Rattle.cc_syntax.proofs.TypeLayouts.{parts_complete, complete-opens}
-use Rattle.cc_syntax.specs.Initial.{bound_shape}
-use Rattle.cc_syntax.specs.Kinds.{is_small}
-use Rattle.cc_syntax.specs.Types.{complete_shape, is_complete}
-use Rattle.cc_syntax.specs.declared.sizes.Layout.{Layout}
+use Rattle.cc_typed_bodies.specs.CcScopes.State.{State, Scope, structures_of, layouts_of}
+use Rattle.cc_typed_bodies.specs.CcSpecifiers.Bounds.{is_bound}
+use Rattle.cc_typed_bodies.specs.CcSpecifiers.Declarators.{bound_or_none, function_to, derive_one, derive, is_unbounded_shape, is_unbounded, broken_unless, breach, fault_or, derived_further, derived}
+use Rattle.cc_typed_bodies.specs.CcSpecifiers.Objects.{size_of, is_object}
+use Rattle.cc_typed_bodies.specs.CcSpecifiers.Places.{JudgedAt}
+use Rattle.cc_typed_bodies.specs.CcSpecifiers.declared.derivation.Derivation.{Derivation}
+use Rattle.cc_typed_bodies.specs.CcSpecifiers.declared.derivation.Derivation.TheVariants as to
+use Rattle.cc_typed_bodies.specs.CcSpecifiers.declared.derivation.Parameter.{Parameter}
+use Rattle.cc_typed_bodies.proofs.CcSyntax.Prefixes.{both_true}
+use Rattle.cc_typed_bodies.proofs.CcSyntax.TypeLayouts.{parts_complete, complete-opens}
+use Rattle.cc_typed_bodies.specs.CcSyntax.Initial.{bound_shape}
+use Rattle.cc_typed_bodies.specs.CcSyntax.Kinds.{is_small}
+use Rattle.cc_typed_bodies.specs.CcSyntax.Types.{complete_shape, is_complete}
+use Rattle.cc_typed_bodies.specs.CcSyntax.declared.sizes.Layout.{Layout}
 use Rattle.cc_tree.specs.declared.at.At.{At}
 use Rattle.cc_tree.specs.declared.unit.Given.{Given}
 

@@ -2,7 +2,7 @@
 use Rattle.std.proofs.Common.{◌≡◌, ◌≤◌, ◌<◌, ◌+◌, ◌⊎◌, inl, inr, ℕ, zero, suc, Bool, true, false, ◌||◌, List, [], ◌∷◌, ◌++◌, map, length, Some, refl, ap, sym, ◌∙◌, subst, arith, eqb-true, eq-eqb, append_assoc}
 use Rattle.std.specs.Prelude.{nat_eq, nat_lt, slice_get, option_map}
 use Rattle.std.proofs.lemmas.Option.{slice_get-map}
-use Rattle.cc_initialisers.specs.Contents.{Contents, Elements, Members, contents_over, of_members, members_at, structure_inside, contents}
+use Rattle.cc_typed_bodies.specs.CcInitialisers.Contents.{Contents, Elements, Members, contents_over, of_members, members_at, structure_inside, contents}
 use Rattle.cc_program.proofs.Each.{Each}
 use Rattle.cc_program.proofs.TypeInduction.{with_shape, TypeParts, by_type}
 use Rattle.cc_program.specs.declared.types.CType.{CType, fold_out-CType}
@@ -11,12 +11,12 @@ use Rattle.cc_program.specs.declared.types.Shape.TheOpen as shape
 use Rattle.cc_program.specs.declared.types.Sig.{Sig, fold-Sig}
 use Rattle.cc_program.specs.declared.types.Structure.{Structure}
 use Rattle.cc_sound_declarations.proofs.Places.{opened, contents-opens}
-use Rattle.cc_scopes.specs.State.{State, KnownStructure, members_or_none, as_structure, structures_of}
+use Rattle.cc_typed_bodies.specs.CcScopes.State.{State, KnownStructure, members_or_none, as_structure, structures_of}
 use Rattle.cc_sound_terms.specs.Growing.{StructuresKept}
 use Rattle.cc_sound_terms.specs.Ordered.{HasMembers, is_among, complete_over, is_complete_over, AreOrdered, IsOrdered}
 use Rattle.cc_sound_terms.proofs.Completeness.{content_at, members_listed}
-use Rattle.cc_syntax.specs.Types.{Named, is_complete}
-use Rattle.cc_syntax.proofs.Prefixes.{both_true}
+use Rattle.cc_typed_bodies.specs.CcSyntax.Types.{Named, is_complete}
+use Rattle.cc_typed_bodies.proofs.CcSyntax.Prefixes.{both_true}
 
 append_nothing : {A : Type 0} (xs : List A) → xs ++ [] ≡ xs
 append_nothing [] = refl

@@ -2,32 +2,32 @@
 use Rattle.std.proofs.Common.{◌≡◌, ℕ, Bool, true, false, ◌&&◌, List, [], ◌∷◌, ◌++◌, length, map, Option, Some, None, Ok, refl, ap, sym, ◌∙◌, subst}
 use Rattle.std.specs.Prelude.{is_some, if◌then◌else◌}
 use Rattle.std.specs.List.{list_all, list_any}
-use Rattle.cc_typed_terms.specs.Declarators.{derived_type}
-use Rattle.cc_typed_terms.specs.Located.{located}
-use Rattle.cc_initialisers.specs.Initialisers.{here as given_here}
-use Rattle.cc_linkage.specs.Linkage.{declared}
-use Rattle.cc_linkage.specs.declared.linkage.DeclaredAs.{DeclaredAs}
-use Rattle.cc_linkage.specs.declared.linkage.DeclaredAs.TheVariants.{AsStatic, AsObject, AsExtern}
-use Rattle.cc_objects.specs.Categories.{entity_of, is_given, setting_of}
-use Rattle.cc_objects.specs.Linked.{object_declared, with_static, with_automatic}
-use Rattle.cc_objects.specs.Names.{name_judged}
-use Rattle.cc_objects.specs.Tags.{defines_untagged, is_typedef_word, aliased, in_front}
-use Rattle.cc_objects.specs.Types.{composite, element_type, is_complete_or_unbounded, type_given}
-use Rattle.cc_objects.specs.Values.{expr_given, no_expr}
-use Rattle.cc_objects.specs.declared.category.Category.{Category}
-use Rattle.cc_objects.specs.declared.category.Category.TheVariants as declares
-use Rattle.cc_operands.specs.Qualified.{is_function_type}
-use Rattle.cc_operands.specs.declared.rule.Rule.TheVariants as rule
-use Rattle.cc_typed_terms.specs.Primary.{is_intrinsic, leaves_or_none}
+use Rattle.cc_typed_bodies.specs.CcTypedTerms.Declarators.{derived_type}
+use Rattle.cc_typed_bodies.specs.CcTypedTerms.Located.{located}
+use Rattle.cc_typed_bodies.specs.CcInitialisers.Initialisers.{here as given_here}
+use Rattle.cc_typed_bodies.specs.CcLinkage.Linkage.{declared}
+use Rattle.cc_typed_bodies.specs.CcLinkage.declared.linkage.DeclaredAs.{DeclaredAs}
+use Rattle.cc_typed_bodies.specs.CcLinkage.declared.linkage.DeclaredAs.TheVariants.{AsStatic, AsObject, AsExtern}
+use Rattle.cc_typed_bodies.specs.CcObjects.Categories.{entity_of, is_given, setting_of}
+use Rattle.cc_typed_bodies.specs.CcObjects.Linked.{object_declared, with_static, with_automatic}
+use Rattle.cc_typed_bodies.specs.CcObjects.Names.{name_judged}
+use Rattle.cc_typed_bodies.specs.CcObjects.Tags.{defines_untagged, is_typedef_word, aliased, in_front}
+use Rattle.cc_typed_bodies.specs.CcObjects.Types.{composite, element_type, is_complete_or_unbounded, type_given}
+use Rattle.cc_typed_bodies.specs.CcObjects.Values.{expr_given, no_expr}
+use Rattle.cc_typed_bodies.specs.CcObjects.declared.category.Category.{Category}
+use Rattle.cc_typed_bodies.specs.CcObjects.declared.category.Category.TheVariants as declares
+use Rattle.cc_typed_bodies.specs.CcOperands.Qualified.{is_function_type}
+use Rattle.cc_typed_bodies.specs.CcOperands.declared.rule.Rule.TheVariants as rule
+use Rattle.cc_typed_bodies.specs.CcTypedTerms.Primary.{is_intrinsic, leaves_or_none}
 use Rattle.cc_program.proofs.Each.{Each}
 use Rattle.cc_program.specs.declared.expr.Expr.{Expr}
 use Rattle.cc_program.specs.declared.program.Roles.{Roles}
 use Rattle.cc_program.specs.declared.types.CType.{CType}
-use Rattle.cc_scopes.specs.Definitions.{tentative_at, with_values}
-use Rattle.cc_scopes.specs.Standings.{is_none}
-use Rattle.cc_scopes.specs.State.{State, Name, Scope, bind, change_name, structures_of, layouts_of}
-use Rattle.cc_scopes.specs.Verdicts.{whole, and_then}
-use Rattle.cc_scopes.specs.declared.designated.Designated.TheVariants as means
+use Rattle.cc_typed_bodies.specs.CcScopes.Definitions.{tentative_at, with_values}
+use Rattle.cc_typed_bodies.specs.CcScopes.Standings.{is_none}
+use Rattle.cc_typed_bodies.specs.CcScopes.State.{State, Name, Scope, bind, change_name, structures_of, layouts_of}
+use Rattle.cc_typed_bodies.specs.CcScopes.Verdicts.{whole, and_then}
+use Rattle.cc_typed_bodies.specs.CcScopes.declared.designated.Designated.TheVariants as means
 use Rattle.cc_sound_declarations.specs.Assigns.{AssignsTyped, BodyReached, HasObjects}
 use Rattle.cc_sound_declarations.proofs.Automatic.{automatic_given}
 use Rattle.cc_sound_declarations.proofs.Complete.{element_complete}
@@ -50,19 +50,19 @@ use Rattle.cc_sound_terms.specs.Behind.{Extends}
 use Rattle.cc_sound_terms.specs.Knowing.{Stands}
 use Rattle.cc_sound_terms.specs.Ranges.{all_fit, declr_in_range, spec_in_range}
 use Rattle.cc_sound_terms.specs.Standing.{DerivationsStand, IsDerived}
-use Rattle.cc_specifiers.specs.Attributes.{attributes, entry_by}
-use Rattle.cc_specifiers.specs.Declarators.{declares_function, form_of, is_unbounded, type_found}
-use Rattle.cc_specifiers.specs.Modes.{modes_judged}
-use Rattle.cc_specifiers.specs.declared.attribute.Attribute.{Attribute}
-use Rattle.cc_specifiers.specs.declared.derivation.Declarator.{Declarator}
-use Rattle.cc_specifiers.specs.declared.specifier.Specified.{Specified}
-use Rattle.cc_specifiers.specs.declared.storage.Where.{Where}
-use Rattle.cc_syntax.proofs.Prefixes.{both_true}
-use Rattle.cc_syntax.specs.Types.{Named, is_complete}
-use Rattle.cc_syntax.specs.Views.{View}
-use Rattle.cc_terms.specs.InTurn.{in_turn}
-use Rattle.cc_terms.specs.Specifiers.{specified_found}
-use Rattle.cc_terms.specs.Terms.{spec_here, declr_of}
+use Rattle.cc_typed_bodies.specs.CcSpecifiers.Attributes.{attributes, entry_by}
+use Rattle.cc_typed_bodies.specs.CcSpecifiers.Declarators.{declares_function, form_of, is_unbounded, type_found}
+use Rattle.cc_typed_bodies.specs.CcSpecifiers.Modes.{modes_judged}
+use Rattle.cc_typed_bodies.specs.CcSpecifiers.declared.attribute.Attribute.{Attribute}
+use Rattle.cc_typed_bodies.specs.CcSpecifiers.declared.derivation.Declarator.{Declarator}
+use Rattle.cc_typed_bodies.specs.CcSpecifiers.declared.specifier.Specified.{Specified}
+use Rattle.cc_typed_bodies.specs.CcSpecifiers.declared.storage.Where.{Where}
+use Rattle.cc_typed_bodies.proofs.CcSyntax.Prefixes.{both_true}
+use Rattle.cc_typed_bodies.specs.CcSyntax.Types.{Named, is_complete}
+use Rattle.cc_typed_bodies.specs.CcSyntax.Views.{View}
+use Rattle.cc_typed_bodies.specs.CcTerms.InTurn.{in_turn}
+use Rattle.cc_typed_bodies.specs.CcTerms.Specifiers.{specified_found}
+use Rattle.cc_typed_bodies.specs.CcTerms.Terms.{spec_here, declr_of}
 use Rattle.cc_tree.specs.declared.at.At.{At}
 use Rattle.cc_tree.specs.declared.tree.Spec.{Spec}
 use Rattle.cc_tree.specs.declared.unit.Decl.{Decl}
@@ -71,7 +71,7 @@ use Rattle.cc_tree.specs.declared.unit.Init.{Init}
 use Rattle.cc_typed_bodies.specs.Declarations.{marked, init_allowed, declared_left, declared_with, named_found, init_found, init_next, inits_found, declaration}
 use Rattle.cc_typed_bodies.specs.Functions.{function_left, function_refused, typedef_left, with_function}
 use Rattle.cc_typed_bodies.specs.Objects.{automatic_left, leaves_found, linked_given, linked_left, static_left}
-use Rattle.cc_unit.specs.declared.unit.UnitKind.TheVariants as kind
+use Rattle.cc_typed_bodies.specs.CcUnit.declared.unit.UnitKind.TheVariants as kind
 
 module _ (v : View) (roles : Roles) (defined : List Name) (k : ℕ) where
   -- ---- what declares no automatic object with an initialiser gives nothing

@@ -1,10 +1,10 @@
 -- Declarations and statements are put one behind another, and into scopes of their own.
 use Rattle.std.proofs.Common.{◌≡◌, inl, ◌≤◌, ℕ, zero, suc, List, [], ◌∷◌, ◌++◌, length, map, Some, refl, ap, sym, ◌∙◌, append_assoc, arith}
 use Rattle.std.specs.Prelude.{slice_get, option_map}
-use Rattle.cc_syntax.specs.Views.{View}
-use Rattle.cc_scopes.specs.State.{State, Name, tagged, empty, designated, entered, left, outer_scopes}
-use Rattle.cc_scopes.specs.declared.designated.Designated.{Designated}
-use Rattle.cc_scopes.specs.declared.designated.Designated.TheVariants as means
+use Rattle.cc_typed_bodies.specs.CcSyntax.Views.{View}
+use Rattle.cc_typed_bodies.specs.CcScopes.State.{State, Name, tagged, empty, designated, entered, left, outer_scopes}
+use Rattle.cc_typed_bodies.specs.CcScopes.declared.designated.Designated.{Designated}
+use Rattle.cc_typed_bodies.specs.CcScopes.declared.designated.Designated.TheVariants as means
 use Rattle.cc_sound_terms.specs.Behind.{Adds, Extends}
 use Rattle.cc_sound_terms.specs.Closings.{Closings}
 use Rattle.cc_sound_terms.specs.Growing.{IsConstant}
@@ -13,7 +13,7 @@ use Rattle.cc_sound_terms.specs.Typing.{KnowsTypes, Knows}
 use Rattle.cc_sound_terms.proofs.Behind.{names_itself, names_through, names_more, knows_back, behind_itself, behind_through, behind_left, known_first, known_second, more_through, no_more, stands_behind}
 use Rattle.cc_sound_terms.proofs.Closings.{closings_entered, closings_given, closings_itself, closings_through}
 use Rattle.cc_sound_terms.proofs.Growth.{get_front, all_kept, structures_through, objects_stand, tag_through}
-use Rattle.cc_syntax.specs.Types.{Named}
+use Rattle.cc_typed_bodies.specs.CcSyntax.Types.{Named}
 use Rattle.cc_sound_declarations.specs.Declaring.{unconst, lowered, AreDeclared, DeclaresGiven, Declares}
 use Rattle.cc_sound_declarations.specs.Reached.{GoesOn}
 use Rattle.cc_sound_declarations.proofs.Entries.{entries_through, entry_added}

@@ -1,17 +1,17 @@
 -- What is so of an entry stays so; strings and devices without a name are such entries.
 use Rattle.std.proofs.Common.{◌≡◌, ◌⊎◌, inl, inr, ℕ, ℤ, pos, negsuc, Bool, true, List, Option, Some, None, refl, sym, ◌∙◌, subst}
 use Rattle.std.specs.Prelude.{slice_get}
-use Rattle.cc_designators.specs.Casts.{fits_pointer}
-use Rattle.cc_num.specs.declared.int_type.IntType.{IntType}
-use Rattle.cc_num.specs.declared.target.Target.{Target}
-use Rattle.cc_typed_terms.specs.Devices.{device_of}
+use Rattle.cc_typed_bodies.specs.CcDesignators.Casts.{fits_pointer}
+use Rattle.cc_program.specs.CcNum.declared.int_type.IntType.{IntType}
+use Rattle.cc_program.specs.CcNum.declared.target.Target.{Target}
+use Rattle.cc_typed_bodies.specs.CcTypedTerms.Devices.{device_of}
 use Rattle.cc_program.specs.declared.types.CType.{CType}
 use Rattle.cc_program.specs.declared.types.Shape.TheVariants.{outs-Int}
-use Rattle.cc_scopes.specs.State.{State, Name}
-use Rattle.cc_scopes.specs.declared.unit.Declared.{Declared}
+use Rattle.cc_typed_bodies.specs.CcScopes.State.{State, Name}
+use Rattle.cc_typed_bodies.specs.CcScopes.declared.unit.Declared.{Declared}
 use Rattle.cc_sound_terms.specs.Behind.{HasEntry, IsUnnamed, OfString, OfDevice, SameKind, Objects, Devices, Functions, EntryKept, NamesKept}
-use Rattle.cc_syntax.specs.Sound.{is_device}
-use Rattle.cc_unit.specs.declared.unit.UnitKind.{UnitKind}
+use Rattle.cc_typed_bodies.specs.CcSyntax.Sound.{is_device}
+use Rattle.cc_typed_bodies.specs.CcUnit.declared.unit.UnitKind.{UnitKind}
 use Rattle.cc_sound_declarations.specs.Entries.{IsEntryOf, IsEntry}
 
 some_is : {A : Type 0} (a b : A) → Some a ≡ Some b → a ≡ b

@@ -1,42 +1,42 @@
 -- What a declarator declares is told by the part of it next to the name: its first derivation, by induction over declarators.
 use Rattle.std.proofs.Common.{◌≡◌, ℕ, Bool, true, false, not, ◌&&◌, ◌||◌, List, map, [], ◌∷◌, ◌++◌, Option, Some, None, Ok, Err, refl, ap, sym, ◌∙◌, subst}
-use Rattle.cc_typed_terms.specs.Located.{located}
-use Rattle.cc_num.specs.declared.target.Target.{Target}
+use Rattle.cc_typed_bodies.specs.CcTypedTerms.Located.{located}
+use Rattle.cc_program.specs.CcNum.declared.target.Target.{Target}
 use Rattle.cc_operand_types.proofs.Operands.{ok_is, must_ok}
-use Rattle.cc_operands.specs.Operands.{Operand}
-use Rattle.cc_operands.specs.declared.rule.Rule.{Rule}
-use Rattle.cc_operands.specs.declared.rule.Rule.TheVariants as rule
-use Rattle.cc_operands.specs.Qualified.{is_function_type, unqualified}
-use Rattle.cc_typed_terms.specs.Values.{value_found}
+use Rattle.cc_typed_bodies.specs.CcOperands.Operands.{Operand}
+use Rattle.cc_typed_bodies.specs.CcOperands.declared.rule.Rule.{Rule}
+use Rattle.cc_typed_bodies.specs.CcOperands.declared.rule.Rule.TheVariants as rule
+use Rattle.cc_typed_bodies.specs.CcOperands.Qualified.{is_function_type, unqualified}
+use Rattle.cc_typed_bodies.specs.CcTypedTerms.Values.{value_found}
 use Rattle.cc_program.specs.declared.program.Roles.{Roles}
 use Rattle.cc_program.specs.declared.types.CType.{CType}
 use Rattle.cc_program.specs.declared.types.Shape.{Func}
 use Rattle.cc_program.specs.declared.types.Shape.TheOpen as shape
 use Rattle.cc_program.specs.declared.types.Shape.TheVariants.{outs-Func}
 use Rattle.cc_program.specs.declared.types.Sig.{roll-Sig}
-use Rattle.cc_scopes.specs.State.{State, Scope, structures_of, layouts_of}
-use Rattle.cc_scopes.specs.Verdicts.{whole, and_then}
+use Rattle.cc_typed_bodies.specs.CcScopes.State.{State, Scope, structures_of, layouts_of}
+use Rattle.cc_typed_bodies.specs.CcScopes.Verdicts.{whole, and_then}
 use Rattle.cc_sound_terms.proofs.Founds.{answer_is, then_found, whole_found, then_judged}
 use Rattle.cc_sound_terms.proofs.TreeInduction.{bare_declr, by_declr}
-use Rattle.cc_specifiers.specs.Bounds.{bound_judged}
-use Rattle.cc_specifiers.specs.Declarators.{function_to, derive_one, derive, breach, fault_or, derived_further, derived, type_found, nearer, form_step, form_of, is_function_form}
-use Rattle.cc_specifiers.specs.Derivations.{with_derivation, is_next_to_name, suffix_found, pointer_derivation}
-use Rattle.cc_specifiers.specs.Places.{JudgedAt}
-use Rattle.cc_specifiers.specs.declared.declarator.Form.{Form}
-use Rattle.cc_specifiers.specs.declared.declarator.Form.TheVariants as form
-use Rattle.cc_specifiers.specs.declared.derivation.Allowed.{Allowed}
-use Rattle.cc_specifiers.specs.declared.derivation.Declarator.{Declarator}
-use Rattle.cc_specifiers.specs.declared.derivation.Derivation.{Derivation}
-use Rattle.cc_specifiers.specs.declared.derivation.Derivation.TheVariants as to
-use Rattle.cc_specifiers.specs.declared.derivation.Parameter.{Parameter}
-use Rattle.cc_syntax.specs.SameTypes.{is_func_shape}
-use Rattle.cc_terms.specs.Constants.{enumr_step}
-use Rattle.cc_terms.specs.Declarators.{without_bound, with_bound, bounded, declr_step, params_step, param_step, type_name_step}
-use Rattle.cc_terms.specs.Expressions.{tree_step}
-use Rattle.cc_terms.specs.Meanings.{TreeMeaning, DeclrMeaning, ParamsMeaning, ParamMeaning, SpecMeaning, MembersMeaning, EnumrMeaning, TypeNameMeaning}
-use Rattle.cc_terms.specs.Members.{members_step}
-use Rattle.cc_terms.specs.Specifiers.{spec_step}
-use Rattle.cc_terms.specs.Terms.{tree_of, declr_of, params_of, param_of, spec_of, members_of, enumr_of, type_name_of}
+use Rattle.cc_typed_bodies.specs.CcSpecifiers.Bounds.{bound_judged}
+use Rattle.cc_typed_bodies.specs.CcSpecifiers.Declarators.{function_to, derive_one, derive, breach, fault_or, derived_further, derived, type_found, nearer, form_step, form_of, is_function_form}
+use Rattle.cc_typed_bodies.specs.CcSpecifiers.Derivations.{with_derivation, is_next_to_name, suffix_found, pointer_derivation}
+use Rattle.cc_typed_bodies.specs.CcSpecifiers.Places.{JudgedAt}
+use Rattle.cc_typed_bodies.specs.CcSpecifiers.declared.declarator.Form.{Form}
+use Rattle.cc_typed_bodies.specs.CcSpecifiers.declared.declarator.Form.TheVariants as form
+use Rattle.cc_typed_bodies.specs.CcSpecifiers.declared.derivation.Allowed.{Allowed}
+use Rattle.cc_typed_bodies.specs.CcSpecifiers.declared.derivation.Declarator.{Declarator}
+use Rattle.cc_typed_bodies.specs.CcSpecifiers.declared.derivation.Derivation.{Derivation}
+use Rattle.cc_typed_bodies.specs.CcSpecifiers.declared.derivation.Derivation.TheVariants as to
+use Rattle.cc_typed_bodies.specs.CcSpecifiers.declared.derivation.Parameter.{Parameter}
+use Rattle.cc_typed_bodies.specs.CcSyntax.SameTypes.{is_func_shape}
+use Rattle.cc_typed_bodies.specs.CcTerms.Constants.{enumr_step}
+use Rattle.cc_typed_bodies.specs.CcTerms.Declarators.{without_bound, with_bound, bounded, declr_step, params_step, param_step, type_name_step}
+use Rattle.cc_typed_bodies.specs.CcTerms.Expressions.{tree_step}
+use Rattle.cc_typed_bodies.specs.CcTerms.Meanings.{TreeMeaning, DeclrMeaning, ParamsMeaning, ParamMeaning, SpecMeaning, MembersMeaning, EnumrMeaning, TypeNameMeaning}
+use Rattle.cc_typed_bodies.specs.CcTerms.Members.{members_step}
+use Rattle.cc_typed_bodies.specs.CcTerms.Specifiers.{spec_step}
+use Rattle.cc_typed_bodies.specs.CcTerms.Terms.{tree_of, declr_of, params_of, param_of, spec_of, members_of, enumr_of, type_name_of}
 use Rattle.cc_tree.specs.declared.at.At.{At}
 use Rattle.cc_tree.specs.declared.tree.Declr.{Declr, roll-Declr, map-Declr, fold-roll-Declr}
 use Rattle.cc_tree.specs.declared.tree.Declr.TheOpen as one
@@ -47,7 +47,7 @@ use Rattle.cc_tree.specs.declared.tree.Params.{Params}
 use Rattle.cc_tree.specs.declared.tree.Spec.{Spec}
 use Rattle.cc_tree.specs.declared.tree.Tree.{Tree}
 use Rattle.cc_tree.specs.declared.tree.TypeName.{TypeName}
-use Rattle.cc_words.specs.declared.word.Word.{Word}
+use Rattle.cc_program.specs.CcWords.declared.word.Word.{Word}
 
 abbrev form_at : Derivation Scope → Form
 form_at (to.Pointer constant volatile) = form.Pointer

@@ -1,7 +1,7 @@
 -- What is declared is put behind types that are found: what is known of them is what the rest stands on.
 use Rattle.std.proofs.Common.{◌≡◌, ℕ, List, ◌∙◌, subst, sym}
-use Rattle.cc_syntax.specs.Views.{View}
-use Rattle.cc_scopes.specs.State.{State, Name}
+use Rattle.cc_typed_bodies.specs.CcSyntax.Views.{View}
+use Rattle.cc_typed_bodies.specs.CcScopes.State.{State, Name}
 use Rattle.cc_sound_declarations.specs.Declaring.{AreDeclared, DeclaresGiven}
 use Rattle.cc_sound_declarations.proofs.Entries.{entries_through}
 use Rattle.cc_sound_declarations.proofs.Declaring.{declares_itself, declares_through, of_extends, given_from, given_less}
@@ -13,7 +13,7 @@ use Rattle.cc_sound_terms.proofs.Behind.{behind_through, known_first, known_seco
 use Rattle.cc_sound_terms.proofs.Closings.{closings_through}
 use Rattle.cc_sound_terms.proofs.Growth.{structures_through}
 use Rattle.cc_sound_terms.proofs.Outcomes.{Outcome}
-use Rattle.cc_syntax.specs.Types.{Named}
+use Rattle.cc_typed_bodies.specs.CcSyntax.Types.{Named}
 
 module _ (v : View) (defined : List Name) where
   -- where P is known of the parts, this is what is left of the whole

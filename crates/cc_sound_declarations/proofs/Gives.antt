@@ -3,7 +3,7 @@ use Rattle.std.proofs.Common.{◌≡◌, ℕ, Bool, true, false, ◌&&◌, List,
 use Rattle.std.specs.Prelude.{is_some}
 use Rattle.std.specs.List.{list_all}
 use Rattle.cc_program.specs.declared.expr.Expr.{Expr}
-use Rattle.cc_scopes.specs.State.{State, Name}
+use Rattle.cc_typed_bodies.specs.CcScopes.State.{State, Name}
 use Rattle.cc_sound_declarations.specs.Assigns.{AssignsTyped, HasObjects}
 use Rattle.cc_sound_declarations.proofs.Given.{Finds, Leaves, behind_goes}
 use Rattle.cc_sound_declarations.proofs.Declaring.{declares_through, given_from, known_before, known_behind, of_extends}
@@ -11,9 +11,9 @@ use Rattle.cc_sound_declarations.specs.Declaring.{DeclaresGiven, lowered}
 use Rattle.cc_sound_terms.proofs.Behind.{known_first}
 use Rattle.cc_sound_terms.specs.Behind.{Extends}
 use Rattle.cc_sound_terms.specs.Typing.{Knows}
-use Rattle.cc_syntax.specs.Expressions.{type_of}
-use Rattle.cc_syntax.specs.Types.{Named}
-use Rattle.cc_syntax.specs.Views.{View}
+use Rattle.cc_typed_bodies.specs.CcSyntax.Expressions.{type_of}
+use Rattle.cc_typed_bodies.specs.CcSyntax.Types.{Named}
+use Rattle.cc_typed_bodies.specs.CcSyntax.Views.{View}
 
 module _ (v : View) (defined : List Name) (k : ℕ) where
   -- where P is known of the parts

@@ -1,13 +1,13 @@
 -- What is found in a function's body is put one behind another, where structures stand in order.
 use Rattle.std.proofs.Common.{ℕ, List}
-use Rattle.cc_scopes.specs.State.{State, Name, empty, entered}
+use Rattle.cc_typed_bodies.specs.CcScopes.State.{State, Name, empty, entered}
 use Rattle.cc_sound_declarations.specs.Assigns.{HasObjects}
 use Rattle.cc_sound_declarations.proofs.Declaring.{goes_on}
 use Rattle.cc_sound_declarations.specs.Declaring.{Declares}
 use Rattle.cc_sound_declarations.specs.Reached.{GoesOn}
 use Rattle.cc_sound_terms.specs.Typing.{Knows}
-use Rattle.cc_syntax.specs.Types.{Named}
-use Rattle.cc_syntax.specs.Views.{View}
+use Rattle.cc_typed_bodies.specs.CcSyntax.Types.{Named}
+use Rattle.cc_typed_bodies.specs.CcSyntax.Views.{View}
 
 pub has_on : (v : View) (defined : List Name) (k : ℕ) → GoesOn (Declares v defined) (λ D s t. Knows v D s t) (HasObjects k)
 has_on v defined k =

@@ -1,17 +1,17 @@
 -- What is done for an initialiser adds strings and devices alone to what is known.
 use Rattle.std.proofs.Common.{◌≡◌, ℕ, Bool, true, List, [], ◌∷◌, ◌++◌, Option, Some, None, Ok, sym, ◌∙◌, subst}
 use Rattle.std.specs.Prelude.{option_to_list}
-use Rattle.cc_initialisers.specs.Initialisers.{Step, Give, Character, Zero, Visit, Break}
-use Rattle.cc_num.specs.declared.int_type.IntType.TheVariants as int
-use Rattle.cc_operands.specs.Operands.{Operand, integer, character_value}
-use Rattle.cc_operands.specs.Verdicts.{Judged}
-use Rattle.cc_operands.specs.declared.rule.Rule.{Rule}
-use Rattle.cc_syntax.specs.Views.{View}
-use Rattle.cc_typed_terms.specs.Values.{value_found}
+use Rattle.cc_typed_bodies.specs.CcInitialisers.Initialisers.{Step, Give, Character, Zero, Visit, Break}
+use Rattle.cc_program.specs.CcNum.declared.int_type.IntType.TheVariants as int
+use Rattle.cc_typed_bodies.specs.CcOperands.Operands.{Operand, integer, character_value}
+use Rattle.cc_typed_bodies.specs.CcOperands.Verdicts.{Judged}
+use Rattle.cc_typed_bodies.specs.CcOperands.declared.rule.Rule.{Rule}
+use Rattle.cc_typed_bodies.specs.CcSyntax.Views.{View}
+use Rattle.cc_typed_bodies.specs.CcTypedTerms.Values.{value_found}
 use Rattle.cc_program.proofs.Each.{Each}
 use Rattle.cc_program.specs.declared.program.Roles.{Roles}
-use Rattle.cc_scopes.specs.State.{State}
-use Rattle.cc_scopes.specs.Verdicts.{Found, whole}
+use Rattle.cc_typed_bodies.specs.CcScopes.State.{State}
+use Rattle.cc_typed_bodies.specs.CcScopes.Verdicts.{Found, whole}
 use Rattle.cc_sound_terms.specs.Behind.{Extends}
 use Rattle.cc_sound_terms.specs.Growing.{IsConstant}
 use Rattle.cc_sound_terms.specs.Ranges.{fits}
@@ -19,9 +19,9 @@ use Rattle.cc_sound_terms.proofs.Behind.{adds_itself, adds_through}
 use Rattle.cc_sound_terms.proofs.Cycle.{tree_holds}
 use Rattle.cc_sound_terms.proofs.Founds.{answer_is, then_found, whole_found}
 use Rattle.cc_sound_terms.proofs.Trees.{value_holds}
-use Rattle.cc_syntax.specs.Values.{ValueType}
-use Rattle.cc_terms.specs.InTurn.{in_turn}
-use Rattle.cc_terms.specs.Terms.{here}
+use Rattle.cc_typed_bodies.specs.CcSyntax.Values.{ValueType}
+use Rattle.cc_typed_bodies.specs.CcTerms.InTurn.{in_turn}
+use Rattle.cc_typed_bodies.specs.CcTerms.Terms.{here}
 use Rattle.cc_tree.specs.declared.at.At.{At}
 use Rattle.cc_tree.specs.declared.tree.Tree.{Tree}
 use Rattle.cc_typed_bodies.specs.Plans.{as_given, step_found, step_done, steps_done}

@@ -3,21 +3,21 @@ use Rattle.std.proofs.Common.{◌≡◌, ℕ, Bool, true, false, ◌&&◌, List,
 use Rattle.std.specs.Prelude.{not, slice_get, if◌then◌else◌}
 use Rattle.std.specs.List.{list_any}
 use Rattle.std.specs.Str.{bytes_eq}
-use Rattle.cc_initialisers.specs.Contents.{Contents}
-use Rattle.cc_initialisers.specs.Initialisers.{here as given_here, initialised}
-use Rattle.cc_initialisers.specs.Scalars.{scalars_from}
-use Rattle.cc_linkage.specs.Linkage.{new_declared, declared_by, declared}
-use Rattle.cc_linkage.specs.declared.linkage.DeclaredAs.{DeclaredAs}
-use Rattle.cc_linkage.specs.declared.linkage.DeclaredAs.TheVariants.{AsStatic, AsObject, AsExtern}
-use Rattle.cc_objects.specs.Linked.{device_by, is_extern, object_kind, static_object, with_static, with_automatic}
-use Rattle.cc_objects.specs.Types.{contents_in, type_given, given_incomplete, completed_type, composite_by, is_complete_or_unbounded}
-use Rattle.cc_objects.specs.Values.{leaf_given, expr_given, no_leaf, no_expr, assignments}
-use Rattle.cc_operands.specs.Operands.{Operand}
-use Rattle.cc_operands.specs.Qualified.{is_function_type, without_const}
-use Rattle.cc_operands.specs.Verdicts.{Judged}
-use Rattle.cc_operands.specs.declared.rule.Rule.TheVariants as rule
-use Rattle.cc_syntax.specs.Views.{View, kind_in}
-use Rattle.cc_typed_terms.specs.Primary.{is_intrinsic, leaves_or_none}
+use Rattle.cc_typed_bodies.specs.CcInitialisers.Contents.{Contents}
+use Rattle.cc_typed_bodies.specs.CcInitialisers.Initialisers.{here as given_here, initialised}
+use Rattle.cc_typed_bodies.specs.CcInitialisers.Scalars.{scalars_from}
+use Rattle.cc_typed_bodies.specs.CcLinkage.Linkage.{new_declared, declared_by, declared}
+use Rattle.cc_typed_bodies.specs.CcLinkage.declared.linkage.DeclaredAs.{DeclaredAs}
+use Rattle.cc_typed_bodies.specs.CcLinkage.declared.linkage.DeclaredAs.TheVariants.{AsStatic, AsObject, AsExtern}
+use Rattle.cc_typed_bodies.specs.CcObjects.Linked.{device_by, is_extern, object_kind, static_object, with_static, with_automatic}
+use Rattle.cc_typed_bodies.specs.CcObjects.Types.{contents_in, type_given, given_incomplete, completed_type, composite_by, is_complete_or_unbounded}
+use Rattle.cc_typed_bodies.specs.CcObjects.Values.{leaf_given, expr_given, no_leaf, no_expr, assignments}
+use Rattle.cc_typed_bodies.specs.CcOperands.Operands.{Operand}
+use Rattle.cc_typed_bodies.specs.CcOperands.Qualified.{is_function_type, without_const}
+use Rattle.cc_typed_bodies.specs.CcOperands.Verdicts.{Judged}
+use Rattle.cc_typed_bodies.specs.CcOperands.declared.rule.Rule.TheVariants as rule
+use Rattle.cc_typed_bodies.specs.CcSyntax.Views.{View, kind_in}
+use Rattle.cc_typed_bodies.specs.CcTypedTerms.Primary.{is_intrinsic, leaves_or_none}
 use Rattle.cc_program.proofs.Each.{Each}
 use Rattle.cc_program.specs.declared.expr.Expr.{Expr}
 use Rattle.cc_program.specs.declared.expr.Place.{Place, Local, Static}
@@ -28,12 +28,12 @@ use Rattle.cc_program.specs.declared.types.Shape.{Shape, Array, out-Shape}
 use Rattle.cc_program.specs.declared.types.Shape.TheOpen as shape
 use Rattle.cc_program.specs.declared.types.Sig.{Sig}
 use Rattle.cc_program.specs.declared.value.Leaf.{Leaf}
-use Rattle.cc_scopes.specs.Definitions.{tentative_at, entry_added, with_entry, with_values}
-use Rattle.cc_scopes.specs.Linked.{linked_name}
-use Rattle.cc_scopes.specs.State.{State, Name, bind, with_declared, with_unfinished, change_name}
-use Rattle.cc_scopes.specs.Verdicts.{whole, and_then}
-use Rattle.cc_scopes.specs.declared.designated.Designated.TheVariants as means
-use Rattle.cc_scopes.specs.declared.unit.Declared.{Declared}
+use Rattle.cc_typed_bodies.specs.CcScopes.Definitions.{tentative_at, entry_added, with_entry, with_values}
+use Rattle.cc_typed_bodies.specs.CcScopes.Linked.{linked_name}
+use Rattle.cc_typed_bodies.specs.CcScopes.State.{State, Name, bind, with_declared, with_unfinished, change_name}
+use Rattle.cc_typed_bodies.specs.CcScopes.Verdicts.{whole, and_then}
+use Rattle.cc_typed_bodies.specs.CcScopes.declared.designated.Designated.TheVariants as means
+use Rattle.cc_typed_bodies.specs.CcScopes.declared.unit.Declared.{Declared}
 use Rattle.cc_sound_declarations.specs.Entries.{IsEntryOf}
 use Rattle.cc_sound_declarations.specs.Declaring.{AreDeclared, DeclaresGiven}
 use Rattle.cc_sound_declarations.proofs.Declaring.{declares_itself, declares_through, of_extends}
@@ -44,22 +44,22 @@ use Rattle.cc_sound_terms.specs.Standing.{IsDerived}
 use Rattle.cc_sound_terms.specs.Typing.{KnowsTypes}
 use Rattle.cc_sound_terms.proofs.Founds.{answer_is, then_found, whole_found}
 use Rattle.cc_sound_terms.proofs.Growth.{get_last}
-use Rattle.cc_specifiers.specs.Attributes.{entry_by}
-use Rattle.cc_specifiers.specs.Declarators.{is_unbounded}
-use Rattle.cc_specifiers.specs.Modes.{modes_judged}
-use Rattle.cc_specifiers.specs.declared.attribute.Attribute.{Attribute}
-use Rattle.cc_syntax.specs.Kinds.{is_object_type}
-use Rattle.cc_syntax.specs.Types.{Named}
-use Rattle.cc_syntax.proofs.Prefixes.{both_true}
-use Rattle.cc_syntax.specs.Values.{ValueType}
+use Rattle.cc_typed_bodies.specs.CcSpecifiers.Attributes.{entry_by}
+use Rattle.cc_typed_bodies.specs.CcSpecifiers.Declarators.{is_unbounded}
+use Rattle.cc_typed_bodies.specs.CcSpecifiers.Modes.{modes_judged}
+use Rattle.cc_typed_bodies.specs.CcSpecifiers.declared.attribute.Attribute.{Attribute}
+use Rattle.cc_typed_bodies.specs.CcSyntax.Kinds.{is_object_type}
+use Rattle.cc_typed_bodies.specs.CcSyntax.Types.{Named}
+use Rattle.cc_typed_bodies.proofs.CcSyntax.Prefixes.{both_true}
+use Rattle.cc_typed_bodies.specs.CcSyntax.Values.{ValueType}
 use Rattle.cc_tree.specs.declared.at.At.{At}
 use Rattle.cc_tree.specs.declared.unit.Given.{Given}
 use Rattle.cc_typed_bodies.specs.Functions.{typedef_left, with_function, function_refused, function_left}
 use Rattle.cc_typed_bodies.specs.Objects.{initial_values, leaves_found, exprs_found, linked_given, linked_known, static_left, automatic_left}
 use Rattle.cc_typed_bodies.specs.Plans.{steps_done}
-use Rattle.cc_unit.specs.Entries.{both_entries}
-use Rattle.cc_unit.specs.declared.unit.UnitKind.{UnitKind}
-use Rattle.cc_unit.specs.declared.unit.UnitKind.TheVariants as kind
+use Rattle.cc_typed_bodies.specs.CcUnit.Entries.{both_entries}
+use Rattle.cc_typed_bodies.specs.CcUnit.declared.unit.UnitKind.{UnitKind}
+use Rattle.cc_typed_bodies.specs.CcUnit.declared.unit.UnitKind.TheVariants as kind
 use Rattle.cc_sound_declarations.proofs.Braces.{behind_entry, behind_object}
 use Rattle.cc_sound_declarations.proofs.Given.{Leaves, goes_as, left_as, one_left, less}
 use Rattle.cc_sound_terms.proofs.Closings.{closings_alike, closings_itself}

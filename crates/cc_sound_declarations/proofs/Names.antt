@@ -1,22 +1,22 @@
 -- What is judged of names that are declared, and how an entry is told more of.
 use Rattle.std.proofs.Common.{◌≡◌, Bool, true, false, not, ◌&&◌, Option, Ok, Err, ◌∙◌}
 use Rattle.std.specs.Prelude.{is_some, if◌then◌else◌}
-use Rattle.cc_typed_terms.specs.Names.{new_name}
-use Rattle.cc_linkage.specs.Linkage.{may_be_declared, may_be_main}
-use Rattle.cc_linkage.specs.declared.linkage.DeclaredAs.{DeclaredAs}
-use Rattle.cc_num.specs.declared.target.Target.{Target}
-use Rattle.cc_objects.specs.Names.{function_judged, is_prototype, prototype_judged, typedef_judged, object_judged, linked_judged, local_judged, name_judged}
-use Rattle.cc_objects.specs.Types.{is_complete_or_unbounded}
-use Rattle.cc_objects.specs.declared.category.Category.{Category}
-use Rattle.cc_objects.specs.declared.category.Category.TheVariants as declares
-use Rattle.cc_operands.specs.Verdicts.{must}
-use Rattle.cc_operands.specs.declared.rule.Rule.TheVariants as rule
+use Rattle.cc_typed_bodies.specs.CcTypedTerms.Names.{new_name}
+use Rattle.cc_typed_bodies.specs.CcLinkage.Linkage.{may_be_declared, may_be_main}
+use Rattle.cc_typed_bodies.specs.CcLinkage.declared.linkage.DeclaredAs.{DeclaredAs}
+use Rattle.cc_program.specs.CcNum.declared.target.Target.{Target}
+use Rattle.cc_typed_bodies.specs.CcObjects.Names.{function_judged, is_prototype, prototype_judged, typedef_judged, object_judged, linked_judged, local_judged, name_judged}
+use Rattle.cc_typed_bodies.specs.CcObjects.Types.{is_complete_or_unbounded}
+use Rattle.cc_typed_bodies.specs.CcObjects.declared.category.Category.{Category}
+use Rattle.cc_typed_bodies.specs.CcObjects.declared.category.Category.TheVariants as declares
+use Rattle.cc_typed_bodies.specs.CcOperands.Verdicts.{must}
+use Rattle.cc_typed_bodies.specs.CcOperands.declared.rule.Rule.TheVariants as rule
 use Rattle.cc_operand_types.proofs.Operands.{given, ok_is, must_ok}
-use Rattle.cc_typed_terms.specs.Primary.{intrinsic_named, is_intrinsic}
+use Rattle.cc_typed_bodies.specs.CcTypedTerms.Primary.{intrinsic_named, is_intrinsic}
 use Rattle.cc_program.specs.declared.func.Entry.{Entry}
 use Rattle.cc_program.specs.declared.program.Roles.{Roles}
 use Rattle.cc_program.specs.declared.types.CType.{CType}
-use Rattle.cc_scopes.specs.State.{State, Name}
+use Rattle.cc_typed_bodies.specs.CcScopes.State.{State, Name}
 use Rattle.cc_sound_terms.proofs.Founds.{then_judged}
 
 type_same : (t u : CType) → given t ≡ Ok u → t ≡ u

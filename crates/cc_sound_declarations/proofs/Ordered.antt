@@ -1,12 +1,12 @@
 -- Steps that break no rule give each scalar of an object something, in order: by induction over initialisers, and over what an object consists of.
 use Rattle.std.proofs.Common.{◌≡◌, ℕ, zero, suc, Bool, true, false, List, [], ◌∷◌, ◌++◌, map, length, Option, Some, None, refl, ap, sym, ◌∙◌, subst, append_assoc}
 use Rattle.std.specs.Prelude.{is_some, nat_le, if◌then◌else◌}
-use Rattle.cc_initialisers.specs.Contents.{Contents, Scalar, Elements, NoMember, Members}
-use Rattle.cc_initialisers.specs.Initialisers.{Step, Initialiser, Init, Filled, Filling, breaks, refused_by, is_scalar_object, char_or_zero, chars_given, text_by, text_given, both_filled, scalar_given, scalar_filled, string_for, started_by, started, repeated, elided, nothing_left, all_taken, sole_by, sole, list_braced, given_step, initialiser_of, here, list_initialised, aggregate_initialised, initialised}
-use Rattle.cc_operands.specs.declared.rule.Rule.{Rule}
-use Rattle.cc_operands.specs.declared.rule.Rule.TheVariants as rule
+use Rattle.cc_typed_bodies.specs.CcInitialisers.Contents.{Contents, Scalar, Elements, NoMember, Members}
+use Rattle.cc_typed_bodies.specs.CcInitialisers.Initialisers.{Step, Initialiser, Init, Filled, Filling, breaks, refused_by, is_scalar_object, char_or_zero, chars_given, text_by, text_given, both_filled, scalar_given, scalar_filled, string_for, started_by, started, repeated, elided, nothing_left, all_taken, sole_by, sole, list_braced, given_step, initialiser_of, here, list_initialised, aggregate_initialised, initialised}
+use Rattle.cc_typed_bodies.specs.CcOperands.declared.rule.Rule.{Rule}
+use Rattle.cc_typed_bodies.specs.CcOperands.declared.rule.Rule.TheVariants as rule
 use Rattle.cc_program.proofs.Each.{Each}
-use Rattle.cc_syntax.specs.Values.{ValueType}
+use Rattle.cc_typed_bodies.specs.CcSyntax.Values.{ValueType}
 use Rattle.cc_tree.specs.declared.at.At.{At}
 use Rattle.cc_tree.specs.declared.tree.Tree.{Tree}
 use Rattle.cc_tree.specs.declared.unit.Given.{Given, roll-Given, map-Given, fold-roll-Given, ind-Given}

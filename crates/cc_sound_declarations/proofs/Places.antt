@@ -2,9 +2,9 @@
 use Rattle.std.proofs.Common.{◌≡◌, ◌≤◌, ◌<◌, ◌^◌, ◌+◌, ℕ, zero, suc, pos, Bool, true, false, ◌&&◌, ◌||◌, List, [], ◌∷◌, ◌++◌, map, length, Option, Some, None, refl, ap, sym, ◌∙◌, subst, arith, leb-true, lt-ltb}
 use Rattle.std.specs.Prelude.{◌*◌, nat_le, nat_lt, slice_get, if◌then◌else◌}
 use Rattle.cc_sound_declarations.specs.Scalars.{OneScalar, times, scalars_of}
-use Rattle.cc_initialisers.specs.Contents.{Contents, Scalar, Elements, NoMember, ShapeInside, Inside, shape_inside, type_inside, contents_over, of_members, members_at, structure_inside, contents}
-use Rattle.cc_initialisers.specs.Scalars.{decimal, index_at, elements_from, scalars_from}
-use Rattle.cc_operands.specs.Operands.{integer, number_type}
+use Rattle.cc_typed_bodies.specs.CcInitialisers.Contents.{Contents, Scalar, Elements, NoMember, ShapeInside, Inside, shape_inside, type_inside, contents_over, of_members, members_at, structure_inside, contents}
+use Rattle.cc_typed_bodies.specs.CcInitialisers.Scalars.{decimal, index_at, elements_from, scalars_from}
+use Rattle.cc_typed_bodies.specs.CcOperands.Operands.{integer, number_type}
 use Rattle.cc_operand_types.specs.Typed.{is_pointed_kind, MembersStand}
 use Rattle.cc_operand_types.proofs.Literals.{number_fits}
 use Rattle.cc_operand_types.proofs.Operands.{as_constant, integer_as}
@@ -21,11 +21,11 @@ use Rattle.cc_program.specs.declared.types.Shape.TheOpen as shape
 use Rattle.cc_program.specs.declared.types.Sig.{Sig, fold-Sig}
 use Rattle.cc_program.specs.declared.types.Structure.{Structure}
 use Rattle.cc_sound_terms.proofs.Within.{AreWithin}
-use Rattle.cc_syntax.specs.Kinds.{Kind, IsArray, array_kind, bytes_in, is_small, qualified_kind, shape_kind}
-use Rattle.cc_syntax.specs.Types.{Named}
-use Rattle.cc_syntax.specs.Values.{ValueType, Integer, ObjectPlace, pointer_to, scalar_value, scalar_shape, element_shape, member_shape, member_in, member_at}
-use Rattle.cc_syntax.specs.Views.{View, kind_in}
-use Rattle.cc_syntax.specs.Expressions.{type_of, place_type}
+use Rattle.cc_typed_bodies.specs.CcSyntax.Kinds.{Kind, IsArray, array_kind, bytes_in, is_small, qualified_kind, shape_kind}
+use Rattle.cc_typed_bodies.specs.CcSyntax.Types.{Named}
+use Rattle.cc_typed_bodies.specs.CcSyntax.Values.{ValueType, Integer, ObjectPlace, pointer_to, scalar_value, scalar_shape, element_shape, member_shape, member_in, member_at}
+use Rattle.cc_typed_bodies.specs.CcSyntax.Views.{View, kind_in}
+use Rattle.cc_typed_bodies.specs.CcSyntax.Expressions.{type_of, place_type}
 use Rattle.cc_sound_declarations.specs.Places.{ArePlaces}
 
 -- ---- what an object of a type consists of, by its shape

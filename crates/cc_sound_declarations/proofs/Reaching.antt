@@ -1,12 +1,12 @@
 -- What is found is put one behind another, and into scopes.
 use Rattle.std.proofs.Common.{◌≡◌, ℕ, List, [], ◌∷◌, ◌++◌, Option, Some, None, Ok, refl, ap, sym, ◌∙◌, subst, append_assoc}
-use Rattle.cc_operands.specs.Verdicts.{Judged}
+use Rattle.cc_typed_bodies.specs.CcOperands.Verdicts.{Judged}
 use Rattle.cc_program.proofs.Each.{Each}
-use Rattle.cc_scopes.specs.State.{State}
-use Rattle.cc_scopes.specs.Verdicts.{Found, whole, and_then, maybe_found}
+use Rattle.cc_typed_bodies.specs.CcScopes.State.{State}
+use Rattle.cc_typed_bodies.specs.CcScopes.Verdicts.{Found, whole, and_then, maybe_found}
 use Rattle.cc_sound_terms.proofs.Founds.{answer, answer_is, then_found, whole_found}
-use Rattle.cc_syntax.specs.Types.{Named}
-use Rattle.cc_terms.specs.InTurn.{in_turn}
+use Rattle.cc_typed_bodies.specs.CcSyntax.Types.{Named}
+use Rattle.cc_typed_bodies.specs.CcTerms.InTurn.{in_turn}
 use Rattle.cc_sound_declarations.specs.Reached.{GoesOn, Reached}
 
 module _ (Goes : State → List Named → State → List Named → Type 0) (Knows : List Named → State → State → Type 0) (Has : List Named → State → Type 0) (on : GoesOn Goes Knows Has) where

@@ -2,14 +2,14 @@
 use Rattle.std.proofs.Common.{◌≡◌, ◌≤◌, ◌⊎◌, inl, inr, ℕ, zero, suc, true, false, List, [], ◌∷◌, ◌++◌, length, Option, Some, refl, ap, sym, ◌∙◌, subst, arith}
 use Rattle.std.specs.Prelude.{slice_get}
 use Rattle.cc_operand_types.proofs.Standing.{object_type}
-use Rattle.cc_syntax.specs.Views.{View, kind_in}
-use Rattle.cc_operands.specs.Qualified.{without_const}
+use Rattle.cc_typed_bodies.specs.CcSyntax.Views.{View, kind_in}
+use Rattle.cc_typed_bodies.specs.CcOperands.Qualified.{without_const}
 use Rattle.cc_program.specs.declared.expr.Place.{Place}
 use Rattle.cc_program.specs.declared.types.CType.{CType}
-use Rattle.cc_scopes.specs.State.{State, Name, KnownStructure, designated, bind, with_declared, with_locals, with_structures, with_unfinished, change_at, change_name}
-use Rattle.cc_scopes.specs.declared.designated.Designated.{Designated}
-use Rattle.cc_scopes.specs.declared.designated.Designated.TheVariants as means
-use Rattle.cc_scopes.specs.declared.unit.Declared.{Declared}
+use Rattle.cc_typed_bodies.specs.CcScopes.State.{State, Name, KnownStructure, designated, bind, with_declared, with_locals, with_structures, with_unfinished, change_at, change_name}
+use Rattle.cc_typed_bodies.specs.CcScopes.declared.designated.Designated.{Designated}
+use Rattle.cc_typed_bodies.specs.CcScopes.declared.designated.Designated.TheVariants as means
+use Rattle.cc_typed_bodies.specs.CcScopes.declared.unit.Declared.{Declared}
 use Rattle.cc_sound_terms.specs.Behind.{HasEntry, NameStands, EntryKept, NamesKept}
 use Rattle.cc_sound_terms.specs.Growing.{Kept, StructureKept}
 use Rattle.cc_sound_terms.specs.Ordered.{HasMembers}
@@ -19,8 +19,8 @@ use Rattle.cc_sound_terms.proofs.Behind.{entry_itself, names_itself, names_more,
 use Rattle.cc_sound_terms.proofs.Closings.{closings_itself}
 use Rattle.cc_sound_terms.proofs.Completeness.{order_kept, ordered_same}
 use Rattle.cc_sound_terms.proofs.Growth.{get_last, all_kept, bind_grows, designated_kept, structures_changed, changed_or_not, tag_through}
-use Rattle.cc_syntax.specs.Kinds.{is_object_type}
-use Rattle.cc_syntax.specs.Types.{Named}
+use Rattle.cc_typed_bodies.specs.CcSyntax.Kinds.{is_object_type}
+use Rattle.cc_typed_bodies.specs.CcSyntax.Types.{Named}
 use Rattle.cc_sound_declarations.specs.Entries.{IsEntry}
 use Rattle.cc_sound_declarations.specs.Declaring.{AreDeclared, AreObjects, DeclaresGiven}
 use Rattle.cc_sound_declarations.proofs.Entries.{entry_of_two}

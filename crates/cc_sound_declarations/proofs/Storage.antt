@@ -2,34 +2,34 @@
 use Rattle.std.proofs.Common.{◌≡◌, ℕ, Bool, true, false, not, ◌&&◌, ◌||◌, List, [], ◌∷◌, Option, Some, None, Ok, refl, ap, sym, ◌∙◌, subst}
 use Rattle.std.specs.Prelude.{is_some}
 use Rattle.std.specs.List.{list_any}
-use Rattle.cc_typed_terms.specs.Specifiers.{begin}
-use Rattle.cc_linkage.specs.declared.linkage.DeclaredAs.{DeclaredAs}
-use Rattle.cc_objects.specs.Categories.{function_category, block_category, category_by, is_given}
-use Rattle.cc_objects.specs.declared.category.Category.TheVariants as declares
-use Rattle.cc_operands.specs.declared.rule.Rule.TheVariants as rule
+use Rattle.cc_typed_bodies.specs.CcTypedTerms.Specifiers.{begin}
+use Rattle.cc_typed_bodies.specs.CcLinkage.declared.linkage.DeclaredAs.{DeclaredAs}
+use Rattle.cc_typed_bodies.specs.CcObjects.Categories.{function_category, block_category, category_by, is_given}
+use Rattle.cc_typed_bodies.specs.CcObjects.declared.category.Category.TheVariants as declares
+use Rattle.cc_typed_bodies.specs.CcOperands.declared.rule.Rule.TheVariants as rule
 use Rattle.cc_operand_types.proofs.Operands.{given, ok_is, must_ok}
 use Rattle.cc_program.proofs.Each.{Each}
-use Rattle.cc_scopes.specs.State.{State}
-use Rattle.cc_scopes.specs.Verdicts.{whole}
+use Rattle.cc_typed_bodies.specs.CcScopes.State.{State}
+use Rattle.cc_typed_bodies.specs.CcScopes.Verdicts.{whole}
 use Rattle.cc_sound_terms.proofs.Founds.{then_found, whole_found, then_judged}
-use Rattle.cc_specifiers.specs.Attributes.{is_function, are_meant}
-use Rattle.cc_specifiers.specs.Specifiers.{no_specifier, with_base, with_storage, word_beside, type_beside, said, with_mark, with_specifier, named_type, specified}
-use Rattle.cc_specifiers.specs.Storage.{storage_fits, fits_storage}
-use Rattle.cc_specifiers.specs.declared.specifier.Specified.{Specified}
-use Rattle.cc_specifiers.specs.declared.specifier.Specifier.{Specifier}
-use Rattle.cc_specifiers.specs.declared.specifier.Specifier.TheVariants as specifier
-use Rattle.cc_specifiers.specs.declared.specifier.Specs.{Specs}
-use Rattle.cc_specifiers.specs.declared.storage.Setting.{Setting}
-use Rattle.cc_specifiers.specs.declared.storage.Where.{Where}
-use Rattle.cc_specifiers.specs.declared.storage.Where.TheVariants as stands
-use Rattle.cc_syntax.proofs.Prefixes.{both_true}
-use Rattle.cc_terms.specs.InTurn.{in_turn}
-use Rattle.cc_terms.specs.Meanings.{SpecMeaning}
-use Rattle.cc_terms.specs.Specifiers.{specifier_found, specifiers_found, specified_found}
+use Rattle.cc_typed_bodies.specs.CcSpecifiers.Attributes.{is_function, are_meant}
+use Rattle.cc_typed_bodies.specs.CcSpecifiers.Specifiers.{no_specifier, with_base, with_storage, word_beside, type_beside, said, with_mark, with_specifier, named_type, specified}
+use Rattle.cc_typed_bodies.specs.CcSpecifiers.Storage.{storage_fits, fits_storage}
+use Rattle.cc_typed_bodies.specs.CcSpecifiers.declared.specifier.Specified.{Specified}
+use Rattle.cc_typed_bodies.specs.CcSpecifiers.declared.specifier.Specifier.{Specifier}
+use Rattle.cc_typed_bodies.specs.CcSpecifiers.declared.specifier.Specifier.TheVariants as specifier
+use Rattle.cc_typed_bodies.specs.CcSpecifiers.declared.specifier.Specs.{Specs}
+use Rattle.cc_typed_bodies.specs.CcSpecifiers.declared.storage.Setting.{Setting}
+use Rattle.cc_typed_bodies.specs.CcSpecifiers.declared.storage.Where.{Where}
+use Rattle.cc_typed_bodies.specs.CcSpecifiers.declared.storage.Where.TheVariants as stands
+use Rattle.cc_typed_bodies.proofs.CcSyntax.Prefixes.{both_true}
+use Rattle.cc_typed_bodies.specs.CcTerms.InTurn.{in_turn}
+use Rattle.cc_typed_bodies.specs.CcTerms.Meanings.{SpecMeaning}
+use Rattle.cc_typed_bodies.specs.CcTerms.Specifiers.{specifier_found, specifiers_found, specified_found}
 use Rattle.cc_tree.specs.declared.at.At.{At}
 use Rattle.cc_tree.specs.declared.unit.Init.{Init}
-use Rattle.cc_words.specs.declared.word.Word.{Word}
-use Rattle.cc_words.specs.declared.word.Word.TheVariants as w
+use Rattle.cc_program.specs.CcWords.declared.word.Word.{Word}
+use Rattle.cc_program.specs.CcWords.declared.word.Word.TheVariants as w
 
 pub same_specs : (a b : Specs) → given a ≡ Ok b → a ≡ b
 same_specs a b h = ok_is h

@@ -1,15 +1,15 @@
 -- The types of what is declared stand: those of objects are complete, where an initialiser gave a bound too, and a function has a function's type.
 use Rattle.std.proofs.Common.{◌≡◌, ℕ, zero, suc, Bool, true, false, not, ◌||◌, List, [], ◌∷◌, Option, Some, None, Ok, Err, refl, ap, sym, ◌∙◌, subst}
 use Rattle.std.specs.Prelude.{◌*◌, if◌then◌else◌}
-use Rattle.cc_initialisers.specs.Initialisers.{bound_given}
-use Rattle.cc_num.specs.declared.int_type.IntType.{IntType}
-use Rattle.cc_num.specs.Integers.{bytes_of}
-use Rattle.cc_objects.specs.Types.{element_or, element_type, with_bound, contents_in, type_given, bound_fits, is_object_in, is_complete_or_unbounded, completed_type}
-use Rattle.cc_operands.specs.Qualified.{plain, is_function_type}
-use Rattle.cc_operands.specs.Verdicts.{Judged, must, some_or}
-use Rattle.cc_operands.specs.declared.rule.Rule.TheVariants as rule
+use Rattle.cc_typed_bodies.specs.CcInitialisers.Initialisers.{bound_given}
+use Rattle.cc_program.specs.CcNum.declared.int_type.IntType.{IntType}
+use Rattle.cc_program.specs.CcNum.Integers.{bytes_of}
+use Rattle.cc_typed_bodies.specs.CcObjects.Types.{element_or, element_type, with_bound, contents_in, type_given, bound_fits, is_object_in, is_complete_or_unbounded, completed_type}
+use Rattle.cc_typed_bodies.specs.CcOperands.Qualified.{plain, is_function_type}
+use Rattle.cc_typed_bodies.specs.CcOperands.Verdicts.{Judged, must, some_or}
+use Rattle.cc_typed_bodies.specs.CcOperands.declared.rule.Rule.TheVariants as rule
 use Rattle.cc_operand_types.specs.Typed.{is_pointed_kind}
-use Rattle.cc_syntax.specs.Views.{View, kind_in}
+use Rattle.cc_typed_bodies.specs.CcSyntax.Views.{View, kind_in}
 use Rattle.cc_operand_types.proofs.Operands.{given, ok_is, must_ok}
 use Rattle.cc_operand_types.proofs.Requalified.{shaped, kind_at}
 use Rattle.cc_program.specs.declared.types.CType.{CType}
@@ -17,20 +17,20 @@ use Rattle.cc_program.specs.declared.types.Shape.{Shape, Int, Array, out-Shape}
 use Rattle.cc_program.specs.declared.types.Shape.TheOpen as shape
 use Rattle.cc_program.specs.declared.types.Shape.TheVariants.{outs-Int, outs-Array}
 use Rattle.cc_program.specs.declared.types.Sig.{Sig}
-use Rattle.cc_scopes.specs.State.{State, structures_of, layouts_of}
+use Rattle.cc_typed_bodies.specs.CcScopes.State.{State, structures_of, layouts_of}
 use Rattle.cc_sound_terms.specs.Behind.{SigStands}
 use Rattle.cc_sound_terms.specs.Knowing.{Stands, KnowsStructures}
 use Rattle.cc_sound_terms.specs.Standing.{IsDerived, Standing, VoidPointer, Unbounded}
 use Rattle.cc_sound_terms.proofs.Founds.{then_judged}
 use Rattle.cc_sound_terms.proofs.TypeKinds.{sizes_known, object_stands, array_kind_is}
-use Rattle.cc_specifiers.specs.Bounds.{is_bound}
-use Rattle.cc_specifiers.specs.Declarators.{is_unbounded_shape, is_unbounded, bound_or_none}
-use Rattle.cc_specifiers.specs.Modes.{mode_type, with_mode, moded_by, moded, all_moded, modes_judged}
-use Rattle.cc_specifiers.specs.declared.attribute.Attribute.{Attribute}
-use Rattle.cc_specifiers.specs.declared.attribute.Attribute.TheVariants as attribute
-use Rattle.cc_syntax.specs.Initial.{bound_shape}
-use Rattle.cc_syntax.specs.Kinds.{Kind, IsVoid, IsScalar, IsStructure, IsArray, IsIncomplete, IsFunction, bytes_in, array_kind, is_object_kind, is_object_type, qualified_kind, shape_kind, is_sig}
-use Rattle.cc_syntax.specs.SameTypes.{is_func_shape}
+use Rattle.cc_typed_bodies.specs.CcSpecifiers.Bounds.{is_bound}
+use Rattle.cc_typed_bodies.specs.CcSpecifiers.Declarators.{is_unbounded_shape, is_unbounded, bound_or_none}
+use Rattle.cc_typed_bodies.specs.CcSpecifiers.Modes.{mode_type, with_mode, moded_by, moded, all_moded, modes_judged}
+use Rattle.cc_typed_bodies.specs.CcSpecifiers.declared.attribute.Attribute.{Attribute}
+use Rattle.cc_typed_bodies.specs.CcSpecifiers.declared.attribute.Attribute.TheVariants as attribute
+use Rattle.cc_typed_bodies.specs.CcSyntax.Initial.{bound_shape}
+use Rattle.cc_typed_bodies.specs.CcSyntax.Kinds.{Kind, IsVoid, IsScalar, IsStructure, IsArray, IsIncomplete, IsFunction, bytes_in, array_kind, is_object_kind, is_object_type, qualified_kind, shape_kind, is_sig}
+use Rattle.cc_typed_bodies.specs.CcSyntax.SameTypes.{is_func_shape}
 use Rattle.cc_tree.specs.declared.at.At.{At}
 use Rattle.cc_tree.specs.declared.unit.Given.{Given}
 

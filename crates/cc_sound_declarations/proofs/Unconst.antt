@@ -3,7 +3,7 @@ use Rattle.std.proofs.Common.{◌≡◌, ℕ, zero, suc, Bool, true, false, ◌|
 use Rattle.std.specs.Prelude.{slice_get, if◌then◌else◌}
 use Rattle.cc_operand_types.proofs.Requalified.{arrayed, kind_at, opens_as, shaped}
 use Rattle.cc_operand_types.specs.Typed.{is_pointed_kind}
-use Rattle.cc_operands.specs.Qualified.{at_element, no_const, without_const}
+use Rattle.cc_typed_bodies.specs.CcOperands.Qualified.{at_element, no_const, without_const}
 use Rattle.cc_program.proofs.TypeInduction.{with_shape, TypeParts, by_type}
 use Rattle.cc_program.specs.declared.types.CType.{CType}
 use Rattle.cc_program.specs.declared.types.Shape.{Shape, Array, out-Shape, roll-Shape, out-roll-Shape}
@@ -13,9 +13,9 @@ use Rattle.cc_program.specs.declared.types.Sig.{Sig}
 use Rattle.cc_sound_declarations.specs.Declaring.{lowered, unconst}
 use Rattle.cc_operand_types.proofs.WithoutConst.{reduced_const, reduced_itself}
 use Rattle.cc_operand_types.specs.Reduced.{ReducedLocals, ReducedType}
-use Rattle.cc_syntax.specs.Kinds.{Kind, IsVoid, IsScalar, IsStructure, IsArray, IsIncomplete, IsFunction, array_kind, bytes_in, is_object_kind, is_object_type, qualified_kind, with_qualifiers}
-use Rattle.cc_syntax.specs.Types.{Named}
-use Rattle.cc_syntax.specs.Views.{View, kind_in}
+use Rattle.cc_typed_bodies.specs.CcSyntax.Kinds.{Kind, IsVoid, IsScalar, IsStructure, IsArray, IsIncomplete, IsFunction, array_kind, bytes_in, is_object_kind, is_object_type, qualified_kind, with_qualifiers}
+use Rattle.cc_typed_bodies.specs.CcSyntax.Types.{Named}
+use Rattle.cc_typed_bodies.specs.CcSyntax.Views.{View, kind_in}
 
 same_some : {A : Type 0} (a b : A) → Some a ≡ Some b → a ≡ b
 same_some a b h = cc

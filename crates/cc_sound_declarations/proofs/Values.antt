@@ -4,14 +4,14 @@ use Rattle.std.specs.Prelude.{option_to_list}
 use Rattle.cc_sound_declarations.specs.Scalars.{OneScalar, scalars_of, step_gives, steps_give, IsUnbroken, AreUnbroken}
 use Rattle.cc_sound_declarations.proofs.Ordered.{initialised_gives}
 use Rattle.cc_sound_declarations.specs.Values.{MayStand, IsGiven, AreGiven}
-use Rattle.cc_initialisers.specs.Contents.{Contents}
-use Rattle.cc_initialisers.specs.Initialisers.{Step, Give, Character, Zero, Visit, Break, here as given_here, initialised}
-use Rattle.cc_num.specs.declared.int_type.IntType.TheVariants as int
-use Rattle.cc_objects.specs.Values.{zero_expr, no_expr, expr_given}
-use Rattle.cc_operands.specs.Assignments.{assigned}
-use Rattle.cc_operands.specs.Operands.{Operand, integer, character_value}
-use Rattle.cc_operands.specs.Verdicts.{Judged, judge_then}
-use Rattle.cc_operands.specs.declared.rule.Rule.TheVariants as rule
+use Rattle.cc_typed_bodies.specs.CcInitialisers.Contents.{Contents}
+use Rattle.cc_typed_bodies.specs.CcInitialisers.Initialisers.{Step, Give, Character, Zero, Visit, Break, here as given_here, initialised}
+use Rattle.cc_program.specs.CcNum.declared.int_type.IntType.TheVariants as int
+use Rattle.cc_typed_bodies.specs.CcObjects.Values.{zero_expr, no_expr, expr_given}
+use Rattle.cc_typed_bodies.specs.CcOperands.Assignments.{assigned}
+use Rattle.cc_typed_bodies.specs.CcOperands.Operands.{Operand, integer, character_value}
+use Rattle.cc_typed_bodies.specs.CcOperands.Verdicts.{Judged, judge_then}
+use Rattle.cc_typed_bodies.specs.CcOperands.declared.rule.Rule.TheVariants as rule
 use Rattle.cc_operand_types.specs.Typed.{IsTypedOperand, IsAssigned, stands}
 use Rattle.cc_operand_types.proofs.Agreement.{assigned_from}
 use Rattle.cc_operand_types.proofs.Constants.{truth_fits}
@@ -19,12 +19,12 @@ use Rattle.cc_operand_types.proofs.Literals.{character_fits}
 use Rattle.cc_operand_types.proofs.Nulls.{null_typed}
 use Rattle.cc_operand_types.proofs.Operands.{ok_is, must_ok, as_constant, integer_as}
 use Rattle.cc_operand_types.proofs.Stores.{assigned_typed}
-use Rattle.cc_typed_terms.specs.Values.{value_found}
+use Rattle.cc_typed_bodies.specs.CcTypedTerms.Values.{value_found}
 use Rattle.cc_program.proofs.Each.{Each}
 use Rattle.cc_program.specs.declared.expr.Expr.{Expr}
 use Rattle.cc_program.specs.declared.program.Roles.{Roles}
-use Rattle.cc_scopes.specs.State.{State}
-use Rattle.cc_scopes.specs.Verdicts.{Found, whole}
+use Rattle.cc_typed_bodies.specs.CcScopes.State.{State}
+use Rattle.cc_typed_bodies.specs.CcScopes.Verdicts.{Found, whole}
 use Rattle.cc_sound_declarations.specs.Ranges.{given_in_range}
 use Rattle.cc_sound_declarations.proofs.Initialised.{StepFits}
 use Rattle.cc_sound_declarations.proofs.Lists.{initialised_fits}
@@ -36,13 +36,13 @@ use Rattle.cc_sound_terms.proofs.Cycle.{tree_holds}
 use Rattle.cc_sound_terms.proofs.Founds.{answer_is, then_found, whole_found, then_judged}
 use Rattle.cc_sound_terms.proofs.Known.{knows_first, knows_second}
 use Rattle.cc_sound_terms.proofs.Trees.{value_holds}
-use Rattle.cc_syntax.specs.Types.{Named}
-use Rattle.cc_syntax.specs.Values.{ValueType, NoValue, Integer, ToObject, ToFunction, is_scalar}
-use Rattle.cc_syntax.proofs.AlikeLemmas.{alike_itself, implies_itself, assignable_object, function_itself}
-use Rattle.cc_syntax.proofs.SameLemmas.{int_itself}
-use Rattle.cc_syntax.specs.Views.{View}
-use Rattle.cc_terms.specs.InTurn.{in_turn}
-use Rattle.cc_terms.specs.Terms.{here}
+use Rattle.cc_typed_bodies.specs.CcSyntax.Types.{Named}
+use Rattle.cc_typed_bodies.specs.CcSyntax.Values.{ValueType, NoValue, Integer, ToObject, ToFunction, is_scalar}
+use Rattle.cc_typed_bodies.proofs.CcSyntax.AlikeLemmas.{alike_itself, implies_itself, assignable_object, function_itself}
+use Rattle.cc_typed_bodies.proofs.CcSyntax.SameLemmas.{int_itself}
+use Rattle.cc_typed_bodies.specs.CcSyntax.Views.{View}
+use Rattle.cc_typed_bodies.specs.CcTerms.InTurn.{in_turn}
+use Rattle.cc_typed_bodies.specs.CcTerms.Terms.{here}
 use Rattle.cc_tree.specs.declared.at.At.{At}
 use Rattle.cc_tree.specs.declared.unit.Given.{Given}
 use Rattle.cc_typed_bodies.specs.Plans.{as_given, step_found, step_done, steps_done}

@@ -2,14 +2,14 @@
 use Rattle.std.specs.Prelude.{◌≡◌, ℕ, true, List, is_some}
 use Rattle.std.specs.List.{list_all}
 use Rattle.cc_program.specs.declared.expr.Expr.{Expr}
-use Rattle.cc_scopes.specs.State.{State, Name}
+use Rattle.cc_typed_bodies.specs.CcScopes.State.{State, Name}
 use Rattle.cc_sound_declarations.specs.Declaring.{AreDeclared, Declares, lowered}
 use Rattle.cc_sound_declarations.specs.Reached.{Reached}
 use Rattle.cc_sound_terms.specs.Ordered.{IsOrdered}
 use Rattle.cc_sound_terms.specs.Typing.{Knows}
-use Rattle.cc_syntax.specs.Expressions.{type_of}
-use Rattle.cc_syntax.specs.Types.{Named}
-use Rattle.cc_syntax.specs.Views.{View}
+use Rattle.cc_typed_bodies.specs.CcSyntax.Expressions.{type_of}
+use Rattle.cc_typed_bodies.specs.CcSyntax.Types.{Named}
+use Rattle.cc_typed_bodies.specs.CcSyntax.Views.{View}
 
 -- a state in which the function has declared these objects, and whose structures stand in order
 pub record HasObjects (parameters : ℕ) (objects : List Named) (s : State) : Type 0 where

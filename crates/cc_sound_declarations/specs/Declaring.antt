@@ -1,19 +1,19 @@
 -- What a declaration or a statement leaves behind it. Beside the state of the rules stand the automatic objects of the function with their declared types: the state's
 -- own list has lost their const, by which they may be initialised (C99 6.2.1, 6.2.4, 6.7.8).
 use Rattle.std.specs.Prelude.{◌≡◌, ◌⊎◌, ◌≤◌, ℕ, zero, suc, true, List, [], ◌∷◌, ◌++◌, length, map, Some, slice_get}
-use Rattle.cc_syntax.specs.Views.{View, kind_in}
-use Rattle.cc_operands.specs.Qualified.{without_const}
+use Rattle.cc_typed_bodies.specs.CcSyntax.Views.{View, kind_in}
+use Rattle.cc_typed_bodies.specs.CcOperands.Qualified.{without_const}
 use Rattle.cc_program.proofs.Each.{Each}
-use Rattle.cc_scopes.specs.State.{State, Name, outer_scopes}
-use Rattle.cc_scopes.specs.declared.unit.Declared.{Declared}
+use Rattle.cc_typed_bodies.specs.CcScopes.State.{State, Name, outer_scopes}
+use Rattle.cc_typed_bodies.specs.CcScopes.declared.unit.Declared.{Declared}
 use Rattle.cc_sound_terms.specs.Behind.{HasEntry, Behind, NamesKept}
 use Rattle.cc_sound_terms.specs.Closings.{Closings}
 use Rattle.cc_sound_terms.specs.Growing.{StructuresKept}
 use Rattle.cc_sound_terms.specs.Knowing.{ObjectsStand}
 use Rattle.cc_sound_terms.specs.Ordered.{IsOrdered}
 use Rattle.cc_sound_terms.specs.Typing.{KnowsTypes}
-use Rattle.cc_syntax.specs.Kinds.{is_object_type}
-use Rattle.cc_syntax.specs.Types.{Named}
+use Rattle.cc_typed_bodies.specs.CcSyntax.Kinds.{is_object_type}
+use Rattle.cc_typed_bodies.specs.CcSyntax.Types.{Named}
 use Rattle.cc_sound_declarations.specs.Entries.{IsEntry}
 
 abbrev pub unconst : Named → Named

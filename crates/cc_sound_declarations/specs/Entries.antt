@@ -3,17 +3,17 @@
 use Rattle.std.specs.Prelude.{◌≡◌, true, false, List, Option, Some}
 use Rattle.std.specs.List.{list_any}
 use Rattle.std.specs.Str.{bytes_eq}
-use Rattle.cc_num.specs.declared.target.Target.{Target}
-use Rattle.cc_operands.specs.Qualified.{is_function_type}
+use Rattle.cc_program.specs.CcNum.declared.target.Target.{Target}
+use Rattle.cc_typed_bodies.specs.CcOperands.Qualified.{is_function_type}
 use Rattle.cc_program.specs.declared.object.Device.{Device}
 use Rattle.cc_program.specs.declared.types.CType.{CType}
 use Rattle.cc_program.specs.declared.types.Shape.{out-Shape}
 use Rattle.cc_program.specs.declared.types.Shape.TheOpen as shape
-use Rattle.cc_scopes.specs.State.{Name}
-use Rattle.cc_scopes.specs.declared.unit.Declared.{Declared}
-use Rattle.cc_syntax.specs.Sound.{is_device}
-use Rattle.cc_unit.specs.declared.unit.UnitKind.{UnitKind}
-use Rattle.cc_unit.specs.declared.unit.UnitKind.TheVariants as kind
+use Rattle.cc_typed_bodies.specs.CcScopes.State.{Name}
+use Rattle.cc_typed_bodies.specs.CcScopes.declared.unit.Declared.{Declared}
+use Rattle.cc_typed_bodies.specs.CcSyntax.Sound.{is_device}
+use Rattle.cc_typed_bodies.specs.CcUnit.declared.unit.UnitKind.{UnitKind}
+use Rattle.cc_typed_bodies.specs.CcUnit.declared.unit.UnitKind.TheVariants as kind
 
 module _ (target : Target) (defined : List Name) where
   pub record IsDeviceEntry (x : Option Name) (t : CType) (d : Device) : Type 0 where

@@ -4,10 +4,10 @@ use Rattle.cc_sound_declarations.specs.Scalars.{OneScalar}
 use Rattle.cc_operand_types.specs.Typed.{stands}
 use Rattle.cc_program.specs.declared.expr.Place.{Place}
 use Rattle.cc_program.specs.declared.types.CType.{CType}
-use Rattle.cc_syntax.specs.Types.{Named}
-use Rattle.cc_syntax.specs.Values.{ObjectPlace, scalar_value}
-use Rattle.cc_syntax.specs.Views.{View}
-use Rattle.cc_syntax.specs.Expressions.{place_type}
+use Rattle.cc_typed_bodies.specs.CcSyntax.Types.{Named}
+use Rattle.cc_typed_bodies.specs.CcSyntax.Values.{ObjectPlace, scalar_value}
+use Rattle.cc_typed_bodies.specs.CcSyntax.Views.{View}
+use Rattle.cc_typed_bodies.specs.CcSyntax.Expressions.{place_type}
 
 module _ (v : View) (locals : List Named) where
   pub record IsScalarPlace (s : OneScalar) (a : Place) : Type 0 where

@@ -1,7 +1,7 @@
 -- What is found in a function's body, from state to state: what is declared there, and what holds of it over all that the function declares (C99 6.8).
 use Rattle.std.specs.Prelude.{◌≡◌, List, ◌++◌}
-use Rattle.cc_scopes.specs.State.{State, empty, entered, left}
-use Rattle.cc_syntax.specs.Types.{Named}
+use Rattle.cc_typed_bodies.specs.CcScopes.State.{State, empty, entered, left}
+use Rattle.cc_typed_bodies.specs.CcSyntax.Types.{Named}
 
 -- `Goes s D t E`: from s to t, in front of which the function's automatic objects are D and behind which they are E, with their declared types; `Knows D s t`: what is known
 -- of a construct between s and t; `Has D s`: D are the objects that the function has at s

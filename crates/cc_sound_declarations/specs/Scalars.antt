@@ -1,9 +1,9 @@
 -- The scalars of an object, in the order of paths, and those to which an initialiser gives something (C99 6.7.8, 19 and 20).
 use Rattle.std.specs.Prelude.{ℕ, zero, suc, Bool, List, [], ◌∷◌, ◌++◌}
-use Rattle.cc_initialisers.specs.Contents.{Contents, Scalar, Elements, NoMember, Members}
-use Rattle.cc_initialisers.specs.Initialisers.{Step, Give, Character, Zero, Visit, Break}
+use Rattle.cc_typed_bodies.specs.CcInitialisers.Contents.{Contents, Scalar, Elements, NoMember, Members}
+use Rattle.cc_typed_bodies.specs.CcInitialisers.Initialisers.{Step, Give, Character, Zero, Visit, Break}
 use Rattle.cc_program.proofs.Each.{Each}
-use Rattle.cc_syntax.specs.Values.{ValueType}
+use Rattle.cc_typed_bodies.specs.CcSyntax.Values.{ValueType}
 
 -- whether it is const, and the type of its value
 abbrev pub OneScalar : Type 0

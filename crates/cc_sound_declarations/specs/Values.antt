@@ -3,9 +3,9 @@ use Rattle.std.specs.Prelude.{◌≡◌, true, false, List, [], ◌∷◌}
 use Rattle.cc_sound_declarations.specs.Scalars.{OneScalar}
 use Rattle.cc_operand_types.specs.Typed.{IsAssigned, stands}
 use Rattle.cc_program.specs.declared.expr.Expr.{Expr}
-use Rattle.cc_syntax.specs.Types.{Named}
-use Rattle.cc_syntax.specs.Values.{is_scalar}
-use Rattle.cc_syntax.specs.Views.{View}
+use Rattle.cc_typed_bodies.specs.CcSyntax.Types.{Named}
+use Rattle.cc_typed_bodies.specs.CcSyntax.Values.{is_scalar}
+use Rattle.cc_typed_bodies.specs.CcSyntax.Views.{View}
 
 -- a scalar of a type that may stand
 abbrev pub MayStand : View → OneScalar → Type 0

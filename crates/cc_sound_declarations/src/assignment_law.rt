@@ -1,12 +1,12 @@
 ghost use Rattle.std.specs.Prelude.{◌≡◌, ℕ, true, List, Ok};
 ghost use Rattle.cc_program.specs.declared.expr.Expr.{Expr};
 ghost use Rattle.cc_program.specs.declared.program.Roles.{Roles};
-ghost use Rattle.cc_scopes.specs.State.{State, Name};
+ghost use Rattle.cc_typed_bodies.specs.CcScopes.State.{State, Name};
 ghost use Rattle.cc_sound_declarations.specs.Assigns.{AssignsTyped, BodyReached, HasObjects};
 ghost use Rattle.cc_sound_declarations.specs.Ranges.{decl_fits};
-ghost use Rattle.cc_specifiers.specs.declared.storage.Where.TheVariants as place;
-ghost use Rattle.cc_syntax.specs.Types.{Named};
-ghost use Rattle.cc_syntax.specs.Views.{View};
+ghost use Rattle.cc_typed_bodies.specs.CcSpecifiers.declared.storage.Where.TheVariants as place;
+ghost use Rattle.cc_typed_bodies.specs.CcSyntax.Types.{Named};
+ghost use Rattle.cc_typed_bodies.specs.CcSyntax.Views.{View};
 ghost use Rattle.cc_tree.specs.declared.unit.Decl.{Decl};
 ghost use Rattle.cc_typed_bodies.specs.Declarations.{declaration};
 

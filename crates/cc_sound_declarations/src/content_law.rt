@@ -1,10 +1,10 @@
 ghost use Rattle.std.specs.Prelude.{◌≡◌, true, false};
-ghost use Rattle.cc_initialisers.specs.Contents.{contents};
+ghost use Rattle.cc_typed_bodies.specs.CcInitialisers.Contents.{contents};
 ghost use Rattle.cc_program.specs.declared.types.CType.{CType};
-ghost use Rattle.cc_scopes.specs.State.{State, structures_of};
+ghost use Rattle.cc_typed_bodies.specs.CcScopes.State.{State, structures_of};
 ghost use Rattle.cc_sound_terms.specs.Growing.{StructuresKept};
 ghost use Rattle.cc_sound_terms.specs.Ordered.{IsOrdered};
-ghost use Rattle.cc_syntax.specs.Types.{is_complete};
+ghost use Rattle.cc_typed_bodies.specs.CcSyntax.Types.{is_complete};
 
 /// What objects consist of (C99 6.2.5, 20; 6.7.2.1, 2). The call does nothing.
 pub fn content_laws()

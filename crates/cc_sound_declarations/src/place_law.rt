@@ -1,18 +1,18 @@
 ghost use Rattle.std.specs.Prelude.{◌≡◌, Bool, true, false, List, Some};
 ghost use Rattle.cc_sound_declarations.specs.Scalars.{scalars_of};
-ghost use Rattle.cc_initialisers.specs.Contents.{contents};
-ghost use Rattle.cc_initialisers.specs.Scalars.{scalars_from};
+ghost use Rattle.cc_typed_bodies.specs.CcInitialisers.Contents.{contents};
+ghost use Rattle.cc_typed_bodies.specs.CcInitialisers.Scalars.{scalars_from};
 ghost use Rattle.cc_operand_types.specs.Typed.{MembersStand, is_pointed_kind};
 ghost use Rattle.cc_program.specs.Qualifiers.{is_const};
 ghost use Rattle.cc_program.specs.declared.expr.Place.{Place};
 ghost use Rattle.cc_program.specs.declared.types.CType.{CType};
 ghost use Rattle.cc_sound_declarations.specs.Places.{ArePlaces};
-ghost use Rattle.cc_scopes.specs.State.{State, structures_of};
+ghost use Rattle.cc_typed_bodies.specs.CcScopes.State.{State, structures_of};
 ghost use Rattle.cc_sound_terms.specs.Knowing.{KnowsStructures};
-ghost use Rattle.cc_syntax.specs.Types.{Named};
-ghost use Rattle.cc_syntax.specs.Values.{ObjectPlace};
-ghost use Rattle.cc_syntax.specs.Views.{View, kind_in};
-ghost use Rattle.cc_syntax.specs.Expressions.{place_type};
+ghost use Rattle.cc_typed_bodies.specs.CcSyntax.Types.{Named};
+ghost use Rattle.cc_typed_bodies.specs.CcSyntax.Values.{ObjectPlace};
+ghost use Rattle.cc_typed_bodies.specs.CcSyntax.Views.{View, kind_in};
+ghost use Rattle.cc_typed_bodies.specs.CcSyntax.Expressions.{place_type};
 
 /// The places of the scalars of an object, over any view that knows the structures of a state and in which members of structures may be designated, and any locals (C99 6.7.8, 20). The call does nothing.
 pub fn place_laws()

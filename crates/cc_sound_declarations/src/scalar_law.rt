@@ -1,6 +1,6 @@
 ghost use Rattle.std.specs.Prelude.{◌≡◌};
-ghost use Rattle.cc_initialisers.specs.Contents.{Contents};
-ghost use Rattle.cc_initialisers.specs.Initialisers.{here, initialised};
+ghost use Rattle.cc_typed_bodies.specs.CcInitialisers.Contents.{Contents};
+ghost use Rattle.cc_typed_bodies.specs.CcInitialisers.Initialisers.{here, initialised};
 ghost use Rattle.cc_tree.specs.declared.at.At.{At};
 ghost use Rattle.cc_tree.specs.declared.unit.Given.{Given};
 ghost use Rattle.cc_sound_declarations.specs.Scalars.{AreUnbroken, scalars_of, steps_give};

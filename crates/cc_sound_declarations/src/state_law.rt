@@ -1,9 +1,9 @@
 ghost use Rattle.std.specs.Prelude.{◌≡◌, ℕ, List, ◌++◌};
-ghost use Rattle.cc_syntax.specs.Views.{View};
-ghost use Rattle.cc_scopes.specs.State.{State, Name};
+ghost use Rattle.cc_typed_bodies.specs.CcSyntax.Views.{View};
+ghost use Rattle.cc_typed_bodies.specs.CcScopes.State.{State, Name};
 ghost use Rattle.cc_sound_terms.specs.Behind.{Extends};
 ghost use Rattle.cc_sound_terms.specs.Typing.{Knows};
-ghost use Rattle.cc_syntax.specs.Types.{Named};
+ghost use Rattle.cc_typed_bodies.specs.CcSyntax.Types.{Named};
 ghost use Rattle.cc_sound_declarations.specs.Declaring.{AreDeclared, Declares};
 ghost use Rattle.cc_sound_declarations.specs.Reached.{GoesOn};
 

@@ -2,14 +2,14 @@ ghost use Rattle.std.specs.Prelude.{◌≡◌, true, List, is_some};
 ghost use Rattle.std.specs.List.{list_all};
 ghost use Rattle.cc_sound_declarations.specs.Scalars.{OneScalar};
 ghost use Rattle.cc_sound_declarations.specs.Values.{AreGiven};
-ghost use Rattle.cc_objects.specs.Values.{assignments};
+ghost use Rattle.cc_typed_bodies.specs.CcObjects.Values.{assignments};
 ghost use Rattle.cc_program.specs.declared.expr.Expr.{Expr};
 ghost use Rattle.cc_program.specs.declared.expr.Place.{Place};
 ghost use Rattle.cc_sound_declarations.specs.Places.{ArePlaces};
 ghost use Rattle.cc_operand_types.specs.Reduced.{ReducedLocals};
-ghost use Rattle.cc_syntax.specs.Types.{Named};
-ghost use Rattle.cc_syntax.specs.Views.{View};
-ghost use Rattle.cc_syntax.specs.Expressions.{type_of};
+ghost use Rattle.cc_typed_bodies.specs.CcSyntax.Types.{Named};
+ghost use Rattle.cc_typed_bodies.specs.CcSyntax.Views.{View};
+ghost use Rattle.cc_typed_bodies.specs.CcSyntax.Expressions.{type_of};
 
 /// What holds of the assignments by which an automatic object is initialised, over any view (C99 6.7.8, 11). The call does nothing.
 pub fn typed_laws()

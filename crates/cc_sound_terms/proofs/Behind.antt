@@ -1,16 +1,16 @@
 -- What stands behind a construct, and what is known behind it: from a state to itself, through states between, and by each thing that is declared.
 use Rattle.std.proofs.Common.{◌≡◌, ◌⊎◌, inl, inr, ℕ, zero, suc, List, [], ◌∷◌, ◌++◌, length, Some, None, refl, ap, sym, ◌∙◌, subst, append_assoc}
 use Rattle.std.specs.Prelude.{slice_get, take}
-use Rattle.cc_syntax.specs.Views.{View}
+use Rattle.cc_terms.specs.CcSyntax.Views.{View}
 use Rattle.cc_program.specs.declared.types.CType.{CType}
-use Rattle.cc_scopes.specs.State.{State, Name, Scope, KnownStructure, empty, in_innermost, with_name, designated, tagged, entered, left, outer_scopes, bind, bind_tag, with_declared, with_structures, with_names}
-use Rattle.cc_scopes.specs.declared.designated.Designated.{Designated}
-use Rattle.cc_scopes.specs.declared.designated.Designated.TheVariants as means
-use Rattle.cc_scopes.specs.declared.designated.Tagged.{Tagged}
-use Rattle.cc_scopes.specs.declared.unit.Declared.{Declared}
-use Rattle.cc_syntax.specs.Types.{Named}
-use Rattle.cc_unit.specs.declared.unit.UnitKind.{UnitKind}
-use Rattle.cc_unit.specs.declared.unit.UnitKind.TheVariants as kind
+use Rattle.cc_terms.specs.CcScopes.State.{State, Name, Scope, KnownStructure, empty, in_innermost, with_name, designated, tagged, entered, left, outer_scopes, bind, bind_tag, with_declared, with_structures, with_names}
+use Rattle.cc_terms.specs.CcScopes.declared.designated.Designated.{Designated}
+use Rattle.cc_terms.specs.CcScopes.declared.designated.Designated.TheVariants as means
+use Rattle.cc_terms.specs.CcScopes.declared.designated.Tagged.{Tagged}
+use Rattle.cc_terms.specs.CcScopes.declared.unit.Declared.{Declared}
+use Rattle.cc_terms.specs.CcSyntax.Types.{Named}
+use Rattle.cc_terms.specs.CcUnit.declared.unit.UnitKind.{UnitKind}
+use Rattle.cc_terms.specs.CcUnit.declared.unit.UnitKind.TheVariants as kind
 use Rattle.cc_sound_terms.specs.Behind.{HasEntry, IsUnnamed, KindStands, NameStands, Behind, Adds, Extends, SameKind, Objects, Devices, Functions, EntryKept, NamesKept}
 use Rattle.cc_sound_terms.specs.Growing.{Kept, StructuresKept, Grows, IsParameter, IsTag}
 use Rattle.cc_sound_terms.specs.Knowing.{Stands, KnowsAs, KnowsNames, TagsStand, TypesStand}

@@ -1,16 +1,16 @@
 -- What is known of closing braces goes on behind each construct.
 use Rattle.std.proofs.Common.{◌≡◌, ◌∙◌, ◌⊎◌, inl, inr, ℕ, false, true≢false, List, [], ◌∷◌, ◌++◌, Option, Some, is_some, slice_get, refl, ap, sym, subst, append_assoc}
 use Rattle.cc_sound_terms.specs.Closings.{ClosedBy, Closings}
-use Rattle.cc_scopes.specs.State.{KnownStructure, State, empty, entered, left}
-use Rattle.cc_scopes.specs.Structures.{completed, has_content, with_members}
+use Rattle.cc_terms.specs.CcScopes.State.{KnownStructure, State, empty, entered, left}
+use Rattle.cc_terms.specs.CcScopes.Structures.{completed, has_content, with_members}
 use Rattle.cc_sound_terms.proofs.Growth.{changed_or_not, changed_place, changed_there, knows_structures, structures_changed, structures_through}
 use Rattle.cc_sound_terms.specs.Knowing.{TagsStand, TypesStand}
 use Rattle.cc_sound_terms.specs.Growing.{StructuresKept}
 use Rattle.cc_sound_terms.specs.Ordered.{AreComplete, HasMembers, IsOrdered}
 use Rattle.cc_sound_terms.specs.Standing.{MembersKnown}
 use Rattle.cc_sound_terms.specs.Typing.{KnowsTypes}
-use Rattle.cc_syntax.specs.Types.{Named}
-use Rattle.cc_syntax.specs.Views.{View}
+use Rattle.cc_terms.specs.CcSyntax.Types.{Named}
+use Rattle.cc_terms.specs.CcSyntax.Views.{View}
 
 same_structure : (a b : KnownStructure) → Some a ≡ Some b → a ≡ b
 same_structure a b e = cc e

@@ -9,15 +9,15 @@ use Rattle.cc_program.specs.declared.types.Shape.{Shape, roll-Shape, out-Shape, 
 use Rattle.cc_program.specs.declared.types.Shape.TheOpen as shape
 use Rattle.cc_program.specs.declared.types.Sig.{Sig, fold-Sig}
 use Rattle.cc_program.specs.declared.types.Structure.{Structure}
-use Rattle.cc_scopes.specs.State.{State, Name, KnownStructure, members_or_none, as_structure, structures_of, tagged}
-use Rattle.cc_scopes.specs.declared.designated.Designated.{Designated}
-use Rattle.cc_scopes.specs.declared.designated.Tagged.{Tagged}
+use Rattle.cc_terms.specs.CcScopes.State.{State, Name, KnownStructure, members_or_none, as_structure, structures_of, tagged}
+use Rattle.cc_terms.specs.CcScopes.declared.designated.Designated.{Designated}
+use Rattle.cc_terms.specs.CcScopes.declared.designated.Tagged.{Tagged}
 use Rattle.cc_sound_terms.specs.Growing.{Kept, Grows, StructuresKept, IsTag}
 use Rattle.cc_sound_terms.specs.Ordered.{HasMembers, is_among, complete_over, is_complete_over, StandsBehind, AreOrdered, IsOrdered, AreComplete}
 use Rattle.cc_sound_terms.proofs.Growth.{tagged_kept, tag_through}
-use Rattle.cc_syntax.specs.Types.{Named, has_members, complete_shape, is_complete}
-use Rattle.cc_syntax.proofs.Prefixes.{both_true}
-use Rattle.cc_syntax.proofs.TypeLayouts.{parts_complete, complete-roll}
+use Rattle.cc_terms.specs.CcSyntax.Types.{Named, has_members, complete_shape, is_complete}
+use Rattle.cc_terms.proofs.CcSyntax.Prefixes.{both_true}
+use Rattle.cc_terms.proofs.CcSyntax.TypeLayouts.{parts_complete, complete-roll}
 
 both : (a b : Bool) → a ≡ true → b ≡ true → a && b ≡ true
 both true b h k = k

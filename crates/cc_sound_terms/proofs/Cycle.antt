@@ -1,10 +1,10 @@
 -- What expressions, type names, specifiers and declarators mean is typed and stands, by induction over them.
 use Rattle.std.proofs.Common.{◌≡◌, ℕ, ◌^◌, Bool, true, ◌&&◌, List, [], ◌∷◌, map, Option, Some, None, sym, ◌∙◌, subst, ltb-true}
-use Rattle.cc_syntax.specs.Views.{View}
+use Rattle.cc_terms.specs.CcSyntax.Views.{View}
 use Rattle.cc_program.proofs.Each.{Each}
 use Rattle.cc_program.specs.declared.program.Roles.{Roles}
-use Rattle.cc_syntax.specs.Types.{Named}
-use Rattle.cc_syntax.proofs.Prefixes.{both_true}
+use Rattle.cc_terms.specs.CcSyntax.Types.{Named}
+use Rattle.cc_terms.proofs.CcSyntax.Prefixes.{both_true}
 use Rattle.cc_tree.specs.declared.at.At.{At}
 use Rattle.cc_tree.specs.declared.tree.Declr.TheOpen as one
 use Rattle.cc_tree.specs.declared.tree.Declr.{Declr, roll-Declr, map-Declr, fold-roll-Declr}

@@ -1,10 +1,10 @@
 -- What follows of a construct that is found: what its parts were found to be.
 use Rattle.std.proofs.Common.{◌≡◌, ℕ, Ok, Err, refl, ap, sym}
-use Rattle.cc_typed_terms.specs.Located.{located}
-use Rattle.cc_operands.specs.Verdicts.{Judged, judge_then}
-use Rattle.cc_scopes.specs.State.{State}
-use Rattle.cc_scopes.specs.Verdicts.{Found, whole, and_then}
-use Rattle.cc_specifiers.specs.Places.{JudgedAt}
+use Rattle.cc_terms.specs.CcTypedTerms.Located.{located}
+use Rattle.cc_terms.specs.CcOperands.Verdicts.{Judged, judge_then}
+use Rattle.cc_terms.specs.CcScopes.State.{State}
+use Rattle.cc_terms.specs.CcScopes.Verdicts.{Found, whole, and_then}
+use Rattle.cc_terms.specs.CcSpecifiers.Places.{JudgedAt}
 
 abbrev pub answer : {A : Type 0} → A → State → Found A
 answer x s = Ok (x, s)

@@ -2,17 +2,17 @@
 use Rattle.std.proofs.Common.{◌≡◌, ◌⊎◌, inl, inr, ℕ, Bool, true, false, List, [], ◌∷◌, ◌++◌, length, Option, Some, None, refl, ap, sym, ◌∙◌, subst, append_assoc, zero, suc}
 use Rattle.std.specs.Prelude.{slice_get, if◌then◌else◌, take}
 use Rattle.std.specs.Str.{bytes_eq}
-use Rattle.cc_num.specs.declared.target.Target.{Target}
-use Rattle.cc_scopes.specs.State.{State, Name, Scope, KnownStructure, empty, find_name, or_else, designated, tagged, innermost, outer_scopes, with_name, in_innermost, bind, bind_tag, entered, left, with_declared, with_structures, with_names, change_at}
-use Rattle.cc_scopes.specs.declared.designated.Designated.{Designated}
-use Rattle.cc_scopes.specs.declared.designated.Designated.TheVariants as means
-use Rattle.cc_scopes.specs.declared.designated.Tagged.{Tagged}
-use Rattle.cc_scopes.specs.declared.designated.Tagged.TheVariants as tag
-use Rattle.cc_scopes.specs.declared.unit.Declared.{Declared}
+use Rattle.cc_program.specs.CcNum.declared.target.Target.{Target}
+use Rattle.cc_terms.specs.CcScopes.State.{State, Name, Scope, KnownStructure, empty, find_name, or_else, designated, tagged, innermost, outer_scopes, with_name, in_innermost, bind, bind_tag, entered, left, with_declared, with_structures, with_names, change_at}
+use Rattle.cc_terms.specs.CcScopes.declared.designated.Designated.{Designated}
+use Rattle.cc_terms.specs.CcScopes.declared.designated.Designated.TheVariants as means
+use Rattle.cc_terms.specs.CcScopes.declared.designated.Tagged.{Tagged}
+use Rattle.cc_terms.specs.CcScopes.declared.designated.Tagged.TheVariants as tag
+use Rattle.cc_terms.specs.CcScopes.declared.unit.Declared.{Declared}
 use Rattle.cc_program.specs.declared.types.CType.{CType}
-use Rattle.cc_syntax.specs.declared.sizes.Layout.{Layout}
-use Rattle.cc_syntax.specs.Types.{Named}
-use Rattle.cc_syntax.specs.Views.{View}
+use Rattle.cc_terms.specs.CcSyntax.declared.sizes.Layout.{Layout}
+use Rattle.cc_terms.specs.CcSyntax.Types.{Named}
+use Rattle.cc_terms.specs.CcSyntax.Views.{View}
 use Rattle.cc_sound_terms.specs.Growing.{Kept, IsTag, StructureKept, StructuresKept, Grows, IsConstant, IsParameter}
 use Rattle.cc_sound_terms.specs.Knowing.{Stands, KnowsStructure, KnowsStructures, KnowsNames, TypesStand, IsObject, ObjectsStand, IsThere, TagsStand}
 

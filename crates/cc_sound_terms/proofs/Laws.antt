@@ -1,12 +1,12 @@
 -- Lists of specifiers, as they stand in the text.
 use Rattle.std.proofs.Common.{◌≡◌, Bool, true, List, [], ◌∷◌, map, Ok}
-use Rattle.cc_syntax.specs.Views.{View}
+use Rattle.cc_terms.specs.CcSyntax.Views.{View}
 use Rattle.cc_program.proofs.Each.{Each}
 use Rattle.cc_program.specs.declared.program.Roles.{Roles}
-use Rattle.cc_scopes.specs.State.{State}
-use Rattle.cc_specifiers.specs.declared.specifier.Specified.{Specified}
-use Rattle.cc_specifiers.specs.declared.storage.Setting.{Setting}
-use Rattle.cc_syntax.proofs.Prefixes.{both_true}
+use Rattle.cc_terms.specs.CcScopes.State.{State}
+use Rattle.cc_terms.specs.CcSpecifiers.declared.specifier.Specified.{Specified}
+use Rattle.cc_terms.specs.CcSpecifiers.declared.storage.Setting.{Setting}
+use Rattle.cc_terms.proofs.CcSyntax.Prefixes.{both_true}
 use Rattle.cc_tree.specs.declared.at.At.{At}
 use Rattle.cc_tree.specs.declared.tree.Spec.{Spec}
 use Rattle.cc_terms.specs.Specifiers.{specified_found}

@@ -4,24 +4,24 @@ use Rattle.std.specs.Prelude.{nat_eq, nat_le, get_or, slice_get, position, if◌
 use Rattle.std.proofs.lemmas.List.Quantifiers.{position-Some}
 use Rattle.std.proofs.lemmas.Option.{slice_get-get_or}
 use Rattle.std.specs.Ordering.{int_eq}
-use Rattle.cc_designators.specs.Casts.{fits_pointer, no_device}
-use Rattle.cc_designators.specs.Designators.{TypedExpr, IsPlace, null}
-use Rattle.cc_designators.specs.Postfix.{indirection}
-use Rattle.cc_lex.specs.declared.token.Suffix.{Suffix}
-use Rattle.cc_num.specs.declared.int_type.IntType.{IntType}
-use Rattle.cc_num.specs.declared.int_type.IntType.TheVariants as int
-use Rattle.cc_operands.specs.Operands.{Operand, number_type, character_value}
-use Rattle.cc_operands.specs.declared.rule.Rule.TheVariants as rule
+use Rattle.cc_terms.specs.CcDesignators.Casts.{fits_pointer, no_device}
+use Rattle.cc_terms.specs.CcDesignators.Designators.{TypedExpr, IsPlace, null}
+use Rattle.cc_terms.specs.CcDesignators.Postfix.{indirection}
+use Rattle.cc_terms.specs.CcLex.declared.token.Suffix.{Suffix}
+use Rattle.cc_program.specs.CcNum.declared.int_type.IntType.{IntType}
+use Rattle.cc_program.specs.CcNum.declared.int_type.IntType.TheVariants as int
+use Rattle.cc_terms.specs.CcOperands.Operands.{Operand, number_type, character_value}
+use Rattle.cc_terms.specs.CcOperands.declared.rule.Rule.TheVariants as rule
 use Rattle.cc_operand_types.specs.Typed.{is_pointed_kind, IsNullType, IsTypedOperand, IsTypedExpr, IsTypedPlace}
-use Rattle.cc_syntax.specs.Views.{View, kind_in}
+use Rattle.cc_terms.specs.CcSyntax.Views.{View, kind_in}
 use Rattle.cc_operand_types.proofs.Leaves.{local_typed, static_typed, device_typed, function_typed}
 use Rattle.cc_operand_types.proofs.Literals.{number_fits, character_fits}
 use Rattle.cc_operand_types.proofs.Nulls.{null_operand}
 use Rattle.cc_operand_types.proofs.Operands.{ok_is, must_ok, as_constant}
 use Rattle.cc_operand_types.proofs.Places.{indirection_typed}
 use Rattle.cc_operand_types.proofs.Requalified.{kind_at}
-use Rattle.cc_typed_terms.specs.Devices.{device_of, declared_device, names_device, number_of, device_place, with_device, device_found, register_found, address_found}
-use Rattle.cc_typed_terms.specs.Primary.{intrinsic_named, function_by, linked_by, linked, designates, named_by, named, number, character, char_type, chars_type, string_type, string_object, string_place, string_found}
+use Rattle.cc_terms.specs.CcTypedTerms.Devices.{device_of, declared_device, names_device, number_of, device_place, with_device, device_found, register_found, address_found}
+use Rattle.cc_terms.specs.CcTypedTerms.Primary.{intrinsic_named, function_by, linked_by, linked, designates, named_by, named, number, character, char_type, chars_type, string_type, string_object, string_place, string_found}
 use Rattle.cc_program.specs.declared.expr.Intr.{Intr}
 use Rattle.cc_program.specs.declared.expr.Place.{Local}
 use Rattle.cc_program.specs.declared.object.Device.{Device}
@@ -31,21 +31,21 @@ use Rattle.cc_program.specs.declared.types.Shape.{Shape, out-Shape}
 use Rattle.cc_program.specs.declared.types.Shape.TheOpen as shape
 use Rattle.cc_program.specs.declared.types.Shape.TheVariants.{outs-Int}
 use Rattle.cc_program.specs.declared.types.Sig.{Sig}
-use Rattle.cc_scopes.specs.State.{State, Name, designated, with_declared}
-use Rattle.cc_scopes.specs.Verdicts.{whole}
-use Rattle.cc_scopes.specs.declared.designated.Designated.{Designated}
-use Rattle.cc_scopes.specs.declared.designated.Designated.TheVariants as means
-use Rattle.cc_scopes.specs.declared.unit.Declared.{Declared}
-use Rattle.cc_specifiers.specs.Bounds.{is_bound}
-use Rattle.cc_syntax.specs.Kinds.{IsScalar, is_small, is_object_type}
-use Rattle.cc_syntax.specs.SameTypes.{same_int, same_flag}
-use Rattle.cc_syntax.specs.Sound.{is_numbered, is_same_device}
-use Rattle.cc_syntax.specs.Types.{Named}
-use Rattle.cc_syntax.specs.Values.{ToFunction, DevicePlace, object_place}
-use Rattle.cc_syntax.proofs.Prefixes.{both_true}
-use Rattle.cc_syntax.proofs.SameLemmas.{int_same}
-use Rattle.cc_unit.specs.declared.unit.UnitKind.{UnitKind}
-use Rattle.cc_unit.specs.declared.unit.UnitKind.TheVariants as kind
+use Rattle.cc_terms.specs.CcScopes.State.{State, Name, designated, with_declared}
+use Rattle.cc_terms.specs.CcScopes.Verdicts.{whole}
+use Rattle.cc_terms.specs.CcScopes.declared.designated.Designated.{Designated}
+use Rattle.cc_terms.specs.CcScopes.declared.designated.Designated.TheVariants as means
+use Rattle.cc_terms.specs.CcScopes.declared.unit.Declared.{Declared}
+use Rattle.cc_terms.specs.CcSpecifiers.Bounds.{is_bound}
+use Rattle.cc_terms.specs.CcSyntax.Kinds.{IsScalar, is_small, is_object_type}
+use Rattle.cc_terms.specs.CcSyntax.SameTypes.{same_int, same_flag}
+use Rattle.cc_terms.specs.CcSyntax.Sound.{is_numbered, is_same_device}
+use Rattle.cc_terms.specs.CcSyntax.Types.{Named}
+use Rattle.cc_terms.specs.CcSyntax.Values.{ToFunction, DevicePlace, object_place}
+use Rattle.cc_terms.proofs.CcSyntax.Prefixes.{both_true}
+use Rattle.cc_terms.proofs.CcSyntax.SameLemmas.{int_same}
+use Rattle.cc_terms.specs.CcUnit.declared.unit.UnitKind.{UnitKind}
+use Rattle.cc_terms.specs.CcUnit.declared.unit.UnitKind.TheVariants as kind
 use Rattle.cc_sound_terms.specs.Behind.{Extends, NameStands, IsUnnamed, OfString, OfDevice}
 use Rattle.cc_sound_terms.specs.Growing.{IsConstant}
 use Rattle.cc_sound_terms.specs.Knowing.{KnowsAs, KnowsNames, IsObject}

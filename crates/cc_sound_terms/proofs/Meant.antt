@@ -1,20 +1,20 @@
 -- What is to hold of the meaning of each kind of construct.
 use Rattle.std.proofs.Common.{◌≡◌, ℕ, ℤ, Bool, List, Ok, sym, subst}
-use Rattle.cc_designators.specs.Designators.{TypedExpr, IsPlace, IsValue, IsFunction, IsIntrinsic, IsAddress, value_at}
-use Rattle.cc_operands.specs.Operands.{Operand, operand}
+use Rattle.cc_terms.specs.CcDesignators.Designators.{TypedExpr, IsPlace, IsValue, IsFunction, IsIntrinsic, IsAddress, value_at}
+use Rattle.cc_terms.specs.CcOperands.Operands.{Operand, operand}
 use Rattle.cc_operand_types.specs.Typed.{IsTypedExpr}
-use Rattle.cc_syntax.specs.Views.{View}
-use Rattle.cc_typed_terms.specs.Values.{null_judged, valued, value_found}
+use Rattle.cc_terms.specs.CcSyntax.Views.{View}
+use Rattle.cc_terms.specs.CcTypedTerms.Values.{null_judged, valued, value_found}
 use Rattle.cc_program.proofs.Each.{Each}
 use Rattle.cc_program.specs.declared.expr.Expr.{FuncAddr}
 use Rattle.cc_program.specs.declared.types.CType.{CType}
-use Rattle.cc_scopes.specs.State.{State, Scope}
-use Rattle.cc_specifiers.specs.declared.derivation.Allowed.{Allowed}
-use Rattle.cc_specifiers.specs.declared.derivation.Declarator.{Declarator}
-use Rattle.cc_specifiers.specs.declared.derivation.Parameter.{Parameter}
-use Rattle.cc_specifiers.specs.declared.specifier.Specifier.{Specifier}
-use Rattle.cc_syntax.specs.Types.{Named}
-use Rattle.cc_syntax.specs.Values.{ToFunction}
+use Rattle.cc_terms.specs.CcScopes.State.{State, Scope}
+use Rattle.cc_terms.specs.CcSpecifiers.declared.derivation.Allowed.{Allowed}
+use Rattle.cc_terms.specs.CcSpecifiers.declared.derivation.Declarator.{Declarator}
+use Rattle.cc_terms.specs.CcSpecifiers.declared.derivation.Parameter.{Parameter}
+use Rattle.cc_terms.specs.CcSpecifiers.declared.specifier.Specifier.{Specifier}
+use Rattle.cc_terms.specs.CcSyntax.Types.{Named}
+use Rattle.cc_terms.specs.CcSyntax.Values.{ToFunction}
 use Rattle.cc_tree.specs.declared.at.At.{At}
 use Rattle.cc_terms.specs.Meanings.{TreeMeaning, DeclrMeaning, ParamsMeaning, ParamMeaning, SpecMeaning, MembersMeaning, EnumrMeaning, TypeNameMeaning}
 use Rattle.cc_sound_terms.specs.Behind.{Extends}

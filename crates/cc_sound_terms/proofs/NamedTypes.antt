@@ -2,13 +2,13 @@
 use Rattle.std.proofs.Common.{◌≡◌, ◌⊎◌, inl, inr, ℕ, Bool, true, false, not, ◌&&◌, ◌||◌, List, [], ◌∷◌, map, Option, Some, None, Ok, Err, refl, ap, sym, ◌∙◌, subst}
 use Rattle.std.specs.Prelude.{◌*◌, nat_le, slice_get, unwrap_or, if◌then◌else◌}
 use Rattle.std.specs.List.{list_all}
-use Rattle.cc_operands.specs.Qualified.{plain, unqualified}
-use Rattle.cc_operands.specs.Verdicts.{Judged}
-use Rattle.cc_operands.specs.declared.rule.Rule.{Rule}
-use Rattle.cc_operands.specs.declared.rule.Rule.TheVariants as rule
+use Rattle.cc_terms.specs.CcOperands.Qualified.{plain, unqualified}
+use Rattle.cc_terms.specs.CcOperands.Verdicts.{Judged}
+use Rattle.cc_terms.specs.CcOperands.declared.rule.Rule.{Rule}
+use Rattle.cc_terms.specs.CcOperands.declared.rule.Rule.TheVariants as rule
 use Rattle.cc_operand_types.specs.Typed.{is_pointed_kind, IsNullType, stands}
-use Rattle.cc_syntax.specs.Views.{View, kind_in}
-use Rattle.cc_syntax.specs.Expressions.{null_type}
+use Rattle.cc_terms.specs.CcSyntax.Views.{View, kind_in}
+use Rattle.cc_terms.specs.CcSyntax.Expressions.{null_type}
 use Rattle.cc_operand_types.proofs.Requalified.{kind_at, pointer_plain}
 use Rattle.cc_operand_types.proofs.Standing.{object_type, element_stands, pointer_stands}
 use Rattle.cc_program.proofs.Each.{Each}
@@ -20,22 +20,22 @@ use Rattle.cc_program.specs.declared.types.Shape.TheVariants.{outs-Pointer, outs
 use Rattle.cc_program.specs.declared.types.Shape.TheOpen as shape
 use Rattle.cc_program.specs.declared.types.Sig.{Sig, roll-Sig}
 use Rattle.cc_program.specs.declared.types.Structure.{Structure}
-use Rattle.cc_scopes.specs.State.{Scope}
-use Rattle.cc_specifiers.specs.Bounds.{is_bound}
-use Rattle.cc_specifiers.specs.Declarators.{function_to, derive_one, derive, result_breach, broken_unless, fault_or, derived_further, breach, derived}
-use Rattle.cc_specifiers.specs.Objects.{size_of, is_object}
-use Rattle.cc_specifiers.specs.Parameters.{adjusted_by, parameter_by, parameter_type}
-use Rattle.cc_specifiers.specs.Places.{JudgedAt}
-use Rattle.cc_specifiers.specs.declared.derivation.Derivation.{Derivation}
-use Rattle.cc_specifiers.specs.declared.derivation.Derivation.TheVariants as to
-use Rattle.cc_specifiers.specs.declared.derivation.Parameter.{Parameter}
-use Rattle.cc_syntax.specs.Kinds.{Kind, IsVoid, IsScalar, IsStructure, IsArray, IsIncomplete, IsFunction, bytes_in, is_small, array_kind, pointer_kind, is_plain_scalar, qualified_kind, shape_kind, kind_of}
-use Rattle.cc_syntax.specs.Layout.{nothing}
-use Rattle.cc_syntax.specs.Operators.{when, pointer_in, void_pointer_in, first_of, is_unqualified}
-use Rattle.cc_syntax.specs.SameTypes.{is_void_shape}
-use Rattle.cc_syntax.specs.Types.{has_members}
-use Rattle.cc_syntax.specs.Values.{ValueType, pointer_to, pointer_shape, is_void}
-use Rattle.cc_syntax.specs.declared.sizes.Layout.{Layout}
+use Rattle.cc_terms.specs.CcScopes.State.{Scope}
+use Rattle.cc_terms.specs.CcSpecifiers.Bounds.{is_bound}
+use Rattle.cc_terms.specs.CcSpecifiers.Declarators.{function_to, derive_one, derive, result_breach, broken_unless, fault_or, derived_further, breach, derived}
+use Rattle.cc_terms.specs.CcSpecifiers.Objects.{size_of, is_object}
+use Rattle.cc_terms.specs.CcSpecifiers.Parameters.{adjusted_by, parameter_by, parameter_type}
+use Rattle.cc_terms.specs.CcSpecifiers.Places.{JudgedAt}
+use Rattle.cc_terms.specs.CcSpecifiers.declared.derivation.Derivation.{Derivation}
+use Rattle.cc_terms.specs.CcSpecifiers.declared.derivation.Derivation.TheVariants as to
+use Rattle.cc_terms.specs.CcSpecifiers.declared.derivation.Parameter.{Parameter}
+use Rattle.cc_terms.specs.CcSyntax.Kinds.{Kind, IsVoid, IsScalar, IsStructure, IsArray, IsIncomplete, IsFunction, bytes_in, is_small, array_kind, pointer_kind, is_plain_scalar, qualified_kind, shape_kind, kind_of}
+use Rattle.cc_terms.specs.CcSyntax.Layout.{nothing}
+use Rattle.cc_terms.specs.CcSyntax.Operators.{when, pointer_in, void_pointer_in, first_of, is_unqualified}
+use Rattle.cc_terms.specs.CcSyntax.SameTypes.{is_void_shape}
+use Rattle.cc_terms.specs.CcSyntax.Types.{has_members}
+use Rattle.cc_terms.specs.CcSyntax.Values.{ValueType, pointer_to, pointer_shape, is_void}
+use Rattle.cc_terms.specs.CcSyntax.declared.sizes.Layout.{Layout}
 use Rattle.cc_tree.specs.declared.at.At.{At}
 use Rattle.cc_sound_terms.specs.Knowing.{Stands}
 use Rattle.cc_sound_terms.specs.Standing.{IsDerived, Standing, VoidPointer, Unbounded, IsNamedType, ParameterStands, IsBounded, DerivationsStand}

@@ -2,11 +2,11 @@
 -- of it is. Such outcomes are put one behind another.
 use Rattle.std.proofs.Common.{◌≡◌, ℕ, List, [], ◌∷◌, ◌++◌, Ok, sym, subst}
 use Rattle.cc_program.proofs.Each.{Each}
-use Rattle.cc_operands.specs.Verdicts.{Judged}
-use Rattle.cc_syntax.specs.Views.{View}
-use Rattle.cc_scopes.specs.State.{State}
-use Rattle.cc_scopes.specs.Verdicts.{Found, whole, and_then}
-use Rattle.cc_scopes.specs.declared.designated.Designated.{Designated}
+use Rattle.cc_terms.specs.CcOperands.Verdicts.{Judged}
+use Rattle.cc_terms.specs.CcSyntax.Views.{View}
+use Rattle.cc_terms.specs.CcScopes.State.{State}
+use Rattle.cc_terms.specs.CcScopes.Verdicts.{Found, whole, and_then}
+use Rattle.cc_terms.specs.CcScopes.declared.designated.Designated.{Designated}
 use Rattle.cc_terms.specs.InTurn.{in_turn, one_more}
 use Rattle.cc_sound_terms.specs.Behind.{Adds}
 use Rattle.cc_sound_terms.proofs.Behind.{adds_itself, adds_through}

@@ -1,32 +1,32 @@
 -- Parameters stand (C99 6.7.5.3).
 use Rattle.std.proofs.Common.{◌≡◌, ℕ, Bool, true, false, List, [], length, Option, Some, None, Ok, ap, sym, ◌∙◌, subst}
-use Rattle.cc_typed_terms.specs.Declarators.{derived_type}
-use Rattle.cc_typed_terms.specs.Names.{new_name}
-use Rattle.cc_num.specs.declared.int_type.IntType.TheVariants as int
-use Rattle.cc_operands.specs.Qualified.{plain}
-use Rattle.cc_operands.specs.Verdicts.{must}
-use Rattle.cc_operands.specs.declared.rule.Rule.TheVariants as rule
-use Rattle.cc_syntax.specs.Views.{View}
+use Rattle.cc_terms.specs.CcTypedTerms.Declarators.{derived_type}
+use Rattle.cc_terms.specs.CcTypedTerms.Names.{new_name}
+use Rattle.cc_program.specs.CcNum.declared.int_type.IntType.TheVariants as int
+use Rattle.cc_terms.specs.CcOperands.Qualified.{plain}
+use Rattle.cc_terms.specs.CcOperands.Verdicts.{must}
+use Rattle.cc_terms.specs.CcOperands.declared.rule.Rule.TheVariants as rule
+use Rattle.cc_terms.specs.CcSyntax.Views.{View}
 use Rattle.cc_operand_types.proofs.Operands.{given, ok_is, must_ok}
 use Rattle.cc_program.proofs.Each.{Each}
 use Rattle.cc_program.specs.declared.program.Roles.{Roles}
 use Rattle.cc_program.specs.declared.types.CType.{CType}
-use Rattle.cc_scopes.specs.State.{State, Name, Scope, bind, empty, innermost, entered, left}
-use Rattle.cc_scopes.specs.Verdicts.{Found, whole, and_then}
-use Rattle.cc_scopes.specs.declared.designated.Designated.TheVariants as means
-use Rattle.cc_scopes.specs.declared.designated.Tagged.TheVariants as tag
-use Rattle.cc_specifiers.specs.Derivations.{in_parameter}
-use Rattle.cc_specifiers.specs.Storage.{setting}
-use Rattle.cc_specifiers.specs.declared.attribute.Entity.TheVariants as entity
-use Rattle.cc_specifiers.specs.declared.basic.Length.TheVariants as lengths
-use Rattle.cc_specifiers.specs.declared.derivation.Declarator.{Declarator}
-use Rattle.cc_specifiers.specs.declared.derivation.Derivation.TheVariants as to
-use Rattle.cc_specifiers.specs.declared.specifier.Base.TheVariants as base
-use Rattle.cc_specifiers.specs.declared.specifier.Specified.{Specified}
-use Rattle.cc_specifiers.specs.declared.specifier.Specifier.TheVariants as specifier
-use Rattle.cc_specifiers.specs.declared.storage.Where.TheVariants as stands
+use Rattle.cc_terms.specs.CcScopes.State.{State, Name, Scope, bind, empty, innermost, entered, left}
+use Rattle.cc_terms.specs.CcScopes.Verdicts.{Found, whole, and_then}
+use Rattle.cc_terms.specs.CcScopes.declared.designated.Designated.TheVariants as means
+use Rattle.cc_terms.specs.CcScopes.declared.designated.Tagged.TheVariants as tag
+use Rattle.cc_terms.specs.CcSpecifiers.Derivations.{in_parameter}
+use Rattle.cc_terms.specs.CcSpecifiers.Storage.{setting}
+use Rattle.cc_terms.specs.CcSpecifiers.declared.attribute.Entity.TheVariants as entity
+use Rattle.cc_terms.specs.CcSpecifiers.declared.basic.Length.TheVariants as lengths
+use Rattle.cc_terms.specs.CcSpecifiers.declared.derivation.Declarator.{Declarator}
+use Rattle.cc_terms.specs.CcSpecifiers.declared.derivation.Derivation.TheVariants as to
+use Rattle.cc_terms.specs.CcSpecifiers.declared.specifier.Base.TheVariants as base
+use Rattle.cc_terms.specs.CcSpecifiers.declared.specifier.Specified.{Specified}
+use Rattle.cc_terms.specs.CcSpecifiers.declared.specifier.Specifier.TheVariants as specifier
+use Rattle.cc_terms.specs.CcSpecifiers.declared.storage.Where.TheVariants as stands
 use Rattle.cc_tree.specs.declared.at.At.{At}
-use Rattle.cc_words.specs.declared.word.Word.TheVariants as w
+use Rattle.cc_program.specs.CcWords.declared.word.Word.TheVariants as w
 use Rattle.cc_terms.specs.Declarators.{declarator, parameters_found, with_scope, parameter_declared}
 use Rattle.cc_terms.specs.InTurn.{one_more}
 use Rattle.cc_terms.specs.Meanings.{DeclrMeaning, SpecMeaning, ParamMeaning}
@@ -42,9 +42,9 @@ use Rattle.cc_sound_terms.proofs.Known.{types_first, types_second}
 use Rattle.cc_sound_terms.proofs.Meant.{DeclrHolds, ParamsHold, SpecHolds, ParamHolds}
 use Rattle.cc_sound_terms.proofs.NamedTypes.{parameter_stands}
 use Rattle.cc_sound_terms.proofs.Outcomes.{chained, in_turn_holds, Outcome, one_more_given}
-use Rattle.cc_typed_terms.specs.Parameters.{parameter, parameter_bound}
-use Rattle.cc_specifiers.specs.Parameters.{parameter_type}
-use Rattle.cc_specifiers.specs.declared.derivation.Parameter.{Parameter}
+use Rattle.cc_terms.specs.CcTypedTerms.Parameters.{parameter, parameter_bound}
+use Rattle.cc_terms.specs.CcSpecifiers.Parameters.{parameter_type}
+use Rattle.cc_terms.specs.CcSpecifiers.declared.derivation.Parameter.{Parameter}
 use Rattle.cc_sound_terms.proofs.Types.{Holds, Declares, judged_holds, answer_holds, derived_holds, specified_holds}
 
 module _ (v : View) where

@@ -2,22 +2,22 @@
 use Rattle.std.proofs.Common.{◌≡◌, ℕ, ℤ, pos, Bool, true, false, List, [], length, Option, Some, None, Ok, Err, refl, sym, subst}
 use Rattle.std.specs.Prelude.{take, if◌then◌else◌}
 use Rattle.std.specs.Ordering.{int_eq}
-use Rattle.cc_designators.specs.Assignments.{assign_of, stepped_before, stepped_after}
-use Rattle.cc_designators.specs.Casts.{cast_of, size_value}
-use Rattle.cc_designators.specs.Designators.{TypedExpr, IsPlace, IsValue, IsFunction, IsIntrinsic, IsAddress, value_at, null}
-use Rattle.cc_designators.specs.Postfix.{is_array_place, dot, arrow, address, indirection}
-use Rattle.cc_lex.specs.declared.token.Mark.{Mark}
-use Rattle.cc_num.specs.Integers.{bytes_of}
-use Rattle.cc_operands.specs.Choices.{choose_of, comma_of}
-use Rattle.cc_operands.specs.Operands.{Operand, operand}
-use Rattle.cc_operands.specs.Operators.{operator_of, unary_operator_of}
-use Rattle.cc_operands.specs.Qualified.{type_of_value}
-use Rattle.cc_operands.specs.Verdicts.{Judged}
-use Rattle.cc_operands.specs.declared.operator.Operator.{Operator}
-use Rattle.cc_operands.specs.declared.operator.UnaryOperator.{UnaryOperator}
-use Rattle.cc_operands.specs.declared.rule.Rule.TheVariants as rule
+use Rattle.cc_terms.specs.CcDesignators.Assignments.{assign_of, stepped_before, stepped_after}
+use Rattle.cc_terms.specs.CcDesignators.Casts.{cast_of, size_value}
+use Rattle.cc_terms.specs.CcDesignators.Designators.{TypedExpr, IsPlace, IsValue, IsFunction, IsIntrinsic, IsAddress, value_at, null}
+use Rattle.cc_terms.specs.CcDesignators.Postfix.{is_array_place, dot, arrow, address, indirection}
+use Rattle.cc_terms.specs.CcLex.declared.token.Mark.{Mark}
+use Rattle.cc_program.specs.CcNum.Integers.{bytes_of}
+use Rattle.cc_terms.specs.CcOperands.Choices.{choose_of, comma_of}
+use Rattle.cc_terms.specs.CcOperands.Operands.{Operand, operand}
+use Rattle.cc_terms.specs.CcOperands.Operators.{operator_of, unary_operator_of}
+use Rattle.cc_terms.specs.CcOperands.Qualified.{type_of_value}
+use Rattle.cc_terms.specs.CcOperands.Verdicts.{Judged}
+use Rattle.cc_terms.specs.CcOperands.declared.operator.Operator.{Operator}
+use Rattle.cc_terms.specs.CcOperands.declared.operator.UnaryOperator.{UnaryOperator}
+use Rattle.cc_terms.specs.CcOperands.declared.rule.Rule.TheVariants as rule
 use Rattle.cc_operand_types.specs.Typed.{IsNullType, IsTypedOperand, IsTypedExpr}
-use Rattle.cc_syntax.specs.Views.{View}
+use Rattle.cc_terms.specs.CcSyntax.Views.{View}
 use Rattle.cc_operand_types.proofs.Calls.{called_typed}
 use Rattle.cc_operand_types.proofs.Casts.{cast_of_typed, size_typed}
 use Rattle.cc_operand_types.proofs.Choices.{choose_typed, comma_typed}
@@ -27,22 +27,22 @@ use Rattle.cc_operand_types.proofs.Operands.{ok_is, must_ok, as_operand}
 use Rattle.cc_operand_types.proofs.Places.{value_typed, address_typed, element_of_typed, subscripted_typed, indirection_typed, dot_typed, arrow_typed}
 use Rattle.cc_operand_types.proofs.Pointers.{binary_typed, unary_typed}
 use Rattle.cc_operand_types.proofs.Stores.{assign_typed, before_typed, after_typed}
-use Rattle.cc_typed_terms.specs.Devices.{starred}
-use Rattle.cc_typed_terms.specs.Operators.{prefix_of, is_minus, intrinsic_in, binary_by, unary_by}
-use Rattle.cc_typed_terms.specs.Sizes.{size_of_type, size_of_place, sizeof_judged}
-use Rattle.cc_typed_terms.specs.Values.{null_judged, found_value, gives, valued, value_found, value, designating, designated_found, designator}
-use Rattle.cc_typed_terms.specs.declared.prefix.Prefix.{Prefix}
-use Rattle.cc_typed_terms.specs.declared.prefix.Prefix.TheVariants as prefix
+use Rattle.cc_terms.specs.CcTypedTerms.Devices.{starred}
+use Rattle.cc_terms.specs.CcTypedTerms.Operators.{prefix_of, is_minus, intrinsic_in, binary_by, unary_by}
+use Rattle.cc_terms.specs.CcTypedTerms.Sizes.{size_of_type, size_of_place, sizeof_judged}
+use Rattle.cc_terms.specs.CcTypedTerms.Values.{null_judged, found_value, gives, valued, value_found, value, designating, designated_found, designator}
+use Rattle.cc_terms.specs.CcTypedTerms.declared.prefix.Prefix.{Prefix}
+use Rattle.cc_terms.specs.CcTypedTerms.declared.prefix.Prefix.TheVariants as prefix
 use Rattle.cc_program.proofs.Each.{Each}
 use Rattle.cc_program.specs.declared.expr.Expr.{FuncAddr}
 use Rattle.cc_program.specs.declared.expr.Intr.{Intr}
 use Rattle.cc_program.specs.declared.types.CType.{CType}
 use Rattle.cc_program.specs.declared.types.Shape.{out-Shape}
-use Rattle.cc_scopes.specs.State.{State, structures_of, layouts_of, is_unfinished, with_names}
-use Rattle.cc_scopes.specs.Verdicts.{Found, whole, and_then}
-use Rattle.cc_specifiers.specs.Objects.{size_of}
-use Rattle.cc_syntax.specs.Types.{Named, is_complete}
-use Rattle.cc_syntax.specs.Values.{PlaceType, DevicePlace, ObjectPlace, FunctionPlace, ToFunction}
+use Rattle.cc_terms.specs.CcScopes.State.{State, structures_of, layouts_of, is_unfinished, with_names}
+use Rattle.cc_terms.specs.CcScopes.Verdicts.{Found, whole, and_then}
+use Rattle.cc_terms.specs.CcSpecifiers.Objects.{size_of}
+use Rattle.cc_terms.specs.CcSyntax.Types.{Named, is_complete}
+use Rattle.cc_terms.specs.CcSyntax.Values.{PlaceType, DevicePlace, ObjectPlace, FunctionPlace, ToFunction}
 use Rattle.cc_tree.specs.declared.at.At.{At}
 use Rattle.cc_terms.specs.Expressions.{argument_found, arguments_found}
 use Rattle.cc_terms.specs.Meanings.{TreeMeaning, TypeNameMeaning}

@@ -3,8 +3,8 @@ use Rattle.std.proofs.Common.{◌≡◌, ℕ, ◌*◌, Bool, true, false, ◌&&�
 use Rattle.std.specs.Prelude.{nat_le, nat_lt, slice_get, unwrap_or, option_map, if◌then◌else◌}
 use Rattle.std.specs.List.{list_all}
 use Rattle.std.proofs.lemmas.Option.{same_Some, slice_get-map}
-use Rattle.cc_num.specs.Integers.{bytes_of}
-use Rattle.cc_num.specs.declared.int_type.IntType.{IntType}
+use Rattle.cc_program.specs.CcNum.Integers.{bytes_of}
+use Rattle.cc_program.specs.CcNum.declared.int_type.IntType.{IntType}
 use Rattle.cc_program.specs.declared.types.CType.{CType}
 use Rattle.cc_program.specs.declared.types.Shape.{Shape, Void, Int, Pointer, Array, Struct, Func, out-Shape, roll-Shape, out-roll-Shape}
 use Rattle.cc_program.specs.declared.types.Shape.TheVariants.{outs-Void, outs-Int, outs-Pointer, outs-Array, outs-Struct, outs-Func}
@@ -12,19 +12,19 @@ use Rattle.cc_program.specs.declared.types.Shape.TheOpen as shape
 use Rattle.cc_program.specs.declared.types.Sig.{Sig, roll-Sig, out-roll-Sig}
 use Rattle.cc_program.specs.declared.types.Structure.{Structure}
 use Rattle.cc_program.proofs.TypeInduction.{with_shape, TypeParts, by_type}
-use Rattle.cc_operands.specs.Qualified.{plain, is_function_type, at_element, further, qualified_by}
-use Rattle.cc_scopes.specs.State.{State, KnownStructure, members_or_none, as_structure, structures_of, layouts_of}
-use Rattle.cc_specifiers.specs.Bounds.{is_bound}
-use Rattle.cc_specifiers.specs.Objects.{size_of, is_object}
-use Rattle.cc_syntax.specs.Kinds.{Kind, IsVoid, IsScalar, IsStructure, IsArray, IsIncomplete, IsFunction, bytes_in, is_small, pointer_kind, array_kind, is_result, is_plain_scalar, is_object_kind, is_object_type, extent_kind, qualified_kind, shape_kind, kind_of, is_sig}
-use Rattle.cc_syntax.specs.Layout.{nothing, shape_layout, type_layout}
-use Rattle.cc_syntax.specs.SameTypes.{is_func_shape}
-use Rattle.cc_syntax.specs.Types.{Named, has_members, complete_shape, is_complete}
-use Rattle.cc_syntax.specs.Values.{is_void}
-use Rattle.cc_syntax.specs.declared.sizes.Layout.{Layout}
-use Rattle.cc_syntax.proofs.Prefixes.{both_true}
-use Rattle.cc_syntax.proofs.TypeLayouts.{parts_layout, layout-roll, parts_complete, complete-roll}
-use Rattle.cc_syntax.specs.Views.{View, kind_in}
+use Rattle.cc_terms.specs.CcOperands.Qualified.{plain, is_function_type, at_element, further, qualified_by}
+use Rattle.cc_terms.specs.CcScopes.State.{State, KnownStructure, members_or_none, as_structure, structures_of, layouts_of}
+use Rattle.cc_terms.specs.CcSpecifiers.Bounds.{is_bound}
+use Rattle.cc_terms.specs.CcSpecifiers.Objects.{size_of, is_object}
+use Rattle.cc_terms.specs.CcSyntax.Kinds.{Kind, IsVoid, IsScalar, IsStructure, IsArray, IsIncomplete, IsFunction, bytes_in, is_small, pointer_kind, array_kind, is_result, is_plain_scalar, is_object_kind, is_object_type, extent_kind, qualified_kind, shape_kind, kind_of, is_sig}
+use Rattle.cc_terms.specs.CcSyntax.Layout.{nothing, shape_layout, type_layout}
+use Rattle.cc_terms.specs.CcSyntax.SameTypes.{is_func_shape}
+use Rattle.cc_terms.specs.CcSyntax.Types.{Named, has_members, complete_shape, is_complete}
+use Rattle.cc_terms.specs.CcSyntax.Values.{is_void}
+use Rattle.cc_terms.specs.CcSyntax.declared.sizes.Layout.{Layout}
+use Rattle.cc_terms.proofs.CcSyntax.Prefixes.{both_true}
+use Rattle.cc_terms.proofs.CcSyntax.TypeLayouts.{parts_layout, layout-roll, parts_complete, complete-roll}
+use Rattle.cc_terms.specs.CcSyntax.Views.{View, kind_in}
 use Rattle.cc_operand_types.proofs.Requalified.{opens_as, shaped, kind_at, void_kind}
 use Rattle.cc_operand_types.proofs.Standing.{sig-opens}
 use Rattle.cc_sound_terms.specs.Knowing.{Stands, KnowsStructures}

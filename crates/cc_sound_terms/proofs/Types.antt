@@ -2,65 +2,65 @@
 -- by construct, over the meanings of the parts.
 use Rattle.std.proofs.Common.{◌≡◌, ◌⊎◌, inl, inr, ℕ, ℤ, pos, negsuc, ◌+ℤ◌, Bool, true, false, not, ◌&&◌, ◌||◌, List, [], ◌∷◌, ◌++◌, length, Option, Some, None, Ok, Err, refl, ap, sym, ◌∙◌, subst}
 use Rattle.std.specs.Prelude.{is_some, slice_get, if◌then◌else◌}
-use Rattle.cc_typed_terms.specs.Declarators.{derived_type}
-use Rattle.cc_typed_terms.specs.Located.{located}
-use Rattle.cc_typed_terms.specs.Members.{member_judged}
-use Rattle.cc_typed_terms.specs.Names.{new_name}
-use Rattle.cc_typed_terms.specs.Specifiers.{begin, type_named, marked, as_type, structure_tag, enumeration_tag}
-use Rattle.cc_num.specs.Integers.{is_value_of}
-use Rattle.cc_num.specs.declared.int_type.IntType.{IntType}
-use Rattle.cc_num.specs.declared.int_type.IntType.TheVariants as int
-use Rattle.cc_operands.specs.Operands.{Operand, constancy}
-use Rattle.cc_operands.specs.Qualified.{plain, qualified_by}
-use Rattle.cc_operands.specs.Verdicts.{Judged, must}
-use Rattle.cc_operands.specs.declared.rule.Rule.TheVariants as rule
-use Rattle.cc_syntax.specs.Views.{View, kind_in}
+use Rattle.cc_terms.specs.CcTypedTerms.Declarators.{derived_type}
+use Rattle.cc_terms.specs.CcTypedTerms.Located.{located}
+use Rattle.cc_terms.specs.CcTypedTerms.Members.{member_judged}
+use Rattle.cc_terms.specs.CcTypedTerms.Names.{new_name}
+use Rattle.cc_terms.specs.CcTypedTerms.Specifiers.{begin, type_named, marked, as_type, structure_tag, enumeration_tag}
+use Rattle.cc_program.specs.CcNum.Integers.{is_value_of}
+use Rattle.cc_program.specs.CcNum.declared.int_type.IntType.{IntType}
+use Rattle.cc_program.specs.CcNum.declared.int_type.IntType.TheVariants as int
+use Rattle.cc_terms.specs.CcOperands.Operands.{Operand, constancy}
+use Rattle.cc_terms.specs.CcOperands.Qualified.{plain, qualified_by}
+use Rattle.cc_terms.specs.CcOperands.Verdicts.{Judged, must}
+use Rattle.cc_terms.specs.CcOperands.declared.rule.Rule.TheVariants as rule
+use Rattle.cc_terms.specs.CcSyntax.Views.{View, kind_in}
 use Rattle.cc_operand_types.proofs.Operands.{given, ok_is, must_ok}
-use Rattle.cc_typed_terms.specs.Values.{value_found}
+use Rattle.cc_terms.specs.CcTypedTerms.Values.{value_found}
 use Rattle.cc_program.proofs.Each.{Each}
 use Rattle.cc_program.specs.declared.program.Roles.{Roles}
 use Rattle.cc_program.specs.declared.types.CType.{CType}
 use Rattle.cc_program.specs.declared.types.Shape.{Shape, Void, Int}
-use Rattle.cc_scopes.specs.State.{State, Name, Scope, KnownStructure, or_else, designated, tagged, outer_scopes, bind, bind_tag, only_named, with_structures, structures_of, layouts_of}
-use Rattle.cc_scopes.specs.Structures.{structure_type, enumeration_type, with_structure, new_structure, structure_named, opened_by, tagged_option, opened, is_enumeration, has_content, with_members, completed, closed, is_member_name, enumeration_constant, enumeration_tagged, enumeration_closed, in_list, enumeration_named}
-use Rattle.cc_scopes.specs.Verdicts.{Found, whole, and_then}
-use Rattle.cc_scopes.specs.declared.designated.Designated.{Designated}
-use Rattle.cc_scopes.specs.declared.designated.Designated.TheVariants as means
-use Rattle.cc_scopes.specs.declared.designated.Tagged.{Tagged}
-use Rattle.cc_scopes.specs.declared.designated.Tagged.TheVariants as tag
-use Rattle.cc_specifiers.specs.Attributes.{are_meant, attributes_in, attributes}
-use Rattle.cc_specifiers.specs.BasicTypes.{with_word, is_no_word, int_by, char_by, basic_by}
-use Rattle.cc_specifiers.specs.Bounds.{is_bound, bound_by, bound_in, bound_judged}
-use Rattle.cc_specifiers.specs.Declarators.{type_found}
-use Rattle.cc_specifiers.specs.Derivations.{nothing_more, in_type_name, with_derivation, is_next_to_name, suffix_found, pointer_derivation}
-use Rattle.cc_specifiers.specs.Objects.{size_of, is_object}
-use Rattle.cc_specifiers.specs.Places.{JudgedAt}
-use Rattle.cc_specifiers.specs.Specifiers.{no_specifier, with_base, with_storage, base_or_clash, word_beside, type_beside, said, with_mark, with_specifier, shape_or, based, named_type, specified}
-use Rattle.cc_specifiers.specs.Storage.{setting, fits_storage}
-use Rattle.cc_specifiers.specs.declared.attribute.Entity.TheVariants as entity
-use Rattle.cc_specifiers.specs.declared.basic.Basic.{Basic}
-use Rattle.cc_specifiers.specs.declared.basic.Length.{Length}
-use Rattle.cc_specifiers.specs.declared.basic.Length.TheVariants as lengths
-use Rattle.cc_specifiers.specs.declared.derivation.Allowed.{Allowed}
-use Rattle.cc_specifiers.specs.declared.derivation.Declarator.{Declarator}
-use Rattle.cc_specifiers.specs.declared.derivation.Derivation.{Derivation}
-use Rattle.cc_specifiers.specs.declared.derivation.Derivation.TheVariants as to
-use Rattle.cc_specifiers.specs.declared.specifier.Base.{Base}
-use Rattle.cc_specifiers.specs.declared.specifier.Base.TheVariants as base
-use Rattle.cc_specifiers.specs.declared.specifier.Specified.{Specified}
-use Rattle.cc_specifiers.specs.declared.specifier.Specifier.{Specifier}
-use Rattle.cc_specifiers.specs.declared.specifier.Specifier.TheVariants as specifier
-use Rattle.cc_specifiers.specs.declared.specifier.Specs.{Specs}
-use Rattle.cc_specifiers.specs.declared.storage.Setting.{Setting}
-use Rattle.cc_specifiers.specs.declared.storage.Where.TheVariants as stands
-use Rattle.cc_syntax.specs.Folding.{Constant, NoConstant, Value, Traps}
-use Rattle.cc_syntax.specs.Kinds.{is_small, is_object_type}
-use Rattle.cc_syntax.specs.Types.{Named, is_complete}
-use Rattle.cc_syntax.proofs.Prefixes.{both_true}
+use Rattle.cc_terms.specs.CcScopes.State.{State, Name, Scope, KnownStructure, or_else, designated, tagged, outer_scopes, bind, bind_tag, only_named, with_structures, structures_of, layouts_of}
+use Rattle.cc_terms.specs.CcScopes.Structures.{structure_type, enumeration_type, with_structure, new_structure, structure_named, opened_by, tagged_option, opened, is_enumeration, has_content, with_members, completed, closed, is_member_name, enumeration_constant, enumeration_tagged, enumeration_closed, in_list, enumeration_named}
+use Rattle.cc_terms.specs.CcScopes.Verdicts.{Found, whole, and_then}
+use Rattle.cc_terms.specs.CcScopes.declared.designated.Designated.{Designated}
+use Rattle.cc_terms.specs.CcScopes.declared.designated.Designated.TheVariants as means
+use Rattle.cc_terms.specs.CcScopes.declared.designated.Tagged.{Tagged}
+use Rattle.cc_terms.specs.CcScopes.declared.designated.Tagged.TheVariants as tag
+use Rattle.cc_terms.specs.CcSpecifiers.Attributes.{are_meant, attributes_in, attributes}
+use Rattle.cc_terms.specs.CcSpecifiers.BasicTypes.{with_word, is_no_word, int_by, char_by, basic_by}
+use Rattle.cc_terms.specs.CcSpecifiers.Bounds.{is_bound, bound_by, bound_in, bound_judged}
+use Rattle.cc_terms.specs.CcSpecifiers.Declarators.{type_found}
+use Rattle.cc_terms.specs.CcSpecifiers.Derivations.{nothing_more, in_type_name, with_derivation, is_next_to_name, suffix_found, pointer_derivation}
+use Rattle.cc_terms.specs.CcSpecifiers.Objects.{size_of, is_object}
+use Rattle.cc_terms.specs.CcSpecifiers.Places.{JudgedAt}
+use Rattle.cc_terms.specs.CcSpecifiers.Specifiers.{no_specifier, with_base, with_storage, base_or_clash, word_beside, type_beside, said, with_mark, with_specifier, shape_or, based, named_type, specified}
+use Rattle.cc_terms.specs.CcSpecifiers.Storage.{setting, fits_storage}
+use Rattle.cc_terms.specs.CcSpecifiers.declared.attribute.Entity.TheVariants as entity
+use Rattle.cc_terms.specs.CcSpecifiers.declared.basic.Basic.{Basic}
+use Rattle.cc_terms.specs.CcSpecifiers.declared.basic.Length.{Length}
+use Rattle.cc_terms.specs.CcSpecifiers.declared.basic.Length.TheVariants as lengths
+use Rattle.cc_terms.specs.CcSpecifiers.declared.derivation.Allowed.{Allowed}
+use Rattle.cc_terms.specs.CcSpecifiers.declared.derivation.Declarator.{Declarator}
+use Rattle.cc_terms.specs.CcSpecifiers.declared.derivation.Derivation.{Derivation}
+use Rattle.cc_terms.specs.CcSpecifiers.declared.derivation.Derivation.TheVariants as to
+use Rattle.cc_terms.specs.CcSpecifiers.declared.specifier.Base.{Base}
+use Rattle.cc_terms.specs.CcSpecifiers.declared.specifier.Base.TheVariants as base
+use Rattle.cc_terms.specs.CcSpecifiers.declared.specifier.Specified.{Specified}
+use Rattle.cc_terms.specs.CcSpecifiers.declared.specifier.Specifier.{Specifier}
+use Rattle.cc_terms.specs.CcSpecifiers.declared.specifier.Specifier.TheVariants as specifier
+use Rattle.cc_terms.specs.CcSpecifiers.declared.specifier.Specs.{Specs}
+use Rattle.cc_terms.specs.CcSpecifiers.declared.storage.Setting.{Setting}
+use Rattle.cc_terms.specs.CcSpecifiers.declared.storage.Where.TheVariants as stands
+use Rattle.cc_terms.specs.CcSyntax.Folding.{Constant, NoConstant, Value, Traps}
+use Rattle.cc_terms.specs.CcSyntax.Kinds.{is_small, is_object_type}
+use Rattle.cc_terms.specs.CcSyntax.Types.{Named, is_complete}
+use Rattle.cc_terms.proofs.CcSyntax.Prefixes.{both_true}
 use Rattle.cc_tree.specs.declared.at.At.{At}
 use Rattle.cc_tree.specs.declared.tree.Attr.{Attr}
-use Rattle.cc_words.specs.declared.word.Word.{Word}
-use Rattle.cc_words.specs.declared.word.Word.TheVariants as w
+use Rattle.cc_program.specs.CcWords.declared.word.Word.{Word}
+use Rattle.cc_program.specs.CcWords.declared.word.Word.TheVariants as w
 use Rattle.cc_terms.specs.Constants.{constants_found, enumeration_found, constant_declared, constant_by}
 use Rattle.cc_terms.specs.Declarators.{declarator, without_bound, with_bound, bounded}
 use Rattle.cc_terms.specs.InTurn.{in_turn}
@@ -68,7 +68,7 @@ use Rattle.cc_terms.specs.Meanings.{TreeMeaning, DeclrMeaning, ParamsMeaning, Sp
 use Rattle.cc_terms.specs.Members.{member_found, declared_members}
 use Rattle.cc_terms.specs.Specifiers.{specifier_found, specifiers_found, specified_found}
 use Rattle.cc_terms.specs.Structures.{structure_opened, members_found, structure_closed, structure_found, member_behind}
-use Rattle.cc_scopes.specs.declared.unit.Declared.{Declared}
+use Rattle.cc_terms.specs.CcScopes.declared.unit.Declared.{Declared}
 use Rattle.cc_sound_terms.specs.Behind.{HasEntry, IsUnnamed, Behind, Extends}
 use Rattle.cc_sound_terms.specs.Ordered.{HasMembers, IsOrdered, AreComplete}
 use Rattle.cc_sound_terms.specs.Growing.{Grows, StructureKept, StructuresKept, IsConstant, IsTag}

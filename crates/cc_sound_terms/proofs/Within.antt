@@ -2,10 +2,10 @@
 use Rattle.std.proofs.Common.{◌≡◌, ℕ, Bool, true, false, ◌&&◌, ◌||◌, List, length, Option, Some, None, Ok, Err, refl, ap, sym, ◌∙◌, arith, [], ◌∷◌}
 use Rattle.std.specs.Prelude.{nat_lt, slice_get, if◌then◌else◌}
 use Rattle.std.proofs.lemmas.Bool.{lt-ltb}
-use Rattle.cc_lex.specs.declared.token.Mark.{Mark}
-use Rattle.cc_num.specs.declared.op.BinOp.{BinOp}
-use Rattle.cc_num.specs.declared.op.BinOp.TheVariants as op
-use Rattle.cc_num.specs.declared.target.Target.{Target}
+use Rattle.cc_terms.specs.CcLex.declared.token.Mark.{Mark}
+use Rattle.cc_program.specs.CcNum.declared.op.BinOp.{BinOp}
+use Rattle.cc_program.specs.CcNum.declared.op.BinOp.TheVariants as op
+use Rattle.cc_program.specs.CcNum.declared.target.Target.{Target}
 use Rattle.cc_program.specs.declared.expr.Expr.{Move, Gap, Change, After}
 use Rattle.cc_program.specs.declared.expr.Place.{Place, Deref}
 use Rattle.cc_program.specs.declared.types.CType.{CType}
@@ -14,24 +14,24 @@ use Rattle.cc_program.specs.declared.types.Shape.TheOpen as shape
 use Rattle.cc_program.specs.declared.types.Sig.{Sig}
 use Rattle.cc_program.specs.declared.types.Structure.{Structure}
 use Rattle.cc_program.proofs.TypeInduction.{TypeParts, by_type}
-use Rattle.cc_syntax.specs.Operators.{difference_type, has_difference, points_to_object, is_integer, is_additive}
-use Rattle.cc_syntax.specs.Types.{Named, has_members, complete_shape, is_complete}
-use Rattle.cc_syntax.specs.Values.{ValueType, NoValue, Integer, ToObject, ToFunction, PlaceType, DevicePlace, ObjectPlace, FunctionPlace, point_alike, written_to, pointed_to, member_in as member_place, member_shape}
-use Rattle.cc_syntax.proofs.TypeLayouts.{parts_complete, complete-roll}
-use Rattle.cc_operands.specs.Arithmetic.{moved, sum_by, gap, difference_by, binary_by as operator_by, binary_of}
-use Rattle.cc_operands.specs.Assignments.{changed_pointer, changed_by, changed_to, stepped_at}
-use Rattle.cc_operands.specs.Operands.{Operand, operand, with_value}
-use Rattle.cc_operands.specs.Verdicts.{Judged, must}
-use Rattle.cc_operands.specs.declared.operator.Operator.{Operator}
-use Rattle.cc_operands.specs.declared.operator.Operator.TheVariants as operator
-use Rattle.cc_operands.specs.declared.rule.Rule.{Rule}
-use Rattle.cc_operands.specs.declared.rule.Rule.TheVariants as rule
-use Rattle.cc_designators.specs.Assignments.{change_of, assign_by, assign_of, one, stepped_before, stepped_after}
-use Rattle.cc_designators.specs.Designators.{TypedExpr, IsPlace, IsValue, IsFunction, IsIntrinsic, IsAddress}
-use Rattle.cc_designators.specs.Postfix.{pointed_by, subscripted, position_in, position_at, member_by, member_at, member_in, dot, arrow_to, arrow}
-use Rattle.cc_operands.specs.Operators.{assigns_by}
+use Rattle.cc_terms.specs.CcSyntax.Operators.{difference_type, has_difference, points_to_object, is_integer, is_additive}
+use Rattle.cc_terms.specs.CcSyntax.Types.{Named, has_members, complete_shape, is_complete}
+use Rattle.cc_terms.specs.CcSyntax.Values.{ValueType, NoValue, Integer, ToObject, ToFunction, PlaceType, DevicePlace, ObjectPlace, FunctionPlace, point_alike, written_to, pointed_to, member_in as member_place, member_shape}
+use Rattle.cc_terms.proofs.CcSyntax.TypeLayouts.{parts_complete, complete-roll}
+use Rattle.cc_terms.specs.CcOperands.Arithmetic.{moved, sum_by, gap, difference_by, binary_by as operator_by, binary_of}
+use Rattle.cc_terms.specs.CcOperands.Assignments.{changed_pointer, changed_by, changed_to, stepped_at}
+use Rattle.cc_terms.specs.CcOperands.Operands.{Operand, operand, with_value}
+use Rattle.cc_terms.specs.CcOperands.Verdicts.{Judged, must}
+use Rattle.cc_terms.specs.CcOperands.declared.operator.Operator.{Operator}
+use Rattle.cc_terms.specs.CcOperands.declared.operator.Operator.TheVariants as operator
+use Rattle.cc_terms.specs.CcOperands.declared.rule.Rule.{Rule}
+use Rattle.cc_terms.specs.CcOperands.declared.rule.Rule.TheVariants as rule
+use Rattle.cc_terms.specs.CcDesignators.Assignments.{change_of, assign_by, assign_of, one, stepped_before, stepped_after}
+use Rattle.cc_terms.specs.CcDesignators.Designators.{TypedExpr, IsPlace, IsValue, IsFunction, IsIntrinsic, IsAddress}
+use Rattle.cc_terms.specs.CcDesignators.Postfix.{pointed_by, subscripted, position_in, position_at, member_by, member_at, member_in, dot, arrow_to, arrow}
+use Rattle.cc_terms.specs.CcOperands.Operators.{assigns_by}
 use Rattle.cc_operand_types.proofs.Operands.{value_ok}
-use Rattle.cc_typed_terms.specs.Operators.{binary_by}
+use Rattle.cc_terms.specs.CcTypedTerms.Operators.{binary_by}
 
 -- each structure that has members has these there
 abbrev pub AreWithin : List Structure → List Structure → Type 0

@@ -1,11 +1,11 @@
 -- What stands behind a construct: types of what is declared, and members of structures that are completed (C99 6.2.1, 4; 6.7, 7; 6.7.2.1, 2).
 use Rattle.std.specs.Prelude.{◌≡◌, ◌⊎◌, ◌+◌, ℕ, ℤ, Bool, true, List, ◌++◌, length, Option, Some, slice_get}
-use Rattle.cc_designators.specs.Casts.{fits_pointer}
-use Rattle.cc_num.specs.declared.int_type.IntType.{IntType}
-use Rattle.cc_num.specs.declared.target.Target.{Target}
-use Rattle.cc_syntax.specs.Views.{View, kind_in}
-use Rattle.cc_typed_terms.specs.Devices.{device_of, declared_device}
-use Rattle.cc_typed_terms.specs.Primary.{string_object}
+use Rattle.cc_terms.specs.CcDesignators.Casts.{fits_pointer}
+use Rattle.cc_program.specs.CcNum.declared.int_type.IntType.{IntType}
+use Rattle.cc_program.specs.CcNum.declared.target.Target.{Target}
+use Rattle.cc_terms.specs.CcSyntax.Views.{View, kind_in}
+use Rattle.cc_terms.specs.CcTypedTerms.Devices.{device_of, declared_device}
+use Rattle.cc_terms.specs.CcTypedTerms.Primary.{string_object}
 use Rattle.cc_program.specs.declared.types.CType.{CType}
 use Rattle.cc_program.specs.declared.types.Shape.{Shape, out-Shape}
 use Rattle.cc_program.specs.declared.types.Shape.TheOpen as shape
@@ -14,14 +14,14 @@ use Rattle.cc_program.specs.declared.func.Entry.{Entry}
 use Rattle.cc_program.specs.declared.func.Func.{Func}
 use Rattle.cc_program.specs.declared.object.Device.{Device}
 use Rattle.cc_program.specs.declared.value.Leaf.{Leaf}
-use Rattle.cc_scopes.specs.State.{State}
-use Rattle.cc_scopes.specs.declared.designated.Designated.{Designated}
-use Rattle.cc_scopes.specs.declared.unit.Declared.{Declared}
-use Rattle.cc_specifiers.specs.Bounds.{is_bound}
-use Rattle.cc_syntax.specs.Kinds.{is_object_type, is_sig}
-use Rattle.cc_syntax.specs.Types.{Named}
-use Rattle.cc_unit.specs.declared.unit.UnitKind.{UnitKind}
-use Rattle.cc_unit.specs.declared.unit.UnitKind.TheVariants as kind
+use Rattle.cc_terms.specs.CcScopes.State.{State}
+use Rattle.cc_terms.specs.CcScopes.declared.designated.Designated.{Designated}
+use Rattle.cc_terms.specs.CcScopes.declared.unit.Declared.{Declared}
+use Rattle.cc_terms.specs.CcSpecifiers.Bounds.{is_bound}
+use Rattle.cc_terms.specs.CcSyntax.Kinds.{is_object_type, is_sig}
+use Rattle.cc_terms.specs.CcSyntax.Types.{Named}
+use Rattle.cc_terms.specs.CcUnit.declared.unit.UnitKind.{UnitKind}
+use Rattle.cc_terms.specs.CcUnit.declared.unit.UnitKind.TheVariants as kind
 use Rattle.cc_sound_terms.specs.Closings.{Closings}
 use Rattle.cc_sound_terms.specs.Growing.{Grows, IsConstant}
 use Rattle.cc_sound_terms.specs.Knowing.{TypesStand, TagsStand}

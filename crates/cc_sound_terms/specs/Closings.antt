@@ -1,13 +1,13 @@
 -- What is known of each structure that a construct completes: the state in front of its closing brace, and its members there, over each view that knows that state (C99 6.7.2.1).
 use Rattle.std.specs.Prelude.{◌≡◌, ◌⊎◌, ℕ, List, ◌∷◌, ◌++◌, map, Some, slice_get}
-use Rattle.cc_scopes.specs.State.{KnownStructure, State, layouts_of}
+use Rattle.cc_terms.specs.CcScopes.State.{KnownStructure, State, layouts_of}
 use Rattle.cc_sound_terms.specs.Growing.{StructuresKept}
 use Rattle.cc_sound_terms.specs.Ordered.{AreComplete, HasMembers, IsOrdered}
 use Rattle.cc_sound_terms.specs.Standing.{MembersKnown}
 use Rattle.cc_sound_terms.specs.Typing.{KnowsTypes}
-use Rattle.cc_syntax.specs.Layout.{structure, type_layout}
-use Rattle.cc_syntax.specs.Types.{Named}
-use Rattle.cc_syntax.specs.Views.{View}
+use Rattle.cc_terms.specs.CcSyntax.Layout.{structure, type_layout}
+use Rattle.cc_terms.specs.CcSyntax.Types.{Named}
+use Rattle.cc_terms.specs.CcSyntax.Views.{View}
 
 module _ (v : View) (Given : Type 0) (s t : State) where
   -- between s and t this structure was closed, with these members; `Given` is what is known of the construct's parts

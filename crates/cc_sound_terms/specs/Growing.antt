@@ -1,16 +1,16 @@
 -- What a construct adds to what is known: names of the innermost scope, structures and their contents, and what has a place in
 -- memory of its own. What was known stays (C99 6.2.1, 4; 6.7.2.3).
 use Rattle.std.specs.Prelude.{◌≡◌, ◌⊎◌, ℕ, true, List, ◌++◌, Option, Some, slice_get}
-use Rattle.cc_num.specs.declared.int_type.IntType.TheVariants as int
-use Rattle.cc_num.specs.declared.target.Target.{Target}
-use Rattle.cc_num.specs.Integers.{is_value_of}
-use Rattle.cc_scopes.specs.State.{State, Name, KnownStructure, find_name, innermost, outer_scopes}
-use Rattle.cc_scopes.specs.declared.designated.Designated.{Designated}
-use Rattle.cc_scopes.specs.declared.designated.Designated.TheVariants as means
-use Rattle.cc_scopes.specs.declared.designated.Tagged.{Tagged}
-use Rattle.cc_scopes.specs.declared.designated.Tagged.TheVariants as tag
-use Rattle.cc_scopes.specs.declared.unit.Declared.{Declared}
-use Rattle.cc_syntax.specs.Types.{Named}
+use Rattle.cc_program.specs.CcNum.declared.int_type.IntType.TheVariants as int
+use Rattle.cc_program.specs.CcNum.declared.target.Target.{Target}
+use Rattle.cc_program.specs.CcNum.Integers.{is_value_of}
+use Rattle.cc_terms.specs.CcScopes.State.{State, Name, KnownStructure, find_name, innermost, outer_scopes}
+use Rattle.cc_terms.specs.CcScopes.declared.designated.Designated.{Designated}
+use Rattle.cc_terms.specs.CcScopes.declared.designated.Designated.TheVariants as means
+use Rattle.cc_terms.specs.CcScopes.declared.designated.Tagged.{Tagged}
+use Rattle.cc_terms.specs.CcScopes.declared.designated.Tagged.TheVariants as tag
+use Rattle.cc_terms.specs.CcScopes.declared.unit.Declared.{Declared}
+use Rattle.cc_terms.specs.CcSyntax.Types.{Named}
 
 -- a name, or a tag, means what it did, or is one of the new ones
 abbrev pub Kept : {A : Type 0} → (A → Type 0) → Option A → Option A → Type 0

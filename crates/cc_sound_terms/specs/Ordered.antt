@@ -4,10 +4,10 @@ use Rattle.std.specs.List.{list_any}
 use Rattle.cc_program.proofs.Each.{Each}
 use Rattle.cc_program.specs.declared.types.CType.{CType, fold-CType}
 use Rattle.cc_program.specs.declared.types.Shape.TheOpen as shape
-use Rattle.cc_scopes.specs.State.{State, Name, KnownStructure, tagged, structures_of}
-use Rattle.cc_scopes.specs.declared.designated.Tagged.{Tagged}
+use Rattle.cc_terms.specs.CcScopes.State.{State, Name, KnownStructure, tagged, structures_of}
+use Rattle.cc_terms.specs.CcScopes.declared.designated.Tagged.{Tagged}
 use Rattle.cc_sound_terms.specs.Growing.{IsTag}
-use Rattle.cc_syntax.specs.Types.{Named, is_complete}
+use Rattle.cc_terms.specs.CcSyntax.Types.{Named, is_complete}
 
 -- a structure of that number with these members
 abbrev pub HasMembers : List KnownStructure → ℕ → List Named → Type 0

@@ -1,25 +1,25 @@
 -- What specifiers, declarators, parameters and type names give stands: the types that they name may stand (C99 6.7.2 to 6.7.6).
 use Rattle.std.specs.Prelude.{◌≡◌, ◌⊎◌, Bool, true, false, List, [], ◌∷◌, Some, None}
-use Rattle.cc_operands.specs.Qualified.{plain, unqualified}
+use Rattle.cc_terms.specs.CcOperands.Qualified.{plain, unqualified}
 use Rattle.cc_operand_types.specs.Typed.{is_pointed_kind}
-use Rattle.cc_syntax.specs.Views.{View, kind_in}
+use Rattle.cc_terms.specs.CcSyntax.Views.{View, kind_in}
 use Rattle.cc_program.proofs.Each.{Each}
 use Rattle.cc_program.specs.declared.types.CType.{CType}
 use Rattle.cc_program.specs.declared.types.Shape.{Array, out-Shape}
 use Rattle.cc_program.specs.declared.types.Shape.TheOpen as shape
-use Rattle.cc_scopes.specs.State.{Scope}
-use Rattle.cc_specifiers.specs.Bounds.{is_bound}
-use Rattle.cc_specifiers.specs.declared.derivation.Derivation.{Derivation}
-use Rattle.cc_specifiers.specs.declared.derivation.Derivation.TheVariants as to
-use Rattle.cc_specifiers.specs.declared.derivation.Parameter.{Parameter}
-use Rattle.cc_specifiers.specs.declared.specifier.Base.{Base}
-use Rattle.cc_specifiers.specs.declared.specifier.Base.TheVariants as base
-use Rattle.cc_specifiers.specs.declared.specifier.Specifier.{Specifier}
-use Rattle.cc_specifiers.specs.declared.specifier.Specifier.TheVariants as specifier
-use Rattle.cc_syntax.specs.Kinds.{is_plain_scalar, is_object_type}
-use Rattle.cc_syntax.specs.Operators.{is_unqualified}
-use Rattle.cc_syntax.specs.Types.{Named}
-use Rattle.cc_syntax.specs.Values.{is_void}
+use Rattle.cc_terms.specs.CcScopes.State.{Scope}
+use Rattle.cc_terms.specs.CcSpecifiers.Bounds.{is_bound}
+use Rattle.cc_terms.specs.CcSpecifiers.declared.derivation.Derivation.{Derivation}
+use Rattle.cc_terms.specs.CcSpecifiers.declared.derivation.Derivation.TheVariants as to
+use Rattle.cc_terms.specs.CcSpecifiers.declared.derivation.Parameter.{Parameter}
+use Rattle.cc_terms.specs.CcSpecifiers.declared.specifier.Base.{Base}
+use Rattle.cc_terms.specs.CcSpecifiers.declared.specifier.Base.TheVariants as base
+use Rattle.cc_terms.specs.CcSpecifiers.declared.specifier.Specifier.{Specifier}
+use Rattle.cc_terms.specs.CcSpecifiers.declared.specifier.Specifier.TheVariants as specifier
+use Rattle.cc_terms.specs.CcSyntax.Kinds.{is_plain_scalar, is_object_type}
+use Rattle.cc_terms.specs.CcSyntax.Operators.{is_unqualified}
+use Rattle.cc_terms.specs.CcSyntax.Types.{Named}
+use Rattle.cc_terms.specs.CcSyntax.Values.{is_void}
 use Rattle.cc_tree.specs.declared.at.At.{At}
 use Rattle.cc_sound_terms.specs.Knowing.{Stands}
 

@@ -1,9 +1,9 @@
 -- What is known of a construct between two states: over a view that knows what there is behind it, what stands in front of it.
 use Rattle.std.specs.Prelude.{List}
 use Rattle.cc_operand_types.specs.Typed.{MembersStand}
-use Rattle.cc_syntax.specs.Views.{View}
-use Rattle.cc_scopes.specs.State.{State}
-use Rattle.cc_syntax.specs.Types.{Named}
+use Rattle.cc_terms.specs.CcSyntax.Views.{View}
+use Rattle.cc_terms.specs.CcScopes.State.{State}
+use Rattle.cc_terms.specs.CcSyntax.Types.{Named}
 use Rattle.cc_sound_terms.specs.Knowing.{KnowsStructures, KnowsNames, TypesStand, ObjectsStand, TagsStand}
 
 -- what types stand on

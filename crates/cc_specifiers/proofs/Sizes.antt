@@ -2,7 +2,7 @@
 use Rattle.std.proofs.Common.{arith, ◌≡◌, ◌<◌, ◌≤◌, ◌*◌, ◌&&◌, ℕ, zero, Bool, true, false, List, Option, Some, None, refl, ap, sym, ◌∙◌, nat_lt}
 use Rattle.std.specs.Prelude.{is_some, if◌then◌else◌}
 use Rattle.std.proofs.Math.Nat.{le-mul_of_pos_right}
-use Rattle.cc_num.specs.declared.target.Target.{Target}
+use Rattle.cc_program.specs.CcNum.declared.target.Target.{Target}
 use Rattle.cc_program.specs.declared.types.CType.{CType}
 use Rattle.cc_program.specs.declared.types.Shape.{Array, out-Shape}
 use Rattle.cc_program.specs.declared.types.Shape.TheOpen as shape

@@ -1,15 +1,15 @@
 -- Basic types: the words that name one may stand in any order (C99 6.7.2, 2).
 use Rattle.std.specs.Prelude.{Bool, true, false, not, ◌&&◌, ◌||◌, Option, Some, None, is_some, if◌then◌else◌}
-use Rattle.cc_num.specs.declared.int_type.IntType.{IntType}
-use Rattle.cc_num.specs.declared.int_type.IntType.TheVariants as int
+use Rattle.cc_program.specs.CcNum.declared.int_type.IntType.{IntType}
+use Rattle.cc_program.specs.CcNum.declared.int_type.IntType.TheVariants as int
 use Rattle.cc_program.specs.declared.types.Shape.{Shape, Void, Int}
 use Rattle.cc_specifiers.specs.declared.basic.Basic.{Basic}
 use Rattle.cc_specifiers.specs.declared.basic.Length.{Length}
 use Rattle.cc_specifiers.specs.declared.basic.Length.TheVariants as lengths
 use Rattle.cc_specifiers.specs.declared.basic.Sign.{Sign}
 use Rattle.cc_specifiers.specs.declared.basic.Sign.TheVariants as sign
-use Rattle.cc_words.specs.declared.word.Word.{Word}
-use Rattle.cc_words.specs.declared.word.Word.TheVariants as w
+use Rattle.cc_program.specs.CcWords.declared.word.Word.{Word}
+use Rattle.cc_program.specs.CcWords.declared.word.Word.TheVariants as w
 
 abbrev pub no_word : Basic
 no_word = record { sign = None; length = lengths.Plain; int = false }

@@ -1,6 +1,6 @@
 -- The types that declarators derive (C99 6.7.5).
 use Rattle.std.specs.Prelude.{ℕ, zero, Bool, true, false, not, ◌&&◌, ◌||◌, List, [], ◌∷◌, map, Option, Some, None, Ok, Err, if◌then◌else◌}
-use Rattle.cc_num.specs.declared.target.Target.{Target}
+use Rattle.cc_program.specs.CcNum.declared.target.Target.{Target}
 use Rattle.cc_operands.specs.Qualified.{plain, unqualified}
 use Rattle.cc_operands.specs.declared.rule.Rule.{Rule}
 use Rattle.cc_operands.specs.declared.rule.Rule.TheVariants as rule

@@ -9,8 +9,8 @@ use Rattle.cc_specifiers.specs.declared.derivation.Declarator.{Declarator}
 use Rattle.cc_specifiers.specs.declared.derivation.Derivation.{Derivation}
 use Rattle.cc_specifiers.specs.declared.derivation.Derivation.TheVariants as to
 use Rattle.cc_tree.specs.declared.at.At.{At}
-use Rattle.cc_words.specs.declared.word.Word.{Word}
-use Rattle.cc_words.specs.declared.word.Word.TheVariants as w
+use Rattle.cc_program.specs.CcWords.declared.word.Word.{Word}
+use Rattle.cc_program.specs.CcWords.declared.word.Word.TheVariants as w
 
 abbrev pub with_derivation : {S : Type 0} → ℕ → Derivation S → Declarator S → Declarator S
 with_derivation at d x = record { name = x.name; derivations = x.derivations ++ record { at = at; node = d } ∷ [] }

@@ -1,7 +1,7 @@
 -- Which types objects, members and elements may have: complete object types, and not too large (C99 6.2.5, 6.7, 7;
 -- 6.7.2.1, 2; 6.7.5.2, 1).
 use Rattle.std.specs.Prelude.{ℕ, ◌*◌, Bool, ◌&&◌, nat_lt, List, Option, Some, None, if◌then◌else◌}
-use Rattle.cc_num.specs.declared.target.Target.{Target}
+use Rattle.cc_program.specs.CcNum.declared.target.Target.{Target}
 use Rattle.cc_program.specs.declared.types.CType.{CType}
 use Rattle.cc_program.specs.declared.types.Structure.{Structure}
 use Rattle.cc_syntax.specs.Kinds.{is_small}

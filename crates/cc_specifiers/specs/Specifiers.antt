@@ -17,8 +17,8 @@ use Rattle.cc_specifiers.specs.declared.specifier.Specifier.{Specifier}
 use Rattle.cc_specifiers.specs.declared.specifier.Specifier.TheVariants as specifier
 use Rattle.cc_specifiers.specs.declared.specifier.Specs.{Specs}
 use Rattle.cc_specifiers.specs.declared.storage.Setting.{Setting}
-use Rattle.cc_words.specs.declared.word.Word.{Word}
-use Rattle.cc_words.specs.declared.word.Word.TheVariants as w
+use Rattle.cc_program.specs.CcWords.declared.word.Word.{Word}
+use Rattle.cc_program.specs.CcWords.declared.word.Word.TheVariants as w
 
 abbrev pub no_specifier : Specs
 no_specifier = record { storage = None; constant = false; volatile = false; base = base.Words no_word; marks = [] }

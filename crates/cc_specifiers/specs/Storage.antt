@@ -6,8 +6,8 @@ use Rattle.cc_specifiers.specs.declared.attribute.Entity.{Entity}
 use Rattle.cc_specifiers.specs.declared.storage.Setting.{Setting}
 use Rattle.cc_specifiers.specs.declared.storage.Where.{Where}
 use Rattle.cc_specifiers.specs.declared.storage.Where.TheVariants as stands
-use Rattle.cc_words.specs.declared.word.Word.{Word}
-use Rattle.cc_words.specs.declared.word.Word.TheVariants as w
+use Rattle.cc_program.specs.CcWords.declared.word.Word.{Word}
+use Rattle.cc_program.specs.CcWords.declared.word.Word.TheVariants as w
 
 -- the flags say that a function is declared, and that something is initialised
 abbrev pub fits_file : Bool → Word → Bool

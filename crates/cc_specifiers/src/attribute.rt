@@ -8,8 +8,8 @@ ghost use Rattle.cc_specifiers.specs.Attributes.{mode_of as mode_named, plain_at
 ghost use Rattle.cc_specifiers.specs.Places.{JudgesAt};
 
 use crate::fault::{BreachAt, breach_at};
-use cc_num::{List, Name};
 use cc_operands::{Breach, Rule};
+use cc_program::num::{List, Name};
 use cc_syntax::Entry;
 use cc_tree::{At, Attr};
 use std::alloc::Global;

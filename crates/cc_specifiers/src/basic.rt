@@ -4,8 +4,8 @@ ghost use Rattle.std.specs.Prelude.{◌≡◌, Some};
 ghost use Rattle.cc_program.specs.declared.types.Shape.{Int as IntOf};
 ghost use Rattle.cc_specifiers.specs.BasicTypes.{no_word, with_sign as with_sign_of, with_length as with_length_of, is_plain as is_plain_of, longer as longer_of, with_longer, with_int as with_int_of, with_word as with_word_of, int_by as int_by_of, char_by as char_by_of, alone as alone_of, basic_type as basic_type_of, is_no_word as is_no_word_of};
 
-use cc_lex::Word;
-use cc_num::IntType;
+use cc_operands::lex::Word;
+use cc_program::num::IntType;
 use cc_syntax::Shape;
 
 #[derive(Clone, Copy)]

@@ -7,9 +7,9 @@ ghost use Rattle.cc_specifiers.specs.Derivations.{with_derivation as with_deriva
 ghost use Rattle.cc_specifiers.specs.Places.{JudgesAt, checked};
 
 use crate::fault::BreachAt;
-use cc_lex::Word;
-use cc_num::{List, Name, NoMemory};
 use cc_operands::Rule;
+use cc_operands::lex::Word;
+use cc_program::num::{List, Name, NoMemory};
 use cc_syntax::CType;
 use cc_tree::At;
 use std::alloc::Global;

@@ -9,11 +9,11 @@ ghost use Rattle.cc_specifiers.specs.Places.{JudgesAt};
 use crate::derivation::{Allowed, Derivation, Parameter};
 use crate::fault::BreachAt;
 use crate::object::is_object;
-use cc_num::{Boxed, List, NoMemory, Target};
 use cc_operands::Rule;
+use cc_operands::typed_crate::{is_unqualified, is_void};
+use cc_program::num::{Boxed, List, NoMemory, Target};
 use cc_syntax::{CType, Layout, Shape, Sig, Structure};
 use cc_tree::At;
-use cc_typed::{is_unqualified, is_void};
 use std::alloc::Global;
 
 /// A type without qualifiers.

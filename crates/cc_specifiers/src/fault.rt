@@ -16,10 +16,10 @@ pub enum BreachAt {
     NoMemory,
 }
 
-impl From<cc_num::NoMemory> for BreachAt {
+impl From<cc_program::num::NoMemory> for BreachAt {
     ghost from_gives = { λ _ e. e ≡ NoRoom };
 
-    fn from(_error: cc_num::NoMemory) -> BreachAt {
+    fn from(_error: cc_program::num::NoMemory) -> BreachAt {
         BreachAt::NoMemory
     }
 }

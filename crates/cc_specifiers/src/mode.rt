@@ -1,13 +1,13 @@
 //! Attributes that give an integer type another size.
 
 ghost use Rattle.std.specs.Prelude.{◌≡◌, find, nat_eq};
-ghost use Rattle.cc_num.specs.Integers.{bytes_of};
+ghost use Rattle.cc_program.specs.CcNum.Integers.{bytes_of};
 ghost use Rattle.cc_operands.specs.Verdicts.{Judges};
 ghost use Rattle.cc_specifiers.specs.Modes.{with_bytes as with_bytes_of, mode_type as mode_type_of, moded as moded_of, all_moded as all_moded_of, modes_judged as modes_judged_of};
 
 use crate::attribute::Attribute;
-use cc_num::{IntType, List, Target};
 use cc_operands::{Breach, Rule};
+use cc_program::num::{IntType, List, Target};
 use cc_syntax::{CType, Shape};
 use cc_tree::At;
 

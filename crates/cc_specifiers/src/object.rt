@@ -5,7 +5,7 @@ ghost use Rattle.std.specs.Option.{option_copied};
 ghost use Rattle.cc_specifiers.specs.Objects.{small as small_of, array_size as array_size_of, object_size as object_size_of, is_object as is_object_of};
 ghost use Rattle.cc_syntax.specs.Types.{has_members as has_members_of};
 
-use cc_num::{Target, at};
+use cc_program::num::{Target, at};
 use cc_syntax::{CType, Layout, Shape, Structure};
 
 /// As many bytes as an object may have at most.

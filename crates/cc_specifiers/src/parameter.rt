@@ -5,8 +5,8 @@ ghost use Rattle.cc_operands.specs.Verdicts.{Judges};
 ghost use Rattle.cc_specifiers.specs.Parameters.{adjusted as adjusted_of, parameter_type as parameter_type_of};
 
 use crate::derived::plain;
-use cc_num::{Boxed, NoMemory};
 use cc_operands::{Breach, Rule};
+use cc_program::num::{Boxed, NoMemory};
 use cc_syntax::{CType, Shape};
 use std::alloc::Global;
 

@@ -6,8 +6,8 @@ ghost use Rattle.cc_specifiers.specs.Attributes.{is_function};
 ghost use Rattle.cc_specifiers.specs.Storage.{fits_file as fits_file_of, fits_block as fits_block_of, fits_for as fits_for_of, fits_definition as fits_definition_of, fits_parameter as fits_parameter_of, storage_fits as storage_fits_of, setting as setting_of, fits_storage as fits_storage_of};
 
 use crate::attribute::Entity;
-use cc_lex::Word;
-use cc_num::{List, NoMemory};
+use cc_operands::lex::Word;
+use cc_program::num::{List, NoMemory};
 use std::alloc::Global;
 
 /// Where specifiers stand.

@@ -3,9 +3,9 @@ use Rattle.std.proofs.Common.{◌≡◌, ◌∙◌, inl, inr, ℕ, zero, suc, Li
 use Rattle.std.specs.Prelude.{option_to_list}
 use Rattle.std.specs.List.{flat_map}
 use Rattle.cc_numbering.specs.Structures.{structure_at, structure_in, structures_in}
-use Rattle.cc_scopes.specs.State.{KnownStructure}
+use Rattle.cc_terms.specs.CcScopes.State.{KnownStructure}
 use Rattle.cc_structures.proofs.Elements.{In}
-use Rattle.cc_unit.specs.declared.unit.UnitStructure.{UnitStructure}
+use Rattle.cc_terms.specs.CcUnit.declared.unit.UnitStructure.{UnitStructure}
 
 module _ (numbers : List ℕ) (all : List KnownStructure) where
   abbrev pub AllThere : List ℕ → Type 0

@@ -5,24 +5,24 @@ use Rattle.std.proofs.lemmas.Bool.{eq-eqb}
 use Rattle.std.proofs.lemmas.Option.{slice_get-map}
 use Rattle.cc_standing_units.proofs.Layouts.{layouts_stay}
 use Rattle.cc_sound_terms.specs.Closings.{ClosedBy, Closings}
-use Rattle.cc_num.specs.declared.target.Target.{Target}
+use Rattle.cc_program.specs.CcNum.declared.target.Target.{Target}
 use Rattle.cc_standing_units.proofs.OwnViews.{first_ordered}
 use Rattle.cc_standing_units.specs.Views.{has_content, view_of}
 use Rattle.cc_program.specs.declared.types.CType.{CType}
-use Rattle.cc_scopes.specs.State.{KnownStructure, Name, State, as_structure, at_first, designated, members_or_none, structures_of, tagged}
-use Rattle.cc_scopes.specs.declared.designated.Designated.TheVariants as means
-use Rattle.cc_scopes.specs.declared.designated.Tagged.{Tagged}
+use Rattle.cc_terms.specs.CcScopes.State.{KnownStructure, Name, State, as_structure, at_first, designated, members_or_none, structures_of, tagged}
+use Rattle.cc_terms.specs.CcScopes.declared.designated.Designated.TheVariants as means
+use Rattle.cc_terms.specs.CcScopes.declared.designated.Tagged.{Tagged}
 use Rattle.cc_sound_terms.specs.Growing.{StructuresKept}
 use Rattle.cc_sound_terms.specs.Knowing.{HasContent, KnowsStructures}
 use Rattle.cc_sound_terms.specs.Ordered.{AreOrdered, HasMembers, IsOrdered, is_among}
 use Rattle.cc_sound_terms.specs.Typing.{KnowsTypes}
 use Rattle.cc_standing_units.specs.Closed.{AreClosed, AreOver, MembersOver, extents_over}
-use Rattle.cc_syntax.specs.Layout.{structure}
-use Rattle.cc_syntax.specs.Names.{local_names}
-use Rattle.cc_syntax.specs.Types.{Named}
-use Rattle.cc_syntax.specs.Views.{View}
-use Rattle.cc_syntax.specs.declared.sizes.Layout.{Layout}
-use Rattle.cc_words.specs.Names.{are_distinct}
+use Rattle.cc_terms.specs.CcSyntax.Layout.{structure}
+use Rattle.cc_terms.specs.CcSyntax.Names.{local_names}
+use Rattle.cc_terms.specs.CcSyntax.Types.{Named}
+use Rattle.cc_terms.specs.CcSyntax.Views.{View}
+use Rattle.cc_terms.specs.CcSyntax.declared.sizes.Layout.{Layout}
+use Rattle.cc_program.specs.CcWords.Names.{are_distinct}
 
 -- ---- a number that stands once splits a list once
 

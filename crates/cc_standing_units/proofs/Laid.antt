@@ -5,22 +5,22 @@ use Rattle.std.proofs.lemmas.Bool.{cases_lt}
 use Rattle.std.proofs.lemmas.List.{append-nil}
 use Rattle.std.proofs.lemmas.Option.{slice_get-map, slice_get_within}
 use Rattle.cc_relocated_units.specs.Linked.{structures_of as unit_structures, untagged}
-use Rattle.cc_num.specs.declared.target.Target.{Target}
+use Rattle.cc_program.specs.CcNum.declared.target.Target.{Target}
 use Rattle.cc_numbering.specs.Numbers.{numbers_of, only_named, order_of, place_from}
 use Rattle.cc_numbering.specs.Structures.{all_named_in, structure_in, structures_in}
 use Rattle.cc_numbering.specs.Units.{unit_left}
 use Rattle.cc_program.proofs.Each.{Each}
 use Rattle.cc_program.specs.declared.types.Structure.{Structure}
-use Rattle.cc_scopes.specs.State.{KnownStructure, State, layouts_of}
+use Rattle.cc_terms.specs.CcScopes.State.{KnownStructure, State, layouts_of}
 use Rattle.cc_sound_terms.specs.Ordered.{AreOrdered, HasMembers, IsOrdered, StandsBehind, is_among, is_complete_over}
 use Rattle.cc_structures.proofs.Elements.{In, in-cases, in-left, in-right}
 use Rattle.cc_structures.proofs.WordLaws.{number_by}
-use Rattle.cc_syntax.proofs.Prefixes.{layouts-at}
-use Rattle.cc_syntax.specs.Layout.{layouts, nothing, structure, type_layout}
-use Rattle.cc_syntax.specs.Types.{Named}
-use Rattle.cc_syntax.specs.declared.sizes.Layout.{Layout}
-use Rattle.cc_unit.specs.Renumbered.{structure_by}
-use Rattle.cc_unit.specs.declared.unit.UnitStructure.{UnitStructure}
+use Rattle.cc_terms.proofs.CcSyntax.Prefixes.{layouts-at}
+use Rattle.cc_terms.specs.CcSyntax.Layout.{layouts, nothing, structure, type_layout}
+use Rattle.cc_terms.specs.CcSyntax.Types.{Named}
+use Rattle.cc_terms.specs.CcSyntax.declared.sizes.Layout.{Layout}
+use Rattle.cc_terms.specs.CcUnit.Renumbered.{structure_by}
+use Rattle.cc_terms.specs.CcUnit.declared.unit.UnitStructure.{UnitStructure}
 use Rattle.cc_standing_units.proofs.Built.{AllThere, built-at}
 use Rattle.cc_standing_units.proofs.Places.{Placed, among-in, in-among, in-only, only-in, placed, places-at}
 use Rattle.cc_standing_units.proofs.Types.{laid_there}

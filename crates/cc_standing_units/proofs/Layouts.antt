@@ -2,22 +2,22 @@
 use Rattle.std.proofs.Common.{◌≡◌, ◌∙◌, ℕ, true, List, [], ◌∷◌, map, Option, Some, option_map, slice_get, refl, ap, sym}
 use Rattle.std.specs.Prelude.{nat_lt, unwrap_or}
 use Rattle.std.proofs.lemmas.Option.{slice_get-map}
-use Rattle.cc_num.specs.declared.target.Target.{Target}
+use Rattle.cc_program.specs.CcNum.declared.target.Target.{Target}
 use Rattle.cc_program.proofs.TypeInduction.{TypeParts, by_type}
 use Rattle.cc_program.specs.declared.types.CType.{CType}
 use Rattle.cc_program.specs.declared.types.Shape.{Shape}
 use Rattle.cc_program.specs.declared.types.Shape.TheOpen as shape
 use Rattle.cc_program.specs.declared.types.Sig.{Sig}
 use Rattle.cc_program.specs.declared.types.Structure.{Structure}
-use Rattle.cc_scopes.specs.State.{KnownStructure, State, layouts_of, structures_of}
+use Rattle.cc_terms.specs.CcScopes.State.{KnownStructure, State, layouts_of, structures_of}
 use Rattle.cc_sound_terms.proofs.Completeness.{content_at}
 use Rattle.cc_sound_terms.specs.Growing.{StructuresKept}
 use Rattle.cc_sound_terms.specs.Ordered.{AreComplete}
-use Rattle.cc_syntax.proofs.Prefixes.{both_true}
-use Rattle.cc_syntax.proofs.TypeLayouts.{complete-roll, layout-roll, parts_complete, parts_layout}
-use Rattle.cc_syntax.specs.Layout.{nothing, shape_layout, type_layout}
-use Rattle.cc_syntax.specs.Types.{Named, complete_shape, has_members, is_complete}
-use Rattle.cc_syntax.specs.declared.sizes.Layout.{Layout}
+use Rattle.cc_terms.proofs.CcSyntax.Prefixes.{both_true}
+use Rattle.cc_terms.proofs.CcSyntax.TypeLayouts.{complete-roll, layout-roll, parts_complete, parts_layout}
+use Rattle.cc_terms.specs.CcSyntax.Layout.{nothing, shape_layout, type_layout}
+use Rattle.cc_terms.specs.CcSyntax.Types.{Named, complete_shape, has_members, is_complete}
+use Rattle.cc_terms.specs.CcSyntax.declared.sizes.Layout.{Layout}
 
 module _ (target : Target) (structures : List Structure) (ls ms : List Layout) (agree : (k : ℕ) → has_members (slice_get structures k) ≡ true → unwrap_or (slice_get ls k) nothing ≡ unwrap_or (slice_get ms k) nothing) where
   abbrev Same : CType → Type 0

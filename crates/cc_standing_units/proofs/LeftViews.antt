@@ -4,7 +4,7 @@ use Rattle.std.specs.Prelude.{nat_lt, option_and_then, unwrap_or}
 use Rattle.std.proofs.lemmas.Bool.{lt-ltb}
 use Rattle.std.proofs.lemmas.List.{length-map}
 use Rattle.std.proofs.lemmas.Option.{slice_get-map, slice_get_within}
-use Rattle.cc_num.specs.declared.target.Target.{Target}
+use Rattle.cc_program.specs.CcNum.declared.target.Target.{Target}
 use Rattle.cc_numbering.specs.Names.{kind_in, name_in, own_id, own_ids}
 use Rattle.cc_numbering.specs.Structures.{all_named_in}
 use Rattle.cc_numbering.specs.Units.{ids_of, unit_left}
@@ -20,23 +20,23 @@ use Rattle.cc_program.specs.declared.types.Sig.{Sig}
 use Rattle.cc_program.specs.declared.types.Structure.{Structure}
 use Rattle.cc_relocated_units.proofs.Types.{object_kept}
 use Rattle.cc_relocated_units.specs.Renumbering.{MemberTypes, Renumbers, place_type_renumbered, value_renumbered}
-use Rattle.cc_scopes.specs.State.{KnownStructure, State, as_structure, members_or_none}
-use Rattle.cc_scopes.specs.declared.unit.Declared.{Declared}
+use Rattle.cc_terms.specs.CcScopes.State.{KnownStructure, State, as_structure, members_or_none}
+use Rattle.cc_terms.specs.CcScopes.declared.unit.Declared.{Declared}
 use Rattle.cc_relocated_units.specs.Units.{device_as, function_as, function_shape, static_as, unit_view}
 use Rattle.cc_sound_terms.specs.Ordered.{IsOrdered}
 use Rattle.cc_operand_types.specs.Reduced.{Devices, ReducedPlace}
 use Rattle.cc_structures.proofs.WordLaws.{level-renumbered, number_by, renumbered_level}
-use Rattle.cc_syntax.specs.Expressions.{place_type}
-use Rattle.cc_syntax.specs.Layout.{layouts, nothing}
-use Rattle.cc_syntax.specs.Types.{Named, has_members}
-use Rattle.cc_syntax.specs.Values.{DevicePlace, PlaceType, ValueType}
-use Rattle.cc_syntax.specs.Views.{View}
-use Rattle.cc_syntax.specs.declared.sizes.Layout.{Layout}
-use Rattle.cc_unit.specs.Renumbered.{device_by, func_by, object_by, type_renumbered}
-use Rattle.cc_unit.specs.declared.ids.Id.{Id}
-use Rattle.cc_unit.specs.declared.unit.UnitKind.{UnitKind}
-use Rattle.cc_unit.specs.declared.unit.UnitKind.TheVariants as kind
-use Rattle.cc_unit.specs.declared.unit.UnitName.{UnitName}
+use Rattle.cc_terms.specs.CcSyntax.Expressions.{place_type}
+use Rattle.cc_terms.specs.CcSyntax.Layout.{layouts, nothing}
+use Rattle.cc_terms.specs.CcSyntax.Types.{Named, has_members}
+use Rattle.cc_terms.specs.CcSyntax.Values.{DevicePlace, PlaceType, ValueType}
+use Rattle.cc_terms.specs.CcSyntax.Views.{View}
+use Rattle.cc_terms.specs.CcSyntax.declared.sizes.Layout.{Layout}
+use Rattle.cc_terms.specs.CcUnit.Renumbered.{device_by, func_by, object_by, type_renumbered}
+use Rattle.cc_terms.specs.CcUnit.declared.ids.Id.{Id}
+use Rattle.cc_terms.specs.CcUnit.declared.unit.UnitKind.{UnitKind}
+use Rattle.cc_terms.specs.CcUnit.declared.unit.UnitKind.TheVariants as kind
+use Rattle.cc_terms.specs.CcUnit.declared.unit.UnitName.{UnitName}
 use Rattle.cc_standing_units.proofs.Laid.{content, lies_there, numbers, unit_at}
 use Rattle.cc_standing_units.specs.Laid.{AreLaid}
 

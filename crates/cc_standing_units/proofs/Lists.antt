@@ -1,11 +1,11 @@
 -- Lists in two parts, their first elements, and what holds of each.
 use Rattle.std.proofs.Common.{◌≡◌, ◌∙◌, inl, inr, ◌<◌, ◌≤◌, ℕ, zero, suc, Bool, true, ◌&&◌, List, [], ◌∷◌, ◌++◌, length, get_or, take, Some, None, slice_get, refl, ap, sym, subst, arith, append_assoc}
 use Rattle.std.specs.List.{All, flat_map, list_all}
-use Rattle.cc_num.specs.declared.target.Target.{Target}
+use Rattle.cc_program.specs.CcNum.declared.target.Target.{Target}
 use Rattle.cc_program.specs.declared.types.Structure.{Structure}
 use Rattle.cc_structures.proofs.Elements.{In}
-use Rattle.cc_syntax.proofs.Prefixes.{both_true}
-use Rattle.cc_syntax.specs.Sound.{are_structures, is_structure}
+use Rattle.cc_terms.proofs.CcSyntax.Prefixes.{both_true}
+use Rattle.cc_terms.specs.CcSyntax.Sound.{are_structures, is_structure}
 
 pub both : (a b : Bool) → a ≡ true → b ≡ true → a && b ≡ true
 both a b h k = rw (h, k) refl

@@ -3,10 +3,10 @@ use Rattle.std.proofs.Common.{◌≡◌, ◌∙◌, ◌⊎◌, inl, inr, ◌+◌
 use Rattle.std.specs.Prelude.{nat_eq}
 use Rattle.std.proofs.lemmas.Bool.{eq-eqb, eqb-true}
 use Rattle.cc_numbering.specs.Numbers.{only_named, place_from, places_from, unless}
-use Rattle.cc_scopes.specs.State.{KnownStructure}
+use Rattle.cc_terms.specs.CcScopes.State.{KnownStructure}
 use Rattle.cc_sound_terms.specs.Ordered.{is_among}
 use Rattle.cc_structures.proofs.Elements.{In, any-in, in-any, in-cases, in-left, in-right}
-use Rattle.cc_syntax.specs.Types.{Named}
+use Rattle.cc_terms.specs.CcSyntax.Types.{Named}
 
 pub among-in : (front : List ℕ) (i : ℕ) → is_among front i ≡ true → In i front
 among-in front i h = let r = in-any (nat_eq i) front h in subst (λ (j : ℕ). In j front) (sym (eqb-true i r.0 r.1.1)) r.1.0

@@ -6,27 +6,27 @@ use Rattle.std.proofs.lemmas.Bool.{cases_lt, lt-ltb, ltb-true}
 use Rattle.std.proofs.lemmas.List.{length-map, map-append}
 use Rattle.std.proofs.lemmas.Option.{slice_get_within}
 use Rattle.cc_relocated_units.specs.Linked.{AreStanding, HasMembers as HasSome, untagged}
-use Rattle.cc_num.specs.declared.target.Target.{Target}
+use Rattle.cc_program.specs.CcNum.declared.target.Target.{Target}
 use Rattle.cc_numbering.specs.Structures.{all_named_in, named_in, structure_at, structure_in, structures_in}
 use Rattle.cc_numbering.specs.Units.{unit_left}
 use Rattle.cc_standing_units.specs.Views.{has_content}
 use Rattle.cc_program.proofs.Each.{Each}
 use Rattle.cc_program.specs.declared.types.Structure.{Structure}
 use Rattle.cc_relocated_units.proofs.KindsKept.{test_kept}
-use Rattle.cc_scopes.specs.State.{KnownStructure, State, members_or_none}
+use Rattle.cc_terms.specs.CcScopes.State.{KnownStructure, State, members_or_none}
 use Rattle.cc_relocated_units.specs.Units.{IsOfText, are_few_names}
 use Rattle.cc_sound_terms.specs.Ordered.{AreOrdered, IsOrdered, is_among}
 use Rattle.cc_structures.proofs.Elements.{In, in-cases}
 use Rattle.cc_structures.proofs.WordLaws.{number_by}
-use Rattle.cc_syntax.proofs.Prefixes.{both_true}
-use Rattle.cc_syntax.specs.Kinds.{extent_with, is_object_type, kind_of}
-use Rattle.cc_syntax.specs.Layout.{layouts, nothing}
-use Rattle.cc_syntax.specs.Names.{are_names, local_names}
-use Rattle.cc_syntax.specs.Sound.{are_structures, have_ids, is_member, is_structure}
-use Rattle.cc_syntax.specs.Types.{Named, has_members}
-use Rattle.cc_syntax.specs.declared.sizes.Layout.{Layout}
-use Rattle.cc_unit.specs.declared.unit.UnitStructure.{UnitStructure}
-use Rattle.cc_words.specs.Names.{are_distinct, is_name}
+use Rattle.cc_terms.proofs.CcSyntax.Prefixes.{both_true}
+use Rattle.cc_terms.specs.CcSyntax.Kinds.{extent_with, is_object_type, kind_of}
+use Rattle.cc_terms.specs.CcSyntax.Layout.{layouts, nothing}
+use Rattle.cc_terms.specs.CcSyntax.Names.{are_names, local_names}
+use Rattle.cc_terms.specs.CcSyntax.Sound.{are_structures, have_ids, is_member, is_structure}
+use Rattle.cc_terms.specs.CcSyntax.Types.{Named, has_members}
+use Rattle.cc_terms.specs.CcSyntax.declared.sizes.Layout.{Layout}
+use Rattle.cc_terms.specs.CcUnit.declared.unit.UnitStructure.{UnitStructure}
+use Rattle.cc_program.specs.CcWords.Names.{are_distinct, is_name}
 use Rattle.cc_standing_units.proofs.Built.{AllThere, built-at, built-length, one-at}
 use Rattle.cc_standing_units.proofs.Laid.{Known, all_there, before_middle, built, content, layouts_first, named, numbers, order, place, place_here, place_is, same_known, step, take_get, unit, unit_at, wider, zero_plus}
 use Rattle.cc_standing_units.proofs.Places.{among-in, in-among, only-in}

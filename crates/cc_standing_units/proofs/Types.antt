@@ -1,7 +1,7 @@
 -- Types that are complete over some structures are so by other numbers, where these are complete, and have their layouts.
 use Rattle.std.proofs.Common.{◌≡◌, ◌∙◌, ℕ, Bool, true, true≢false, List, slice_get, refl, ap, sym}
 use Rattle.std.specs.Prelude.{nat_lt, unwrap_or}
-use Rattle.cc_num.specs.declared.target.Target.{Target}
+use Rattle.cc_program.specs.CcNum.declared.target.Target.{Target}
 use Rattle.cc_program.proofs.TypeInduction.{with_shape, TypeParts, by_type}
 use Rattle.cc_program.specs.declared.types.CType.{CType, fold_out-CType}
 use Rattle.cc_program.specs.declared.types.Shape.{Shape, fold-Shape, fold_out-Shape, map-Shape, out-Shape, out-roll-Shape, roll-Shape}
@@ -10,12 +10,12 @@ use Rattle.cc_program.specs.declared.types.Sig.{Sig, fold-Sig}
 use Rattle.cc_program.specs.declared.types.Structure.{Structure}
 use Rattle.cc_sound_terms.specs.Ordered.{complete_over, is_among, is_complete_over}
 use Rattle.cc_structures.proofs.WordLaws.{level-renumbered, number_by, renumbered_level}
-use Rattle.cc_syntax.proofs.Prefixes.{both_true}
-use Rattle.cc_syntax.proofs.TypeLayouts.{complete-opens, layout-opens, parts_complete, parts_layout}
-use Rattle.cc_syntax.specs.Layout.{nothing, shape_layout, type_layout}
-use Rattle.cc_syntax.specs.Types.{complete_shape, has_members, is_complete}
-use Rattle.cc_syntax.specs.declared.sizes.Layout.{Layout}
-use Rattle.cc_unit.specs.Renumbered.{type_renumbered}
+use Rattle.cc_terms.proofs.CcSyntax.Prefixes.{both_true}
+use Rattle.cc_terms.proofs.CcSyntax.TypeLayouts.{complete-opens, layout-opens, parts_complete, parts_layout}
+use Rattle.cc_terms.specs.CcSyntax.Layout.{nothing, shape_layout, type_layout}
+use Rattle.cc_terms.specs.CcSyntax.Types.{complete_shape, has_members, is_complete}
+use Rattle.cc_terms.specs.CcSyntax.declared.sizes.Layout.{Layout}
+use Rattle.cc_terms.specs.CcUnit.Renumbered.{type_renumbered}
 
 module _ (front : List ℕ) where
   abbrev parts_over : shape.Shape-F Shape CType Sig → shape.Shape-F Bool Bool (Unit {0})

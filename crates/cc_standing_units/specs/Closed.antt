@@ -1,15 +1,15 @@
 -- Structures of a state as their closing braces left them: each has members, no two of one name, and of object types over the structures that were complete by then (C99 6.7.2.1).
 use Rattle.std.specs.Prelude.{◌≡◌, ℕ, true, ◌&&◌, nat_lt, List, [], ◌∷◌, ◌++◌, length, Option, Some, None, option_map, slice_get, if◌then◌else◌}
 use Rattle.cc_standing_units.specs.Laid.{AreLaid}
-use Rattle.cc_num.specs.declared.target.Target.{Target}
+use Rattle.cc_program.specs.CcNum.declared.target.Target.{Target}
 use Rattle.cc_standing_units.specs.Views.{has_content}
 use Rattle.cc_program.proofs.Each.{Each}
-use Rattle.cc_scopes.specs.State.{KnownStructure, State}
+use Rattle.cc_terms.specs.CcScopes.State.{KnownStructure, State}
 use Rattle.cc_sound_terms.specs.Ordered.{HasMembers, is_among}
-use Rattle.cc_syntax.specs.Kinds.{is_object_type, kind_of}
-use Rattle.cc_syntax.specs.Names.{local_names}
-use Rattle.cc_syntax.specs.Types.{Named}
-use Rattle.cc_words.specs.Names.{are_distinct}
+use Rattle.cc_terms.specs.CcSyntax.Kinds.{is_object_type, kind_of}
+use Rattle.cc_terms.specs.CcSyntax.Names.{local_names}
+use Rattle.cc_terms.specs.CcSyntax.Types.{Named}
+use Rattle.cc_program.specs.CcWords.Names.{are_distinct}
 
 module _ (target : Target) (s : State) where
   -- of the structures that there are, the bytes of those of these numbers, where they are complete

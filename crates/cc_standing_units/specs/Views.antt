@@ -1,8 +1,8 @@
 -- The view that a state of the rules is: its structures with their bytes, and what has a place in memory of its own, by number (C99 6.2.1 to 6.2.5).
 use Rattle.std.specs.Prelude.{ℕ, Bool, nat_lt, length, Option, Some, None, slice_get, option_map, option_and_then, if◌then◌else◌}
-use Rattle.cc_num.specs.declared.target.Target.{Target}
-use Rattle.cc_syntax.specs.Views.{View}
-use Rattle.cc_scopes.specs.State.{State, KnownStructure, members_or_none, structures_of}
+use Rattle.cc_program.specs.CcNum.declared.target.Target.{Target}
+use Rattle.cc_terms.specs.CcSyntax.Views.{View}
+use Rattle.cc_terms.specs.CcScopes.State.{State, KnownStructure, members_or_none, structures_of}
 use Rattle.cc_relocated_units.specs.Units.{static_as, device_as, function_as}
 
 -- one that has members is complete

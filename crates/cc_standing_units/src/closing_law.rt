@@ -1,13 +1,13 @@
 ghost use Rattle.std.specs.Prelude.{◌≡◌, ℕ, true, nat_lt, List, length};
 ghost use Rattle.cc_sound_terms.specs.Closings.{Closings};
-ghost use Rattle.cc_num.specs.declared.target.Target.{Target};
-ghost use Rattle.cc_scopes.specs.State.{State, at_first};
+ghost use Rattle.cc_program.specs.CcNum.declared.target.Target.{Target};
+ghost use Rattle.cc_terms.specs.CcScopes.State.{State, at_first};
 ghost use Rattle.cc_sound_terms.specs.Ordered.{HasMembers, IsOrdered};
 ghost use Rattle.cc_standing_units.specs.Closed.{AreClosed};
-ghost use Rattle.cc_syntax.specs.Names.{local_names};
-ghost use Rattle.cc_syntax.specs.Types.{Named};
-ghost use Rattle.cc_syntax.specs.Views.{View};
-ghost use Rattle.cc_words.specs.Names.{are_distinct};
+ghost use Rattle.cc_terms.specs.CcSyntax.Names.{local_names};
+ghost use Rattle.cc_terms.specs.CcSyntax.Types.{Named};
+ghost use Rattle.cc_terms.specs.CcSyntax.Views.{View};
+ghost use Rattle.cc_program.specs.CcWords.Names.{are_distinct};
 
 /// Where each complete structure of a state has members, no two of one name, and over every view each was closed by a brace, over what was known in front of it,
 /// structures are as their closing braces left them (C99 6.7.2.1). The call does nothing.

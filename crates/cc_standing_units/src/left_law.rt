@@ -1,9 +1,9 @@
 ghost use Rattle.std.specs.Prelude.{◌≡◌, ℕ, true};
-ghost use Rattle.cc_num.specs.declared.target.Target.{Target};
+ghost use Rattle.cc_program.specs.CcNum.declared.target.Target.{Target};
 ghost use Rattle.cc_numbering.specs.Units.{ids_of, unit_left};
 ghost use Rattle.cc_standing_units.specs.Views.{view_of};
 ghost use Rattle.cc_relocated_units.specs.Renumbering.{Renumbers};
-ghost use Rattle.cc_scopes.specs.State.{State};
+ghost use Rattle.cc_terms.specs.CcScopes.State.{State};
 ghost use Rattle.cc_relocated_units.specs.Units.{unit_view};
 ghost use Rattle.cc_sound_terms.specs.Ordered.{IsOrdered};
 ghost use Rattle.cc_standing_units.specs.Laid.{AreLaid};

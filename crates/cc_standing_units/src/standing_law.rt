@@ -1,7 +1,7 @@
 ghost use Rattle.cc_relocated_units.specs.Linked.{AreStanding};
-ghost use Rattle.cc_num.specs.declared.target.Target.{Target};
+ghost use Rattle.cc_program.specs.CcNum.declared.target.Target.{Target};
 ghost use Rattle.cc_numbering.specs.Units.{unit_left};
-ghost use Rattle.cc_scopes.specs.State.{State};
+ghost use Rattle.cc_terms.specs.CcScopes.State.{State};
 ghost use Rattle.cc_relocated_units.specs.Units.{IsOfText};
 ghost use Rattle.cc_sound_terms.specs.Ordered.{IsOrdered};
 ghost use Rattle.cc_standing_units.specs.Closed.{AreClosed};

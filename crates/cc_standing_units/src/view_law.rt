@@ -1,6 +1,6 @@
 ghost use Rattle.std.specs.Prelude.{[]};
-ghost use Rattle.cc_num.specs.declared.target.Target.{Target};
-ghost use Rattle.cc_scopes.specs.State.{State, at_first};
+ghost use Rattle.cc_program.specs.CcNum.declared.target.Target.{Target};
+ghost use Rattle.cc_terms.specs.CcScopes.State.{State, at_first};
 ghost use Rattle.cc_sound_terms.specs.Behind.{Behind};
 ghost use Rattle.cc_sound_terms.specs.Ordered.{IsOrdered};
 ghost use Rattle.cc_sound_terms.specs.Typing.{Knows, KnowsTypes};

@@ -2,7 +2,7 @@
 use Rattle.std.proofs.Common.{◌≡◌, ◌||◌, ℕ, Bool, true, false, List, [], ◌∷◌, Option, Some, None, refl, ap, sym, ◌∙◌, subst, slice_get}
 use Rattle.std.specs.Prelude.{option_map, if◌then◌else◌}
 use Rattle.std.proofs.lemmas.Option.{same_Some}
-use Rattle.cc_eval.specs.Context.{local_type, object_type}
+use Rattle.cc_state_reads.specs.CcEval.Context.{local_type, object_type}
 use Rattle.cc_program.specs.declared.func.Func.{Func}
 use Rattle.cc_program.specs.declared.object.Object.{Object}
 use Rattle.cc_program.specs.declared.program.Program.{Program}
@@ -17,16 +17,16 @@ use Rattle.cc_program.specs.declared.value.Root.{Root}
 use Rattle.cc_program.specs.declared.value.Root.TheVariants as root
 use Rattle.cc_program.specs.Qualifiers.{is_const, is_volatile}
 use Rattle.cc_state.specs.Shape.{IsCellType, OfScalar, OfElements, declared_type, object_ctype, local_ctype, member_ctype, ctype_of}
-use Rattle.cc_state_facts.specs.declared.facts.Key.{Key}
-use Rattle.cc_state_facts.specs.declared.facts.Key.TheVariants as key
-use Rattle.cc_state_keys.specs.Keys.{root_key, structure_shape, key_of_member, key_of_step, key_along, cell_key}
-use Rattle.cc_states.proofs.PlaceLemmas.{real}
-use Rattle.cc_syntax.proofs.AlikeLemmas.{shares, same_of}
-use Rattle.cc_syntax.proofs.SameLemmas.{Alike, SameShape, Arrays}
-use Rattle.cc_syntax.specs.Expressions.{of_one}
-use Rattle.cc_syntax.specs.Initial.{is_below, bound_of, step_into, place_at}
-use Rattle.cc_syntax.specs.Types.{Named}
-use Rattle.cc_syntax.specs.Values.{ValueType, ToObject, PlaceType, DevicePlace, ObjectPlace, FunctionPlace, scalar_shape, scalar_value, read_from, address_of, element_of, element_shape, member_at, member_in, member_shape, object_place, is_assignable_some}
+use Rattle.cc_state_reads.specs.CcStateFacts.declared.facts.Key.{Key}
+use Rattle.cc_state_reads.specs.CcStateFacts.declared.facts.Key.TheVariants as key
+use Rattle.cc_state_reads.specs.CcStateKeys.Keys.{root_key, structure_shape, key_of_member, key_of_step, key_along, cell_key}
+use Rattle.cc_flow_sound.proofs.CcStates.PlaceLemmas.{real}
+use Rattle.cc_state_reads.proofs.CcSyntax.AlikeLemmas.{shares, same_of}
+use Rattle.cc_state_reads.proofs.CcSyntax.SameLemmas.{Alike, SameShape, Arrays}
+use Rattle.cc_state_reads.specs.CcSyntax.Expressions.{of_one}
+use Rattle.cc_state_reads.specs.CcSyntax.Initial.{is_below, bound_of, step_into, place_at}
+use Rattle.cc_state_reads.specs.CcSyntax.Types.{Named}
+use Rattle.cc_state_reads.specs.CcSyntax.Values.{ValueType, ToObject, PlaceType, DevicePlace, ObjectPlace, FunctionPlace, scalar_shape, scalar_value, read_from, address_of, element_of, element_shape, member_at, member_in, member_shape, object_place, is_assignable_some}
 
 -- ---- the type of a key's cells is one
 

@@ -1,21 +1,21 @@
 -- What is said of a context in which expressions of a point's function are worked, and of the point.
 use Rattle.std.proofs.Common.{◌≡◌, ℕ, Option, ap, sym, ◌∙◌, subst, slice_get}
 use Rattle.std.proofs.lemmas.Option.{same_Some}
-use Rattle.cc_flow.specs.declared.types.Point.{Point}
-use Rattle.cc_places.specs.declared.abs.Abs.{Abs}
+use Rattle.cc_flow_sound.specs.CcFlow.declared.types.Point.{Point}
+use Rattle.cc_state_reads.specs.CcPlaces.declared.abs.Abs.{Abs}
 use Rattle.cc_program.specs.declared.expr.Expr.{Expr}
 use Rattle.cc_program.specs.declared.expr.Place.{Place}
 use Rattle.cc_program.specs.declared.func.Func.{Func}
 use Rattle.cc_program.specs.declared.program.Program.{Program}
 use Rattle.cc_state.specs.Points.{GivesScalar, IsPointOf, IsContextAt, IsPureAt, IsPurePlaceAt, IsReadPlaceAt, HaveSetsAt, HaveKinds, HaveKindsAt}
-use Rattle.cc_state_facts.specs.declared.facts.Facts.{Facts}
-use Rattle.cc_state_operators.specs.Domains.{Domain}
+use Rattle.cc_state_reads.specs.CcStateFacts.declared.facts.Facts.{Facts}
+use Rattle.cc_state_reads.specs.CcStateOperators.Domains.{Domain}
 use Rattle.cc_state_reads.specs.Contexts.{HaveKind, ReadsScalar}
 use Rattle.cc_state_reads.specs.Reads.{registers_at}
-use Rattle.cc_state_values.specs.declared.context.Context.{Context}
-use Rattle.cc_state_values.specs.Contexts.{HaveSetsIn, set_in}
-use Rattle.cc_state_values.specs.Typed.{HaveSets, IsPure, IsPurePlace}
-use Rattle.cc_syntax.specs.Sizes.{AreSized}
+use Rattle.cc_state_reads.specs.CcStateValues.declared.context.Context.{Context}
+use Rattle.cc_state_reads.specs.CcStateValues.Contexts.{HaveSetsIn, set_in}
+use Rattle.cc_state_reads.specs.CcStateValues.Typed.{HaveSets, IsPure, IsPurePlace}
+use Rattle.cc_state_reads.specs.CcSyntax.Sizes.{AreSized}
 
 module _ {I : Type 0} (p : Program) (facts : Facts I) (n : ℕ) (f : Func) (c : Context I) (h : IsContextAt p facts n f c) where
   module _ (P : Program → ℕ → Func → (ℕ → Option (Abs I)) → Type 0) where

@@ -4,8 +4,8 @@ use Rattle.std.proofs.Common.{◌≡◌, ⊎_elim, ℕ, Bool, true, false, List,
 use Rattle.std.specs.Prelude.{option_map, option_and_then, if◌then◌else◌}
 use Rattle.std.specs.List.{Contains}
 use Rattle.std.proofs.lemmas.Option.{same_Some, slice_get_within}
-use Rattle.cc_places.specs.declared.abs.Abs.{Abs}
-use Rattle.cc_places.specs.declared.abs.Abs.TheVariants as abs
+use Rattle.cc_state_reads.specs.CcPlaces.declared.abs.Abs.{Abs}
+use Rattle.cc_state_reads.specs.CcPlaces.declared.abs.Abs.TheVariants as abs
 use Rattle.cc_program.specs.declared.expr.Expr.TheOpen as one
 use Rattle.cc_program.specs.declared.expr.Place.{Place}
 use Rattle.cc_program.specs.declared.func.Func.{Func}
@@ -25,24 +25,24 @@ use Rattle.cc_state.proofs.Numbered.{key_at, key_numbered}
 use Rattle.cc_state.proofs.Sets.{registers_point}
 use Rattle.cc_state.specs.Points.{HaveKindsAt}
 use Rattle.cc_state.specs.Shape.{IsCellType, declared_type, object_ctype, local_ctype, ctype_of, IsSetIn, HaveShape}
-use Rattle.cc_state_facts.specs.declared.facts.Facts.{Facts}
-use Rattle.cc_state_facts.specs.declared.facts.Key.{Key}
-use Rattle.cc_state_facts.specs.declared.facts.Key.TheVariants as key
-use Rattle.cc_state_keys.specs.Keys.{cell_key, is_key, structure_shape, keys_of}
-use Rattle.cc_state_keys.specs.Lists.{only}
-use Rattle.cc_state_operators.specs.Domains.{Domain}
+use Rattle.cc_state_reads.specs.CcStateFacts.declared.facts.Facts.{Facts}
+use Rattle.cc_state_reads.specs.CcStateFacts.declared.facts.Key.{Key}
+use Rattle.cc_state_reads.specs.CcStateFacts.declared.facts.Key.TheVariants as key
+use Rattle.cc_state_reads.specs.CcStateKeys.Keys.{cell_key, is_key, structure_shape, keys_of}
+use Rattle.cc_state_reads.specs.CcStateKeys.Lists.{only}
+use Rattle.cc_state_reads.specs.CcStateOperators.Domains.{Domain}
 use Rattle.cc_state_reads.specs.Named.{AreClasses, OfLocal, OfStatic, OfDevice, OfElement, OfMember, OfTarget, target_class, member_class, is_among}
 use Rattle.cc_state_reads.specs.Reads.{IsOfKind, registers_at, whole_of}
-use Rattle.cc_state_values.proofs.Parts.{place_typed_as}
-use Rattle.cc_state_values.proofs.Rules.{one_there, two_there}
+use Rattle.cc_state_reads.proofs.CcStateValues.Parts.{place_typed_as}
+use Rattle.cc_state_reads.proofs.CcStateValues.Rules.{one_there, two_there}
 use Rattle.cc_state_values_grow.proofs.Fitting.{Fitting, Leads, Points}
 use Rattle.cc_state_values_grow.proofs.Leading.{value_points}
 use Rattle.cc_state_values_grow.specs.Growth.{RegistersPoint}
-use Rattle.cc_states.proofs.Options.{mapped}
-use Rattle.cc_syntax.specs.Operators.{is_integer, subscript_type}
-use Rattle.cc_syntax.specs.Programs.{type_of, place_type}
-use Rattle.cc_syntax.specs.Types.{Named}
-use Rattle.cc_syntax.specs.Values.{ValueType, NoValue, Integer, ToObject, ToFunction, PlaceType, DevicePlace, ObjectPlace, FunctionPlace, object_place, read_from, pointed_to, element_of, member_of, member_shape, is_void}
+use Rattle.cc_flow_sound.proofs.CcStates.Options.{mapped}
+use Rattle.cc_state_reads.specs.CcSyntax.Operators.{is_integer, subscript_type}
+use Rattle.cc_state_reads.specs.CcSyntax.Programs.{type_of, place_type}
+use Rattle.cc_state_reads.specs.CcSyntax.Types.{Named}
+use Rattle.cc_state_reads.specs.CcSyntax.Values.{ValueType, NoValue, Integer, ToObject, ToFunction, PlaceType, DevicePlace, ObjectPlace, FunctionPlace, object_place, read_from, pointed_to, element_of, member_of, member_shape, is_void}
 
 element_taken : (b : Bool) (x : Option PlaceType) (w : PlaceType) → (if b then x else None) ≡ Some w → x ≡ Some w
 element_taken true x w e = e

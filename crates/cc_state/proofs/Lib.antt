@@ -4,3 +4,4 @@ pub mod KeyKinds
 pub mod Lists
 pub mod Numbered
 pub mod Sets
+pub mod CcStateValuesGrow

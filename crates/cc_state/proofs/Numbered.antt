@@ -4,11 +4,11 @@ use Rattle.std.proofs.lemmas.Option.{slice_get_within}
 use Rattle.cc_program.specs.declared.func.Func.{Func}
 use Rattle.cc_program.specs.declared.program.Program.{Program}
 use Rattle.cc_state.proofs.Lists.{IsIn, position_at, position_there, number_at, number_there, same_key, is_itself, made_there, made_few}
-use Rattle.cc_state_facts.specs.declared.facts.Key.{Key}
-use Rattle.cc_state_keys.specs.Keys.{is_key, keys_of, key_number}
-use Rattle.cc_state_keys.specs.Tracked.{registers, register_number}
-use Rattle.cc_syntax.specs.Registers.{is_register, may_be_register, is_addressed}
-use Rattle.cc_syntax.specs.Types.{Named}
+use Rattle.cc_state_reads.specs.CcStateFacts.declared.facts.Key.{Key}
+use Rattle.cc_state_reads.specs.CcStateKeys.Keys.{is_key, keys_of, key_number}
+use Rattle.cc_state_reads.specs.CcStateKeys.Tracked.{registers, register_number}
+use Rattle.cc_state_reads.specs.CcSyntax.Registers.{is_register, may_be_register, is_addressed}
+use Rattle.cc_state_reads.specs.CcSyntax.Types.{Named}
 
 first_true : (a b : Bool) → (a && b) ≡ true → a ≡ true
 first_true true b h = refl

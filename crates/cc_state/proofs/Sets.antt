@@ -3,12 +3,12 @@ use Rattle.std.proofs.Common.{arith, ◌≡◌, ◌<◌, ◌^◌, ℕ, true, tru
 use Rattle.std.specs.Prelude.{is_some, option_and_then}
 use Rattle.std.specs.List.{Contains}
 use Rattle.std.proofs.lemmas.Option.{same_Some, none-some, slice_get_within, get_or_from_slice_get}
-use Rattle.cc_flow.specs.declared.types.Point.{Point}
-use Rattle.cc_num.specs.declared.int_type.IntType.{IntType}
-use Rattle.cc_num.proofs.ResultLaws.{value_from_test}
-use Rattle.cc_places.specs.declared.abs.Abs.{Abs}
-use Rattle.cc_places.specs.declared.abs.Abs.TheVariants as abs
-use Rattle.cc_places.specs.declared.addrs.Addrs.{Addrs}
+use Rattle.cc_flow_sound.specs.CcFlow.declared.types.Point.{Point}
+use Rattle.cc_program.specs.CcNum.declared.int_type.IntType.{IntType}
+use Rattle.cc_program.proofs.CcNum.ResultLaws.{value_from_test}
+use Rattle.cc_state_reads.specs.CcPlaces.declared.abs.Abs.{Abs}
+use Rattle.cc_state_reads.specs.CcPlaces.declared.abs.Abs.TheVariants as abs
+use Rattle.cc_state_reads.specs.CcPlaces.declared.addrs.Addrs.{Addrs}
 use Rattle.cc_program.specs.declared.func.Func.{Func}
 use Rattle.cc_program.specs.declared.program.Program.{Program}
 use Rattle.cc_program.specs.declared.types.CType.{CType}
@@ -20,24 +20,24 @@ use Rattle.cc_program.specs.declared.value.Address.TheVariants as address
 use Rattle.cc_state.proofs.Numbered.{register_numbered, register_at, register_below, registers_few}
 use Rattle.cc_state.specs.Points.{IsPointOf, HasFunction, HasFewLocals, HaveSetsAt}
 use Rattle.cc_state.specs.Shape.{MayPoint, HoldsPointers, IsSetIn, IsPointFact, HaveShape}
-use Rattle.cc_state_facts.specs.declared.facts.Facts.{Facts}
-use Rattle.cc_state_facts.specs.declared.facts.PointFact.{PointFact}
-use Rattle.cc_state_facts.specs.Facts.{fact_at, local_at, local_of, cell_of, cell_at}
-use Rattle.cc_state_keys.proofs.Typed.{sized, few-locals}
-use Rattle.cc_state_keys.specs.Tracked.{registers, register_number, tracked}
-use Rattle.cc_state_operators.specs.Domains.{Domain}
-use Rattle.cc_state_operators.specs.Types.{AreOf}
+use Rattle.cc_state_reads.specs.CcStateFacts.declared.facts.Facts.{Facts}
+use Rattle.cc_state_reads.specs.CcStateFacts.declared.facts.PointFact.{PointFact}
+use Rattle.cc_state_reads.specs.CcStateFacts.Facts.{fact_at, local_at, local_of, cell_of, cell_at}
+use Rattle.cc_state_reads.proofs.CcStateKeys.Typed.{sized, few-locals}
+use Rattle.cc_state_reads.specs.CcStateKeys.Tracked.{registers, register_number, tracked}
+use Rattle.cc_state_reads.specs.CcStateOperators.Domains.{Domain}
+use Rattle.cc_state_reads.specs.CcStateOperators.Types.{AreOf}
 use Rattle.cc_state_reads.specs.Reads.{registers_at}
-use Rattle.cc_state_values.specs.Contexts.{set_of}
-use Rattle.cc_state_values.specs.Typed.{HasSet}
+use Rattle.cc_state_reads.specs.CcStateValues.Contexts.{set_of}
+use Rattle.cc_state_reads.specs.CcStateValues.Typed.{HasSet}
 use Rattle.cc_state_values_grow.specs.Growth.{RegistersPoint}
 use Rattle.cc_state_values_grow.specs.Growth as growth
-use Rattle.cc_syntax.proofs.NameRules.{sound-typed}
-use Rattle.cc_syntax.specs.Normal.{IsNormal}
-use Rattle.cc_syntax.specs.Registers.{is_register}
-use Rattle.cc_syntax.specs.Sizes.{AreSized}
-use Rattle.cc_syntax.specs.Types.{Named}
-use Rattle.cc_syntax.specs.Values.{ValueType, NoValue, Integer, ToObject, ToFunction, is_scalar, pointer_shape, pointer_to, scalar_shape, scalar_value}
+use Rattle.cc_state_reads.proofs.CcSyntax.NameRules.{sound-typed}
+use Rattle.cc_state_reads.specs.CcSyntax.Normal.{IsNormal}
+use Rattle.cc_state_reads.specs.CcSyntax.Registers.{is_register}
+use Rattle.cc_state_reads.specs.CcSyntax.Sizes.{AreSized}
+use Rattle.cc_state_reads.specs.CcSyntax.Types.{Named}
+use Rattle.cc_state_reads.specs.CcSyntax.Values.{ValueType, NoValue, Integer, ToObject, ToFunction, is_scalar, pointer_shape, pointer_to, scalar_shape, scalar_value}
 
 -- what has a scalar type gives a scalar
 integer_is : (i : IntType) (t : ValueType) → Integer i ≡ t → is_scalar t ≡ true

@@ -1,15 +1,15 @@
 -- Facts cover a program: each state of each run, for all inputs and arrivals, lies in them.
 use Rattle.std.specs.Prelude.{◌≤◌, ℤ, List}
-use Rattle.cc_flow.specs.Points.{count_of}
+use Rattle.cc_flow_sound.specs.CcFlow.Points.{count_of}
 use Rattle.cc_program.specs.declared.program.Program.{Program}
 use Rattle.cc_state.specs.Shape.{HaveShape}
 use Rattle.cc_state.specs.View.{Lies}
-use Rattle.cc_state_facts.specs.declared.facts.Facts.{Facts}
-use Rattle.cc_state_keys.specs.Counts.{fact_count}
-use Rattle.cc_state_operators.specs.Domains.{Domain}
-use Rattle.cc_steps.specs.Runs.{Arrivals, run}
-use Rattle.cc_steps.specs.Turn.{start}
-use Rattle.cc_syntax.specs.Normal.{IsNormal}
+use Rattle.cc_state_reads.specs.CcStateFacts.declared.facts.Facts.{Facts}
+use Rattle.cc_state_reads.specs.CcStateKeys.Counts.{fact_count}
+use Rattle.cc_state_reads.specs.CcStateOperators.Domains.{Domain}
+use Rattle.cc_flow_sound.specs.CcSteps.Runs.{Arrivals, run}
+use Rattle.cc_flow_sound.specs.CcSteps.Turn.{start}
+use Rattle.cc_state_reads.specs.CcSyntax.Normal.{IsNormal}
 
 module _ {I : Type 0} (d : Domain I) (p : Program) (facts : Facts I) where
   abbrev pub Covers : Type 0

@@ -2,23 +2,23 @@
 -- have there of the registers of the point's function.
 use Rattle.std.specs.Prelude.{◌≡◌, ◌<◌, ◌^◌, ℕ, List, length, Option, Some, option_and_then, slice_get}
 use Rattle.std.specs.List.{Contains}
-use Rattle.cc_flow.specs.declared.types.Point.{Point}
-use Rattle.cc_flow.specs.Points.{flow_of}
-use Rattle.cc_places.specs.declared.abs.Abs.{Abs}
+use Rattle.cc_flow_sound.specs.CcFlow.declared.types.Point.{Point}
+use Rattle.cc_flow_sound.specs.CcFlow.Points.{flow_of}
+use Rattle.cc_state_reads.specs.CcPlaces.declared.abs.Abs.{Abs}
 use Rattle.cc_program.specs.declared.expr.Expr.{Expr}
 use Rattle.cc_program.specs.declared.expr.Place.{Place}
 use Rattle.cc_program.specs.declared.func.Func.{Func}
 use Rattle.cc_program.specs.declared.program.Program.{Program}
-use Rattle.cc_state_facts.specs.declared.facts.Facts.{Facts}
-use Rattle.cc_state_facts.specs.declared.facts.Key.{Key}
-use Rattle.cc_state_operators.specs.Domains.{Domain}
+use Rattle.cc_state_reads.specs.CcStateFacts.declared.facts.Facts.{Facts}
+use Rattle.cc_state_reads.specs.CcStateFacts.declared.facts.Key.{Key}
+use Rattle.cc_state_reads.specs.CcStateOperators.Domains.{Domain}
 use Rattle.cc_state_reads.specs.Reads.{AreNamed, IsOfKind, IsRead, registers_at, whole_of}
-use Rattle.cc_state_values.specs.declared.context.Context.{Context}
-use Rattle.cc_state_values.specs.Contexts.{set_in}
-use Rattle.cc_state_values.specs.Typed.{IsPure, IsPurePlace, HaveSets}
-use Rattle.cc_state_values.specs.Values.{IsVal}
-use Rattle.cc_syntax.specs.Programs.{place_type}
-use Rattle.cc_syntax.specs.Values.{ValueType, read_from}
+use Rattle.cc_state_reads.specs.CcStateValues.declared.context.Context.{Context}
+use Rattle.cc_state_reads.specs.CcStateValues.Contexts.{set_in}
+use Rattle.cc_state_reads.specs.CcStateValues.Typed.{IsPure, IsPurePlace, HaveSets}
+use Rattle.cc_state_reads.specs.CcStateValues.Values.{IsVal}
+use Rattle.cc_state_reads.specs.CcSyntax.Programs.{place_type}
+use Rattle.cc_state_reads.specs.CcSyntax.Values.{ValueType, read_from}
 
 -- what an access to a place gives is a scalar
 abbrev pub GivesScalar : Program → Func → Place → Type 0

@@ -2,13 +2,13 @@
 -- only what may stand there. Nothing is said of which runs there are.
 use Rattle.std.specs.Prelude.{◌≡◌, ◌⊎◌, ◌<◌, ◌+◌, ℕ, ℤ, Bool, true, false, ◌||◌, is_some, List, length, Option, Some, None, slice_get}
 use Rattle.std.specs.List.{AllPairs, Contains, flat_map}
-use Rattle.cc_num.specs.Integers.{is_value_of}
-use Rattle.cc_eval.specs.Context.{object_type}
-use Rattle.cc_flow.specs.declared.types.Point.{Point}
-use Rattle.cc_flow.specs.Points.{count_of, flow_of}
-use Rattle.cc_places.specs.declared.abs.Abs.{Abs}
-use Rattle.cc_places.specs.declared.abs.Abs.TheVariants as abs
-use Rattle.cc_places.specs.declared.addrs.Addrs.{Addrs}
+use Rattle.cc_program.specs.CcNum.Integers.{is_value_of}
+use Rattle.cc_state_reads.specs.CcEval.Context.{object_type}
+use Rattle.cc_flow_sound.specs.CcFlow.declared.types.Point.{Point}
+use Rattle.cc_flow_sound.specs.CcFlow.Points.{count_of, flow_of}
+use Rattle.cc_state_reads.specs.CcPlaces.declared.abs.Abs.{Abs}
+use Rattle.cc_state_reads.specs.CcPlaces.declared.abs.Abs.TheVariants as abs
+use Rattle.cc_state_reads.specs.CcPlaces.declared.addrs.Addrs.{Addrs}
 use Rattle.cc_program.specs.declared.func.Func.{Func}
 use Rattle.cc_program.specs.declared.object.Object.{Object}
 use Rattle.cc_program.specs.declared.program.Program.{Program}
@@ -19,21 +19,21 @@ use Rattle.cc_program.specs.declared.types.Sig.{Sig, out-Sig}
 use Rattle.cc_program.specs.declared.types.Structure.{Structure}
 use Rattle.cc_program.specs.declared.value.Address.{Address}
 use Rattle.cc_program.specs.declared.value.Address.TheVariants as address
-use Rattle.cc_state_facts.specs.declared.facts.Facts.{Facts}
-use Rattle.cc_state_facts.specs.declared.facts.Key.{Key}
-use Rattle.cc_state_facts.specs.declared.facts.Key.TheVariants as key
-use Rattle.cc_state_facts.specs.declared.facts.PointFact.{PointFact}
-use Rattle.cc_state_facts.specs.declared.facts.Row.{Row}
-use Rattle.cc_state_facts.specs.Facts.{row_length, cell_of, local_of, mark_of, levels_of}
-use Rattle.cc_state_keys.specs.Addressed.{IsAddressed}
-use Rattle.cc_state_keys.specs.Keys.{keys_of, cell_key}
-use Rattle.cc_state_keys.specs.Tracked.{registers, tracked}
-use Rattle.cc_state_operators.specs.Domains.{Domain}
-use Rattle.cc_syntax.specs.Expressions.{of_one}
-use Rattle.cc_syntax.specs.Initial.{place_at, names}
-use Rattle.cc_syntax.specs.Operators.{function_type}
-use Rattle.cc_syntax.specs.Types.{Named}
-use Rattle.cc_syntax.specs.Values.{ValueType, NoValue, Integer, ToObject, ToFunction, is_assignable_some, scalar_value, result_value}
+use Rattle.cc_state_reads.specs.CcStateFacts.declared.facts.Facts.{Facts}
+use Rattle.cc_state_reads.specs.CcStateFacts.declared.facts.Key.{Key}
+use Rattle.cc_state_reads.specs.CcStateFacts.declared.facts.Key.TheVariants as key
+use Rattle.cc_state_reads.specs.CcStateFacts.declared.facts.PointFact.{PointFact}
+use Rattle.cc_state_reads.specs.CcStateFacts.declared.facts.Row.{Row}
+use Rattle.cc_state_reads.specs.CcStateFacts.Facts.{row_length, cell_of, local_of, mark_of, levels_of}
+use Rattle.cc_state_reads.specs.CcStateKeys.Addressed.{IsAddressed}
+use Rattle.cc_state_reads.specs.CcStateKeys.Keys.{keys_of, cell_key}
+use Rattle.cc_state_reads.specs.CcStateKeys.Tracked.{registers, tracked}
+use Rattle.cc_state_reads.specs.CcStateOperators.Domains.{Domain}
+use Rattle.cc_state_reads.specs.CcSyntax.Expressions.{of_one}
+use Rattle.cc_state_reads.specs.CcSyntax.Initial.{place_at, names}
+use Rattle.cc_state_reads.specs.CcSyntax.Operators.{function_type}
+use Rattle.cc_state_reads.specs.CcSyntax.Types.{Named}
+use Rattle.cc_state_reads.specs.CcSyntax.Values.{ValueType, NoValue, Integer, ToObject, ToFunction, is_assignable_some, scalar_value, result_value}
 
 -- ---- the types of cells
 

@@ -1,10 +1,10 @@
 -- What facts say about all runs of their program.
 use Rattle.std.specs.Prelude.{◌≡◌, ◌⊎◌, ◌<◌, ℕ, Bool, true, false, is_some, List, Option, Some, slice_get}
-use Rattle.cc_eval.specs.Progress.{no_value}
-use Rattle.cc_flow.specs.declared.types.Point.{Point}
-use Rattle.cc_flow.specs.Points.{flow_of}
-use Rattle.cc_places.specs.declared.abs.Abs.{Abs}
-use Rattle.cc_places.specs.Abstract.{HasValue}
+use Rattle.cc_state_reads.specs.CcEval.Progress.{no_value}
+use Rattle.cc_flow_sound.specs.CcFlow.declared.types.Point.{Point}
+use Rattle.cc_flow_sound.specs.CcFlow.Points.{flow_of}
+use Rattle.cc_state_reads.specs.CcPlaces.declared.abs.Abs.{Abs}
+use Rattle.cc_state_reads.specs.CcPlaces.Abstract.{HasValue}
 use Rattle.cc_program.specs.declared.func.Func.{Func}
 use Rattle.cc_program.specs.declared.program.Program.{Program}
 use Rattle.cc_program.specs.declared.value.Part.{Part}
@@ -12,19 +12,19 @@ use Rattle.cc_program.specs.declared.value.Root.TheVariants as root
 use Rattle.cc_program.specs.declared.value.Value.{Value}
 use Rattle.cc_proof_covers.specs.Covers.{Lies as LiesIn}
 use Rattle.cc_proof_covers.specs.Views.{View, view_of}
-use Rattle.cc_state_facts.specs.declared.facts.Facts.{Facts}
-use Rattle.cc_state_facts.specs.declared.facts.Key.{Key}
-use Rattle.cc_state_facts.specs.declared.facts.Key.TheVariants as key
-use Rattle.cc_state_facts.specs.declared.facts.PointFact.{PointFact}
-use Rattle.cc_state_facts.specs.Facts.{fact_at, cell_of, local_of, may_be_in, has_pair, mark_of, levels_of}
-use Rattle.cc_state_facts.specs.Levels.{has_level}
-use Rattle.cc_state_keys.specs.Keys.{cell_key, key_number}
-use Rattle.cc_state_keys.specs.Paths.{LeadsTo}
-use Rattle.cc_state_keys.specs.Tracked.{register_number, tracked_number}
-use Rattle.cc_state_operators.specs.Domains.{Domain}
+use Rattle.cc_state_reads.specs.CcStateFacts.declared.facts.Facts.{Facts}
+use Rattle.cc_state_reads.specs.CcStateFacts.declared.facts.Key.{Key}
+use Rattle.cc_state_reads.specs.CcStateFacts.declared.facts.Key.TheVariants as key
+use Rattle.cc_state_reads.specs.CcStateFacts.declared.facts.PointFact.{PointFact}
+use Rattle.cc_state_reads.specs.CcStateFacts.Facts.{fact_at, cell_of, local_of, may_be_in, has_pair, mark_of, levels_of}
+use Rattle.cc_state_reads.specs.CcStateFacts.Levels.{has_level}
+use Rattle.cc_state_reads.specs.CcStateKeys.Keys.{cell_key, key_number}
+use Rattle.cc_state_reads.specs.CcStateKeys.Paths.{LeadsTo}
+use Rattle.cc_state_reads.specs.CcStateKeys.Tracked.{register_number, tracked_number}
+use Rattle.cc_state_reads.specs.CcStateOperators.Domains.{Domain}
 use Rattle.cc_state_reads.specs.Reads.{whole_of}
-use Rattle.cc_steps.specs.State.{State}
-use Rattle.cc_steps.specs.Step.{gives_nothing}
+use Rattle.cc_flow_sound.specs.CcSteps.State.{State}
+use Rattle.cc_flow_sound.specs.CcSteps.Step.{gives_nothing}
 
 -- the level, from 0 to 7, is in a set
 abbrev pub IsLevelIn : ℕ → ℕ → Type 0

@@ -2,12 +2,12 @@
 
 ghost use Rattle.std.specs.Prelude.{◌≡◌};
 ghost use Rattle.cc_state.specs.Covered.{IsCovered};
-ghost use Rattle.cc_state_operators.specs.Domains.{domain};
+ghost use Rattle.cc_state_reads.specs.CcStateOperators.Domains.{domain};
 
 use crate::kinds::Covered;
-use cc_lattice::IntDomain;
 use cc_program::Program;
-use cc_state_facts::Facts;
+use cc_state_reads::lattice::IntDomain;
+use cc_state_reads::state_facts::Facts;
 
 /// Facts that cover a program, with the program.
 pub fn covered<I: IntDomain>(p: &Program, facts: Facts<I>) -> Covered<'_, I>

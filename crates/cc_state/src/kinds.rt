@@ -2,11 +2,11 @@
 
 ghost use Rattle.std.specs.Prelude.{◌≡◌};
 ghost use Rattle.cc_state.specs.Covered.{IsCovered};
-ghost use Rattle.cc_state_operators.specs.Domains.{domain};
+ghost use Rattle.cc_state_reads.specs.CcStateOperators.Domains.{domain};
 
-use cc_lattice::IntDomain;
 use cc_program::Program;
-use cc_state_facts::Facts;
+use cc_state_reads::lattice::IntDomain;
+use cc_state_reads::state_facts::Facts;
 
 /// Facts that cover their program: each state of each of its runs lies in them, for all inputs and under all arrivals. The
 /// program is in normal form and within the limits.

@@ -1,27 +1,27 @@
 //! What expressions and accesses to places may give at a point of a program, and which keys places name there.
 
 ghost use Rattle.std.specs.Prelude.{◌≡◌, ◌<◌, ◌^◌, ℕ, length, is_some, true, Some, IfOk};
-ghost use Rattle.cc_flow.specs.Points.{flow_of};
+ghost use Rattle.cc_flow_sound.specs.CcFlow.Points.{flow_of};
 ghost use Rattle.cc_program.specs.declared.func.Func.{Func as FuncOf};
 ghost use Rattle.cc_state.specs.Points.{HasFunction, HasFewLocals, HaveSetsAt, HaveKindsAt, IsPureAt, IsPurePlaceAt, IsReadPlaceAt, IsValueAt, AreNamedAt, IsReadAt, IsContextAt};
 ghost use Rattle.cc_state.specs.Shape.{HaveShape};
-ghost use Rattle.cc_state_facts.specs.declared.facts.PointFact.{PointFact as PointFactOf};
-ghost use Rattle.cc_state_facts.specs.Facts.{fact_at, cell_at};
-ghost use Rattle.cc_state_keys.specs.Keys.{keys_of as keys_in};
-ghost use Rattle.cc_state_keys.specs.Tracked.{registers as registers_in, tracked as tracked_in};
-ghost use Rattle.cc_state_operators.specs.Domains.{domain};
-ghost use Rattle.cc_syntax.specs.Normal.{IsNormal};
-ghost use Rattle.cc_syntax.specs.Sizes.{AreSized};
+ghost use Rattle.cc_state_reads.specs.CcStateFacts.declared.facts.PointFact.{PointFact as PointFactOf};
+ghost use Rattle.cc_state_reads.specs.CcStateFacts.Facts.{fact_at, cell_at};
+ghost use Rattle.cc_state_reads.specs.CcStateKeys.Keys.{keys_of as keys_in};
+ghost use Rattle.cc_state_reads.specs.CcStateKeys.Tracked.{registers as registers_in, tracked as tracked_in};
+ghost use Rattle.cc_state_reads.specs.CcStateOperators.Domains.{domain};
+ghost use Rattle.cc_state_reads.specs.CcSyntax.Normal.{IsNormal};
+ghost use Rattle.cc_state_reads.specs.CcSyntax.Sizes.{AreSized};
 
-use cc_flow::Flow;
-use cc_lattice::IntDomain;
-use cc_num::{List, NoMemory, at};
-use cc_places::Abs;
+use cc_flow_sound::flow::Flow;
+use cc_program::num::{List, NoMemory, at};
 use cc_program::{Expr, Func, Place, Program};
-use cc_state_facts::{Facts, Key, Shared};
-use cc_state_keys::{registers, tracked};
 use cc_state_reads::keys_named;
-use cc_state_values::Context;
+use cc_state_reads::lattice::IntDomain;
+use cc_state_reads::places::Abs;
+use cc_state_reads::state_facts::{Facts, Key, Shared};
+use cc_state_reads::state_keys::{registers, tracked};
+use cc_state_reads::state_values::Context;
 use std::alloc::Global;
 
 /// The function of a point.
@@ -111,7 +111,7 @@ fn value_by<I: IntDomain>(
     let func = func_at(p, flow, point);
     let registers = registers(alloc, func)?;
     let c = context_at(p, flow, facts, point, func, &registers);
-    let value = cc_state_values::value_of(alloc, &c, e);
+    let value = cc_state_reads::state_values::value_of(alloc, &c, e);
     end(c);
     value
 }

@@ -4,8 +4,8 @@ ghost use Rattle.std.specs.Prelude.{◌≡◌};
 ghost use Rattle.std.specs.Option.{option_copied};
 ghost use Rattle.cc_state_facts.specs.Facts.{cell_at, local_at, cell_of, fact_at};
 
-use cc_num::{List, at};
 use cc_places::Abs;
+use cc_program::num::{List, at};
 use cc_state_shared::Shared;
 
 /// How many tracked cells a row has, where it is not the last.

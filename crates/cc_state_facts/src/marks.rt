@@ -5,7 +5,7 @@ ghost use Rattle.cc_lattice.specs.Tables.{AreJoins};
 ghost use Rattle.cc_state_facts.specs.Orders.{IsMarkBelow, AreMarksBelow, AreLevelSetsBelow, IsMarkJoin, IsLevelJoin};
 ghost use Rattle.cc_state_facts.specs.Levels.{AreLevelsWithin};
 
-use cc_num::NoMemory;
+use cc_program::num::NoMemory;
 use std::alloc::Global;
 
 fn is_mark_below(mark: bool, other: bool) -> bool

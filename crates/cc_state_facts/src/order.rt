@@ -12,8 +12,8 @@ use crate::marks::{are_levels_below, are_marks_below, level_joins, mark_joins};
 use crate::points::{are_known_below, known_joins};
 use crate::sets::{are_below, joins};
 use cc_lattice::{IntDomain, Lattice};
-use cc_num::{List, NoMemory};
 use cc_places::Abs;
+use cc_program::num::{List, NoMemory};
 use std::alloc::Global;
 
 impl<I: IntDomain> Lattice for Facts<I> {

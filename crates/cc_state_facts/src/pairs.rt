@@ -6,7 +6,7 @@ ghost use Rattle.cc_state_facts.specs.Orders.{is_same};
 ghost use Rattle.cc_state_facts.specs.Facts.{has_pair};
 
 use crate::facts::PointFact;
-use cc_num::NoMemory;
+use cc_program::num::NoMemory;
 use std::alloc::Global;
 
 /// Whether a register and a tracked cell are a pair.

@@ -10,7 +10,7 @@ use crate::pairs::{are_pairs, common_pairs};
 use crate::rows::{are_rows_below, joined_rows};
 use crate::shared_sets::{are_shared_below, shared_joins};
 use cc_lattice::IntDomain;
-use cc_num::{List, NoMemory};
+use cc_program::num::{List, NoMemory};
 use cc_state_shared::share_all;
 use std::alloc::Global;
 

@@ -8,7 +8,7 @@ ghost use Rattle.cc_state_facts.specs.Orders.{AreRowsAlike, AreRowsBelow, IsRowJ
 use crate::facts::Row;
 use crate::shared_sets::{are_shared_below, shared_joins};
 use cc_lattice::IntDomain;
-use cc_num::{List, NoMemory};
+use cc_program::num::{List, NoMemory};
 use cc_state_shared::Shared;
 use std::alloc::Global;
 

@@ -6,7 +6,7 @@ ghost use Rattle.cc_lattice.specs.Orders.{IsLeastUpperBound};
 ghost use Rattle.cc_lattice.specs.Tables.{AreJoins};
 
 use cc_lattice::Lattice;
-use cc_num::NoMemory;
+use cc_program::num::NoMemory;
 use std::alloc::Global;
 
 /// Whether each set is below the other one at its place.

@@ -10,11 +10,11 @@ use Rattle.cc_proof_covers.specs.Covers.{under, innermost, StandsAtPoint, AreSta
 use Rattle.cc_proof_covers.specs.Pending.{pending}
 use Rattle.cc_state.proofs.Lists.{at_contained}
 use Rattle.cc_state.specs.View.{view, Lies}
-use Rattle.cc_state_facts.specs.declared.facts.Facts.{Facts}
+use Rattle.cc_state_reads.specs.CcStateFacts.declared.facts.Facts.{Facts}
 use Rattle.cc_state_holds.proofs.Right.{never}
 use Rattle.cc_state_holds.proofs.Whole.{by_parts}
 use Rattle.cc_state_holds.specs.Parts.{Each, IsReachedFrom, MayRunAt, counted_flag, IsRight, IsRightAmong, IsBodyIn, IsIn, IsActivationIn, IsStackIn}
-use Rattle.cc_state_operators.specs.Domains.{Domain}
+use Rattle.cc_state_reads.specs.CcStateOperators.Domains.{Domain}
 use Rattle.cc_steps.proofs.StackLemmas.{actives_of-empty}
 use Rattle.cc_steps.specs.declared.activation.Activation.{Activation}
 use Rattle.cc_steps.specs.State.{Active, Memory, State}

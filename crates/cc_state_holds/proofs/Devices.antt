@@ -2,8 +2,8 @@
 use Rattle.std.proofs.Common.{◌≡◌, ℕ, ℤ, Bool, false, true≢false, Some, None, slice_get, ap, sym, ◌∙◌}
 use Rattle.std.specs.Prelude.{◌↔◌, IsTrue}
 use Rattle.std.proofs.lemmas.Option.{same_Some, none-some}
-use Rattle.cc_num.proofs.Conversions.{converted-IsValueOf, converted-same}
-use Rattle.cc_num.specs.Integers.{converted}
+use Rattle.cc_program.proofs.CcNum.Conversions.{converted-IsValueOf, converted-same}
+use Rattle.cc_program.specs.CcNum.Integers.{converted}
 use Rattle.cc_program.specs.declared.object.Device.{Device}
 use Rattle.cc_program.specs.declared.program.Program.{Program}
 use Rattle.cc_program.specs.declared.value.Address.{Address}

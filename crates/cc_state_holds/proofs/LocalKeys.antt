@@ -2,27 +2,27 @@
 use Rattle.std.proofs.Common.{◌≡◌, ℕ, List, Option, Some, None, refl, ap, sym, ◌∙◌, subst, slice_get}
 use Rattle.std.specs.Prelude.{◌↔◌, option_map}
 use Rattle.std.proofs.lemmas.Option.{none-some}
-use Rattle.cc_eval.specs.Context.{object_type, local_type}
+use Rattle.cc_state_reads.specs.CcEval.Context.{object_type, local_type}
 use Rattle.cc_program.specs.declared.func.Func.{Func}
 use Rattle.cc_program.specs.declared.program.Program.{Program}
 use Rattle.cc_program.specs.declared.value.Part.{Part}
 use Rattle.cc_program.specs.declared.value.Root.TheVariants as root
 use Rattle.cc_proof_covers.specs.Covers.{AreLocalsIn}
 use Rattle.cc_state.specs.View.{view, InWhole}
-use Rattle.cc_state_facts.specs.declared.facts.Facts.{Facts}
-use Rattle.cc_state_facts.specs.declared.facts.Key.{Key}
+use Rattle.cc_state_reads.specs.CcStateFacts.declared.facts.Facts.{Facts}
+use Rattle.cc_state_reads.specs.CcStateFacts.declared.facts.Key.{Key}
 use Rattle.cc_state_holds.proofs.PointSets.{good_some}
 use Rattle.cc_state_holds.proofs.Statics.{scalar_there, scalar_at}
 use Rattle.cc_state_holds.specs.Parts.{good, AreLocalListsIn}
-use Rattle.cc_state_keys.specs.Paths.{LeadsTo}
-use Rattle.cc_state_operators.specs.Domains.{Domain}
+use Rattle.cc_state_reads.specs.CcStateKeys.Paths.{LeadsTo}
+use Rattle.cc_state_reads.specs.CcStateOperators.Domains.{Domain}
 use Rattle.cc_state_scalars.proofs.Over.{there_is}
 use Rattle.cc_state_scalars.specs.Listed.{AreLocalKeys}
 use Rattle.cc_steps.specs.State.{Active}
-use Rattle.cc_syntax.specs.Expressions.{of_one}
-use Rattle.cc_syntax.specs.Initial.{place_at}
-use Rattle.cc_syntax.specs.Types.{Named}
-use Rattle.cc_syntax.specs.Values.{PlaceType, object_place, read_from}
+use Rattle.cc_state_reads.specs.CcSyntax.Expressions.{of_one}
+use Rattle.cc_state_reads.specs.CcSyntax.Initial.{place_at}
+use Rattle.cc_state_reads.specs.CcSyntax.Types.{Named}
+use Rattle.cc_state_reads.specs.CcSyntax.Values.{PlaceType, object_place, read_from}
 
 -- a path leads somewhere in a local that is there
 pub local_there : (p : Program) (number g r : ℕ) (f : Func) (path : List Part) (k : ℕ) → slice_get p.funcs g ≡ Some f → LeadsTo p (root.Auto number g r) path k → (l : Named) × (slice_get f.locals r ≡ Some l)

@@ -8,7 +8,7 @@ use Rattle.cc_program.specs.declared.program.Program.{Program}
 use Rattle.cc_program.specs.declared.value.Value.{Value}
 use Rattle.cc_state.proofs.Lists.{number_at}
 use Rattle.cc_state_holds.specs.Parts.{good, IsAtCell, IsPairHeld}
-use Rattle.cc_state_keys.specs.Tracked.{registers, tracked}
+use Rattle.cc_state_reads.specs.CcStateKeys.Tracked.{registers, tracked}
 
 -- ---- the number that has a position
 

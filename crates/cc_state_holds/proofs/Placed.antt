@@ -2,22 +2,22 @@
 use Rattle.std.proofs.Common.{arith, ◌≡◌, ◌⊎◌, inl, inr, ◌<◌, ◌+◌, ℕ, zero, suc, List, [], ◌∷◌, length, get_or, ◌≤◌, Option, Some, None, slice_get, refl, ap, ◌∙◌}
 use Rattle.std.specs.Prelude.{option_and_then}
 use Rattle.std.proofs.lemmas.Option.{none-some, slice_get_within, slice_get_cases}
-use Rattle.cc_flow.proofs.Inside.{body_inside}
-use Rattle.cc_flow.proofs.Paths.{all_counted}
-use Rattle.cc_flow.specs.declared.types.Point.{Point}
-use Rattle.cc_flow.specs.Laws.{IsIn}
-use Rattle.cc_flow.specs.Points.{body_count, body_points, points_in, flow_of}
+use Rattle.cc_flow_sound.proofs.CcFlow.Inside.{body_inside}
+use Rattle.cc_flow_sound.proofs.CcFlow.Paths.{all_counted}
+use Rattle.cc_flow_sound.specs.CcFlow.declared.types.Point.{Point}
+use Rattle.cc_flow_sound.specs.CcFlow.Laws.{IsIn}
+use Rattle.cc_flow_sound.specs.CcFlow.Points.{body_count, body_points, points_in, flow_of}
 use Rattle.cc_program.specs.declared.func.Func.{Func}
 use Rattle.cc_program.specs.declared.program.Program.{Program}
 use Rattle.cc_state.specs.Points.{HasFunction}
 use Rattle.cc_state.specs.Shape.{HaveShape}
 use Rattle.cc_state.specs.View.{IsFunctionAt}
-use Rattle.cc_state_facts.specs.declared.facts.Facts.{Facts}
-use Rattle.cc_state_facts.specs.declared.facts.PointFact.{PointFact}
-use Rattle.cc_state_facts.specs.Facts.{fact_at}
-use Rattle.cc_state_operators.specs.Domains.{Domain}
+use Rattle.cc_state_reads.specs.CcStateFacts.declared.facts.Facts.{Facts}
+use Rattle.cc_state_reads.specs.CcStateFacts.declared.facts.PointFact.{PointFact}
+use Rattle.cc_state_reads.specs.CcStateFacts.Facts.{fact_at}
+use Rattle.cc_state_reads.specs.CcStateOperators.Domains.{Domain}
 use Rattle.cc_state_scalars.proofs.Rows.{get_split}
-use Rattle.cc_syntax.proofs.Parts.{all_at}
+use Rattle.cc_state_reads.proofs.CcSyntax.Parts.{all_at}
 
 -- the function that a point of some functions is of
 abbrev IsOf : ℕ → List Func → Point → Type 0

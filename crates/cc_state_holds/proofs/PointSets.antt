@@ -4,7 +4,7 @@ use Rattle.std.specs.Prelude.{◌↔◌, ◌&&◌, ◌||◌, nat_eq, is_some}
 use Rattle.std.specs.List.{list_any}
 use Rattle.std.proofs.lemmas.Option.{same_Some, none-some}
 use Rattle.cc_cells.specs.Cells.{scalar_in}
-use Rattle.cc_flow.specs.declared.types.Point.{Point}
+use Rattle.cc_flow_sound.specs.CcFlow.declared.types.Point.{Point}
 use Rattle.cc_program.specs.declared.func.Func.{Func}
 use Rattle.cc_program.specs.declared.program.Program.{Program}
 use Rattle.cc_program.specs.declared.value.Value.{Value}
@@ -12,14 +12,14 @@ use Rattle.cc_proof_covers.specs.Covers.{AreRegistersIn}
 use Rattle.cc_state.proofs.Lists.{at_contained, number_at, number_there, any_there}
 use Rattle.cc_state.proofs.Numbered.{register_at, register_numbered}
 use Rattle.cc_state.specs.View.{view, IsFunctionAt, MayBeAt, LocalAt, CellAt, SameAt}
-use Rattle.cc_state_facts.specs.declared.facts.Facts.{Facts}
-use Rattle.cc_state_facts.specs.declared.facts.PointFact.{PointFact}
-use Rattle.cc_state_facts.specs.Facts.{fact_at, cell_of, local_of, may_be_in, has_pair}
+use Rattle.cc_state_reads.specs.CcStateFacts.declared.facts.Facts.{Facts}
+use Rattle.cc_state_reads.specs.CcStateFacts.declared.facts.PointFact.{PointFact}
+use Rattle.cc_state_reads.specs.CcStateFacts.Facts.{fact_at, cell_of, local_of, may_be_in, has_pair}
 use Rattle.cc_state_holds.specs.Parts.{HasIn, good, IsInRegisterSet, IsInCellSet, AreRegistersHeld, AreCellsHeld, ArePairsHeld}
-use Rattle.cc_state_keys.specs.Lists.{only_if, made_from}
-use Rattle.cc_state_keys.specs.Tracked.{registers, tracked, register_number, tracked_number}
-use Rattle.cc_state_operators.specs.Domains.{Domain}
-use Rattle.cc_syntax.specs.Registers.{is_register}
+use Rattle.cc_state_reads.specs.CcStateKeys.Lists.{only_if, made_from}
+use Rattle.cc_state_reads.specs.CcStateKeys.Tracked.{registers, tracked, register_number, tracked_number}
+use Rattle.cc_state_reads.specs.CcStateOperators.Domains.{Domain}
+use Rattle.cc_state_reads.specs.CcSyntax.Registers.{is_register}
 
 -- ---- lists
 

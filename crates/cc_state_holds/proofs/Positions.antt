@@ -9,18 +9,18 @@ use Rattle.cc_program.specs.declared.value.Root.{Root}
 use Rattle.cc_program.specs.declared.value.Root.TheVariants as root
 use Rattle.cc_program.specs.declared.value.Value.{Value}
 use Rattle.cc_state.specs.View.{InWhole, StaticAt, LocalOf}
-use Rattle.cc_state_facts.specs.declared.facts.Facts.{Facts}
-use Rattle.cc_state_facts.specs.declared.facts.Key.{Key}
+use Rattle.cc_state_reads.specs.CcStateFacts.declared.facts.Facts.{Facts}
+use Rattle.cc_state_reads.specs.CcStateFacts.declared.facts.Key.{Key}
 use Rattle.cc_state_holds.proofs.LocalKeys.{local_there}
 use Rattle.cc_state_holds.proofs.Statics.{object_there}
 use Rattle.cc_state_holds.specs.Parts.{IsListedIn, WasLocalIn}
-use Rattle.cc_state_keys.specs.Keys.{cell_key}
-use Rattle.cc_state_keys.specs.Paths.{LeadsTo}
-use Rattle.cc_state_operators.specs.Domains.{Domain}
+use Rattle.cc_state_reads.specs.CcStateKeys.Keys.{cell_key}
+use Rattle.cc_state_reads.specs.CcStateKeys.Paths.{LeadsTo}
+use Rattle.cc_state_reads.specs.CcStateOperators.Domains.{Domain}
 use Rattle.cc_state_scalars.proofs.Over.{there_is}
 use Rattle.cc_state_scalars.specs.Listed.{AreKeysIn, AreStaticKeys, AreLocalKeys}
 use Rattle.cc_steps.specs.Step.{cell_position}
-use Rattle.cc_syntax.specs.Registers.{is_register}
+use Rattle.cc_state_reads.specs.CcSyntax.Registers.{is_register}
 
 module _ {I : Type 0} (d : Domain I) (p : Program) (facts : Facts I) (n : ℕ) (x : Value) where
   -- the key of each path that leads there

@@ -11,18 +11,18 @@ use Rattle.cc_program.specs.declared.value.Root.TheVariants as root
 use Rattle.cc_program.specs.declared.value.Value.{Value}
 use Rattle.cc_proof_covers.specs.Covers.{WasIn}
 use Rattle.cc_state.specs.View.{view, StaticAt}
-use Rattle.cc_state_facts.specs.declared.facts.Facts.{Facts}
+use Rattle.cc_state_reads.specs.CcStateFacts.declared.facts.Facts.{Facts}
 use Rattle.cc_state_holds.proofs.PointSets.{cell_held, local_held}
 use Rattle.cc_state_holds.proofs.Right.{never}
 use Rattle.cc_state_holds.specs.Basis.{IsPlace}
 use Rattle.cc_state_holds.specs.declared.basis.Basis.{Basis}
 use Rattle.cc_state_holds.specs.declared.basis.Reached.{Reached}
 use Rattle.cc_state_holds.specs.Parts.{IsInRegisterSet, IsInCellSet, WasLocalIn, WasReadIn}
-use Rattle.cc_state_keys.specs.Tracked.{tracked_number}
-use Rattle.cc_state_operators.specs.Domains.{Domain}
+use Rattle.cc_state_reads.specs.CcStateKeys.Tracked.{tracked_number}
+use Rattle.cc_state_reads.specs.CcStateOperators.Domains.{Domain}
 use Rattle.cc_steps.specs.State.{Active}
 use Rattle.cc_steps.specs.Step.{cell_position}
-use Rattle.cc_syntax.specs.Registers.{is_register}
+use Rattle.cc_state_reads.specs.CcSyntax.Registers.{is_register}
 
 module _ {I : Type 0} (d : Domain I) (b : Basis I) (place : Reached I) (here : IsPlace d b place) (a : Active) (f : Func) (x : Value) where
   abbrev pub Was : Cell → Type 0

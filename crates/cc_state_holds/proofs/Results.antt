@@ -3,14 +3,14 @@ use Rattle.std.proofs.Common.{arith, ◌≡◌, ℕ, Bool, true, false, List, Op
 use Rattle.std.specs.Prelude.{◌==◌}
 use Rattle.std.proofs.lemmas.Bool.{eq-eqb}
 use Rattle.cc_cells.specs.Cells.{scalar_in}
-use Rattle.cc_eval.specs.declared.mark.Mark.{Mark}
-use Rattle.cc_eval.specs.Progress.{Progress}
+use Rattle.cc_state_reads.specs.CcEval.declared.mark.Mark.{Mark}
+use Rattle.cc_state_reads.specs.CcEval.Progress.{Progress}
 use Rattle.cc_program.specs.declared.expr.Expr.{Expr}
 use Rattle.cc_program.specs.declared.program.Program.{Program}
 use Rattle.cc_program.specs.declared.value.Value.{Value}
 use Rattle.cc_proof_covers.specs.Pending.{has_result, written_next, pending, value_in}
 use Rattle.cc_state_holds.specs.Parts.{good}
-use Rattle.cc_states.specs.States.{expression_of}
+use Rattle.cc_flow_sound.specs.CcStates.States.{expression_of}
 use Rattle.cc_steps.specs.State.{Active}
 use Rattle.cc_steps.specs.Step.{progress_at, progress_of}
 

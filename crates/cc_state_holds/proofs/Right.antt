@@ -7,14 +7,14 @@ use Rattle.cc_program.specs.declared.value.Value.{Value}
 use Rattle.cc_proof_covers.specs.Covers.{StandsAtPoint, IsMemoryIn}
 use Rattle.cc_proof_covers.specs.Pending.{value_in}
 use Rattle.cc_state.specs.View.{view}
-use Rattle.cc_state_facts.specs.Facts.{may_be_in}
+use Rattle.cc_state_reads.specs.CcStateFacts.Facts.{may_be_in}
 use Rattle.cc_state_holds.proofs.PointSets.{flag_held, cells_held, registers_held, pairs_held}
 use Rattle.cc_state_holds.specs.Basis.{IsBasis, IsPlace}
 use Rattle.cc_state_holds.specs.declared.basis.Basis.{Basis}
 use Rattle.cc_state_holds.specs.declared.basis.Reached.{Reached}
 use Rattle.cc_state_holds.specs.Parts.{AreRegistersHeld, AreCellsHeld, ArePairsHeld, IsMemoryAt, AreReadsIn, AreReadsAt, IsRight}
-use Rattle.cc_state_keys.specs.Tracked.{registers}
-use Rattle.cc_state_operators.specs.Domains.{Domain}
+use Rattle.cc_state_reads.specs.CcStateKeys.Tracked.{registers}
+use Rattle.cc_state_reads.specs.CcStateOperators.Domains.{Domain}
 use Rattle.cc_steps.specs.State.{Active, Memory}
 
 pub never : {A : Type 0} → IsTrue false → A

@@ -5,7 +5,7 @@ use Rattle.std.proofs.lemmas.List.{take_more}
 use Rattle.std.proofs.lemmas.Nat.Bits.{bit_at_above}
 use Rattle.cc_program.specs.declared.program.Program.{Program}
 use Rattle.cc_proof_covers.specs.Covers.{innermost}
-use Rattle.cc_state_facts.specs.Levels.{has_level}
+use Rattle.cc_state_reads.specs.CcStateFacts.Levels.{has_level}
 use Rattle.cc_steps.proofs.StackLemmas.{actives_of-push, actives_of-nil}
 use Rattle.cc_steps.proofs.TurnLemmas.{level-none, level-more}
 use Rattle.cc_steps.specs.declared.activation.Activation.{Activation}

@@ -4,7 +4,7 @@ use Rattle.std.specs.Prelude.{◌↔◌, option_and_then, option_map, Vec}
 use Rattle.std.specs.declared.alloc.Global.{Global}
 use Rattle.std.proofs.lemmas.Option.{none-some, slice_get-map}
 use Rattle.cc_cells.specs.Cells.{scalar_in, cells_of}
-use Rattle.cc_eval.specs.Context.{object_type}
+use Rattle.cc_state_reads.specs.CcEval.Context.{object_type}
 use Rattle.cc_program.specs.declared.object.Object.{Object}
 use Rattle.cc_program.specs.declared.program.Program.{Program}
 use Rattle.cc_program.specs.declared.value.Part.{Part}
@@ -12,16 +12,16 @@ use Rattle.cc_program.specs.declared.value.Root.TheVariants as root
 use Rattle.cc_program.specs.declared.value.Value.{Value}
 use Rattle.cc_proof_covers.specs.Covers.{AreStaticsIn}
 use Rattle.cc_state.specs.View.{view, InWhole}
-use Rattle.cc_state_facts.specs.declared.facts.Facts.{Facts}
-use Rattle.cc_state_facts.specs.declared.facts.Key.{Key}
+use Rattle.cc_state_reads.specs.CcStateFacts.declared.facts.Facts.{Facts}
+use Rattle.cc_state_reads.specs.CcStateFacts.declared.facts.Key.{Key}
 use Rattle.cc_state_holds.specs.Parts.{AreObjectsIn}
-use Rattle.cc_state_keys.specs.Paths.{LeadsTo}
-use Rattle.cc_state_operators.specs.Domains.{Domain}
+use Rattle.cc_state_reads.specs.CcStateKeys.Paths.{LeadsTo}
+use Rattle.cc_state_reads.specs.CcStateOperators.Domains.{Domain}
 use Rattle.cc_state_scalars.proofs.Over.{there_is}
 use Rattle.cc_state_scalars.specs.Listed.{AreStaticKeys}
-use Rattle.cc_syntax.specs.Expressions.{of_one}
-use Rattle.cc_syntax.specs.Initial.{place_at}
-use Rattle.cc_syntax.specs.Values.{object_place, read_from}
+use Rattle.cc_state_reads.specs.CcSyntax.Expressions.{of_one}
+use Rattle.cc_state_reads.specs.CcSyntax.Initial.{place_at}
+use Rattle.cc_state_reads.specs.CcSyntax.Values.{object_place, read_from}
 
 -- the values that a vector of vectors holds at a place
 pub look_up : {A : Type 0} (cells : List (Vec A Global)) (i : ℕ) → slice_get (cells_of cells) i ≡ option_map (λ v. v.items) (slice_get cells i)

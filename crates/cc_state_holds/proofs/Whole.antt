@@ -2,12 +2,12 @@
 use Rattle.std.proofs.Common.{◌≡◌, ℕ, List, [], ◌∷◌, ◌++◌, length, take, Option, Some, None, refl, ap, sym, ◌∙◌, slice_get}
 use Rattle.std.specs.Prelude.{◌↔◌}
 use Rattle.std.proofs.lemmas.Option.{none-some, same_Some}
-use Rattle.cc_eval.specs.declared.action.Action.{Action}
-use Rattle.cc_eval.specs.declared.action.Action.TheVariants.{Read, Write, Choose, Call, Flag, Save}
-use Rattle.cc_eval.specs.declared.action.Manner.{Manner}
-use Rattle.cc_eval.specs.declared.mark.Mark.{Mark}
-use Rattle.cc_eval.specs.declared.mark.Mark.TheVariants.{Gave, Did, Chose}
-use Rattle.cc_eval.specs.Progress.{Progress, Known, Waits, Traps}
+use Rattle.cc_state_reads.specs.CcEval.declared.action.Action.{Action}
+use Rattle.cc_state_reads.specs.CcEval.declared.action.Action.TheVariants.{Read, Write, Choose, Call, Flag, Save}
+use Rattle.cc_state_reads.specs.CcEval.declared.action.Manner.{Manner}
+use Rattle.cc_state_reads.specs.CcEval.declared.mark.Mark.{Mark}
+use Rattle.cc_state_reads.specs.CcEval.declared.mark.Mark.TheVariants.{Gave, Did, Chose}
+use Rattle.cc_state_reads.specs.CcEval.Progress.{Progress, Known, Waits, Traps}
 use Rattle.cc_program.specs.declared.func.Func.{Func}
 use Rattle.cc_program.specs.declared.program.Program.{Program}
 use Rattle.cc_program.specs.declared.value.Cell.{Cell}
@@ -15,11 +15,11 @@ use Rattle.cc_program.specs.declared.value.Value.{Value}
 use Rattle.cc_proof_covers.specs.Covers.{Role, Running, Interrupted, Waiting, under, innermost, IsReached, AreOperandsIn, MemoryLies, ActivationLies, StackLies}
 use Rattle.cc_proof_covers.specs.Pending.{pending}
 use Rattle.cc_state.specs.View.{view, Lies}
-use Rattle.cc_state_facts.specs.declared.facts.Facts.{Facts}
+use Rattle.cc_state_reads.specs.CcStateFacts.declared.facts.Facts.{Facts}
 use Rattle.cc_state_holds.proofs.Splits.{at_middle, in_front, splits}
 use Rattle.cc_state_holds.specs.Parts.{cell_read, cell_waited, value_given, IsReachedFrom, counted_flag, IsMemoryAt, AreReadsIn, AreReadsAt, IsActivationIn, IsStackIn, IsStateIn}
-use Rattle.cc_state_operators.specs.Domains.{Domain}
-use Rattle.cc_states.specs.States.{expression_of}
+use Rattle.cc_state_reads.specs.CcStateOperators.Domains.{Domain}
+use Rattle.cc_flow_sound.specs.CcStates.States.{expression_of}
 use Rattle.cc_steps.specs.State.{Active, Memory, State}
 use Rattle.cc_steps.specs.Step.{progress_at}
 

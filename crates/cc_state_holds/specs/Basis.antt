@@ -1,16 +1,16 @@
 -- What states are held against.
 use Rattle.std.specs.Prelude.{◌≡◌, Some}
-use Rattle.cc_flow.specs.Points.{flow_of}
+use Rattle.cc_flow_sound.specs.CcFlow.Points.{flow_of}
 use Rattle.cc_program.specs.declared.func.Func.{Func}
 use Rattle.cc_state.specs.Shape.{HaveShape}
 use Rattle.cc_state.specs.View.{IsFunctionAt}
-use Rattle.cc_state_facts.specs.Facts.{fact_at}
+use Rattle.cc_state_reads.specs.CcStateFacts.Facts.{fact_at}
 use Rattle.cc_state_holds.specs.declared.basis.Basis.{Basis}
 use Rattle.cc_state_holds.specs.declared.basis.Reached.{Reached}
-use Rattle.cc_state_keys.specs.Tracked.{registers, tracked}
-use Rattle.cc_state_operators.specs.Domains.{Domain}
+use Rattle.cc_state_reads.specs.CcStateKeys.Tracked.{registers, tracked}
+use Rattle.cc_state_reads.specs.CcStateOperators.Domains.{Domain}
 use Rattle.cc_state_scalars.specs.Listed.{AreStaticKeys}
-use Rattle.cc_syntax.specs.Normal.{IsNormal}
+use Rattle.cc_state_reads.specs.CcSyntax.Normal.{IsNormal}
 
 -- a program in normal form, its flow, facts of its shape, its tracked cells, and the keys of the scalars of its static objects
 pub record IsBasis {I : Type 0} (d : Domain I) (b : Basis I) : Type 0 where

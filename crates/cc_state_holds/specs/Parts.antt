@@ -3,15 +3,15 @@
 use Rattle.std.specs.Prelude.{◌≡◌, ◌↔◌, ◌⊎◌, ℕ, Bool, true, false, List, [], ◌∷◌, take, Option, Some, None, option_and_then, slice_get}
 use Rattle.std.specs.List.{Contains}
 use Rattle.cc_cells.specs.Cells.{scalar_in}
-use Rattle.cc_eval.specs.declared.action.Action.{Action}
-use Rattle.cc_eval.specs.declared.action.Action.TheVariants.{Read, Write, Choose, Call, Flag, Save}
-use Rattle.cc_eval.specs.declared.mark.Mark.{Mark}
-use Rattle.cc_eval.specs.declared.mark.Mark.TheVariants.{Gave, Did, Chose}
-use Rattle.cc_eval.specs.Progress.{Progress, Known, Waits, Traps}
-use Rattle.cc_flow.specs.declared.types.Flow.{Flow}
-use Rattle.cc_flow.specs.declared.types.Point.{Point}
-use Rattle.cc_places.specs.declared.abs.Abs.{Abs}
-use Rattle.cc_places.specs.Abstract.{HasValue}
+use Rattle.cc_state_reads.specs.CcEval.declared.action.Action.{Action}
+use Rattle.cc_state_reads.specs.CcEval.declared.action.Action.TheVariants.{Read, Write, Choose, Call, Flag, Save}
+use Rattle.cc_state_reads.specs.CcEval.declared.mark.Mark.{Mark}
+use Rattle.cc_state_reads.specs.CcEval.declared.mark.Mark.TheVariants.{Gave, Did, Chose}
+use Rattle.cc_state_reads.specs.CcEval.Progress.{Progress, Known, Waits, Traps}
+use Rattle.cc_flow_sound.specs.CcFlow.declared.types.Flow.{Flow}
+use Rattle.cc_flow_sound.specs.CcFlow.declared.types.Point.{Point}
+use Rattle.cc_state_reads.specs.CcPlaces.declared.abs.Abs.{Abs}
+use Rattle.cc_state_reads.specs.CcPlaces.Abstract.{HasValue}
 use Rattle.cc_program.specs.declared.func.Func.{Func}
 use Rattle.cc_program.specs.declared.program.Program.{Program}
 use Rattle.cc_program.specs.declared.value.Cell.{Cell}
@@ -21,18 +21,18 @@ use Rattle.cc_program.specs.declared.value.Value.{Value}
 use Rattle.cc_proof_covers.specs.Covers.{Role, Running, Interrupted, Waiting, under, innermost, StandsAtPoint, AreStaticsIn, AreLocalsIn, AreRegistersIn, WasIn, IsMemoryIn}
 use Rattle.cc_proof_covers.specs.Pending.{pending, value_in}
 use Rattle.cc_state.specs.View.{view, IsLevelIn, InWhole, LocalOf, IsReachedAt}
-use Rattle.cc_state_facts.specs.declared.facts.Facts.{Facts}
-use Rattle.cc_state_facts.specs.declared.facts.Key.{Key}
-use Rattle.cc_state_facts.specs.declared.facts.PointFact.{PointFact}
-use Rattle.cc_state_facts.specs.Facts.{mark_of, levels_of, cell_of, local_of}
-use Rattle.cc_state_facts.specs.Levels.{has_level}
-use Rattle.cc_state_keys.specs.Tracked.{register_number, tracked_number}
-use Rattle.cc_state_operators.specs.Domains.{Domain}
-use Rattle.cc_states.specs.States.{expression_of}
+use Rattle.cc_state_reads.specs.CcStateFacts.declared.facts.Facts.{Facts}
+use Rattle.cc_state_reads.specs.CcStateFacts.declared.facts.Key.{Key}
+use Rattle.cc_state_reads.specs.CcStateFacts.declared.facts.PointFact.{PointFact}
+use Rattle.cc_state_reads.specs.CcStateFacts.Facts.{mark_of, levels_of, cell_of, local_of}
+use Rattle.cc_state_reads.specs.CcStateFacts.Levels.{has_level}
+use Rattle.cc_state_reads.specs.CcStateKeys.Tracked.{register_number, tracked_number}
+use Rattle.cc_state_reads.specs.CcStateOperators.Domains.{Domain}
+use Rattle.cc_flow_sound.specs.CcStates.States.{expression_of}
 use Rattle.cc_steps.specs.State.{Active, Memory, State}
 use Rattle.cc_steps.specs.Step.{progress_at, cell_position}
 use Rattle.cc_steps.specs.Turn.{running_level}
-use Rattle.cc_syntax.specs.Registers.{is_register}
+use Rattle.cc_state_reads.specs.CcSyntax.Registers.{is_register}
 
 -- each thing of a list, with its place
 abbrev pub Each : {A : Type 0} → (ℕ → A → Type 0) → List A → Type 0

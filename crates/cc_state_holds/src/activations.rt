@@ -4,16 +4,16 @@ ghost use Rattle.std.specs.Prelude.{◌≡◌, ◌↔◌, ◌∷◌, ℕ, List a
 ghost use Rattle.std.specs.List.{Contains};
 ghost use Rattle.std.specs.Option.{option_copied};
 ghost use Rattle.cc_cells.specs.Cells.{cells_of};
-ghost use Rattle.cc_flow.specs.Points.{flow_of};
+ghost use Rattle.cc_flow_sound.specs.CcFlow.Points.{flow_of};
 ghost use Rattle.cc_program.specs.declared.func.Func.{Func as FuncOf};
 ghost use Rattle.cc_proof_covers.specs.Covers.{StandsAtPoint, IsMemoryIn};
 ghost use Rattle.cc_state.specs.Points.{HasFunction};
 ghost use Rattle.cc_state.specs.View.{view};
-ghost use Rattle.cc_state_facts.specs.Facts.{fact_at as fact_at_of, may_be_in};
+ghost use Rattle.cc_state_reads.specs.CcStateFacts.Facts.{fact_at as fact_at_of, may_be_in};
 ghost use Rattle.cc_state_holds.specs.Basis.{IsBasis, IsPlace};
 ghost use Rattle.cc_state_holds.specs.Parts.{IsMemoryAt, IsRight, IsRightAmong, IsBodyIn, IsActivationIn};
-ghost use Rattle.cc_state_keys.specs.Tracked.{registers as registers_of};
-ghost use Rattle.cc_state_operators.specs.Domains.{domain};
+ghost use Rattle.cc_state_reads.specs.CcStateKeys.Tracked.{registers as registers_of};
+ghost use Rattle.cc_state_reads.specs.CcStateOperators.Domains.{domain};
 ghost use Rattle.cc_steps.specs.State.{Active, Memory};
 ghost use Rattle.cc_steps.specs.View.{active_of, actives_of};
 
@@ -25,13 +25,13 @@ use crate::operands::are_reads_in;
 use crate::pending::pending;
 use crate::points::counted_points;
 use crate::registers::are_registers_held;
-use cc_flow::Flow;
-use cc_lattice::IntDomain;
+use cc_flow_sound::flow::Flow;
 use cc_meaning::Activation;
-use cc_num::{NoMemory, at};
+use cc_program::num::{NoMemory, at};
 use cc_program::{Func, Program, Value};
-use cc_state_facts::{Facts, PointFact};
-use cc_state_keys::registers;
+use cc_state_reads::lattice::IntDomain;
+use cc_state_reads::state_facts::{Facts, PointFact};
+use cc_state_reads::state_keys::registers;
 use std::alloc::Global;
 
 /// What an activation is held against besides facts: the values of static objects, and the flag as it counts, none of one that

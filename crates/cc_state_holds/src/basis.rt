@@ -1,9 +1,9 @@
 //! What states are held against.
 
-use cc_flow::Flow;
-use cc_num::List;
+use cc_flow_sound::flow::Flow;
 use cc_program::Program;
-use cc_state_facts::{Facts, Key, PointFact};
+use cc_program::num::List;
+use cc_state_reads::state_facts::{Facts, Key, PointFact};
 
 /// What states are held against.
 #[derive(Drop)]

@@ -5,16 +5,16 @@ ghost use Rattle.std.specs.Option.{option_copied};
 ghost use Rattle.std.specs.Str.{bytes_eq};
 ghost use Rattle.cc_proof_covers.specs.Covers.{innermost as innermost_of};
 ghost use Rattle.cc_state.specs.View.{IsLevelIn};
-ghost use Rattle.cc_state_facts.specs.Facts.{mark_of as mark_in, levels_of as levels_in};
-ghost use Rattle.cc_state_facts.specs.Levels.{has_level as has_level_of};
+ghost use Rattle.cc_state_reads.specs.CcStateFacts.Facts.{mark_of as mark_in, levels_of as levels_in};
+ghost use Rattle.cc_state_reads.specs.CcStateFacts.Levels.{has_level as has_level_of};
 ghost use Rattle.cc_state_holds.specs.Parts.{IsReachedFrom, MayRunAt};
 ghost use Rattle.cc_steps.specs.Turn.{named_level as named_level_of, level_in as level_in_of, level_of as level_of_func, running_level as running_level_of};
 ghost use Rattle.cc_steps.specs.View.{actives_of};
 
 use cc_meaning::Activation;
-use cc_num::{Name, at};
+use cc_program::num::{Name, at};
 use cc_program::{Func, Program};
-use cc_state_facts::{Facts, has_level};
+use cc_state_reads::state_facts::{Facts, has_level};
 
 fn same(name: &[u8], other: &[u8]) -> bool
     ensures { result ≡ bytes_eq name.now other.now }

@@ -3,12 +3,12 @@
 ghost use Rattle.std.specs.Prelude.{◌↔◌};
 ghost use Rattle.cc_program.specs.declared.program.Program.{Program};
 ghost use Rattle.cc_state.specs.View.{Lies};
-ghost use Rattle.cc_state_facts.specs.declared.facts.Facts.{Facts};
+ghost use Rattle.cc_state_reads.specs.CcStateFacts.declared.facts.Facts.{Facts};
 ghost use Rattle.cc_state_holds.specs.Parts.{IsStateIn};
-ghost use Rattle.cc_state_operators.specs.Domains.{domain};
+ghost use Rattle.cc_state_reads.specs.CcStateOperators.Domains.{domain};
 ghost use Rattle.cc_steps.specs.State.{State};
 
-use cc_lattice::IntDomain;
+use cc_state_reads::lattice::IntDomain;
 
 /// A state lies in facts exactly where its parts do. The call does nothing.
 pub fn parts<I: IntDomain>()

@@ -2,27 +2,27 @@
 
 ghost use Rattle.std.specs.Prelude.{◌≡◌, ◌↔◌, ◌<◌, ◌-◌, ◌∷◌, length, take, IsTrue, IfOk};
 ghost use Rattle.cc_cells.specs.Cells.{cells_of};
-ghost use Rattle.cc_flow.specs.Points.{flow_of};
+ghost use Rattle.cc_flow_sound.specs.CcFlow.Points.{flow_of};
 ghost use Rattle.cc_meaning.specs.View.{state_of};
 ghost use Rattle.cc_proof_covers.specs.Covers.{under};
 ghost use Rattle.cc_state.specs.Shape.{HaveShape};
 ghost use Rattle.cc_state.specs.View.{Lies};
 ghost use Rattle.cc_state_holds.specs.Basis.{IsBasis};
 ghost use Rattle.cc_state_holds.specs.Parts.{counted_flag, IsStackIn};
-ghost use Rattle.cc_state_operators.specs.Domains.{domain};
+ghost use Rattle.cc_state_reads.specs.CcStateOperators.Domains.{domain};
 ghost use Rattle.cc_steps.specs.State.{Memory};
 ghost use Rattle.cc_steps.specs.View.{active_of, actives_of};
-ghost use Rattle.cc_syntax.specs.Normal.{IsNormal};
+ghost use Rattle.cc_state_reads.specs.CcSyntax.Normal.{IsNormal};
 
 use crate::activations::{Around, is_activation_in};
 use crate::basis::Basis;
 use crate::objects::are_statics_in;
-use cc_flow::Flow;
-use cc_lattice::IntDomain;
+use cc_flow_sound::flow::Flow;
 use cc_meaning::{Activation, Machine};
-use cc_num::NoMemory;
-use cc_state_facts::Facts;
-use cc_state_keys::tracked;
+use cc_program::num::NoMemory;
+use cc_state_reads::lattice::IntDomain;
+use cc_state_reads::state_facts::Facts;
+use cc_state_reads::state_keys::tracked;
 use cc_state_scalars::static_keys;
 use std::alloc::Global;
 

@@ -7,20 +7,20 @@ ghost use Rattle.cc_program.specs.declared.func.Func.{Func as FuncOf};
 ghost use Rattle.cc_proof_covers.specs.Covers.{AreLocalsIn};
 ghost use Rattle.cc_state.specs.View.{view};
 ghost use Rattle.cc_state_holds.specs.Parts.{good, AreWrittenIn, IsLocalIn, AreLocalListsIn};
-ghost use Rattle.cc_state_keys.specs.Keys.{keys_of};
-ghost use Rattle.cc_state_keys.specs.Tracked.{registers as registers_of};
-ghost use Rattle.cc_state_operators.specs.Domains.{domain};
+ghost use Rattle.cc_state_reads.specs.CcStateKeys.Keys.{keys_of};
+ghost use Rattle.cc_state_reads.specs.CcStateKeys.Tracked.{registers as registers_of};
+ghost use Rattle.cc_state_reads.specs.CcStateOperators.Domains.{domain};
 ghost use Rattle.cc_steps.specs.View.{active_of};
-ghost use Rattle.cc_syntax.specs.Sound.{IsTypedProgram};
+ghost use Rattle.cc_state_reads.specs.CcSyntax.Sound.{IsTypedProgram};
 
 use crate::basis::Basis;
 use crate::registers::is_register_among;
 use crate::sets::is_scalar_in;
-use cc_lattice::IntDomain;
 use cc_meaning::Activation;
-use cc_num::{List, NoMemory, at};
+use cc_program::num::{List, NoMemory, at};
 use cc_program::{Func, Value};
-use cc_state_facts::Key;
+use cc_state_reads::lattice::IntDomain;
+use cc_state_reads::state_facts::Key;
 use cc_state_scalars::local_keys;
 use std::alloc::Global;
 

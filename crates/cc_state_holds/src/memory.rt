@@ -6,23 +6,23 @@ ghost use Rattle.cc_cells.specs.Cells.{cells_of};
 ghost use Rattle.cc_program.specs.declared.func.Func.{Func as FuncOf};
 ghost use Rattle.cc_program.specs.declared.value.Value.{Value as ValueOf};
 ghost use Rattle.cc_proof_covers.specs.Pending.{value_in as value_in_of};
-ghost use Rattle.cc_state_facts.specs.Facts.{cell_of};
+ghost use Rattle.cc_state_reads.specs.CcStateFacts.Facts.{cell_of};
 ghost use Rattle.cc_state_holds.specs.Parts.{IsInCellSet, IsCellHeld, AreCellsHeld, IsAtCell, IsPairHeld, ArePairsHeld};
-ghost use Rattle.cc_state_keys.specs.Tracked.{registers as registers_of, tracked as tracked_of};
-ghost use Rattle.cc_state_operators.specs.Domains.{domain};
+ghost use Rattle.cc_state_reads.specs.CcStateKeys.Tracked.{registers as registers_of, tracked as tracked_of};
+ghost use Rattle.cc_state_reads.specs.CcStateOperators.Domains.{domain};
 ghost use Rattle.cc_steps.specs.View.{active_of};
 
 use crate::basis::Basis;
 use crate::pending::value_in;
 use crate::sets::has;
 use cc_cells::read_scalar;
-use cc_lattice::IntDomain;
 use cc_meaning::Activation;
-use cc_num::at;
-use cc_places::Abs;
 use cc_program::Value;
-use cc_state_facts::PointFact;
-use cc_state_keys::number_in;
+use cc_program::num::at;
+use cc_state_reads::lattice::IntDomain;
+use cc_state_reads::places::Abs;
+use cc_state_reads::state_facts::PointFact;
+use cc_state_reads::state_keys::number_in;
 
 /// How many tracked cells a row has, where it is not the last.
 const ROW_LENGTH: usize = 16;

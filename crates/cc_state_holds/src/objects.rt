@@ -6,16 +6,16 @@ ghost use Rattle.cc_cells.specs.Cells.{cells_of};
 ghost use Rattle.cc_proof_covers.specs.Covers.{AreStaticsIn};
 ghost use Rattle.cc_state.specs.View.{view};
 ghost use Rattle.cc_state_holds.specs.Parts.{AreScalarsIn, IsObjectIn, AreObjectsIn};
-ghost use Rattle.cc_state_keys.specs.Keys.{keys_of};
-ghost use Rattle.cc_state_operators.specs.Domains.{domain};
+ghost use Rattle.cc_state_reads.specs.CcStateKeys.Keys.{keys_of};
+ghost use Rattle.cc_state_reads.specs.CcStateOperators.Domains.{domain};
 ghost use Rattle.cc_state_scalars.specs.Listed.{AreStaticKeys};
 
 use crate::basis::Basis;
 use crate::sets::is_scalar_in;
-use cc_lattice::IntDomain;
-use cc_num::at;
 use cc_program::Value;
-use cc_state_facts::Key;
+use cc_program::num::at;
+use cc_state_reads::lattice::IntDomain;
+use cc_state_reads::state_facts::Key;
 
 /// Whether each scalar of an object is in the whole-run set of its key.
 fn are_scalars_in<I: IntDomain>(b: &Basis<I>, keys: &[Key], values: &[Value]) -> bool

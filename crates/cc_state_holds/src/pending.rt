@@ -2,18 +2,18 @@
 
 ghost use Rattle.std.specs.Prelude.{◌≡◌, IfOk};
 ghost use Rattle.std.specs.Option.{option_copied};
-ghost use Rattle.cc_eval.specs.View.{progress_of as stage_of};
+ghost use Rattle.cc_state_reads.specs.CcEval.View.{progress_of as stage_of};
 ghost use Rattle.cc_proof_covers.specs.Pending.{is_given as is_given_of, has_result as has_result_of, cell_written as cell_written_of, local_written as local_written_of, written_next as written_next_of, pending as pending_of, value_in as value_in_of};
 ghost use Rattle.cc_state_holds.specs.Parts.{good};
 ghost use Rattle.cc_steps.specs.View.{active_of};
-ghost use Rattle.cc_syntax.specs.Forms.{form_of};
-ghost use Rattle.cc_syntax.specs.Sizes.{AreSized};
+ghost use Rattle.cc_state_reads.specs.CcSyntax.Forms.{form_of};
+ghost use Rattle.cc_state_reads.specs.CcSyntax.Sizes.{AreSized};
 
 use cc_cells::read_scalar;
-use cc_eval::{Action, Stage};
 use cc_meaning::Activation;
-use cc_num::NoMemory;
+use cc_program::num::NoMemory;
 use cc_program::{Cell, Expr, Program, Root, Value};
+use cc_state_reads::eval::{Action, Stage};
 use cc_steps::progress_at;
 use std::alloc::Global;
 

@@ -3,18 +3,18 @@
 ghost use Rattle.std.specs.Prelude.{◌≡◌, ◌↔◌, ◌⊎◌, ◌++◌, ℕ, IsTrue, IfOk, map};
 ghost use Rattle.std.specs.List.{Contains};
 ghost use Rattle.std.specs.Option.{option_copied};
-ghost use Rattle.cc_control.specs.Control.{path_of};
-ghost use Rattle.cc_flow.specs.Points.{flow_of};
+ghost use Rattle.cc_flow_sound.specs.CcControl.Control.{path_of};
+ghost use Rattle.cc_flow_sound.specs.CcFlow.Points.{flow_of};
 ghost use Rattle.cc_flow_sound.specs.Moves.{IsAt, standing};
 ghost use Rattle.cc_proof_covers.specs.Covers.{StandsAtPoint};
 ghost use Rattle.cc_state_holds.specs.Parts.{IsAdded, IsNextOf};
 ghost use Rattle.cc_steps.specs.View.{active_of};
 
 use crate::basis::Basis;
-use cc_flow::{Flow, Point};
+use cc_flow_sound::flow::{Flow, Point};
 use cc_meaning::Activation;
-use cc_num::{NoMemory, at};
 use cc_program::Value;
+use cc_program::num::{NoMemory, at};
 use std::alloc::Global;
 
 fn is_same_path(path: &[u32], other: &[u32]) -> bool

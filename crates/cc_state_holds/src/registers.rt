@@ -4,22 +4,22 @@ ghost use Rattle.std.specs.Prelude.{◌≡◌, ◌↔◌, IsTrue};
 ghost use Rattle.std.specs.Option.{option_copied};
 ghost use Rattle.cc_program.specs.declared.func.Func.{Func as FuncOf};
 ghost use Rattle.cc_proof_covers.specs.Pending.{value_in as value_in_of};
-ghost use Rattle.cc_state_facts.specs.Facts.{local_of};
+ghost use Rattle.cc_state_reads.specs.CcStateFacts.Facts.{local_of};
 ghost use Rattle.cc_state_holds.specs.Parts.{IsInRegisterSet, IsRegisterHeld, AreRegistersHeld};
-ghost use Rattle.cc_state_keys.specs.Tracked.{registers as registers_of};
-ghost use Rattle.cc_state_operators.specs.Domains.{domain};
+ghost use Rattle.cc_state_reads.specs.CcStateKeys.Tracked.{registers as registers_of};
+ghost use Rattle.cc_state_reads.specs.CcStateOperators.Domains.{domain};
 ghost use Rattle.cc_steps.specs.View.{active_of};
-ghost use Rattle.cc_syntax.specs.Registers.{is_register};
+ghost use Rattle.cc_state_reads.specs.CcSyntax.Registers.{is_register};
 
 use crate::pending::value_in;
 use crate::sets::has;
-use cc_lattice::IntDomain;
 use cc_meaning::Activation;
-use cc_num::at;
-use cc_places::Abs;
 use cc_program::Value;
-use cc_state_facts::PointFact;
-use cc_state_keys::number_in;
+use cc_program::num::at;
+use cc_state_reads::lattice::IntDomain;
+use cc_state_reads::places::Abs;
+use cc_state_reads::state_facts::PointFact;
+use cc_state_reads::state_keys::number_in;
 
 /// Whether a local is one of the registers of its function.
 pub fn is_register_among(registers: &[u32], r: u32) -> bool

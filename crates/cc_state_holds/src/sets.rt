@@ -4,17 +4,17 @@ ghost use Rattle.std.specs.Prelude.{◌≡◌, ◌↔◌, IsTrue};
 ghost use Rattle.std.specs.Option.{option_copied};
 ghost use Rattle.cc_program.specs.declared.program.Program.{Program as ProgramOf};
 ghost use Rattle.cc_state_holds.specs.Parts.{HasIn, IsScalarIn};
-ghost use Rattle.cc_state_keys.specs.Keys.{keys_of};
-ghost use Rattle.cc_state_operators.specs.Domains.{domain};
+ghost use Rattle.cc_state_reads.specs.CcStateKeys.Keys.{keys_of};
+ghost use Rattle.cc_state_reads.specs.CcStateOperators.Domains.{domain};
 ghost use Rattle.cc_state_reads.specs.Reads.{whole_of as whole_of_of};
 
 use crate::basis::Basis;
-use cc_lattice::IntDomain;
-use cc_num::at;
-use cc_places::Abs;
 use cc_program::Value;
-use cc_state_facts::{Facts, Key};
-use cc_state_keys::key_number;
+use cc_program::num::at;
+use cc_state_reads::lattice::IntDomain;
+use cc_state_reads::places::Abs;
+use cc_state_reads::state_facts::{Facts, Key};
+use cc_state_reads::state_keys::key_number;
 
 /// Whether a set is there, and has the value.
 pub fn has<I: IntDomain>(set: Option<&Abs<I>>, value: &Value) -> bool

@@ -5,3 +5,6 @@ pub mod Orders
 pub mod PlaceTypes
 pub mod Switches
 pub mod Typed
+pub mod CcFlow
+pub mod CcStateFacts
+pub mod CcSyntax

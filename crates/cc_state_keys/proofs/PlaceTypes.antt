@@ -7,10 +7,10 @@ use Rattle.cc_program.specs.declared.func.Func.{Func}
 use Rattle.cc_program.specs.declared.program.Program.{Program}
 use Rattle.cc_program.proofs.FoldFusion.{place_fused}
 use Rattle.cc_state_keys.specs.Addressed.{InExpr, InPlace, expr_in, place_in, in_place}
-use Rattle.cc_syntax.specs.Expressions.{place_type}
-use Rattle.cc_syntax.specs.Programs.{expr_step, place_step}
-use Rattle.cc_syntax.specs.Values.{ValueType, PlaceType}
-use Rattle.cc_syntax.specs.Views.{of_program}
+use Rattle.cc_eval.specs.CcSyntax.Expressions.{place_type}
+use Rattle.cc_eval.specs.CcSyntax.Programs.{expr_step, place_step}
+use Rattle.cc_eval.specs.CcSyntax.Values.{ValueType, PlaceType}
+use Rattle.cc_eval.specs.CcSyntax.Views.{of_program}
 
 module _ (p : Program) (id : ℕ) (f : Func) where
   expr-part : (x : one.Expr-F InExpr InPlace) → (expr_in p id f x).ctype ≡ expr_step p f.locals (map-Expr InExpr InPlace (Option ValueType) (Option PlaceType) (λ a. a.ctype) (λ a. a.ctype) x)

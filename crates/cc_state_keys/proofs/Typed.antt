@@ -3,10 +3,10 @@ use Rattle.std.proofs.Common.{arith, ◌≡◌, ◌<◌, ◌^◌, ℕ, true, len
 use Rattle.std.specs.List.{All}
 use Rattle.cc_program.specs.declared.func.Func.{Func}
 use Rattle.cc_program.specs.declared.program.Program.{Program}
-use Rattle.cc_syntax.specs.Sizes.{AreSized}
-use Rattle.cc_syntax.specs.Sound.{have_ids, any_names, IsTypedProgram}
-use Rattle.cc_syntax.specs.Types.{AreShort}
-use Rattle.cc_syntax.proofs.StructureLemmas.{structures_sized_by}
+use Rattle.cc_eval.specs.CcSyntax.Sizes.{AreSized}
+use Rattle.cc_eval.specs.CcSyntax.Sound.{have_ids, any_names, IsTypedProgram}
+use Rattle.cc_eval.specs.CcSyntax.Types.{AreShort}
+use Rattle.cc_eval.proofs.CcSyntax.StructureLemmas.{structures_sized_by}
 
 few : (n : ℕ) → have_ids n ≡ true → n < 2 ^ 32
 few n h = grind arith

@@ -18,8 +18,8 @@ use Rattle.cc_state_facts.specs.declared.facts.Key.{Key}
 use Rattle.cc_state_facts.specs.declared.facts.Key.TheVariants as key
 use Rattle.cc_state_keys.specs.Keys.{cell_key, structure_of}
 use Rattle.cc_state_keys.specs.Lists.{all_from, only}
-use Rattle.cc_syntax.specs.Programs.{expr_step, place_step}
-use Rattle.cc_syntax.specs.Values.{ValueType, PlaceType}
+use Rattle.cc_eval.specs.CcSyntax.Programs.{expr_step, place_step}
+use Rattle.cc_eval.specs.CcSyntax.Values.{ValueType, PlaceType}
 
 -- of an expression, and of a place: its type, and the keys whose addresses are taken in it; of a place also the key that it names by itself
 pub record InExpr : Type 0 where

@@ -15,10 +15,10 @@ use Rattle.cc_program.specs.declared.value.Root.TheVariants as root
 use Rattle.cc_state_facts.specs.declared.facts.Key.{Key}
 use Rattle.cc_state_facts.specs.declared.facts.Key.TheVariants as key
 use Rattle.cc_state_keys.specs.Lists.{made_from, all_from}
-use Rattle.cc_syntax.specs.Initial.{step_into}
-use Rattle.cc_syntax.specs.Registers.{is_register}
-use Rattle.cc_syntax.specs.Types.{Named}
-use Rattle.cc_syntax.specs.Values.{PlaceType, DevicePlace, ObjectPlace, FunctionPlace}
+use Rattle.cc_eval.specs.CcSyntax.Initial.{step_into}
+use Rattle.cc_eval.specs.CcSyntax.Registers.{is_register}
+use Rattle.cc_eval.specs.CcSyntax.Types.{Named}
+use Rattle.cc_eval.specs.CcSyntax.Values.{PlaceType, DevicePlace, ObjectPlace, FunctionPlace}
 use Rattle.cc_eval.specs.Context.{object_type}
 
 -- ---- the keys of a program

@@ -5,3 +5,11 @@ pub mod Lists
 pub mod Order
 pub mod Paths
 pub mod Tracked
+pub mod CcCells
+pub mod CcEval
+pub mod CcFlow
+pub mod CcRegisters
+pub mod CcStateFacts
+pub mod CcSyntax
+pub mod CcTyped
+pub mod CcValues

@@ -5,9 +5,9 @@ use Rattle.cc_eval.specs.Context.{object_type}
 use Rattle.cc_program.specs.declared.program.Program.{Program}
 use Rattle.cc_program.specs.declared.value.Part.{Part}
 use Rattle.cc_program.specs.declared.value.Root.{Root}
-use Rattle.cc_syntax.specs.Expressions.{of_one}
-use Rattle.cc_syntax.specs.Initial.{place_at}
-use Rattle.cc_syntax.specs.Values.{ValueType, read_from}
+use Rattle.cc_eval.specs.CcSyntax.Expressions.{of_one}
+use Rattle.cc_eval.specs.CcSyntax.Initial.{place_at}
+use Rattle.cc_eval.specs.CcSyntax.Values.{ValueType, read_from}
 
 -- a path leads to the scalar at a position of an object
 abbrev pub LeadsTo : Program → Root → List Part → ℕ → Type 0

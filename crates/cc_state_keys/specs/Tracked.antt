@@ -7,9 +7,9 @@ use Rattle.cc_program.specs.Qualifiers.{is_const, is_volatile}
 use Rattle.cc_state_facts.specs.declared.facts.Key.{Key}
 use Rattle.cc_state_keys.specs.Addressed.{is_object_among, taken_keys}
 use Rattle.cc_state_keys.specs.Lists.{made_from}
-use Rattle.cc_syntax.specs.Registers.{is_register}
-use Rattle.cc_syntax.specs.Types.{Named}
-use Rattle.cc_syntax.specs.Values.{scalar_value}
+use Rattle.cc_eval.specs.CcSyntax.Registers.{is_register}
+use Rattle.cc_eval.specs.CcSyntax.Types.{Named}
+use Rattle.cc_eval.specs.CcSyntax.Values.{scalar_value}
 
 -- the numbers of the things that pass, ascending
 abbrev pub numbers : {A : Type 0} → (ℕ → A → Bool) → List A → List ℕ

@@ -3,12 +3,12 @@
 ghost use Rattle.std.specs.Prelude.{◌≡◌, option_map, option_and_then};
 ghost use Rattle.cc_state_facts.specs.declared.facts.Key.TheVariants as key;
 ghost use Rattle.cc_state_keys.specs.Keys.{root_key as root_key_of, structure_of as structure_in, key_of_step as key_of_step_of, key_along as key_along_of, cell_key as cell_key_of};
-ghost use Rattle.cc_typed.specs.View.{place_view};
+ghost use Rattle.cc_eval.specs.CcTyped.View.{place_view};
 
 use cc_eval::object_type;
+use cc_eval::typed::{PlaceType, step_into};
 use cc_program::{Part, Program, Root, Shape, Structure};
 use cc_state_facts::Key;
-use cc_typed::{PlaceType, step_into};
 
 fn root_key(object: Root) -> Key
     ensures { result ≡ root_key_of object }

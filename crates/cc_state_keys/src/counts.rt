@@ -4,12 +4,12 @@ ghost use Rattle.std.specs.Prelude.{◌≡◌, ◌<◌, ◌≤◌, ◌+◌, ◌*
 ghost use Rattle.cc_flow.specs.Points.{flow_of};
 ghost use Rattle.cc_state_keys.specs.Counts.{fact_count};
 ghost use Rattle.cc_state_keys.specs.Tracked.{registers as registers_of};
-ghost use Rattle.cc_syntax.specs.Sound.{IsTypedProgram};
+ghost use Rattle.cc_eval.specs.CcSyntax.Sound.{IsTypedProgram};
 
 use crate::listed::keys;
 use crate::numbers::{registers, tracked};
 use cc_flow::{Flow, Point};
-use cc_num::{NoMemory, at};
+use cc_program::num::{NoMemory, at};
 use cc_program::{Func, Program};
 use std::alloc::Global;
 

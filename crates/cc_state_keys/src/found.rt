@@ -6,7 +6,7 @@ ghost use Rattle.cc_program.specs.declared.program.Program.{Program};
 ghost use Rattle.cc_state_keys.specs.Keys.{is_key as is_key_of, keys_of, key_number as key_number_of};
 ghost use Rattle.cc_state_keys.specs.Order.{is_pair_before as is_pair_before_of, is_before as is_before_of, Ascend};
 
-use cc_num::at;
+use cc_program::num::at;
 use cc_state_facts::Key;
 
 /// Whether two keys are the same.

@@ -5,11 +5,11 @@ ghost use Rattle.cc_registers.specs.Kept.{AreKept, if_kept};
 ghost use Rattle.cc_state_facts.specs.declared.facts.Key.TheVariants as key;
 ghost use Rattle.cc_state_keys.specs.Keys.{are_scalars as are_scalars_of, has_object_key, local_keys as local_keys_of, member_keys as member_keys_of, keys_of};
 ghost use Rattle.cc_state_keys.specs.Lists.{made_from, all_from};
-ghost use Rattle.cc_syntax.specs.Sound.{IsTypedProgram};
-ghost use Rattle.cc_syntax.specs.Types.{AreShort};
+ghost use Rattle.cc_eval.specs.CcSyntax.Sound.{IsTypedProgram};
+ghost use Rattle.cc_eval.specs.CcSyntax.Types.{AreShort};
 
 use crate::lists::{is_marked, put_if};
-use cc_num::{Name, NoMemory};
+use cc_program::num::{Name, NoMemory};
 use cc_program::{CType, Func, Program, Shape, Structure};
 use cc_registers::registers_of;
 use cc_state_facts::Key;

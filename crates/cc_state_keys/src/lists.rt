@@ -4,7 +4,7 @@ ghost use Rattle.std.specs.Prelude.{◌≡◌, ◌++◌, slice_get, OnOk};
 ghost use Rattle.cc_registers.specs.Kept.{if_kept};
 ghost use Rattle.cc_state_keys.specs.Lists.{only, only_if};
 
-use cc_num::{NoMemory, at};
+use cc_program::num::{NoMemory, at};
 use cc_state_facts::Key;
 
 /// Puts something behind others, where it passes.

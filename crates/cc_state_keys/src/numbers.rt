@@ -4,15 +4,15 @@ ghost use Rattle.std.specs.Prelude.{◌≡◌, ◌<◌, ◌^◌, ◌==◌, ◌&&
 ghost use Rattle.cc_registers.specs.Kept.{AreKept};
 ghost use Rattle.cc_state_keys.specs.Addressed.{is_object_key as is_object_key_of, is_object_among as is_object_among_of};
 ghost use Rattle.cc_state_keys.specs.Tracked.{registers as registers_in, may_be_tracked as may_be_tracked_of, most_tracked, numbers, tracked as tracked_of};
-ghost use Rattle.cc_syntax.specs.Sound.{IsTypedProgram};
+ghost use Rattle.cc_eval.specs.CcSyntax.Sound.{IsTypedProgram};
 
 use crate::lists::{is_marked, put_if};
 use crate::text::taken_keys;
-use cc_num::NoMemory;
+use cc_eval::typed::scalar_value;
+use cc_program::num::NoMemory;
 use cc_program::{Func, Object, Program};
 use cc_registers::registers_of;
 use cc_state_facts::Key;
-use cc_typed::scalar_value;
 use std::alloc::Global;
 
 /// The most tracked cells.

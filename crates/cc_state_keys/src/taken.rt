@@ -2,15 +2,15 @@
 
 ghost use Rattle.std.specs.Prelude.{◌≡◌, ◌++◌, map, option_map, OnOk};
 ghost use Rattle.cc_state_keys.specs.Addressed.{in_place, all_taken, taken_in, taken_in_optional};
-ghost use Rattle.cc_syntax.specs.Sizes.{AreSized};
-ghost use Rattle.cc_typed.specs.View.{place_view};
+ghost use Rattle.cc_eval.specs.CcSyntax.Sizes.{AreSized};
+ghost use Rattle.cc_eval.specs.CcTyped.View.{place_view};
 
 use crate::cells::member_key;
 use crate::lists::put_some;
-use cc_num::{Boxed, NoMemory};
+use cc_eval::typed::{PlaceType, Scope};
+use cc_program::num::{Boxed, NoMemory};
 use cc_program::{Expr, Func, Place, Program};
 use cc_state_facts::Key;
-use cc_typed::{PlaceType, Scope};
 
 /// A function whose text is read, with its id.
 #[derive(Clone, Copy)]

@@ -5,12 +5,12 @@ ghost use Rattle.std.specs.List.{flat_map};
 ghost use Rattle.cc_program.specs.declared.stmt.Case.{out-Case};
 ghost use Rattle.cc_state_keys.specs.Addressed.{all_taken, taken_in_stmt, taken_in_func, taken_in_address, taken_in_leaf, taken_in_object, taken_keys as taken_keys_of};
 ghost use Rattle.cc_state_keys.specs.Lists.{all_from};
-ghost use Rattle.cc_syntax.specs.Sizes.{AreSized};
-ghost use Rattle.cc_syntax.specs.Sound.{IsTypedProgram};
+ghost use Rattle.cc_eval.specs.CcSyntax.Sizes.{AreSized};
+ghost use Rattle.cc_eval.specs.CcSyntax.Sound.{IsTypedProgram};
 
 use crate::cells::cell_key;
 use crate::taken::Text;
-use cc_num::NoMemory;
+use cc_program::num::NoMemory;
 use cc_program::{Address, Case, Leaf, Object, Program, Stmt};
 use cc_state_facts::Key;
 use std::alloc::Global;

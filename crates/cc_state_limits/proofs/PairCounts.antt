@@ -1,7 +1,7 @@
 -- Ascending pairs of registers and tracked cells are no more than there are pairs: their numbers, row by row, ascend below that.
 use Rattle.std.proofs.Common.{arith, ◌≡◌, inl, inr, ℕ, suc, ◌+◌, ◌-◌, ◌*◌, ◌<◌, ◌≤◌, List, [], ◌∷◌, length, ap, mul-le-mul_right, suc-mul}
 use Rattle.std.specs.List.{AllByRecursion}
-use Rattle.cc_state_facts.specs.Orders.{IsBefore, Ascend}
+use Rattle.cc_state_reads.specs.CcStateFacts.Orders.{IsBefore, Ascend}
 
 abbrev number : ℕ → ℕ × ℕ → ℕ
 number cells q = q.0 * cells + q.1

@@ -6,23 +6,23 @@ use Rattle.std.proofs.lemmas.List.Elements.{recursion_from_All, All-weaker}
 use Rattle.std.proofs.lemmas.List.{get_or_default}
 use Rattle.std.proofs.lemmas.List.Sums.{get_or-le-sum_by}
 use Rattle.std.proofs.lemmas.Option.{slice_get-get_or, slice_get_within, get_or_from_slice_get}
-use Rattle.cc_flow.specs.declared.types.Point.{Point}
-use Rattle.cc_flow.specs.Points.{flow_of}
-use Rattle.cc_places.specs.declared.abs.Abs.{Abs}
-use Rattle.cc_places.specs.declared.abs.Abs.TheVariants as abs
+use Rattle.cc_state_reads.specs.CcFlow.declared.types.Point.{Point}
+use Rattle.cc_state_reads.specs.CcFlow.Points.{flow_of}
+use Rattle.cc_state_reads.specs.CcPlaces.declared.abs.Abs.{Abs}
+use Rattle.cc_state_reads.specs.CcPlaces.declared.abs.Abs.TheVariants as abs
 use Rattle.cc_program.specs.declared.func.Func.{Func}
 use Rattle.cc_program.specs.declared.program.Program.{Program}
 use Rattle.cc_state.specs.Covered.{IsInLimits}
 use Rattle.cc_state.specs.Shape.{IsPointFact, HaveShape}
-use Rattle.cc_state_facts.specs.declared.facts.Facts.{Facts}
-use Rattle.cc_state_facts.specs.declared.facts.PointFact.{PointFact}
-use Rattle.cc_state_facts.specs.declared.facts.Row.{Row}
-use Rattle.cc_state_keys.proofs.FactCounts.{few_tracked}
-use Rattle.cc_state_keys.specs.Counts.{register_count, facts_at}
-use Rattle.cc_state_keys.specs.Tracked.{registers, tracked}
+use Rattle.cc_state_reads.specs.CcStateFacts.declared.facts.Facts.{Facts}
+use Rattle.cc_state_reads.specs.CcStateFacts.declared.facts.PointFact.{PointFact}
+use Rattle.cc_state_reads.specs.CcStateFacts.declared.facts.Row.{Row}
+use Rattle.cc_state_reads.proofs.CcStateKeys.FactCounts.{few_tracked}
+use Rattle.cc_state_reads.specs.CcStateKeys.Counts.{register_count, facts_at}
+use Rattle.cc_state_reads.specs.CcStateKeys.Tracked.{registers, tracked}
 use Rattle.cc_state_limits.proofs.PairCounts.{IsInRange, few_pairs}
 use Rattle.cc_state_limits.specs.Held.{most_members, IsHeldSet, IsHeldRow, IsHeldPoint, IsHeldKnown, AreHeld}
-use Rattle.cc_state_operators.specs.Domains.{Domain}
+use Rattle.cc_state_reads.specs.CcStateOperators.Domains.{Domain}
 use Rattle.cc_state_room.specs.Small.{HasFew, IsSmallRow, IsSmallPoint, IsSmallKnown, AreSmall}
 use Rattle.cc_state_shape.proofs.Alike.{chunks_of, ascends}
 use Rattle.cc_state_shape.proofs.Functions.{function_at}

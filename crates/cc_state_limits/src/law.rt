@@ -1,12 +1,12 @@
 ghost use Rattle.cc_program.specs.declared.program.Program.{Program};
 ghost use Rattle.cc_state.specs.Covered.{IsInLimits};
 ghost use Rattle.cc_state.specs.Shape.{HaveShape};
-ghost use Rattle.cc_state_facts.specs.declared.facts.Facts.{Facts};
+ghost use Rattle.cc_state_reads.specs.CcStateFacts.declared.facts.Facts.{Facts};
 ghost use Rattle.cc_state_limits.specs.Held.{most_members, AreHeld};
-ghost use Rattle.cc_state_operators.specs.Domains.{domain};
+ghost use Rattle.cc_state_reads.specs.CcStateOperators.Domains.{domain};
 ghost use Rattle.cc_state_room.specs.Small.{AreSmall};
 
-use cc_lattice::IntDomain;
+use cc_state_reads::lattice::IntDomain;
 
 /// What facts of a program's shape are within the limits. The call does nothing.
 pub fn laws<I: IntDomain>()

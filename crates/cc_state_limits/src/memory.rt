@@ -4,9 +4,9 @@ ghost use Rattle.std.specs.Prelude.{All, IfSome, slice_get};
 ghost use Rattle.cc_state_limits.specs.Held.{IsHeldSet, IsHeldRow, IsHeldPoint, IsHeldKnown, HaveLevels, AreHeld};
 ghost use Rattle.cc_state_room.specs.Small.{IsByte};
 
-use cc_num::at;
-use cc_places::Abs;
-use cc_state_facts::{Facts, PointFact, Row, Shared};
+use cc_program::num::at;
+use cc_state_reads::places::Abs;
+use cc_state_reads::state_facts::{Facts, PointFact, Row, Shared};
 
 /// A set is held: its members are counted by 64 bits.
 pub fn held_set<I>(set: &Abs<I>)

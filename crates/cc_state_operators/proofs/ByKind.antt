@@ -1,13 +1,13 @@
 -- What is asked of operands, and given of them, by the kind of the operator and by what the operands are.
 use Rattle.std.proofs.Common.{◌≡◌, ℤ, refl, sym, subst}
 use Rattle.cc_lattice.specs.Domains.{AreOperands, AreOperandsOne, type_given, type_given_of_one}
-use Rattle.cc_num.specs.declared.int_type.IntType.{IntType}
-use Rattle.cc_num.specs.declared.op.BinOp.{BinOp}
-use Rattle.cc_num.specs.declared.op.BinOp.TheVariants as op
-use Rattle.cc_num.specs.declared.op.UnOp.{UnOp}
-use Rattle.cc_num.specs.declared.op.UnOp.TheVariants as unary
-use Rattle.cc_num.specs.declared.target.Target.{Target}
-use Rattle.cc_num.specs.Integers.{IsValueOf}
+use Rattle.cc_program.specs.CcNum.declared.int_type.IntType.{IntType}
+use Rattle.cc_program.specs.CcNum.declared.op.BinOp.{BinOp}
+use Rattle.cc_program.specs.CcNum.declared.op.BinOp.TheVariants as op
+use Rattle.cc_program.specs.CcNum.declared.op.UnOp.{UnOp}
+use Rattle.cc_program.specs.CcNum.declared.op.UnOp.TheVariants as unary
+use Rattle.cc_program.specs.CcNum.declared.target.Target.{Target}
+use Rattle.cc_program.specs.CcNum.Integers.{IsValueOf}
 use Rattle.cc_places.specs.declared.abs.Abs.{Abs}
 use Rattle.cc_places.specs.declared.abs.Abs.TheVariants as abs
 use Rattle.cc_state_operators.specs.declared.operators.OneOperand.{OneOperand}
@@ -16,7 +16,7 @@ use Rattle.cc_state_operators.specs.declared.operators.TwoOperands.{TwoOperands}
 use Rattle.cc_state_operators.specs.declared.operators.TwoOperands.TheVariants as two
 use Rattle.cc_state_operators.specs.Domains.{Domain, AllOf}
 use Rattle.cc_state_operators.specs.Operands.{OneFits, OneTyped, TwoFit, TwoTyped}
-use Rattle.cc_syntax.specs.Operators.{unary_result, binary_result}
+use Rattle.cc_eval.specs.CcSyntax.Operators.{unary_result, binary_result}
 
 -- the type of what an operator gives, as domains and as expressions have it
 

@@ -1,14 +1,14 @@
 -- The union of the arms that a condition allows.
 use Rattle.std.proofs.Common.{◌≡◌, Bool, true, false, inl, inr, refl, sym, ◌∙◌, subst}
 use Rattle.cc_lattice.specs.Orders.{IsLeastUpperBound}
-use Rattle.cc_num.specs.declared.int_type.IntType.{IntType}
-use Rattle.cc_num.specs.declared.target.Target.{Target}
+use Rattle.cc_program.specs.CcNum.declared.int_type.IntType.{IntType}
+use Rattle.cc_program.specs.CcNum.declared.target.Target.{Target}
 use Rattle.cc_places.specs.Abstract.{AreOfOneKind, IsBelowAbs}
 use Rattle.cc_places.specs.declared.abs.Abs.{Abs}
 use Rattle.cc_places.specs.declared.abs.Abs.TheVariants as abs
 use Rattle.cc_places.specs.laws.AbstractLaws.{kind_itself, kind_back}
 use Rattle.cc_places.specs.laws.SetLaws.{within_itself}
-use Rattle.cc_syntax.specs.Values.{ValueType, NoValue, Integer, ToObject, ToFunction}
+use Rattle.cc_eval.specs.CcSyntax.Values.{ValueType, NoValue, Integer, ToObject, ToFunction}
 use Rattle.cc_state_operators.specs.Domains.{Domain, IsUnion, MayBe, AllOf}
 use Rattle.cc_state_operators.specs.Types.{AreOf}
 use Rattle.cc_state_operators.specs.Results.{IsArm}

@@ -1,12 +1,12 @@
 -- Least sets that have some integers, by the laws of a domain's order.
 use Rattle.std.proofs.Common.{◌≡◌, ◌⊎◌, ◌↔◌, ℤ, pos, Bool, true, false, inl, inr, ⊎_elim, refl, sym, subst}
 use Rattle.cc_lattice.specs.Orders.{IsLeastUpperBound}
-use Rattle.cc_num.specs.declared.int_type.IntType.{IntType}
-use Rattle.cc_num.specs.declared.int_type.IntType.TheVariants as int
-use Rattle.cc_num.specs.declared.target.Target.{Target}
-use Rattle.cc_num.specs.Integers.{IsValueOf}
-use Rattle.cc_num.specs.Results.{one_if}
-use Rattle.cc_num.proofs.ResultLaws.{truth_value}
+use Rattle.cc_program.specs.CcNum.declared.int_type.IntType.{IntType}
+use Rattle.cc_program.specs.CcNum.declared.int_type.IntType.TheVariants as int
+use Rattle.cc_program.specs.CcNum.declared.target.Target.{Target}
+use Rattle.cc_program.specs.CcNum.Integers.{IsValueOf}
+use Rattle.cc_program.specs.CcNum.Results.{one_if}
+use Rattle.cc_program.proofs.CcNum.ResultLaws.{truth_value}
 use Rattle.cc_places.specs.declared.abs.Abs.{Abs}
 use Rattle.cc_state_operators.specs.Domains.{Domain, IsHull, IsHullFrom, AllOf, MayBe}
 use Rattle.cc_state_operators.specs.Operands.{AreTruths}

@@ -4,22 +4,22 @@ use Rattle.std.specs.Prelude.{option_map, option_and_then, nat_lt, nat_le, if◌
 use Rattle.std.proofs.lemmas.Option.{same_Some}
 use Rattle.cc_lattice.specs.Domains.{IsIntValue}
 use Rattle.cc_lattice.proofs.IntValues.{value_is_int}
-use Rattle.cc_num.specs.declared.int_type.IntType.{IntType}
-use Rattle.cc_num.specs.declared.int_type.IntType.TheVariants as int
-use Rattle.cc_num.specs.declared.op.BinOp.{BinOp}
-use Rattle.cc_num.specs.declared.op.BinOp.TheVariants as op
-use Rattle.cc_num.specs.declared.target.Target.{Target}
-use Rattle.cc_num.specs.Integers.{IsValueOf, is_value_of}
-use Rattle.cc_num.specs.Results.{one_if}
-use Rattle.cc_num.proofs.ResultLaws.{truth_value, value_from_test}
+use Rattle.cc_program.specs.CcNum.declared.int_type.IntType.{IntType}
+use Rattle.cc_program.specs.CcNum.declared.int_type.IntType.TheVariants as int
+use Rattle.cc_program.specs.CcNum.declared.op.BinOp.{BinOp}
+use Rattle.cc_program.specs.CcNum.declared.op.BinOp.TheVariants as op
+use Rattle.cc_program.specs.CcNum.declared.target.Target.{Target}
+use Rattle.cc_program.specs.CcNum.Integers.{IsValueOf, is_value_of}
+use Rattle.cc_program.specs.CcNum.Results.{one_if}
+use Rattle.cc_program.proofs.CcNum.ResultLaws.{truth_value, value_from_test}
 use Rattle.cc_places.specs.declared.addrs.Addrs.{Addrs}
 use Rattle.cc_places.specs.laws.ListLaws.{none_in, taken_cases, taken_before, taken_now}
 use Rattle.cc_program.specs.declared.value.Address.{Address}
 use Rattle.cc_program.specs.declared.value.Value.{Value}
 use Rattle.cc_program.specs.declared.value.Value.TheVariants.{Int, Place}
-use Rattle.cc_syntax.specs.Expressions.{of_two}
-use Rattle.cc_syntax.specs.Operators.{difference_type}
-use Rattle.cc_values.specs.Values.{address_in, same_address, in_one_array, difference, gap, ordered, compared}
+use Rattle.cc_eval.specs.CcSyntax.Expressions.{of_two}
+use Rattle.cc_eval.specs.CcSyntax.Operators.{difference_type}
+use Rattle.cc_eval.specs.CcValues.Values.{address_in, same_address, in_one_array, difference, gap, ordered, compared}
 use Rattle.cc_state_operators.specs.declared.operators.Relation.{Relation}
 use Rattle.cc_state_operators.specs.declared.operators.Relation.TheVariants as relation
 use Rattle.cc_state_operators.specs.Domains.{Domain, IsHull, IsHullFrom, IsWhole}

@@ -5,3 +5,6 @@ mod Hulls
 mod Images
 mod Sets
 mod Tests
+pub mod CcEval
+pub mod CcLattice
+pub mod CcSyntax

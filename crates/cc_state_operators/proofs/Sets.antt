@@ -17,9 +17,9 @@ use Rattle.cc_program.specs.declared.value.Address.{Address}
 use Rattle.cc_program.specs.declared.value.Address.TheVariants as address
 use Rattle.cc_program.specs.declared.value.Part.{Part}
 use Rattle.cc_program.specs.declared.value.Root.{Root}
-use Rattle.cc_syntax.specs.Initial.{bound_of}
-use Rattle.cc_syntax.specs.Values.{PlaceType}
-use Rattle.cc_values.specs.Values.{element_at}
+use Rattle.cc_eval.specs.CcSyntax.Initial.{bound_of}
+use Rattle.cc_eval.specs.CcSyntax.Values.{PlaceType}
+use Rattle.cc_eval.specs.CcValues.Values.{element_at}
 use Rattle.cc_state_operators.specs.Addresses.{IsOnly, element_in, element_address, IsElement, FromEach, HasStepped}
 
 pub both_ok : {A E : Type 0} (r : Result A E) (P Q S : A → Type 0) → ((a : A) → P a → Q a → S a) → IfOk r P → IfOk r Q → IfOk r S

@@ -13,7 +13,7 @@ use Rattle.cc_places.specs.laws.SetLaws.{has_member}
 use Rattle.cc_program.specs.declared.value.Address.{Address}
 use Rattle.cc_program.specs.declared.value.Address.TheVariants as address
 use Rattle.cc_program.specs.declared.value.Value.TheVariants.{Int, Place}
-use Rattle.cc_values.specs.Values.{is_true}
+use Rattle.cc_eval.specs.CcValues.Values.{is_true}
 use Rattle.cc_state_operators.specs.Domains.{Domain, MayBe}
 use Rattle.cc_state_operators.specs.Operands.{is_other}
 

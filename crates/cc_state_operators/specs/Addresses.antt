@@ -12,9 +12,9 @@ use Rattle.cc_eval.specs.Context.{named_by}
 use Rattle.cc_places.specs.declared.addrs.Addrs.{Addrs}
 use Rattle.cc_places.specs.Kept.{starred}
 use Rattle.cc_places.specs.Sets.{IsSetOf}
-use Rattle.cc_syntax.specs.Initial.{bound_of}
-use Rattle.cc_syntax.specs.Values.{PlaceType}
-use Rattle.cc_values.specs.Values.{element_at}
+use Rattle.cc_eval.specs.CcSyntax.Initial.{bound_of}
+use Rattle.cc_eval.specs.CcSyntax.Values.{PlaceType}
+use Rattle.cc_eval.specs.CcValues.Values.{element_at}
 
 -- of an object that is no element, an array of one
 abbrev pub object_address : Root → List Part → Address

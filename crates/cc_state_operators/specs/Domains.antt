@@ -1,14 +1,14 @@
 -- Abstract values over a domain of integers, by what its laws say alone.
 use Rattle.std.specs.Prelude.{◌≡◌, ℤ, Bool, List, Option}
-use Rattle.cc_num.specs.declared.int_type.IntType.{IntType}
-use Rattle.cc_num.specs.declared.op.BinOp.{BinOp}
-use Rattle.cc_num.specs.declared.op.UnOp.{UnOp}
-use Rattle.cc_num.specs.declared.target.Target.{Target}
-use Rattle.cc_num.specs.Integers.{IsValueOf}
+use Rattle.cc_program.specs.CcNum.declared.int_type.IntType.{IntType}
+use Rattle.cc_program.specs.CcNum.declared.op.BinOp.{BinOp}
+use Rattle.cc_program.specs.CcNum.declared.op.UnOp.{UnOp}
+use Rattle.cc_program.specs.CcNum.declared.target.Target.{Target}
+use Rattle.cc_program.specs.CcNum.Integers.{IsValueOf}
 use Rattle.cc_program.specs.declared.value.Value.{Value}
 use Rattle.cc_places.specs.declared.abs.Abs.{Abs}
 use Rattle.cc_places.specs.Abstract.{AreOfOneKind, IsBelowAbs, HasValue}
-use Rattle.cc_values.specs.Values.{is_true}
+use Rattle.cc_eval.specs.CcValues.Values.{is_true}
 
 -- a domain of sets of integers: which members a set has, when one is below another, what operators and conversions give, what a comparison
 -- keeps, and the members of an explicit set

@@ -3,3 +3,9 @@ pub mod Domains
 pub mod Operands
 pub mod Results
 pub mod Types
+pub mod CcEval
+pub mod CcLattice
+pub mod CcPlaces
+pub mod CcSyntax
+pub mod CcTyped
+pub mod CcValues

@@ -2,9 +2,9 @@
 use Rattle.std.specs.Prelude.{◌≡◌, ◌⊎◌, ℤ, pos, Bool, true, false, ◌&&◌, List, Option, Some}
 use Rattle.std.specs.List.{Contains}
 use Rattle.cc_lattice.specs.Domains.{AreOperands, AreOperandsOne}
-use Rattle.cc_num.specs.declared.int_type.IntType.{IntType}
-use Rattle.cc_num.specs.declared.int_type.IntType.TheVariants as int
-use Rattle.cc_num.specs.declared.target.Target.{Target}
+use Rattle.cc_program.specs.CcNum.declared.int_type.IntType.{IntType}
+use Rattle.cc_program.specs.CcNum.declared.int_type.IntType.TheVariants as int
+use Rattle.cc_program.specs.CcNum.declared.target.Target.{Target}
 use Rattle.cc_places.specs.Moves.{HasMoved}
 use Rattle.cc_places.specs.Sets.{IsSetOf}
 use Rattle.cc_places.specs.declared.abs.Abs.{Abs}
@@ -22,9 +22,9 @@ use Rattle.cc_state_operators.specs.declared.operators.TwoOperands.TheVariants a
 use Rattle.cc_state_operators.specs.Domains.{Domain, IsHull}
 use Rattle.cc_state_operators.specs.Results.{offsets, is_told, ByBoth, ByEither, IsComparison, IsGap}
 use Rattle.cc_state_operators.specs.Types.{AreOf}
-use Rattle.cc_syntax.specs.Operators.{unary_result, binary_result, difference_type}
-use Rattle.cc_syntax.specs.Values.{Integer}
-use Rattle.cc_values.specs.Values.{gap, comparison}
+use Rattle.cc_eval.specs.CcSyntax.Operators.{unary_result, binary_result, difference_type}
+use Rattle.cc_eval.specs.CcSyntax.Values.{Integer}
+use Rattle.cc_eval.specs.CcValues.Values.{gap, comparison}
 
 -- which sets are of integers, and which of addresses
 abbrev pub AreInts : {I : Type 0} → Abs I → Type 0

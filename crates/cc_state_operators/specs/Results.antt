@@ -1,9 +1,9 @@
 -- What operators give on the values of their operands, where a domain alone does not say: on sets of addresses, and of truths.
 use Rattle.std.specs.Prelude.{◌≡◌, ◌⊎◌, ℤ, pos, Bool, true, false, ◌&&◌, Option, Some, neg_ℤ}
 use Rattle.std.specs.List.{Contains, list_all}
-use Rattle.cc_num.specs.declared.op.BinOp.{BinOp}
-use Rattle.cc_num.specs.declared.target.Target.{Target}
-use Rattle.cc_num.specs.Results.{one_if}
+use Rattle.cc_program.specs.CcNum.declared.op.BinOp.{BinOp}
+use Rattle.cc_program.specs.CcNum.declared.target.Target.{Target}
+use Rattle.cc_program.specs.CcNum.Results.{one_if}
 use Rattle.cc_program.specs.declared.value.Address.{Address}
 use Rattle.cc_program.specs.declared.value.Address.TheVariants as address
 use Rattle.cc_program.specs.declared.value.Root.TheVariants as root
@@ -12,8 +12,8 @@ use Rattle.cc_program.specs.declared.value.Value.TheVariants.{Int, Place}
 use Rattle.cc_places.specs.declared.abs.Abs.{Abs}
 use Rattle.cc_places.specs.declared.addrs.Addrs.{Addrs}
 use Rattle.cc_state_operators.specs.Domains.{Domain, IsHull, IsWhole, MayBe}
-use Rattle.cc_syntax.specs.Operators.{difference_type}
-use Rattle.cc_values.specs.Values.{gap, comparison}
+use Rattle.cc_eval.specs.CcSyntax.Operators.{difference_type}
+use Rattle.cc_eval.specs.CcValues.Values.{gap, comparison}
 
 -- a set that tells each of its addresses: it is exact, and none is automatic, which stands for those of all activations
 abbrev pub is_static : Address → Bool

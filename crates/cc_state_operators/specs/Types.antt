@@ -1,9 +1,9 @@
 -- Values of a type.
-use Rattle.cc_num.specs.declared.target.Target.{Target}
+use Rattle.cc_program.specs.CcNum.declared.target.Target.{Target}
 use Rattle.cc_places.specs.declared.abs.Abs.{Abs}
 use Rattle.cc_places.specs.declared.abs.Abs.TheVariants as abs
 use Rattle.cc_state_operators.specs.Domains.{Domain, AllOf}
-use Rattle.cc_syntax.specs.Values.{ValueType, NoValue, Integer, ToObject, ToFunction}
+use Rattle.cc_eval.specs.CcSyntax.Values.{ValueType, NoValue, Integer, ToObject, ToFunction}
 
 -- integers of an integer type, and addresses for a pointer
 abbrev pub AreOf : {I : Type 0} → Domain I → Target → ValueType → Abs I → Type 0

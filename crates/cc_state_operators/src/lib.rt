@@ -10,6 +10,9 @@ mod pairs;
 mod places;
 mod truths;
 
+pub use cc_eval::typed;
+pub use cc_lattice as lattice;
+pub use cc_places as places_crate;
 pub use operands::{integers, result_of_one, result_of_two};
 pub use operators::{OneOperand, TwoOperands};
 pub use places::{elements, members, object, only};

@@ -3,15 +3,15 @@
 ghost use Rattle.std.specs.Prelude.{◌≡◌, ◌++◌, ◌∷◌, [], IfOk, option_map, option_and_then};
 ghost use Rattle.cc_eval.specs.Context.{object_type as object_type_of, are_alike as are_alike_of, has_elements as has_elements_of, path_to as path_to_of, named_by as named_by_of};
 ghost use Rattle.cc_program.specs.declared.value.Part.TheVariants.{Index, Member as MemberOf};
-ghost use Rattle.cc_syntax.specs.Initial.{place_at as place_at_of};
-ghost use Rattle.cc_syntax.specs.Values.{element_of};
-ghost use Rattle.cc_typed.specs.View.{place_view};
+ghost use Rattle.cc_eval.specs.CcSyntax.Initial.{place_at as place_at_of};
+ghost use Rattle.cc_eval.specs.CcSyntax.Values.{element_of};
+ghost use Rattle.cc_eval.specs.CcTyped.View.{place_view};
 ghost use Rattle.cc_state_operators.specs.Addresses.{member_address as member_address_of};
 
 use cc_eval::object_type;
-use cc_num::{List, NoMemory};
+use cc_eval::typed::{PlaceType, alike, place_at};
+use cc_program::num::{List, NoMemory};
 use cc_program::{Address, Part, Program, Root, copy_list};
-use cc_typed::{PlaceType, alike, place_at};
 use std::alloc::Global;
 
 /// Whether what is there is an object of the other's type, qualifiers aside.

@@ -10,8 +10,8 @@ use crate::operators::{OneOperand, TwoOperands};
 use crate::pairs::{comparisons, differences};
 use crate::truths::{both, either};
 use cc_lattice::IntDomain;
-use cc_num::{NoMemory, Target};
 use cc_places::{Abs, Addrs};
+use cc_program::num::{NoMemory, Target};
 use std::alloc::Global;
 
 pub fn integers<I>(x: &Abs<I>) -> &I

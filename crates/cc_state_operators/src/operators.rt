@@ -1,6 +1,6 @@
 //! Kinds of operators, by their operands.
 
-use cc_num::{BinOp, IntType, UnOp};
+use cc_program::num::{BinOp, IntType, UnOp};
 
 /// What is made of one operand.
 #[derive(Clone, Copy)]

@@ -2,24 +2,24 @@
 
 ghost use Rattle.std.specs.Prelude.{◌≡◌, ◌&&◌, ℤ, IfOk};
 ghost use Rattle.std.specs.List.{list_all};
-ghost use Rattle.cc_num.specs.declared.int_type.IntType.{IntType};
-ghost use Rattle.cc_num.specs.declared.int_type.IntType.TheVariants as int;
-ghost use Rattle.cc_num.specs.declared.target.Target.{Target};
-ghost use Rattle.cc_num.specs.Integers.{IsValueOf};
+ghost use Rattle.cc_program.specs.CcNum.declared.int_type.IntType.{IntType};
+ghost use Rattle.cc_program.specs.CcNum.declared.int_type.IntType.TheVariants as int;
+ghost use Rattle.cc_program.specs.CcNum.declared.target.Target.{Target};
+ghost use Rattle.cc_program.specs.CcNum.Integers.{IsValueOf};
 ghost use Rattle.cc_program.specs.declared.value.Value.TheVariants.{Int};
 ghost use Rattle.cc_lattice.specs.Domains.{IsIntValue};
-ghost use Rattle.cc_syntax.specs.Operators.{difference_type as difference_type_of};
+ghost use Rattle.cc_eval.specs.CcSyntax.Operators.{difference_type as difference_type_of};
 ghost use Rattle.cc_state_operators.specs.Domains.{domain, IsHull, IsHullFrom, AllOf};
 ghost use Rattle.cc_state_operators.specs.Operands.{related as related_of, related_type, GiveEach, GiveAll};
 ghost use Rattle.cc_state_operators.specs.Results.{is_static as is_static_of, is_told as is_told_of, IsGap, IsComparison};
 
 use crate::operators::Relation;
 use crate::truths::truths;
+use cc_eval::values::{comparison, gap};
 use cc_lattice::IntDomain;
-use cc_num::{BinOp, IntType, NoMemory, Target};
 use cc_places::Addrs;
+use cc_program::num::{BinOp, IntType, NoMemory, Target};
 use cc_program::{Address, Root, Value};
-use cc_values::{comparison, gap};
 use std::alloc::Global;
 
 fn is_static(a: &Address) -> bool

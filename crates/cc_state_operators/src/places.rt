@@ -2,15 +2,15 @@
 
 ghost use Rattle.std.specs.Prelude.{◌≡◌, ◌⊎◌, [], IfOk};
 ghost use Rattle.cc_places.specs.Sets.{HasAddress, IsSetOf};
-ghost use Rattle.cc_typed.specs.View.{place_view};
+ghost use Rattle.cc_eval.specs.CcTyped.View.{place_view};
 ghost use Rattle.cc_state_operators.specs.Addresses.{member_address as member_address_of, IsOnly, object_address, AreMembers, AreElements, IsElement, FromEach};
 
 use crate::named::{member_address, named_by};
+use cc_eval::typed::{PlaceType, bound_of};
 use cc_lattice::Concrete;
-use cc_num::{List, NoMemory};
 use cc_places::Addrs;
+use cc_program::num::{List, NoMemory};
 use cc_program::{Address, Program, Root};
-use cc_typed::{PlaceType, bound_of};
 use std::alloc::Global;
 
 /// The set of the address of a named object.

@@ -2,20 +2,20 @@
 
 ghost use Rattle.std.specs.Prelude.{◌≡◌, ◌↔◌, ◌⊎◌, pos, ◌<ℤ◌, true, not, IsTrue, IfOk};
 ghost use Rattle.std.specs.List.{list_any};
-ghost use Rattle.cc_num.specs.declared.int_type.IntType.TheVariants as int;
-ghost use Rattle.cc_num.specs.declared.target.Target.{Target};
+ghost use Rattle.cc_program.specs.CcNum.declared.int_type.IntType.TheVariants as int;
+ghost use Rattle.cc_program.specs.CcNum.declared.target.Target.{Target};
 ghost use Rattle.cc_places.specs.declared.abs.Abs.TheVariants as abs;
 ghost use Rattle.cc_places.specs.Abstract.{AreOfOneKind};
-ghost use Rattle.cc_syntax.specs.Values.{ValueType};
+ghost use Rattle.cc_eval.specs.CcSyntax.Values.{ValueType};
 ghost use Rattle.cc_state_operators.specs.Domains.{domain, MayBe, IsHull, AllOf, IsUnion};
 ghost use Rattle.cc_state_operators.specs.Operands.{AreTruths, is_other};
 ghost use Rattle.cc_state_operators.specs.Types.{AreOf};
 ghost use Rattle.cc_state_operators.specs.Results.{ByBoth, ByEither, IsArm};
 
 use cc_lattice::{IntDomain, Lattice, copied};
-use cc_num::NoMemory;
 use cc_places::{Abs, Addrs};
 use cc_program::Address;
+use cc_program::num::NoMemory;
 use std::alloc::Global;
 
 /// Whether a number other than 0 is among these.

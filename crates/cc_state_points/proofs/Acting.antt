@@ -3,10 +3,10 @@ use Rattle.std.proofs.Common.{◌≡◌, ℕ, zero, suc, Bool, true, false, true
 use Rattle.std.specs.Prelude.{is_some, option_and_then, if◌then◌else◌}
 use Rattle.std.specs.List.{All, list_all, flat_map}
 use Rattle.std.proofs.lemmas.Option.{same_Some, none-some, slice_get-get_or}
-use Rattle.cc_flow_sound.proofs.Opened.{NormalAt}
-use Rattle.cc_flow_sound.specs.Statements.{statement_at}
-use Rattle.cc_num.specs.declared.int_type.IntType.{IntType}
-use Rattle.cc_num.specs.declared.int_type.IntType.TheVariants as int
+use Rattle.cc_rules_flows.proofs.CcFlowSound.Opened.{NormalAt}
+use Rattle.cc_rules_flows.specs.CcFlowSound.Statements.{statement_at}
+use Rattle.cc_program.specs.CcNum.declared.int_type.IntType.{IntType}
+use Rattle.cc_program.specs.CcNum.declared.int_type.IntType.TheVariants as int
 use Rattle.cc_program.specs.declared.expr.Expr.{Expr, out-Expr, map-Expr}
 use Rattle.cc_program.specs.declared.expr.Expr.TheOpen as one
 use Rattle.cc_program.specs.declared.expr.Intr.{Intr}
@@ -23,22 +23,22 @@ use Rattle.cc_rules_flows.specs.Acts.{acts, does, assigns, gets, loads, intrinsi
 use Rattle.cc_state.proofs.Numbered.{register_numbered}
 use Rattle.cc_state_points.proofs.Sound.{its_normal, its_sound, sound_level}
 use Rattle.cc_state_points.specs.Operands.{IsRegister, MayGet, IsCall, AreOperands}
-use Rattle.cc_state_values.proofs.Parts.{effects_at, place_effects_at, typed_as, pure_of, pure_place_of, by_place}
-use Rattle.cc_state_values.proofs.Rules.{one_there, two_there, when_there, assigned_scalar}
-use Rattle.cc_state_values.specs.Typed.{IsPure}
-use Rattle.cc_states.proofs.SoundLemmas.{labelled, parts}
-use Rattle.cc_syntax.proofs.Prefixes.{both_true}
-use Rattle.cc_syntax.specs.Effects.{Effects, PlaceEffects, no_one, is_soft, effect_step, effects_of, place_effects_of}
-use Rattle.cc_syntax.specs.Expressions.{of_one, of_two}
-use Rattle.cc_syntax.specs.Folding.{is_folded, is_folded_place}
-use Rattle.cc_syntax.specs.Forms.{form_at, form_of}
-use Rattle.cc_syntax.specs.Normal.{IsNormal, is_operand, is_optional_operand, is_register_place, is_other_place, is_callee, is_call, is_place_read, is_expression_statement}
-use Rattle.cc_syntax.specs.Operators.{is_of, assignment_type, call_type, intrinsic_type}
-use Rattle.cc_syntax.specs.Pairs.{all_pairs}
-use Rattle.cc_syntax.specs.Programs.{type_of, place_type, is_sound_stmt, sound_step}
-use Rattle.cc_syntax.specs.Registers.{is_register}
-use Rattle.cc_syntax.specs.Statements.{SoundWhere, Labelled, is_condition, labels_fit, are_apart, has_label}
-use Rattle.cc_syntax.specs.Values.{ValueType, NoValue, Integer, ToObject, ToFunction, PlaceType, is_scalar, scalar_value, result_value, read_from, written_to, is_assignable, is_assignable_some, are_assignable}
+use Rattle.cc_rules_flows.proofs.CcStateValues.Parts.{effects_at, place_effects_at, typed_as, pure_of, pure_place_of, by_place}
+use Rattle.cc_rules_flows.proofs.CcStateValues.Rules.{one_there, two_there, when_there, assigned_scalar}
+use Rattle.cc_rules_flows.specs.CcStateValues.Typed.{IsPure}
+use Rattle.cc_rules_flows.proofs.CcStates.SoundLemmas.{labelled, parts}
+use Rattle.cc_rules_flows.proofs.CcSyntax.Prefixes.{both_true}
+use Rattle.cc_rules_flows.specs.CcSyntax.Effects.{Effects, PlaceEffects, no_one, is_soft, effect_step, effects_of, place_effects_of}
+use Rattle.cc_rules_flows.specs.CcSyntax.Expressions.{of_one, of_two}
+use Rattle.cc_rules_flows.specs.CcSyntax.Folding.{is_folded, is_folded_place}
+use Rattle.cc_rules_flows.specs.CcSyntax.Forms.{form_at, form_of}
+use Rattle.cc_rules_flows.specs.CcSyntax.Normal.{IsNormal, is_operand, is_optional_operand, is_register_place, is_other_place, is_callee, is_call, is_place_read, is_expression_statement}
+use Rattle.cc_rules_flows.specs.CcSyntax.Operators.{is_of, assignment_type, call_type, intrinsic_type}
+use Rattle.cc_rules_flows.specs.CcSyntax.Pairs.{all_pairs}
+use Rattle.cc_rules_flows.specs.CcSyntax.Programs.{type_of, place_type, is_sound_stmt, sound_step}
+use Rattle.cc_rules_flows.specs.CcSyntax.Registers.{is_register}
+use Rattle.cc_rules_flows.specs.CcSyntax.Statements.{SoundWhere, Labelled, is_condition, labels_fit, are_apart, has_label}
+use Rattle.cc_rules_flows.specs.CcSyntax.Values.{ValueType, NoValue, Integer, ToObject, ToFunction, PlaceType, is_scalar, scalar_value, result_value, read_from, written_to, is_assignable, is_assignable_some, are_assignable}
 
 -- ---- lists of two that fit
 

@@ -1,2 +1,13 @@
 pub mod Acting
 pub mod Sound
+pub mod CcFlow
+pub mod CcFlowSound
+pub mod CcLattice
+pub mod CcRulesFlows
+pub mod CcState
+pub mod CcStateFacts
+pub mod CcStateKeys
+pub mod CcStateValues
+pub mod CcStateValuesGrow
+pub mod CcStates
+pub mod CcSyntax

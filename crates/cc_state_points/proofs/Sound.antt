@@ -2,25 +2,25 @@
 use Rattle.std.proofs.Common.{◌≡◌, inl, inr, ℕ, zero, suc, Bool, true, false, ◌&&◌, List, [], ◌∷◌, ◌++◌, map, Option, Some, None, refl, ap, sym, ◌∙◌, slice_get}
 use Rattle.std.specs.List.{flat_map, list_all}
 use Rattle.std.proofs.lemmas.Option.{same_Some}
-use Rattle.cc_control.specs.Control.{bodies}
-use Rattle.cc_flow_sound.proofs.Normal.{normal_body}
-use Rattle.cc_flow_sound.proofs.Opened.{normal, all_normal, NormalAt, normal_level, normal_join, normal_head, normal_lists}
-use Rattle.cc_flow_sound.specs.Statements.{inside, statement_at}
-use Rattle.cc_num.specs.declared.target.Target.{Target}
+use Rattle.cc_rules_flows.specs.CcControl.Control.{bodies}
+use Rattle.cc_rules_flows.proofs.CcFlowSound.Normal.{normal_body}
+use Rattle.cc_rules_flows.proofs.CcFlowSound.Opened.{normal, all_normal, NormalAt, normal_level, normal_join, normal_head, normal_lists}
+use Rattle.cc_rules_flows.specs.CcFlowSound.Statements.{inside, statement_at}
+use Rattle.cc_program.specs.CcNum.declared.target.Target.{Target}
 use Rattle.cc_program.specs.declared.func.Func.{Func}
 use Rattle.cc_program.specs.declared.program.Program.{Program}
 use Rattle.cc_program.specs.declared.stmt.Case.{Case, out-Case, fold_out-Case}
 use Rattle.cc_program.specs.declared.stmt.Stmt.TheOpen as is
 use Rattle.cc_program.specs.declared.stmt.Stmt.{Stmt, out-Stmt}
-use Rattle.cc_states.proofs.ControlLemmas.{statement_sound}
-use Rattle.cc_states.proofs.SoundLemmas.{typed, labelled, parts}
-use Rattle.cc_states.proofs.TurnLemmas.{function_sound}
-use Rattle.cc_syntax.proofs.NameRules.{sound-typed}
-use Rattle.cc_syntax.proofs.Prefixes.{both_true}
-use Rattle.cc_syntax.specs.Expressions.{of_one}
-use Rattle.cc_syntax.specs.Normal.{IsNormal}
-use Rattle.cc_syntax.specs.Programs.{is_sound_stmt, sound_step, is_typed, is_optional_condition}
-use Rattle.cc_syntax.specs.Statements.{SoundWhere, Labelled, is_condition, sound_case, labels_fit, has_label, are_apart}
+use Rattle.cc_rules_flows.proofs.CcStates.ControlLemmas.{statement_sound}
+use Rattle.cc_rules_flows.proofs.CcStates.SoundLemmas.{typed, labelled, parts}
+use Rattle.cc_rules_flows.proofs.CcStates.TurnLemmas.{function_sound}
+use Rattle.cc_rules_flows.proofs.CcSyntax.NameRules.{sound-typed}
+use Rattle.cc_rules_flows.proofs.CcSyntax.Prefixes.{both_true}
+use Rattle.cc_rules_flows.specs.CcSyntax.Expressions.{of_one}
+use Rattle.cc_rules_flows.specs.CcSyntax.Normal.{IsNormal}
+use Rattle.cc_rules_flows.specs.CcSyntax.Programs.{is_sound_stmt, sound_step, is_typed, is_optional_condition}
+use Rattle.cc_rules_flows.specs.CcSyntax.Statements.{SoundWhere, Labelled, is_condition, sound_case, labels_fit, has_label, are_apart}
 
 -- ---- normal ones
 

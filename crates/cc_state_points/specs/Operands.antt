@@ -2,17 +2,17 @@
 -- value as a register is one.
 use Rattle.std.specs.Prelude.{◌≡◌, ℕ, true, is_some, List, map, Option, Some, None}
 use Rattle.std.specs.List.{All}
-use Rattle.cc_num.specs.declared.int_type.IntType.{IntType}
+use Rattle.cc_program.specs.CcNum.declared.int_type.IntType.{IntType}
 use Rattle.cc_program.specs.declared.expr.Expr.{Expr}
 use Rattle.cc_program.specs.declared.func.Func.{Func}
 use Rattle.cc_program.specs.declared.program.Program.{Program}
 use Rattle.cc_program.specs.declared.types.Sig.{Sig, out-Sig}
 use Rattle.cc_rules_flows.specs.Acts.{Act, Sets, Reads, Writes, Calls, Saves, Turns, Restores, Tests, Chooses, Returns, Passes}
 use Rattle.cc_state.specs.Points.{GivesScalar}
-use Rattle.cc_state_keys.specs.Tracked.{register_number}
-use Rattle.cc_state_values.specs.Typed.{IsPure, IsPurePlace}
-use Rattle.cc_syntax.specs.Programs.{type_of}
-use Rattle.cc_syntax.specs.Values.{Integer, ToFunction, are_assignable}
+use Rattle.cc_rules_flows.specs.CcStateKeys.Tracked.{register_number}
+use Rattle.cc_rules_flows.specs.CcStateValues.Typed.{IsPure, IsPurePlace}
+use Rattle.cc_rules_flows.specs.CcSyntax.Programs.{type_of}
+use Rattle.cc_rules_flows.specs.CcSyntax.Values.{Integer, ToFunction, are_assignable}
 
 module _ (p : Program) (f : Func) where
   abbrev pub IsRegister : ℕ → Type 0

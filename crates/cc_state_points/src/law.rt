@@ -1,11 +1,11 @@
 ghost use Rattle.std.specs.Prelude.{◌≡◌, ℕ, List, Some, slice_get};
-ghost use Rattle.cc_flow_sound.specs.Statements.{statement_at};
+ghost use Rattle.cc_rules_flows.specs.CcFlowSound.Statements.{statement_at};
 ghost use Rattle.cc_program.specs.declared.func.Func.{Func};
 ghost use Rattle.cc_program.specs.declared.program.Program.{Program};
 ghost use Rattle.cc_program.specs.declared.stmt.Stmt.{Stmt};
 ghost use Rattle.cc_rules_flows.specs.Acts.{act_of};
 ghost use Rattle.cc_state_points.specs.Operands.{AreOperands};
-ghost use Rattle.cc_syntax.specs.Normal.{IsNormal};
+ghost use Rattle.cc_rules_flows.specs.CcSyntax.Normal.{IsNormal};
 
 /// What normal form says of the statements of a program. The call does nothing.
 pub fn points()

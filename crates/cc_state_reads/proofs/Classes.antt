@@ -1,25 +1,25 @@
 -- The classes of a place, by its form.
 use Rattle.std.proofs.Common.{◌≡◌, ℕ, List, [], ◌∷◌, Some, ap, ◌∙◌, subst}
 use Rattle.std.specs.List.{flat_map}
-use Rattle.cc_places.specs.declared.abs.Abs.{Abs}
-use Rattle.cc_places.specs.declared.abs.Abs.TheVariants as abs
-use Rattle.cc_places.specs.declared.addrs.Addrs.{Addrs}
+use Rattle.cc_state_values.specs.CcPlaces.declared.abs.Abs.{Abs}
+use Rattle.cc_state_values.specs.CcPlaces.declared.abs.Abs.TheVariants as abs
+use Rattle.cc_state_values.specs.CcPlaces.declared.addrs.Addrs.{Addrs}
 use Rattle.cc_program.specs.declared.expr.Expr.{Expr}
 use Rattle.cc_program.specs.declared.expr.Expr.TheOpen as one
 use Rattle.cc_program.specs.declared.expr.Place.{Place, out-Place, Local, Static, Device}
 use Rattle.cc_program.specs.declared.expr.Place.TheVariants.{outs-Local, outs-Static, outs-Device}
-use Rattle.cc_state_facts.specs.declared.facts.Key.{Key}
-use Rattle.cc_state_facts.specs.declared.facts.Key.TheVariants as key
-use Rattle.cc_state_operators.specs.Domains.{Domain}
-use Rattle.cc_state_operators.specs.Operands.{AreAddrs}
-use Rattle.cc_state_operators.specs.Types.{AreOf}
+use Rattle.cc_state_keys.specs.CcStateFacts.declared.facts.Key.{Key}
+use Rattle.cc_state_keys.specs.CcStateFacts.declared.facts.Key.TheVariants as key
+use Rattle.cc_state_values.specs.CcStateOperators.Domains.{Domain}
+use Rattle.cc_state_values.specs.CcStateOperators.Operands.{AreAddrs}
+use Rattle.cc_state_values.specs.CcStateOperators.Types.{AreOf}
 use Rattle.cc_state_reads.specs.Contexts.{AreClassesIn, AreClassesAs}
 use Rattle.cc_state_reads.specs.Named.{OfLocal, OfStatic, OfDevice, OfElement, OfMember, OfTarget, member_class, target_class}
 use Rattle.cc_state_values.proofs.Arms.{target_works}
 use Rattle.cc_state_values.specs.Contexts.{IsPurePlaceAs, IsValIn, set_in}
 use Rattle.cc_state_values.specs.declared.context.Context.{Context}
-use Rattle.cc_syntax.specs.Programs.{place_type, type_of}
-use Rattle.cc_syntax.specs.Values.{ValueType}
+use Rattle.cc_state_keys.specs.CcSyntax.Programs.{place_type, type_of}
+use Rattle.cc_state_keys.specs.CcSyntax.Values.{ValueType}
 
 module _ {I : Type 0} (d : Domain I) (c : Context I) where
   pub local_classes : (a : Place) (r : ℕ) (classes : List Key) → a ≡ Local r → classes ≡ key.Local c.id r ∷ [] → AreClassesIn d c a classes

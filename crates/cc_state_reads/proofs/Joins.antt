@@ -2,18 +2,18 @@
 use Rattle.std.proofs.Common.{◌≡◌, ◌<◌, ◌≤◌, ◌+◌, ℕ, true, false, List, [], Some, length, take, get_or, ⊎_elim, ap, sym, ◌∙◌, subst}
 use Rattle.std.proofs.lemmas.List.{get_or_default}
 use Rattle.std.proofs.lemmas.Option.{same_Some}
-use Rattle.cc_lattice.specs.Orders.{IsLeastUpperBound}
-use Rattle.cc_places.specs.Abstract.{AreOfOneKind, IsBelowAbs}
-use Rattle.cc_places.specs.declared.abs.Abs.{Abs}
-use Rattle.cc_places.specs.declared.abs.Abs.TheVariants as abs
-use Rattle.cc_places.specs.laws.AbstractLaws.{kind_back, abs_through}
-use Rattle.cc_places.specs.laws.ListLaws.{none_in, taken_cases, taken_before, taken_now, all_taken}
+use Rattle.cc_state_values.specs.CcLattice.Orders.{IsLeastUpperBound}
+use Rattle.cc_state_values.specs.CcPlaces.Abstract.{AreOfOneKind, IsBelowAbs}
+use Rattle.cc_state_values.specs.CcPlaces.declared.abs.Abs.{Abs}
+use Rattle.cc_state_values.specs.CcPlaces.declared.abs.Abs.TheVariants as abs
+use Rattle.cc_state_values.specs.CcPlaces.laws.AbstractLaws.{kind_back, abs_through}
+use Rattle.cc_state_values.specs.CcPlaces.laws.ListLaws.{none_in, taken_cases, taken_before, taken_now, all_taken}
 use Rattle.cc_program.specs.declared.program.Program.{Program}
-use Rattle.cc_state_facts.specs.declared.facts.Facts.{Facts}
-use Rattle.cc_state_facts.specs.declared.facts.Key.{Key}
-use Rattle.cc_state_operators.specs.Domains.{Domain, IsUnion}
+use Rattle.cc_state_keys.specs.CcStateFacts.declared.facts.Facts.{Facts}
+use Rattle.cc_state_keys.specs.CcStateFacts.declared.facts.Key.{Key}
+use Rattle.cc_state_values.specs.CcStateOperators.Domains.{Domain, IsUnion}
 use Rattle.cc_state_reads.specs.Reads.{IsOfKind, IsOfKeys, whole_of}
-use Rattle.cc_syntax.specs.Values.{ValueType}
+use Rattle.cc_state_keys.specs.CcSyntax.Values.{ValueType}
 
 -- what stands at a place
 pub item_at : {X : Type 0} (xs : List X) (i : ℕ) (d : X) → i < length xs → get_or xs i d ≡ get_or xs i (get_or xs i d)

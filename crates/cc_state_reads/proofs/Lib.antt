@@ -1,3 +1,9 @@
 pub mod Classes
 pub mod Joins
 pub mod Parts
+pub mod CcFlow
+pub mod CcLattice
+pub mod CcStateFacts
+pub mod CcStateKeys
+pub mod CcStateValues
+pub mod CcSyntax

@@ -12,7 +12,7 @@ use Rattle.cc_state_keys.specs.Tracked.{tracked}
 use Rattle.cc_state_reads.specs.Reads.{device_number, object_in}
 use Rattle.cc_state_values.proofs.Parts.{place_typed_as}
 use Rattle.cc_state_values.specs.Typed.{IsPurePlace}
-use Rattle.cc_syntax.specs.Values.{DevicePlace}
+use Rattle.cc_state_keys.specs.CcSyntax.Values.{DevicePlace}
 
 -- an object's position
 pub object_within : (objects : List ℕ) (x : one.Place-F Expr Place) (cell : ℕ) → object_in objects x ≡ Some cell → cell < length objects

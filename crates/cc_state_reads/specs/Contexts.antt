@@ -1,19 +1,19 @@
 -- The keys that a place names, and what a read gives, where the code has the sets of the registers of its function in their order.
 use Rattle.std.specs.Prelude.{◌≡◌, ℕ, List, Some, option_and_then}
 use Rattle.std.specs.List.{Contains}
-use Rattle.cc_places.specs.declared.abs.Abs.{Abs}
+use Rattle.cc_state_values.specs.CcPlaces.declared.abs.Abs.{Abs}
 use Rattle.cc_program.specs.declared.expr.Expr.{Expr}
 use Rattle.cc_program.specs.declared.expr.Expr.TheOpen as one
 use Rattle.cc_program.specs.declared.expr.Place.{Place, out-Place}
-use Rattle.cc_state_facts.specs.declared.facts.Facts.{Facts}
-use Rattle.cc_state_facts.specs.declared.facts.Key.{Key}
-use Rattle.cc_state_operators.specs.Domains.{Domain}
+use Rattle.cc_state_keys.specs.CcStateFacts.declared.facts.Facts.{Facts}
+use Rattle.cc_state_keys.specs.CcStateFacts.declared.facts.Key.{Key}
+use Rattle.cc_state_values.specs.CcStateOperators.Domains.{Domain}
 use Rattle.cc_state_reads.specs.Named.{AreClasses}
 use Rattle.cc_state_reads.specs.Reads.{AreNamed, IsByKeys, IsOfKind, IsRead, whole_of}
 use Rattle.cc_state_values.specs.declared.context.Context.{Context}
 use Rattle.cc_state_values.specs.Contexts.{set_in}
-use Rattle.cc_syntax.specs.Programs.{place_type}
-use Rattle.cc_syntax.specs.Values.{ValueType, read_from}
+use Rattle.cc_state_keys.specs.CcSyntax.Programs.{place_type}
+use Rattle.cc_state_keys.specs.CcSyntax.Values.{ValueType, read_from}
 
 module _ {I : Type 0} (d : Domain I) (c : Context I) where
   abbrev pub AreClassesIn : Place → List Key → Type 0

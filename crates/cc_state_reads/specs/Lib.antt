@@ -1,3 +1,16 @@
 pub mod Contexts
 pub mod Named
 pub mod Reads
+pub mod CcCells
+pub mod CcEval
+pub mod CcFlow
+pub mod CcLattice
+pub mod CcPlaces
+pub mod CcRegisters
+pub mod CcStateFacts
+pub mod CcStateKeys
+pub mod CcStateOperators
+pub mod CcStateValues
+pub mod CcSyntax
+pub mod CcTyped
+pub mod CcValues

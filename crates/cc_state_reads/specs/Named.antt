@@ -1,9 +1,9 @@
 -- The classes of cells to which a place leads (C99 6.5.2.1, 6.5.2.3, 6.5.3.2), as keys, of which the program may have none.
 use Rattle.std.specs.Prelude.{◌≡◌, ℕ, Bool, List, [], ◌∷◌, Option, option_map, option_and_then}
 use Rattle.std.specs.List.{flat_map, list_any}
-use Rattle.cc_places.specs.declared.abs.Abs.{Abs}
-use Rattle.cc_places.specs.declared.abs.Abs.TheVariants as abs
-use Rattle.cc_places.specs.declared.addrs.Addrs.{Addrs}
+use Rattle.cc_state_values.specs.CcPlaces.declared.abs.Abs.{Abs}
+use Rattle.cc_state_values.specs.CcPlaces.declared.abs.Abs.TheVariants as abs
+use Rattle.cc_state_values.specs.CcPlaces.declared.addrs.Addrs.{Addrs}
 use Rattle.cc_program.specs.declared.expr.Expr.{Expr}
 use Rattle.cc_program.specs.declared.expr.Expr.TheOpen as one
 use Rattle.cc_program.specs.declared.expr.Place.{Place as PlaceOf, out-Place}
@@ -11,14 +11,14 @@ use Rattle.cc_program.specs.declared.func.Func.{Func}
 use Rattle.cc_program.specs.declared.program.Program.{Program}
 use Rattle.cc_program.specs.declared.value.Address.{Address}
 use Rattle.cc_program.specs.declared.value.Address.TheVariants as address
-use Rattle.cc_state_facts.specs.declared.facts.Key.{Key}
-use Rattle.cc_state_facts.specs.declared.facts.Key.TheVariants as key
+use Rattle.cc_state_keys.specs.CcStateFacts.declared.facts.Key.{Key}
+use Rattle.cc_state_keys.specs.CcStateFacts.declared.facts.Key.TheVariants as key
 use Rattle.cc_state_keys.specs.Keys.{cell_key, is_key, structure_of}
 use Rattle.cc_state_keys.specs.Lists.{only}
-use Rattle.cc_state_operators.specs.Domains.{Domain}
+use Rattle.cc_state_values.specs.CcStateOperators.Domains.{Domain}
 use Rattle.cc_state_values.specs.Values.{IsVal}
-use Rattle.cc_syntax.specs.Programs.{place_type}
-use Rattle.cc_syntax.specs.Values.{PlaceType}
+use Rattle.cc_state_keys.specs.CcSyntax.Programs.{place_type}
+use Rattle.cc_state_keys.specs.CcSyntax.Values.{PlaceType}
 
 -- of the cell to which an address of an object leads
 abbrev pub target_class : Program → Address → List Key

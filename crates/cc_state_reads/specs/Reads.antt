@@ -1,23 +1,23 @@
 -- Read: what an access to a place may give at a point; and the keys that a place names.
 use Rattle.std.specs.Prelude.{◌≡◌, ℕ, ◌==◌, Bool, true, false, List, Option, Some, None, option_and_then, position, slice_get}
 use Rattle.std.specs.List.{Contains, filter}
-use Rattle.cc_places.specs.declared.abs.Abs.{Abs}
-use Rattle.cc_places.specs.declared.abs.Abs.TheVariants as abs
+use Rattle.cc_state_values.specs.CcPlaces.declared.abs.Abs.{Abs}
+use Rattle.cc_state_values.specs.CcPlaces.declared.abs.Abs.TheVariants as abs
 use Rattle.cc_program.specs.declared.expr.Expr.{Expr}
 use Rattle.cc_program.specs.declared.expr.Expr.TheOpen as one
 use Rattle.cc_program.specs.declared.expr.Place.{Place as PlaceOf, out-Place}
 use Rattle.cc_program.specs.declared.func.Func.{Func}
 use Rattle.cc_program.specs.declared.object.Device.{Device}
 use Rattle.cc_program.specs.declared.program.Program.{Program}
-use Rattle.cc_state_facts.specs.declared.facts.Facts.{Facts}
-use Rattle.cc_state_facts.specs.declared.facts.Key.{Key}
-use Rattle.cc_state_facts.specs.Facts.{cell_at, local_at}
+use Rattle.cc_state_keys.specs.CcStateFacts.declared.facts.Facts.{Facts}
+use Rattle.cc_state_keys.specs.CcStateFacts.declared.facts.Key.{Key}
+use Rattle.cc_state_keys.specs.CcStateFacts.Facts.{cell_at, local_at}
 use Rattle.cc_state_keys.specs.Keys.{keys_of, key_number}
 use Rattle.cc_state_keys.specs.Tracked.{register_number, tracked}
-use Rattle.cc_state_operators.specs.Domains.{Domain, IsWhole, IsUnion}
+use Rattle.cc_state_values.specs.CcStateOperators.Domains.{Domain, IsWhole, IsUnion}
 use Rattle.cc_state_reads.specs.Named.{AreClasses, is_among}
-use Rattle.cc_syntax.specs.Programs.{place_type}
-use Rattle.cc_syntax.specs.Values.{ValueType, NoValue, Integer, ToObject, ToFunction, read_from}
+use Rattle.cc_state_keys.specs.CcSyntax.Programs.{place_type}
+use Rattle.cc_state_keys.specs.CcSyntax.Values.{ValueType, NoValue, Integer, ToObject, ToFunction, read_from}
 
 -- the sets of the registers of a function, at a point of it
 abbrev pub registers_at : {I : Type 0} → Facts I → Func → ℕ → ℕ → Option (Abs I)

@@ -5,22 +5,22 @@ ghost use Rattle.std.specs.List.{flat_map};
 ghost use Rattle.cc_program.specs.declared.expr.Expr.TheOpen as layer;
 ghost use Rattle.cc_state_keys.specs.Keys.{keys_of};
 ghost use Rattle.cc_state_keys.specs.Lists.{only};
-ghost use Rattle.cc_state_operators.specs.Domains.{domain};
+ghost use Rattle.cc_state_values.specs.CcStateOperators.Domains.{domain};
 ghost use Rattle.cc_state_reads.specs.Named.{is_among as is_among_of, target_class, member_class};
 ghost use Rattle.cc_state_reads.specs.Contexts.{AreClassesIn, AreNamedIn, AreClassesAs};
 ghost use Rattle.cc_state_values.specs.Contexts.{HaveSetsIn, IsPurePlaceIn, IsPurePlaceAs};
-ghost use Rattle.cc_syntax.specs.Programs.{place_type as place_type_of};
-ghost use Rattle.cc_syntax.specs.Sizes.{AreSized};
-ghost use Rattle.cc_typed.specs.View.{place_view};
+ghost use Rattle.cc_state_keys.specs.CcSyntax.Programs.{place_type as place_type_of};
+ghost use Rattle.cc_state_keys.specs.CcSyntax.Sizes.{AreSized};
+ghost use Rattle.cc_state_keys.specs.CcTyped.View.{place_view};
 
-use cc_lattice::IntDomain;
-use cc_num::{List, NoMemory};
-use cc_places::Abs;
+use cc_program::num::{List, NoMemory};
 use cc_program::{Address, Expr, Place, Program};
-use cc_state_facts::Key;
+use cc_state_keys::state_facts::Key;
+use cc_state_keys::typed_crate::{PlaceType, Scope};
 use cc_state_keys::{cell_key, is_key, member_key};
+use cc_state_values::lattice::IntDomain;
+use cc_state_values::places::Abs;
 use cc_state_values::{Context, value_of};
-use cc_typed::{PlaceType, Scope};
 use std::alloc::Global;
 
 fn is_among(classes: &[Key], key: Key) -> bool

@@ -2,28 +2,28 @@
 
 ghost use Rattle.std.specs.Prelude.{◌≡◌, ◌<◌, ◌^◌, ℕ, Some, option_map, option_and_then, length, is_some, true, IfOk, slice_get};
 ghost use Rattle.cc_program.specs.declared.expr.Place.{out-Place};
-ghost use Rattle.cc_state_facts.specs.Facts.{cell_at};
+ghost use Rattle.cc_state_keys.specs.CcStateFacts.Facts.{cell_at};
 ghost use Rattle.cc_state_keys.specs.Keys.{keys_of};
 ghost use Rattle.cc_state_keys.specs.Tracked.{tracked as tracked_of};
-ghost use Rattle.cc_state_operators.specs.Domains.{domain};
+ghost use Rattle.cc_state_values.specs.CcStateOperators.Domains.{domain};
 ghost use Rattle.cc_state_reads.specs.Contexts.{IsReadIn, IsByKeysIn, HaveKind, ReadsScalar};
 ghost use Rattle.cc_state_reads.specs.Reads.{object_in as object_in_of, device_number as device_number_of, IsOfDevice};
 ghost use Rattle.cc_state_values.specs.Contexts.{HaveSetsIn, IsPurePlaceIn};
-ghost use Rattle.cc_syntax.specs.Programs.{place_type as place_type_of};
-ghost use Rattle.cc_syntax.specs.Sizes.{AreSized};
-ghost use Rattle.cc_syntax.specs.Values.{read_from};
-ghost use Rattle.cc_typed.specs.View.{value_view};
+ghost use Rattle.cc_state_keys.specs.CcSyntax.Programs.{place_type as place_type_of};
+ghost use Rattle.cc_state_keys.specs.CcSyntax.Sizes.{AreSized};
+ghost use Rattle.cc_state_keys.specs.CcSyntax.Values.{read_from};
+ghost use Rattle.cc_state_keys.specs.CcTyped.View.{value_view};
 
 use crate::named::keys_named;
 use crate::unions::{none_of, union_of};
-use cc_lattice::{IntDomain, copied};
-use cc_num::{NoMemory, at};
-use cc_places::Abs;
+use cc_program::num::{NoMemory, at};
 use cc_program::{Place, Program};
-use cc_state_facts::Facts;
 use cc_state_keys::number_in;
+use cc_state_keys::state_facts::Facts;
+use cc_state_keys::typed_crate::{Scope, ValueType};
 use cc_state_values::Context;
-use cc_typed::{Scope, ValueType};
+use cc_state_values::lattice::{IntDomain, copied};
+use cc_state_values::places::Abs;
 use std::alloc::Global;
 
 /// Which of some static objects a place is, by position.

@@ -3,23 +3,23 @@
 ghost use Rattle.std.specs.Prelude.{◌≡◌, Some, IfOk};
 ghost use Rattle.std.specs.List.{Contains};
 ghost use Rattle.std.specs.Option.{option_copied};
-ghost use Rattle.cc_lattice.specs.Orders.{IsLeastUpperBound};
-ghost use Rattle.cc_places.specs.Abstract.{AreOfOneKind, IsBelowAbs};
-ghost use Rattle.cc_places.specs.declared.abs.Abs.{Abs as AbsOf};
+ghost use Rattle.cc_state_values.specs.CcLattice.Orders.{IsLeastUpperBound};
+ghost use Rattle.cc_state_values.specs.CcPlaces.Abstract.{AreOfOneKind, IsBelowAbs};
+ghost use Rattle.cc_state_values.specs.CcPlaces.declared.abs.Abs.{Abs as AbsOf};
 ghost use Rattle.cc_program.specs.declared.program.Program.{Program as ProgramOf};
-ghost use Rattle.cc_state_facts.specs.declared.facts.Key.{Key as KeyOf};
+ghost use Rattle.cc_state_keys.specs.CcStateFacts.declared.facts.Key.{Key as KeyOf};
 ghost use Rattle.cc_state_keys.specs.Keys.{keys_of};
-ghost use Rattle.cc_state_operators.specs.Domains.{domain, IsUnion};
+ghost use Rattle.cc_state_values.specs.CcStateOperators.Domains.{domain, IsUnion};
 ghost use Rattle.cc_state_reads.specs.Reads.{IsOfKind, IsOfKeys, whole_of as whole_of_of};
-ghost use Rattle.cc_typed.specs.View.{value_view};
+ghost use Rattle.cc_state_keys.specs.CcTyped.View.{value_view};
 
-use cc_lattice::{IntDomain, Lattice};
-use cc_num::{NoMemory, at};
-use cc_places::{Abs, Addrs};
 use cc_program::Program;
-use cc_state_facts::{Facts, Key};
+use cc_program::num::{NoMemory, at};
 use cc_state_keys::key_number;
-use cc_typed::ValueType;
+use cc_state_keys::state_facts::{Facts, Key};
+use cc_state_keys::typed_crate::ValueType;
+use cc_state_values::lattice::{IntDomain, Lattice};
+use cc_state_values::places::{Abs, Addrs};
 use std::alloc::Global;
 
 /// The whole-run set of a key.

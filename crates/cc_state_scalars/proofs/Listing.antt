@@ -4,7 +4,7 @@ use Rattle.std.specs.Prelude.{if◌then◌else◌}
 use Rattle.std.proofs.lemmas.Bool.{lt-ltb}
 use Rattle.std.proofs.lemmas.List.{length-append}
 use Rattle.std.proofs.lemmas.Option.{same_Some, none-some, slice_get_within}
-use Rattle.cc_cells.specs.Scalars.{member_zeros, structure_zeros, zeros}
+use Rattle.cc_state_keys.specs.CcCells.Scalars.{member_zeros, structure_zeros, zeros}
 use Rattle.cc_program.specs.Qualifiers.{is_const, is_volatile}
 use Rattle.cc_program.specs.declared.program.Program.{Program}
 use Rattle.cc_program.specs.declared.types.CType.{CType}
@@ -14,19 +14,19 @@ use Rattle.cc_program.specs.declared.types.Sig.{Sig}
 use Rattle.cc_program.specs.declared.types.Structure.{Structure}
 use Rattle.cc_program.specs.declared.value.Part.{Part}
 use Rattle.cc_program.specs.declared.value.Part.TheVariants as part
-use Rattle.cc_state_facts.specs.declared.facts.Key.{Key}
-use Rattle.cc_state_facts.specs.declared.facts.Key.TheVariants as key
+use Rattle.cc_state_keys.specs.CcStateFacts.declared.facts.Key.{Key}
+use Rattle.cc_state_keys.specs.CcStateFacts.declared.facts.Key.TheVariants as key
 use Rattle.cc_state_keys.specs.Keys.{structure_shape, key_of_member, key_along}
 use Rattle.cc_state_scalars.proofs.Rows.{repeats, length-repeats, get_repeat, split_repeat, joined, before, whole, length-joined, get_joined, split_joined, sized_by}
 use Rattle.cc_state_scalars.specs.Listed.{scalar_of, position_of, key_of, Leads, AreKeys, before_member, AreMemberKeys}
 use Rattle.cc_states.proofs.PathLemmas.{ElementStep, MemberStep, element_step, member_step, element_position, member_position, element_scalar, member_scalar, structure-whole, no_path, stepped}
 use Rattle.cc_states.proofs.ZeroLemmas.{zeros-shape}
 use Rattle.cc_states.proofs.ListLemmas.{same_struct}
-use Rattle.cc_syntax.proofs.AlikeLemmas.{same_of}
-use Rattle.cc_syntax.specs.Expressions.{of_one}
-use Rattle.cc_syntax.specs.Initial.{bound_shape, is_below, step_into, place_at}
-use Rattle.cc_syntax.specs.Types.{Named, IsInOrder}
-use Rattle.cc_syntax.specs.Values.{ValueType, PlaceType, ObjectPlace, read_from, scalar_shape, scalar_value, element_shape, member_at, member_in, member_shape}
+use Rattle.cc_state_keys.proofs.CcSyntax.AlikeLemmas.{same_of}
+use Rattle.cc_state_keys.specs.CcSyntax.Expressions.{of_one}
+use Rattle.cc_state_keys.specs.CcSyntax.Initial.{bound_shape, is_below, step_into, place_at}
+use Rattle.cc_state_keys.specs.CcSyntax.Types.{Named, IsInOrder}
+use Rattle.cc_state_keys.specs.CcSyntax.Values.{ValueType, PlaceType, ObjectPlace, read_from, scalar_shape, scalar_value, element_shape, member_at, member_in, member_shape}
 
 same_count : (of other : CType) (n m : ℕ) (x : shape.Shape-F Shape CType Sig) → x ≡ shape.Array of n → x ≡ shape.Array other m → n ≡ m
 same_count of other n m x h k = cc

@@ -3,26 +3,26 @@ use Rattle.std.proofs.Common.{arith, ◌≡◌, ◌<◌, ◌^◌, ◌+◌, ℕ, 
 use Rattle.std.specs.Prelude.{option_map}
 use Rattle.std.specs.List.{list_all}
 use Rattle.std.proofs.lemmas.Option.{slice_get_within, get_or_from_slice_get}
-use Rattle.cc_cells.specs.Scalars.{position}
-use Rattle.cc_eval.specs.Context.{object_type, local_type}
+use Rattle.cc_state_keys.specs.CcCells.Scalars.{position}
+use Rattle.cc_state_keys.specs.CcEval.Context.{object_type, local_type}
 use Rattle.cc_program.specs.Qualifiers.{is_const, is_volatile}
 use Rattle.cc_program.specs.declared.func.Func.{Func}
 use Rattle.cc_program.specs.declared.program.Program.{Program}
 use Rattle.cc_program.specs.declared.types.Structure.{Structure}
 use Rattle.cc_program.specs.declared.value.Root.TheVariants as root
-use Rattle.cc_state_facts.specs.declared.facts.Key.{Key}
-use Rattle.cc_state_facts.specs.declared.facts.Key.TheVariants as key
+use Rattle.cc_state_keys.specs.CcStateFacts.declared.facts.Key.{Key}
+use Rattle.cc_state_keys.specs.CcStateFacts.declared.facts.Key.TheVariants as key
 use Rattle.cc_state_keys.proofs.Typed.{sized}
 use Rattle.cc_state_keys.specs.Keys.{key_along}
 use Rattle.cc_state_scalars.proofs.Over.{AreMade, made_none, made_more, there_is, each_passes}
 use Rattle.cc_state_scalars.specs.Listed.{IsTableOf, AreKeysOver, AreKeysIn, AreLocalKeysOver, AreLocalKeys}
 use Rattle.cc_states.proofs.TurnLemmas.{order_of}
-use Rattle.cc_syntax.proofs.StructureLemmas.{object_complete}
-use Rattle.cc_syntax.specs.Expressions.{of_one}
-use Rattle.cc_syntax.specs.Initial.{place_at}
-use Rattle.cc_syntax.specs.Sound.{IsTypedProgram, is_local, have_ids}
-use Rattle.cc_syntax.specs.Types.{Named, is_complete}
-use Rattle.cc_syntax.specs.Values.{PlaceType, object_place, read_from}
+use Rattle.cc_state_keys.proofs.CcSyntax.StructureLemmas.{object_complete}
+use Rattle.cc_state_keys.specs.CcSyntax.Expressions.{of_one}
+use Rattle.cc_state_keys.specs.CcSyntax.Initial.{place_at}
+use Rattle.cc_state_keys.specs.CcSyntax.Sound.{IsTypedProgram, is_local, have_ids}
+use Rattle.cc_state_keys.specs.CcSyntax.Types.{Named, is_complete}
+use Rattle.cc_state_keys.specs.CcSyntax.Values.{PlaceType, object_place, read_from}
 
 abbrev pub IsLocalList : List (List Key) → ℕ → ℕ → Named → List Key → Type 0
 IsLocalList table id r local l = AreKeysOver table local.1 (key.Local id r) l

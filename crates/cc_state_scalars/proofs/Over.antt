@@ -5,8 +5,8 @@ use Rattle.std.specs.List.{All, flat_map, list_all}
 use Rattle.std.proofs.lemmas.Grind.{flat_map-append}
 use Rattle.std.proofs.lemmas.List.{append-nil}
 use Rattle.std.proofs.lemmas.Option.{same_Some, none-some}
-use Rattle.cc_cells.specs.Scalars.{structure_zeros, position}
-use Rattle.cc_num.specs.declared.int_type.IntType.{IntType}
+use Rattle.cc_state_keys.specs.CcCells.Scalars.{structure_zeros, position}
+use Rattle.cc_program.specs.CcNum.declared.int_type.IntType.{IntType}
 use Rattle.cc_program.specs.Qualifiers.{is_const, is_volatile}
 use Rattle.cc_program.specs.declared.object.Object.{Object}
 use Rattle.cc_program.specs.declared.program.Program.{Program}
@@ -17,9 +17,9 @@ use Rattle.cc_program.specs.declared.types.Shape.TheVariants.{outs-Void, outs-In
 use Rattle.cc_program.specs.declared.types.Sig.{Sig}
 use Rattle.cc_program.specs.declared.types.Structure.{Structure}
 use Rattle.cc_program.specs.declared.value.Root.TheVariants as root
-use Rattle.cc_eval.specs.Context.{object_type}
-use Rattle.cc_state_facts.specs.declared.facts.Key.{Key}
-use Rattle.cc_state_facts.specs.declared.facts.Key.TheVariants as key
+use Rattle.cc_state_keys.specs.CcEval.Context.{object_type}
+use Rattle.cc_state_keys.specs.CcStateFacts.declared.facts.Key.{Key}
+use Rattle.cc_state_keys.specs.CcStateFacts.declared.facts.Key.TheVariants as key
 use Rattle.cc_state_keys.proofs.Typed.{sized}
 use Rattle.cc_state_keys.specs.Keys.{key_along}
 use Rattle.cc_state_scalars.proofs.Listing.{scalar_keys, array_keys, structure_keys, members_keys}
@@ -27,15 +27,15 @@ use Rattle.cc_state_scalars.proofs.Rows.{repeats, get_before, get_last, get_spli
 use Rattle.cc_state_scalars.specs.Listed.{AreKeys, AreMemberKeys, IsTable, AreKeysOver, AreMemberKeysOver, IsTableOf, AreObjectKeys, AreKeysIn, AreStaticKeys}
 use Rattle.cc_states.proofs.TurnLemmas.{order_of}
 use Rattle.cc_states.proofs.ZeroLemmas.{zeros-shape}
-use Rattle.cc_syntax.proofs.Parts.{all_at}
-use Rattle.cc_syntax.proofs.Prefixes.{both_true, get_taken}
-use Rattle.cc_syntax.proofs.StructureLemmas.{object_complete}
-use Rattle.cc_syntax.proofs.TypeLayouts.{parts_complete, complete-opens}
-use Rattle.cc_syntax.specs.Expressions.{of_one}
-use Rattle.cc_syntax.specs.Initial.{place_at}
-use Rattle.cc_syntax.specs.Sound.{IsTypedProgram, is_object}
-use Rattle.cc_syntax.specs.Types.{Named, has_members, complete_shape, is_complete, IsInOrder}
-use Rattle.cc_syntax.specs.Values.{Integer, PlaceType, object_place, read_from, pointer_to, scalar_shape}
+use Rattle.cc_state_keys.proofs.CcSyntax.Parts.{all_at}
+use Rattle.cc_state_keys.proofs.CcSyntax.Prefixes.{both_true, get_taken}
+use Rattle.cc_state_keys.proofs.CcSyntax.StructureLemmas.{object_complete}
+use Rattle.cc_state_keys.proofs.CcSyntax.TypeLayouts.{parts_complete, complete-opens}
+use Rattle.cc_state_keys.specs.CcSyntax.Expressions.{of_one}
+use Rattle.cc_state_keys.specs.CcSyntax.Initial.{place_at}
+use Rattle.cc_state_keys.specs.CcSyntax.Sound.{IsTypedProgram, is_object}
+use Rattle.cc_state_keys.specs.CcSyntax.Types.{Named, has_members, complete_shape, is_complete, IsInOrder}
+use Rattle.cc_state_keys.specs.CcSyntax.Values.{Integer, PlaceType, object_place, read_from, pointer_to, scalar_shape}
 
 opened_complete : (structures : List Structure) (t : CType) (x : shape.Shape-F Shape CType Sig) → out-Shape t.shape ≡ x → is_complete structures t ≡ true → complete_shape structures (parts_complete structures x) ≡ true
 opened_complete structures t x e h = sym (complete-opens structures t ∙ ap (λ (y : shape.Shape-F Shape CType Sig). complete_shape structures (parts_complete structures y)) e) ∙ h

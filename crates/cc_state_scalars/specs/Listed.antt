@@ -2,7 +2,7 @@
 -- listed there, and to each position of the list a path leads.
 use Rattle.std.specs.Prelude.{◌≡◌, ◌+◌, ◌<◌, ℕ, true, Bool, ◌||◌, List, length, take, Option, Some, slice_get}
 use Rattle.std.specs.List.{All}
-use Rattle.cc_cells.specs.Scalars.{member_zeros, structure_zeros, zeros, position}
+use Rattle.cc_state_keys.specs.CcCells.Scalars.{member_zeros, structure_zeros, zeros, position}
 use Rattle.cc_program.specs.Qualifiers.{is_const, is_volatile}
 use Rattle.cc_program.specs.declared.object.Object.{Object}
 use Rattle.cc_program.specs.declared.program.Program.{Program}
@@ -11,14 +11,14 @@ use Rattle.cc_program.specs.declared.types.Structure.{Structure}
 use Rattle.cc_program.specs.declared.value.Part.{Part}
 use Rattle.cc_program.specs.declared.value.Root.{Root}
 use Rattle.cc_program.specs.declared.value.Root.TheVariants as root
-use Rattle.cc_state_facts.specs.declared.facts.Key.{Key}
-use Rattle.cc_state_facts.specs.declared.facts.Key.TheVariants as key
+use Rattle.cc_state_keys.specs.CcStateFacts.declared.facts.Key.{Key}
+use Rattle.cc_state_keys.specs.CcStateFacts.declared.facts.Key.TheVariants as key
 use Rattle.cc_state_keys.specs.Keys.{key_along, cell_key}
 use Rattle.cc_state_keys.specs.Paths.{LeadsTo}
-use Rattle.cc_syntax.specs.Expressions.{of_one}
-use Rattle.cc_syntax.specs.Initial.{place_at}
-use Rattle.cc_syntax.specs.Types.{Named, is_complete, IsInOrder}
-use Rattle.cc_syntax.specs.Values.{ValueType, ObjectPlace, read_from}
+use Rattle.cc_state_keys.specs.CcSyntax.Expressions.{of_one}
+use Rattle.cc_state_keys.specs.CcSyntax.Initial.{place_at}
+use Rattle.cc_state_keys.specs.CcSyntax.Types.{Named, is_complete, IsInOrder}
+use Rattle.cc_state_keys.specs.CcSyntax.Values.{ValueType, ObjectPlace, read_from}
 
 module _ (structures : List Structure) where
   -- of a path in an object of a type, const and volatile as said: the scalar there, its position, and its key where that of the object is this

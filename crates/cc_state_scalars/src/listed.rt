@@ -4,12 +4,12 @@ ghost use Rattle.std.specs.Prelude.{◌≡◌, ◌<◌, ◌^◌, ◌++◌, ◌�
 ghost use Rattle.std.specs.List.{flat_map};
 ghost use Rattle.std.specs.Option.{option_copied};
 ghost use Rattle.cc_state_scalars.specs.Listed.{AreKeysOver, AreMemberKeysOver, IsTableOf, AreObjectKeys, AreLocalKeysOver, AreStaticKeys, AreLocalKeys};
-ghost use Rattle.cc_syntax.specs.Sound.{IsTypedProgram};
-ghost use Rattle.cc_syntax.specs.Types.{AreShort};
+ghost use Rattle.cc_state_keys.specs.CcSyntax.Sound.{IsTypedProgram};
+ghost use Rattle.cc_state_keys.specs.CcSyntax.Types.{AreShort};
 
-use cc_num::{List, Name, NoMemory, at};
+use cc_program::num::{List, Name, NoMemory, at};
 use cc_program::{CType, Func, Object, Program, Shape, Structure};
-use cc_state_facts::Key;
+use cc_state_keys::state_facts::Key;
 use std::alloc::Global;
 
 /// The keys of a vector, and others behind them.

@@ -4,10 +4,10 @@ use Rattle.std.specs.Prelude.{option_and_then, IfSome}
 use Rattle.std.specs.List.{AllByRecursion}
 use Rattle.std.proofs.lemmas.List.{get_or_default}
 use Rattle.std.proofs.lemmas.Option.{none-some, same_Some, slice_get_within, get_or_from_slice_get}
-use Rattle.cc_flow.specs.Points.{count_of}
-use Rattle.cc_places.specs.declared.abs.Abs.{Abs}
-use Rattle.cc_places.specs.declared.abs.Abs.TheVariants as abs
-use Rattle.cc_places.specs.Abstract.{AreOfOneKind}
+use Rattle.cc_state_reads.specs.CcFlow.Points.{count_of}
+use Rattle.cc_state_reads.specs.CcPlaces.declared.abs.Abs.{Abs}
+use Rattle.cc_state_reads.specs.CcPlaces.declared.abs.Abs.TheVariants as abs
+use Rattle.cc_state_reads.specs.CcPlaces.Abstract.{AreOfOneKind}
 use Rattle.cc_program.specs.declared.func.Func.{Func}
 use Rattle.cc_program.specs.declared.object.Object.{Object}
 use Rattle.cc_program.specs.declared.program.Program.{Program}
@@ -17,19 +17,19 @@ use Rattle.cc_rules_needs.proofs.Zips.{AreSome, zip_from}
 use Rattle.cc_rules_needs.specs.Points.{IsFactOf, IsWellFormed, AreWellFormed}
 use Rattle.cc_state.proofs.CellTypes.{one_type}
 use Rattle.cc_state.specs.Shape.{IsCellType, ctype_of, IsSetIn, AreSets, IsBefore, IsRegisterType, IsTrackedType, IsKeyType, IsResultType, IsPointFact, HaveShape}
-use Rattle.cc_state_facts.specs.declared.facts.Facts.{Facts}
-use Rattle.cc_state_facts.specs.declared.facts.PointFact.{PointFact}
-use Rattle.cc_state_facts.specs.declared.facts.Row.{Row}
-use Rattle.cc_state_facts.specs.Facts.{fact_at, cell_of, local_of}
-use Rattle.cc_state_facts.specs.Orders.{AreAlike, ArePointsAlike, AreOrderly, AreKnownAlike, Ascend}
-use Rattle.cc_state_facts.specs.Orders as orders
-use Rattle.cc_state_keys.specs.Keys.{keys_of}
-use Rattle.cc_state_keys.specs.Tracked.{registers, tracked}
-use Rattle.cc_state_operators.specs.Domains.{Domain}
+use Rattle.cc_state_reads.specs.CcStateFacts.declared.facts.Facts.{Facts}
+use Rattle.cc_state_reads.specs.CcStateFacts.declared.facts.PointFact.{PointFact}
+use Rattle.cc_state_reads.specs.CcStateFacts.declared.facts.Row.{Row}
+use Rattle.cc_state_reads.specs.CcStateFacts.Facts.{fact_at, cell_of, local_of}
+use Rattle.cc_state_reads.specs.CcStateFacts.Orders.{AreAlike, ArePointsAlike, AreOrderly, AreKnownAlike, Ascend}
+use Rattle.cc_state_reads.specs.CcStateFacts.Orders as orders
+use Rattle.cc_state_reads.specs.CcStateKeys.Keys.{keys_of}
+use Rattle.cc_state_reads.specs.CcStateKeys.Tracked.{registers, tracked}
+use Rattle.cc_state_reads.specs.CcStateOperators.Domains.{Domain}
 use Rattle.cc_state_shape.proofs.Functions.{function_at}
 use Rattle.cc_state_shape.proofs.Rows.{AreChunks, chunks, chunk_at, rows_alike}
-use Rattle.cc_syntax.specs.Types.{Named}
-use Rattle.cc_syntax.specs.Values.{ValueType, NoValue, Integer, ToObject, ToFunction, result_value, scalar_value}
+use Rattle.cc_state_reads.specs.CcSyntax.Types.{Named}
+use Rattle.cc_state_reads.specs.CcSyntax.Values.{ValueType, NoValue, Integer, ToObject, ToFunction, result_value, scalar_value}
 
 pub same_kind : {I : Type 0} (d : Domain I) (p : Program) (t : ValueType) (x y : Abs I) → IsSetIn p d t x → IsSetIn p d t y → AreOfOneKind x y
 same_kind d p t (abs.Ints x) (abs.Ints y) h l = tt

@@ -2,11 +2,11 @@
 use Rattle.std.proofs.Common.{arith, ◌≡◌, ℕ, zero, suc, ◌+◌, ◌<◌, List, [], ◌∷◌, All, length, Some, slice_get, refl, sym, ap, subst, ◌∙◌}
 use Rattle.std.proofs.lemmas.List.Elements.{All-nil, All-append, All-weaker}
 use Rattle.std.proofs.lemmas.Option.{get_or_from_slice_get}
-use Rattle.cc_flow.proofs.Inside.{body_inside}
-use Rattle.cc_flow.proofs.Paths.{all_counted}
-use Rattle.cc_flow.specs.declared.types.Point.{Point}
-use Rattle.cc_flow.specs.Laws.{IsIn}
-use Rattle.cc_flow.specs.Points.{body_count, body_points, points_in, count_of, flow_of}
+use Rattle.cc_state_reads.proofs.CcFlow.Inside.{body_inside}
+use Rattle.cc_state_reads.proofs.CcFlow.Paths.{all_counted}
+use Rattle.cc_state_reads.specs.CcFlow.declared.types.Point.{Point}
+use Rattle.cc_state_reads.specs.CcFlow.Laws.{IsIn}
+use Rattle.cc_state_reads.specs.CcFlow.Points.{body_count, body_points, points_in, count_of, flow_of}
 use Rattle.cc_program.specs.declared.func.Func.{Func}
 use Rattle.cc_program.specs.declared.program.Program.{Program}
 

@@ -13,18 +13,18 @@ use Rattle.cc_program.specs.declared.types.Shape.TheOpen as shape
 use Rattle.cc_program.specs.declared.types.Sig.{Sig, fold-Sig}
 use Rattle.cc_program.specs.declared.types.Structure.{Structure}
 use Rattle.cc_state.specs.Shape.{IsCellType, OfScalar, OfElements, declared_type, object_ctype, local_ctype, member_ctype, ctype_of}
-use Rattle.cc_state_facts.specs.declared.facts.Key.{Key}
-use Rattle.cc_state_facts.specs.declared.facts.Key.TheVariants as key
-use Rattle.cc_state_keys.specs.Keys.{scalars_step, are_scalars, has_object_key, has_local_key, has_member_key, local_keys, member_keys, keys_of}
-use Rattle.cc_state_keys.specs.Lists.{only_if, made_from, all_from}
+use Rattle.cc_state_reads.specs.CcStateFacts.declared.facts.Key.{Key}
+use Rattle.cc_state_reads.specs.CcStateFacts.declared.facts.Key.TheVariants as key
+use Rattle.cc_state_reads.specs.CcStateKeys.Keys.{scalars_step, are_scalars, has_object_key, has_local_key, has_member_key, local_keys, member_keys, keys_of}
+use Rattle.cc_state_reads.specs.CcStateKeys.Lists.{only_if, made_from, all_from}
 use Rattle.cc_state_reads.specs.Reads.{is_pointer}
 use Rattle.cc_state_shape.specs.Empty.{addresses_step, holds_addresses}
-use Rattle.cc_syntax.proofs.KindRolls.{parts_kind, kind-opens}
-use Rattle.cc_syntax.specs.Kinds.{Kind, IsArray, IsFunction, bytes_in, is_small, array_kind, is_result, extent_kind, shape_kind, qualified_kind, kind_of, is_sig, extent_in}
-use Rattle.cc_syntax.specs.Programs.{kind_in}
-use Rattle.cc_syntax.specs.Registers.{is_register}
-use Rattle.cc_syntax.specs.SameTypes.{is_void_shape}
-use Rattle.cc_syntax.specs.Values.{ValueType, NoValue, Integer, pointer_shape, pointer_to, scalar_shape, scalar_value, result_value}
+use Rattle.cc_state_reads.proofs.CcSyntax.KindRolls.{parts_kind, kind-opens}
+use Rattle.cc_state_reads.specs.CcSyntax.Kinds.{Kind, IsArray, IsFunction, bytes_in, is_small, array_kind, is_result, extent_kind, shape_kind, qualified_kind, kind_of, is_sig, extent_in}
+use Rattle.cc_state_reads.specs.CcSyntax.Programs.{kind_in}
+use Rattle.cc_state_reads.specs.CcSyntax.Registers.{is_register}
+use Rattle.cc_state_reads.specs.CcSyntax.SameTypes.{is_void_shape}
+use Rattle.cc_state_reads.specs.CcSyntax.Values.{ValueType, NoValue, Integer, pointer_shape, pointer_to, scalar_shape, scalar_value, result_value}
 
 -- ---- the folds, opened
 

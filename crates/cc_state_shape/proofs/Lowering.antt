@@ -5,35 +5,35 @@ use Rattle.std.specs.Int.Bits.{or_zero_l}
 use Rattle.std.specs.List.{AllByRecursion, AllZip, Contains}
 use Rattle.std.proofs.lemmas.List.{length-replicate}
 use Rattle.std.proofs.lemmas.Option.{none-some, same_Some, slice_get_within, get_or_from_slice_get}
-use Rattle.cc_flow.specs.Points.{count_of}
-use Rattle.cc_places.specs.declared.abs.Abs.{Abs}
-use Rattle.cc_places.specs.declared.abs.Abs.TheVariants as abs
-use Rattle.cc_places.specs.declared.addrs.Addrs.{Addrs}
-use Rattle.cc_places.specs.Abstract.{AreOfOneKind, IsBelowAbs}
-use Rattle.cc_places.specs.Kept.{member_for}
-use Rattle.cc_places.specs.Sets.{IsWithin}
+use Rattle.cc_state_reads.specs.CcFlow.Points.{count_of}
+use Rattle.cc_state_reads.specs.CcPlaces.declared.abs.Abs.{Abs}
+use Rattle.cc_state_reads.specs.CcPlaces.declared.abs.Abs.TheVariants as abs
+use Rattle.cc_state_reads.specs.CcPlaces.declared.addrs.Addrs.{Addrs}
+use Rattle.cc_state_reads.specs.CcPlaces.Abstract.{AreOfOneKind, IsBelowAbs}
+use Rattle.cc_state_reads.specs.CcPlaces.Kept.{member_for}
+use Rattle.cc_state_reads.specs.CcPlaces.Sets.{IsWithin}
 use Rattle.cc_program.specs.declared.func.Func.{Func}
 use Rattle.cc_program.specs.declared.program.Program.{Program}
 use Rattle.cc_program.specs.declared.types.Sig.{out-Sig}
 use Rattle.cc_program.specs.declared.value.Address.{Address}
 use Rattle.cc_rules_needs.proofs.Zips.{AreSome, zip_from}
 use Rattle.cc_state.specs.Shape.{IsSetIn, AreSets, IsKeyType, IsResultType, HaveShape}
-use Rattle.cc_state_facts.proofs.LevelBits.{within_from_or}
-use Rattle.cc_state_facts.specs.declared.facts.Facts.{Facts}
-use Rattle.cc_state_facts.specs.declared.facts.Key.{Key}
-use Rattle.cc_state_facts.specs.declared.facts.PointFact.{PointFact}
-use Rattle.cc_state_facts.specs.Facts.{levels_of}
-use Rattle.cc_state_facts.specs.Levels.{AreLevelsWithin}
-use Rattle.cc_state_facts.specs.Orders.{IsMarkBelow, AreMarksBelow, AreLevelSetsBelow, AreSetsBelow, IsKnownBelow, IsBelow}
-use Rattle.cc_state_keys.specs.Keys.{keys_of}
-use Rattle.cc_state_operators.specs.Domains.{Domain}
+use Rattle.cc_state_reads.proofs.CcStateFacts.LevelBits.{within_from_or}
+use Rattle.cc_state_reads.specs.CcStateFacts.declared.facts.Facts.{Facts}
+use Rattle.cc_state_reads.specs.CcStateFacts.declared.facts.Key.{Key}
+use Rattle.cc_state_reads.specs.CcStateFacts.declared.facts.PointFact.{PointFact}
+use Rattle.cc_state_reads.specs.CcStateFacts.Facts.{levels_of}
+use Rattle.cc_state_reads.specs.CcStateFacts.Levels.{AreLevelsWithin}
+use Rattle.cc_state_reads.specs.CcStateFacts.Orders.{IsMarkBelow, AreMarksBelow, AreLevelSetsBelow, AreSetsBelow, IsKnownBelow, IsBelow}
+use Rattle.cc_state_reads.specs.CcStateKeys.Keys.{keys_of}
+use Rattle.cc_state_reads.specs.CcStateOperators.Domains.{Domain}
 use Rattle.cc_state_reads.specs.Reads.{is_pointer}
 use Rattle.cc_state_shape.proofs.Alike.{same_kind}
 use Rattle.cc_state_shape.proofs.KeyKinds.{IsTypedKey, typed_keys, has_cells, has_result}
 use Rattle.cc_state_shape.specs.Empty.{IsNone}
 use Rattle.cc_state_shape.specs.Lowest.{declared_addresses, key_addresses, result_addresses, AreLowest}
-use Rattle.cc_syntax.specs.Sound.{IsFuncBy, IsTypedProgram, any_names}
-use Rattle.cc_syntax.specs.Values.{ValueType, NoValue, Integer, ToObject, ToFunction}
+use Rattle.cc_state_reads.specs.CcSyntax.Sound.{IsFuncBy, IsTypedProgram, any_names}
+use Rattle.cc_state_reads.specs.CcSyntax.Values.{ValueType, NoValue, Integer, ToObject, ToFunction}
 
 -- ---- lists
 

@@ -3,13 +3,13 @@ use Rattle.std.proofs.Common.{arith, ◌≡◌, ◌⊎◌, inl, inr, ℕ, zero, 
 use Rattle.std.specs.Prelude.{option_and_then}
 use Rattle.std.specs.List.{AllZip, flat_map}
 use Rattle.std.proofs.lemmas.Option.{none-some, same_Some}
-use Rattle.cc_places.specs.declared.abs.Abs.{Abs}
-use Rattle.cc_places.specs.Abstract.{AreOfOneKind}
+use Rattle.cc_state_reads.specs.CcPlaces.declared.abs.Abs.{Abs}
+use Rattle.cc_state_reads.specs.CcPlaces.Abstract.{AreOfOneKind}
 use Rattle.cc_rules_needs.proofs.Zips.{AreSome, zip_from}
-use Rattle.cc_state_facts.specs.declared.facts.PointFact.{PointFact}
-use Rattle.cc_state_facts.specs.declared.facts.Row.{Row}
-use Rattle.cc_state_facts.specs.Facts.{row_length, cell_of}
-use Rattle.cc_state_facts.specs.Orders.{AreRowsAlike}
+use Rattle.cc_state_reads.specs.CcStateFacts.declared.facts.PointFact.{PointFact}
+use Rattle.cc_state_reads.specs.CcStateFacts.declared.facts.Row.{Row}
+use Rattle.cc_state_reads.specs.CcStateFacts.Facts.{row_length, cell_of}
+use Rattle.cc_state_reads.specs.CcStateFacts.Orders.{AreRowsAlike}
 
 order : (a b : ℕ) → (a ≤ b) ⊎ (b < a)
 order a b = grind arith

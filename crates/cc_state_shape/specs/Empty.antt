@@ -1,7 +1,7 @@
 -- Sets without values, of the kind of what cells of a declared type hold.
 use Rattle.std.specs.Prelude.{◌≡◌, ℤ, Bool, true, false, []}
-use Rattle.cc_places.specs.declared.abs.Abs.{Abs}
-use Rattle.cc_places.specs.declared.abs.Abs.TheVariants as abs
+use Rattle.cc_state_reads.specs.CcPlaces.declared.abs.Abs.{Abs}
+use Rattle.cc_state_reads.specs.CcPlaces.declared.abs.Abs.TheVariants as abs
 use Rattle.cc_program.specs.declared.types.CType.{CType, fold-CType}
 use Rattle.cc_program.specs.declared.types.Shape.TheOpen as shape
 

@@ -1,16 +1,16 @@
 -- The lowest facts of a program: nothing is reached, nothing is marked, and each set is empty.
 use Rattle.std.specs.Prelude.{◌≡◌, ℤ, Bool, false, length, replicate, Option, Some, None}
 use Rattle.std.specs.List.{AllZip}
-use Rattle.cc_flow.specs.Points.{count_of}
-use Rattle.cc_places.specs.declared.abs.Abs.{Abs}
+use Rattle.cc_state_reads.specs.CcFlow.Points.{count_of}
+use Rattle.cc_state_reads.specs.CcPlaces.declared.abs.Abs.{Abs}
 use Rattle.cc_program.specs.declared.func.Func.{Func}
 use Rattle.cc_program.specs.declared.program.Program.{Program}
 use Rattle.cc_program.specs.declared.types.CType.{CType}
 use Rattle.cc_program.specs.declared.types.Sig.{out-Sig}
 use Rattle.cc_state.specs.Shape.{ctype_of}
-use Rattle.cc_state_facts.specs.declared.facts.Facts.{Facts}
-use Rattle.cc_state_facts.specs.declared.facts.Key.{Key}
-use Rattle.cc_state_keys.specs.Keys.{keys_of}
+use Rattle.cc_state_reads.specs.CcStateFacts.declared.facts.Facts.{Facts}
+use Rattle.cc_state_reads.specs.CcStateFacts.declared.facts.Key.{Key}
+use Rattle.cc_state_reads.specs.CcStateKeys.Keys.{keys_of}
 use Rattle.cc_state_shape.specs.Empty.{holds_addresses, IsNone}
 
 abbrev pub declared_addresses : Option CType → Bool

@@ -3,9 +3,9 @@
 ghost use Rattle.std.specs.Prelude.{◌≡◌};
 ghost use Rattle.cc_state_shape.specs.Empty.{holds_addresses as holds_addresses_of, IsNone};
 
-use cc_lattice::IntDomain;
-use cc_places::{Abs, Addrs};
 use cc_program::{CType, Shape};
+use cc_state_reads::lattice::IntDomain;
+use cc_state_reads::places::{Abs, Addrs};
 use std::alloc::Global;
 
 /// Whether the scalars of a type are pointers: it is one, or an array of them of any depth.

@@ -3,24 +3,24 @@
 ghost use Rattle.std.specs.Prelude.{◌≡◌, false, None, length, replicate, IfOk};
 ghost use Rattle.std.specs.List.{AllZip};
 ghost use Rattle.std.specs.Option.{option_copied};
-ghost use Rattle.cc_flow.specs.Points.{count_of, flow_of};
+ghost use Rattle.cc_state_reads.specs.CcFlow.Points.{count_of, flow_of};
 ghost use Rattle.cc_state.specs.Shape.{ctype_of, HaveShape};
-ghost use Rattle.cc_state_facts.specs.declared.facts.Facts.{Facts as FactsOf};
-ghost use Rattle.cc_state_facts.specs.Orders.{IsBelow};
-ghost use Rattle.cc_state_keys.specs.Keys.{keys_of};
-ghost use Rattle.cc_state_operators.specs.Domains.{domain};
+ghost use Rattle.cc_state_reads.specs.CcStateFacts.declared.facts.Facts.{Facts as FactsOf};
+ghost use Rattle.cc_state_reads.specs.CcStateFacts.Orders.{IsBelow};
+ghost use Rattle.cc_state_reads.specs.CcStateKeys.Keys.{keys_of};
+ghost use Rattle.cc_state_reads.specs.CcStateOperators.Domains.{domain};
 ghost use Rattle.cc_state_shape.specs.Lowest.{key_addresses, IsNoneOfKey, IsNoneOfResult, AreLowest};
-ghost use Rattle.cc_syntax.specs.Normal.{IsNormal};
-ghost use Rattle.cc_syntax.specs.Sound.{IsTypedProgram};
+ghost use Rattle.cc_state_reads.specs.CcSyntax.Normal.{IsNormal};
+ghost use Rattle.cc_state_reads.specs.CcSyntax.Sound.{IsTypedProgram};
 
 use crate::empty::{holds_addresses, none_of};
-use cc_flow::Flow;
-use cc_lattice::IntDomain;
-use cc_num::{List, NoMemory, at};
-use cc_places::Abs;
+use cc_program::num::{List, NoMemory, at};
 use cc_program::{CType, Func, Program};
-use cc_state_facts::{Facts, Key, PointFact};
-use cc_state_keys::keys;
+use cc_state_reads::flow::Flow;
+use cc_state_reads::lattice::IntDomain;
+use cc_state_reads::places::Abs;
+use cc_state_reads::state_facts::{Facts, Key, PointFact};
+use cc_state_reads::state_keys::keys;
 use std::alloc::Global;
 
 /// The declared type of a static object.

@@ -3,13 +3,13 @@ ghost use Rattle.cc_program.specs.declared.func.Func.{Func};
 ghost use Rattle.cc_program.specs.declared.program.Program.{Program};
 ghost use Rattle.cc_rules_needs.specs.Points.{IsFactOf, AreWellFormed};
 ghost use Rattle.cc_state.specs.Shape.{IsPointFact, HaveShape};
-ghost use Rattle.cc_state_facts.specs.declared.facts.Facts.{Facts};
-ghost use Rattle.cc_state_facts.specs.declared.facts.PointFact.{PointFact};
-ghost use Rattle.cc_state_facts.specs.Orders.{AreAlike, ArePointsAlike, AreOrderly};
-ghost use Rattle.cc_state_keys.specs.Tracked.{registers, tracked};
-ghost use Rattle.cc_state_operators.specs.Domains.{domain};
+ghost use Rattle.cc_state_reads.specs.CcStateFacts.declared.facts.Facts.{Facts};
+ghost use Rattle.cc_state_reads.specs.CcStateFacts.declared.facts.PointFact.{PointFact};
+ghost use Rattle.cc_state_reads.specs.CcStateFacts.Orders.{AreAlike, ArePointsAlike, AreOrderly};
+ghost use Rattle.cc_state_reads.specs.CcStateKeys.Tracked.{registers, tracked};
+ghost use Rattle.cc_state_reads.specs.CcStateOperators.Domains.{domain};
 
-use cc_lattice::IntDomain;
+use cc_state_reads::lattice::IntDomain;
 
 /// What facts of a program's shape are like. The call does nothing.
 pub fn laws<I: IntDomain>()

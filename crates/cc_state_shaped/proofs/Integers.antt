@@ -2,11 +2,11 @@
 use Rattle.std.proofs.Common.{arith, ◌≡◌, ◌↔◌, ℤ, ◌≤ℤ◌, to_z, of_z, Bool, true, false, IsTrue, ap, sym, ◌∙◌}
 use Rattle.std.specs.Int.{w128}
 use Rattle.std.proofs.lemmas.Int.{ints}
-use Rattle.cc_lattice.specs.Domains.{AreEnds, IsInReach}
-use Rattle.cc_num.specs.declared.int_type.IntType.{IntType}
-use Rattle.cc_num.specs.declared.target.Target.{Target}
-use Rattle.cc_num.specs.Integers.{is_value_of}
-use Rattle.cc_num.proofs.ResultLaws.{is_value_from, value_from_test}
+use Rattle.cc_state_reads.specs.CcLattice.Domains.{AreEnds, IsInReach}
+use Rattle.cc_program.specs.CcNum.declared.int_type.IntType.{IntType}
+use Rattle.cc_program.specs.CcNum.declared.target.Target.{Target}
+use Rattle.cc_program.specs.CcNum.Integers.{is_value_of}
+use Rattle.cc_program.proofs.CcNum.ResultLaws.{is_value_from, value_from_test}
 
 reach_same : (v : ℤ) → IsInReach v → to_z w128 (of_z w128 v) ≡ v
 reach_same v h = let l = h.least in let m = h.most in omega (arith, ints)

@@ -2,19 +2,19 @@
 use Rattle.std.proofs.Common.{arith, ◌≡◌, ◌↔◌, ◌<◌, ◌≤◌, eqb, ℕ, Bool, true, IsTrue, List, length, map, Option, Some, None, refl, ap, sym, ◌∙◌, subst, slice_get}
 use Rattle.std.specs.Option.{option_map}
 use Rattle.std.proofs.lemmas.Option.{same_Some, none-some, slice_get_within, slice_get-map}
-use Rattle.cc_flow.proofs.Paths.{all_counted}
-use Rattle.cc_flow.specs.declared.types.Flow.{Flow}
-use Rattle.cc_flow.specs.declared.types.Point.{Point}
-use Rattle.cc_flow.specs.Points.{count_of, flow_of}
+use Rattle.cc_state_reads.proofs.CcFlow.Paths.{all_counted}
+use Rattle.cc_state_reads.specs.CcFlow.declared.types.Flow.{Flow}
+use Rattle.cc_state_reads.specs.CcFlow.declared.types.Point.{Point}
+use Rattle.cc_state_reads.specs.CcFlow.Points.{count_of, flow_of}
 use Rattle.cc_program.specs.declared.func.Func.{Func}
 use Rattle.cc_program.specs.declared.program.Program.{Program}
 use Rattle.cc_state.specs.Shape.{IsPointFact, HaveShape}
-use Rattle.cc_state_facts.specs.declared.facts.Facts.{Facts}
-use Rattle.cc_state_facts.specs.declared.facts.Key.{Key}
-use Rattle.cc_state_facts.specs.declared.facts.PointFact.{PointFact}
-use Rattle.cc_state_keys.specs.Keys.{keys_of}
-use Rattle.cc_state_keys.specs.Tracked.{registers, tracked}
-use Rattle.cc_state_operators.specs.Domains.{Domain}
+use Rattle.cc_state_reads.specs.CcStateFacts.declared.facts.Facts.{Facts}
+use Rattle.cc_state_reads.specs.CcStateFacts.declared.facts.Key.{Key}
+use Rattle.cc_state_reads.specs.CcStateFacts.declared.facts.PointFact.{PointFact}
+use Rattle.cc_state_reads.specs.CcStateKeys.Keys.{keys_of}
+use Rattle.cc_state_reads.specs.CcStateKeys.Tracked.{registers, tracked}
+use Rattle.cc_state_reads.specs.CcStateOperators.Domains.{Domain}
 use Rattle.cc_state_shaped.specs.Parts.{IsFlagged, HaveLocals, HaveCells, HavePairs, IsFactIn, IsFactAt, IsKnownAt, AreKnown, HaveKeySets, HaveResultSets, HavePoints, AreByFunction, AreByKey, HaveMarks}
 
 module _ {I : Type 0} (d : Domain I) (p : Program) where

@@ -5,21 +5,21 @@ use Rattle.std.specs.List.{All, Contains, list_any}
 use Rattle.std.specs.Option.{IfSome, option_copied, option_map}
 use Rattle.std.proofs.lemmas.Option.{same_Some, none-some, slice_get-get_or, slice_get-map}
 use Rattle.std.proofs.lemmas.List.Folds.{list_any_at}
-use Rattle.cc_places.specs.declared.addrs.Addrs.{Addrs}
+use Rattle.cc_state_reads.specs.CcPlaces.declared.addrs.Addrs.{Addrs}
 use Rattle.cc_program.specs.declared.program.Program.{Program}
 use Rattle.cc_program.specs.declared.types.CType.{CType}
 use Rattle.cc_program.specs.declared.value.Address.{Address}
 use Rattle.cc_state.proofs.Lists.{any_there, same_key, is_itself}
 use Rattle.cc_state.proofs.Numbered.{key_at}
 use Rattle.cc_state.specs.Shape.{ctype_of, IsSlot, MayPoint, HoldsPointers}
-use Rattle.cc_state_facts.specs.declared.facts.Key.{Key}
-use Rattle.cc_state_facts.specs.declared.facts.Key.TheVariants as key
-use Rattle.cc_state_keys.specs.Addressed.{taken_keys, IsAddressed}
-use Rattle.cc_state_keys.specs.Keys.{is_key, key_number, keys_of}
+use Rattle.cc_state_reads.specs.CcStateFacts.declared.facts.Key.{Key}
+use Rattle.cc_state_reads.specs.CcStateFacts.declared.facts.Key.TheVariants as key
+use Rattle.cc_state_reads.specs.CcStateKeys.Addressed.{taken_keys, IsAddressed}
+use Rattle.cc_state_reads.specs.CcStateKeys.Keys.{is_key, key_number, keys_of}
 use Rattle.cc_state_shaped.proofs.Filled.{each_contained, all_from_each}
 use Rattle.cc_state_shaped.proofs.Tests.{as_said}
 use Rattle.cc_state_shaped.specs.Names.{is_slot_of, may_name, HaveSame}
-use Rattle.cc_syntax.specs.Values.{ValueType, NoValue, Integer, ToObject, ToFunction}
+use Rattle.cc_state_reads.specs.CcSyntax.Values.{ValueType, NoValue, Integer, ToObject, ToFunction}
 
 then_other : (b other : Bool) → (not b || other) ≡ true → b ≡ true → other ≡ true
 then_other true other h e = h

@@ -2,13 +2,13 @@
 use Rattle.std.proofs.Common.{arith, ◌≡◌, ◌↔◌, ◌<◌, ◌≤◌, ◌+◌, eqb, ℕ, Bool, true, false, IsTrue, List, length, ap, sym, subst, inl, inr, ◌⊎◌, slice_get}
 use Rattle.std.specs.Option.{unwrap_or}
 use Rattle.std.proofs.lemmas.Option.{slice_get_past}
-use Rattle.cc_places.specs.declared.abs.Abs.{Abs}
+use Rattle.cc_state_reads.specs.CcPlaces.declared.abs.Abs.{Abs}
 use Rattle.cc_program.specs.declared.program.Program.{Program}
 use Rattle.cc_state.specs.Shape.{AreSets}
-use Rattle.cc_state_facts.specs.Facts.{levels_of}
-use Rattle.cc_state_operators.specs.Domains.{Domain}
+use Rattle.cc_state_reads.specs.CcStateFacts.Facts.{levels_of}
+use Rattle.cc_state_reads.specs.CcStateOperators.Domains.{Domain}
 use Rattle.cc_state_shaped.specs.Parts.{IsMarkedAt, AreMarked}
-use Rattle.cc_syntax.specs.Values.{ValueType}
+use Rattle.cc_state_reads.specs.CcSyntax.Values.{ValueType}
 
 pub both : {A B : Type 0} (a b : Bool) → (IsTrue a ↔ A) → a ≡ true → (IsTrue b ↔ B) → (IsTrue b ↔ (A × B))
 both a b h e k = ((λ t. (h.0 e, k.0 t)), (λ s. k.1 s.1))

@@ -1,7 +1,7 @@
 -- Sets of values of types: those so far, the set at a place, and which types things are of.
 use Rattle.std.proofs.Common.{arith, ◌≡◌, ◌↔◌, ◌≤◌, ◌+◌, ℕ, Bool, true, false, IsTrue, List, Option, Some, None, ap, sym, ◌∙◌, subst, below_more, slice_get}
 use Rattle.std.proofs.lemmas.Option.{same_Some, none-some}
-use Rattle.cc_places.specs.declared.abs.Abs.{Abs}
+use Rattle.cc_state_reads.specs.CcPlaces.declared.abs.Abs.{Abs}
 use Rattle.cc_program.specs.declared.func.Func.{Func}
 use Rattle.cc_program.specs.declared.object.Object.{Object}
 use Rattle.cc_program.specs.declared.program.Program.{Program}
@@ -11,13 +11,13 @@ use Rattle.cc_program.specs.declared.types.Shape.TheOpen as shape
 use Rattle.cc_program.specs.declared.types.Sig.{Sig, out-Sig}
 use Rattle.cc_state.proofs.CellTypes.{one_type}
 use Rattle.cc_state.specs.Shape.{IsCellType, OfScalar, OfElements, ctype_of, IsSetIn, AreSets, IsKeyType, IsResultType, IsRegisterType, IsTrackedType}
-use Rattle.cc_state_facts.specs.declared.facts.Key.{Key}
-use Rattle.cc_state_keys.specs.Keys.{keys_of}
-use Rattle.cc_state_keys.specs.Tracked.{registers, tracked}
-use Rattle.cc_state_operators.specs.Domains.{Domain}
+use Rattle.cc_state_reads.specs.CcStateFacts.declared.facts.Key.{Key}
+use Rattle.cc_state_reads.specs.CcStateKeys.Keys.{keys_of}
+use Rattle.cc_state_reads.specs.CcStateKeys.Tracked.{registers, tracked}
+use Rattle.cc_state_reads.specs.CcStateOperators.Domains.{Domain}
 use Rattle.cc_state_shaped.specs.Parts.{IsFoundCellType, IsSetOf, IsSetAt}
-use Rattle.cc_syntax.specs.Types.{Named}
-use Rattle.cc_syntax.specs.Values.{ValueType, scalar_shape, scalar_value, result_value}
+use Rattle.cc_state_reads.specs.CcSyntax.Types.{Named}
+use Rattle.cc_state_reads.specs.CcSyntax.Values.{ValueType, scalar_shape, scalar_value, result_value}
 
 -- what is found at a place of a list
 pub found_at : {A : Type 0} (xs ys : List A) (n : ℕ) (o : Option A) → ys ≡ xs → o ≡ slice_get ys n → slice_get xs n ≡ o

@@ -1,10 +1,10 @@
 -- What the shape of a program's facts is judged by, as the code has it.
 use Rattle.std.specs.Prelude.{◌≡◌, map}
-use Rattle.cc_flow.specs.Points.{flow_of}
+use Rattle.cc_state_reads.specs.CcFlow.Points.{flow_of}
 use Rattle.cc_program.specs.declared.program.Program.{Program}
-use Rattle.cc_state_keys.specs.Addressed.{taken_keys}
-use Rattle.cc_state_keys.specs.Keys.{keys_of}
-use Rattle.cc_state_keys.specs.Tracked.{registers, tracked}
+use Rattle.cc_state_reads.specs.CcStateKeys.Addressed.{taken_keys}
+use Rattle.cc_state_reads.specs.CcStateKeys.Keys.{keys_of}
+use Rattle.cc_state_reads.specs.CcStateKeys.Tracked.{registers, tracked}
 use Rattle.cc_state_shaped.specs.declared.layout.Layout.{Layout}
 use Rattle.cc_state_shaped.specs.Names.{may_name}
 

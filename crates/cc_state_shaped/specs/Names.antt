@@ -4,9 +4,9 @@ use Rattle.std.specs.List.{list_any}
 use Rattle.cc_program.specs.declared.program.Program.{Program}
 use Rattle.cc_program.specs.declared.types.CType.{CType}
 use Rattle.cc_state.specs.Shape.{ctype_of, is_slot_type}
-use Rattle.cc_state_facts.specs.declared.facts.Key.{Key}
-use Rattle.cc_state_keys.specs.Addressed.{taken_keys}
-use Rattle.cc_state_keys.specs.Keys.{is_key}
+use Rattle.cc_state_reads.specs.CcStateFacts.declared.facts.Key.{Key}
+use Rattle.cc_state_reads.specs.CcStateKeys.Addressed.{taken_keys}
+use Rattle.cc_state_reads.specs.CcStateKeys.Keys.{is_key}
 
 -- whether a key is a slot's, by the type that is declared
 abbrev pub is_slot_of : Key → Option CType → Bool

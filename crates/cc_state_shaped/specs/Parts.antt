@@ -1,22 +1,22 @@
 -- The parts of the shape of facts, one by one.
 use Rattle.std.specs.Prelude.{◌≡◌, ◌⊎◌, ◌<◌, ◌+◌, ℕ, Bool, true, false, List, length, Option, Some, None, slice_get}
 use Rattle.std.specs.List.{AllPairs, Contains, flat_map}
-use Rattle.cc_flow.specs.declared.types.Point.{Point}
-use Rattle.cc_flow.specs.Points.{count_of, flow_of}
-use Rattle.cc_places.specs.declared.abs.Abs.{Abs}
+use Rattle.cc_state_reads.specs.CcFlow.declared.types.Point.{Point}
+use Rattle.cc_state_reads.specs.CcFlow.Points.{count_of, flow_of}
+use Rattle.cc_state_reads.specs.CcPlaces.declared.abs.Abs.{Abs}
 use Rattle.cc_program.specs.declared.func.Func.{Func}
 use Rattle.cc_program.specs.declared.program.Program.{Program}
 use Rattle.cc_program.specs.declared.types.CType.{CType}
 use Rattle.cc_state.specs.Shape.{IsCellType, IsSetIn, AreSets, AreRows, IsRegisterType, IsTrackedType, IsPointFact, IsKeyType, IsResultType}
-use Rattle.cc_state_facts.specs.declared.facts.Facts.{Facts}
-use Rattle.cc_state_facts.specs.declared.facts.PointFact.{PointFact}
-use Rattle.cc_state_facts.specs.declared.facts.Row.{Row}
-use Rattle.cc_state_facts.specs.Facts.{row_length, cell_of, local_of, mark_of, levels_of}
-use Rattle.cc_state_facts.specs.Orders.{IsBefore}
-use Rattle.cc_state_keys.specs.Keys.{keys_of}
-use Rattle.cc_state_keys.specs.Tracked.{registers, tracked}
-use Rattle.cc_state_operators.specs.Domains.{Domain}
-use Rattle.cc_syntax.specs.Values.{ValueType}
+use Rattle.cc_state_reads.specs.CcStateFacts.declared.facts.Facts.{Facts}
+use Rattle.cc_state_reads.specs.CcStateFacts.declared.facts.PointFact.{PointFact}
+use Rattle.cc_state_reads.specs.CcStateFacts.declared.facts.Row.{Row}
+use Rattle.cc_state_reads.specs.CcStateFacts.Facts.{row_length, cell_of, local_of, mark_of, levels_of}
+use Rattle.cc_state_reads.specs.CcStateFacts.Orders.{IsBefore}
+use Rattle.cc_state_reads.specs.CcStateKeys.Keys.{keys_of}
+use Rattle.cc_state_reads.specs.CcStateKeys.Tracked.{registers, tracked}
+use Rattle.cc_state_reads.specs.CcStateOperators.Domains.{Domain}
+use Rattle.cc_state_reads.specs.CcSyntax.Values.{ValueType}
 
 -- the type of what the cells of a declared type hold, or none where they hold no scalars
 abbrev pub IsFoundCellType : CType → Option ValueType → Type 0

@@ -1,21 +1,21 @@
 //! Which addresses may stand in pointers of a type.
 
 ghost use Rattle.std.specs.Prelude.{◌≡◌, ◌↔◌, IsTrue, All, option_map};
-ghost use Rattle.cc_eval.specs.Context.{object_type as object_type_of};
+ghost use Rattle.cc_state_reads.specs.CcEval.Context.{object_type as object_type_of};
 ghost use Rattle.cc_state.specs.Shape.{MayPoint, HoldsPointers};
 ghost use Rattle.cc_state_shaped.specs.Layout.{IsLayoutOf};
-ghost use Rattle.cc_syntax.specs.Expressions.{of_one};
-ghost use Rattle.cc_syntax.specs.Initial.{place_at as place_at_of, names};
-ghost use Rattle.cc_typed.specs.View.{value_view, place_view};
+ghost use Rattle.cc_state_reads.specs.CcSyntax.Expressions.{of_one};
+ghost use Rattle.cc_state_reads.specs.CcSyntax.Initial.{place_at as place_at_of, names};
+ghost use Rattle.cc_state_reads.specs.CcTyped.View.{value_view, place_view};
 
 use crate::layout::Layout;
-use cc_eval::object_type;
-use cc_num::at;
-use cc_places::Addrs;
+use cc_program::num::at;
 use cc_program::{Address, Part, Program, Root};
 use cc_sound::names_place;
-use cc_state_keys::cell_key;
-use cc_typed::{PlaceType, ValueType, function_type, is_assignable_some, place_at};
+use cc_state_reads::eval::object_type;
+use cc_state_reads::places::Addrs;
+use cc_state_reads::state_keys::cell_key;
+use cc_state_reads::typed::{PlaceType, ValueType, function_type, is_assignable_some, place_at};
 
 /// The type of the place to which a path leads in an object.
 fn place_type<'p>(p: &'p Program, object: Root, path: &[Part]) -> Option<PlaceType<'p>>

@@ -5,15 +5,15 @@ ghost use Rattle.std.specs.List.{list_any};
 ghost use Rattle.std.specs.Option.{option_copied};
 ghost use Rattle.cc_program.specs.declared.types.Shape.{out-Shape};
 ghost use Rattle.cc_state.specs.Shape.{ctype_of as ctype_of_key, is_scalar_type as is_scalar_type_of, is_row_shape, is_slot_type as is_slot_type_of};
-ghost use Rattle.cc_state_keys.specs.Addressed.{taken_keys};
-ghost use Rattle.cc_state_keys.specs.Keys.{is_key as is_key_of};
+ghost use Rattle.cc_state_reads.specs.CcStateKeys.Addressed.{taken_keys};
+ghost use Rattle.cc_state_reads.specs.CcStateKeys.Keys.{is_key as is_key_of};
 ghost use Rattle.cc_state_shaped.specs.Names.{is_slot_of, may_name as may_name_of, HaveSame};
 
-use cc_num::{NoMemory, at};
+use cc_program::num::{NoMemory, at};
 use cc_program::{CType, Program, Shape};
-use cc_state_facts::Key;
-use cc_state_keys::is_key;
-use cc_typed::scalar_value;
+use cc_state_reads::state_facts::Key;
+use cc_state_reads::state_keys::is_key;
+use cc_state_reads::typed::scalar_value;
 use std::alloc::Global;
 
 /// The declared type of a key.

@@ -1,18 +1,18 @@
 //! What the shape of a program's facts is judged by, worked out once.
 
 ghost use Rattle.std.specs.Prelude.{◌≡◌, ◌<◌, ◌^◌, length, map, All, IfOk, IfSome};
-ghost use Rattle.cc_flow.specs.Points.{flow_of};
-ghost use Rattle.cc_state_keys.specs.Tracked.{registers as registers_in};
+ghost use Rattle.cc_state_reads.specs.CcFlow.Points.{flow_of};
+ghost use Rattle.cc_state_reads.specs.CcStateKeys.Tracked.{registers as registers_in};
 ghost use Rattle.cc_state_shaped.specs.Layout.{IsLayoutOf};
 ghost use Rattle.cc_state_shaped.specs.Names.{may_name as may_name_of};
-ghost use Rattle.cc_syntax.specs.Sound.{IsTypedProgram};
+ghost use Rattle.cc_state_reads.specs.CcSyntax.Sound.{IsTypedProgram};
 
 use crate::keys::{may_name, named_keys};
-use cc_flow::Flow;
-use cc_num::{List, NoMemory, at};
+use cc_program::num::{List, NoMemory, at};
 use cc_program::{Func, Program};
-use cc_state_facts::Key;
-use cc_state_keys::{key_number, keys, registers, taken_keys, tracked};
+use cc_state_reads::flow::Flow;
+use cc_state_reads::state_facts::Key;
+use cc_state_reads::state_keys::{key_number, keys, registers, taken_keys, tracked};
 use std::alloc::Global;
 
 /// A program with what the shape of its facts is judged by.

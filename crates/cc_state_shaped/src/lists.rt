@@ -2,21 +2,21 @@
 
 ghost use Rattle.std.specs.Prelude.{◌≡◌, ◌↔◌, IsTrue, Some, length, slice_get};
 ghost use Rattle.cc_state.specs.Shape.{AreSets, IsKeyType, IsResultType, IsRegisterType, IsTrackedType};
-ghost use Rattle.cc_state_facts.specs.Facts.{cell_of};
-ghost use Rattle.cc_state_keys.specs.Tracked.{registers as registers_of};
-ghost use Rattle.cc_state_operators.specs.Domains.{domain};
+ghost use Rattle.cc_state_reads.specs.CcStateFacts.Facts.{cell_of};
+ghost use Rattle.cc_state_reads.specs.CcStateKeys.Tracked.{registers as registers_of};
+ghost use Rattle.cc_state_reads.specs.CcStateOperators.Domains.{domain};
 ghost use Rattle.cc_state_shaped.specs.Layout.{IsLayoutOf};
 ghost use Rattle.cc_state_shaped.specs.Parts.{IsSetOf, IsSetAt};
 
 use crate::keys::ctype_of;
 use crate::layout::Layout;
 use crate::sets::{is_cell_set, is_set_of};
-use cc_lattice::IntDomain;
-use cc_num::at;
-use cc_places::Abs;
 use cc_program::Func;
-use cc_state_facts::{PointFact, Shared};
-use cc_typed::{result_value, scalar_value};
+use cc_program::num::at;
+use cc_state_reads::lattice::IntDomain;
+use cc_state_reads::places::Abs;
+use cc_state_reads::state_facts::{PointFact, Shared};
+use cc_state_reads::typed::{result_value, scalar_value};
 
 /// Whether a set is of what the cells of the key at a place hold.
 fn is_key_set<I: IntDomain>(layout: &Layout<'_>, number: usize, set: &Abs<I>) -> bool

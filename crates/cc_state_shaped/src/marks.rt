@@ -1,11 +1,11 @@
 //! How many marks and sets of levels facts have, and whether what is marked alone has levels.
 
 ghost use Rattle.std.specs.Prelude.{◌≡◌, ◌↔◌, IsTrue};
-ghost use Rattle.cc_state_facts.specs.Facts.{mark_of as mark_of_list};
+ghost use Rattle.cc_state_reads.specs.CcStateFacts.Facts.{mark_of as mark_of_list};
 ghost use Rattle.cc_state_shaped.specs.Parts.{AreByFunction, AreByKey, IsMarkedAt, AreMarked, HaveMarks};
 
-use cc_num::at;
-use cc_state_facts::Facts;
+use cc_program::num::at;
+use cc_state_reads::state_facts::Facts;
 
 /// Whether there is so much of all that facts have by function.
 pub(crate) fn are_by_function<I>(facts: &Facts<I>, count: usize) -> bool

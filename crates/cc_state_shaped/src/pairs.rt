@@ -2,7 +2,7 @@
 
 ghost use Rattle.std.specs.Prelude.{◌≡◌, ◌↔◌, IsTrue, All};
 ghost use Rattle.std.specs.List.{AllPairs};
-ghost use Rattle.cc_state_facts.specs.Orders.{IsBefore};
+ghost use Rattle.cc_state_reads.specs.CcStateFacts.Orders.{IsBefore};
 ghost use Rattle.cc_state_shaped.specs.Parts.{IsWithin};
 
 /// Whether a pair is of the first so many registers and tracked cells.

@@ -3,10 +3,10 @@
 ghost use Rattle.std.specs.Prelude.{◌≡◌, ◌↔◌, ◌⊎◌, ◌<◌, ℕ, IsTrue, true, length};
 ghost use Rattle.std.specs.List.{AllPairs, Contains};
 ghost use Rattle.cc_state.specs.Shape.{AreSets, AreRows, IsRegisterType, IsTrackedType, IsPointFact};
-ghost use Rattle.cc_state_facts.specs.Facts.{cell_of, local_of};
-ghost use Rattle.cc_state_facts.specs.Orders.{IsBefore};
-ghost use Rattle.cc_state_keys.specs.Tracked.{registers as registers_of, tracked};
-ghost use Rattle.cc_state_operators.specs.Domains.{domain};
+ghost use Rattle.cc_state_reads.specs.CcStateFacts.Facts.{cell_of, local_of};
+ghost use Rattle.cc_state_reads.specs.CcStateFacts.Orders.{IsBefore};
+ghost use Rattle.cc_state_reads.specs.CcStateKeys.Tracked.{registers as registers_of, tracked};
+ghost use Rattle.cc_state_reads.specs.CcStateOperators.Domains.{domain};
 ghost use Rattle.cc_state_shaped.specs.Layout.{IsLayoutOf};
 ghost use Rattle.cc_state_shaped.specs.Parts.{HaveLocals, HaveCells, HavePairs, IsFlagged, IsFactIn, IsFactAt, IsKnownAt, AreKnown};
 
@@ -14,10 +14,10 @@ use crate::layout::Layout;
 use crate::lists::{are_register_sets, have_cell_sets};
 use crate::pairs::{are_within, do_ascend};
 use crate::rows::are_rows;
-use cc_lattice::IntDomain;
-use cc_num::at;
 use cc_program::Func;
-use cc_state_facts::PointFact;
+use cc_program::num::at;
+use cc_state_reads::lattice::IntDomain;
+use cc_state_reads::state_facts::PointFact;
 
 /// Whether the flag may be one way or the other.
 fn is_flagged<I>(fact: &PointFact<I>) -> bool

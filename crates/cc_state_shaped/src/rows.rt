@@ -3,7 +3,7 @@
 ghost use Rattle.std.specs.Prelude.{◌≡◌, ◌↔◌, IsTrue, sum_by};
 ghost use Rattle.cc_state_shaped.specs.Parts.{cells_in, cell_count, IsFilled, AreFilled};
 
-use cc_state_facts::{Row, Shared};
+use cc_state_reads::state_facts::{Row, Shared};
 
 /// How many tracked cells a row has, where it is not the last.
 const ROW_LENGTH: usize = 16;

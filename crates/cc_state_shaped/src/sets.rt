@@ -1,20 +1,20 @@
 //! Whether sets are of values of a type.
 
 ghost use Rattle.std.specs.Prelude.{◌≡◌, ◌↔◌, ℤ, true, IsTrue, Some, option_map};
-ghost use Rattle.cc_num.specs.Integers.{is_value_of};
+ghost use Rattle.cc_program.specs.CcNum.Integers.{is_value_of};
 ghost use Rattle.cc_state.specs.Shape.{HoldsIntegers, IsSetIn, IsCellType};
-ghost use Rattle.cc_state_operators.specs.Domains.{domain};
+ghost use Rattle.cc_state_reads.specs.CcStateOperators.Domains.{domain};
 ghost use Rattle.cc_state_shaped.specs.Layout.{IsLayoutOf};
 ghost use Rattle.cc_state_shaped.specs.Parts.{IsFoundCellType, IsSetOf};
-ghost use Rattle.cc_typed.specs.View.{value_view};
+ghost use Rattle.cc_state_reads.specs.CcTyped.View.{value_view};
 
 use crate::addresses::holds_pointers;
 use crate::layout::Layout;
-use cc_lattice::IntDomain;
-use cc_num::{IntType, Target};
-use cc_places::Abs;
+use cc_program::num::{IntType, Target};
 use cc_program::{CType, Program, Shape};
-use cc_typed::{ValueType, scalar_value};
+use cc_state_reads::lattice::IntDomain;
+use cc_state_reads::places::Abs;
+use cc_state_reads::typed::{ValueType, scalar_value};
 
 /// Whether each member of a set is a value of a type.
 fn are_values<I: IntDomain>(set: &I, t: IntType, target: &Target) -> bool

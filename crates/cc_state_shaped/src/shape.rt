@@ -1,24 +1,24 @@
 //! Whether facts have the shape of a program's.
 
 ghost use Rattle.std.specs.Prelude.{◌≡◌, ◌↔◌, IsTrue, IfOk, length};
-ghost use Rattle.cc_flow.specs.Points.{flow_of};
+ghost use Rattle.cc_state_reads.specs.CcFlow.Points.{flow_of};
 ghost use Rattle.cc_state.specs.Shape.{HaveShape};
-ghost use Rattle.cc_state_keys.specs.Keys.{keys_of};
-ghost use Rattle.cc_state_operators.specs.Domains.{domain};
+ghost use Rattle.cc_state_reads.specs.CcStateKeys.Keys.{keys_of};
+ghost use Rattle.cc_state_reads.specs.CcStateOperators.Domains.{domain};
 ghost use Rattle.cc_state_shaped.specs.Layout.{IsLayoutOf};
 ghost use Rattle.cc_state_shaped.specs.Parts.{HaveKeySets, HaveResultSets, HavePoints, AreByFunction, AreByKey, HaveMarks};
-ghost use Rattle.cc_syntax.specs.Normal.{IsNormal};
+ghost use Rattle.cc_state_reads.specs.CcSyntax.Normal.{IsNormal};
 
 use crate::keys::are_same;
 use crate::layout::{Layout, layout_of};
 use crate::lists::{are_key_sets, are_result_sets};
 use crate::marks::{are_by_function, are_by_key, have_marks};
 use crate::points::are_known;
-use cc_flow::Flow;
-use cc_lattice::IntDomain;
-use cc_num::NoMemory;
 use cc_program::Program;
-use cc_state_facts::Facts;
+use cc_program::num::NoMemory;
+use cc_state_reads::flow::Flow;
+use cc_state_reads::lattice::IntDomain;
+use cc_state_reads::state_facts::Facts;
 use std::alloc::Global;
 
 /// Whether there is a set for each key, of what its cells hold.

@@ -8,8 +8,8 @@ ghost use Rattle.cc_state_texts.specs.Texts.{address_text, behind_blanks, elemen
 
 use crate::bytes::{put, put_integer, put_number};
 use cc_lattice::IntDomain;
-use cc_num::{Name, NoMemory, at};
 use cc_places::Abs;
+use cc_program::num::{Name, NoMemory, at};
 use cc_program::{Address, CType, Part, Program, Root, Shape};
 use std::alloc::Global;
 

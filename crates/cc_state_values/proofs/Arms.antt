@@ -3,18 +3,18 @@ use Rattle.std.proofs.Common.{◌≡◌, ℕ, ℤ, Bool, true, false, Option, So
 use Rattle.std.specs.Prelude.{option_map, slice_get}
 use Rattle.std.specs.List.{Contains}
 use Rattle.std.proofs.lemmas.Option.{same_Some}
-use Rattle.cc_lattice.specs.Domains.{IsIntValue}
-use Rattle.cc_num.specs.declared.int_type.IntType.{IntType}
-use Rattle.cc_num.specs.declared.op.BinOp.{BinOp}
-use Rattle.cc_num.specs.declared.op.UnOp.{UnOp}
-use Rattle.cc_num.specs.declared.target.Target.{Target}
-use Rattle.cc_num.specs.Integers.{IsValueOf}
-use Rattle.cc_num.proofs.ResultLaws.{value_from_test}
-use Rattle.cc_lattice.proofs.IntValues.{value_is_int}
-use Rattle.cc_places.specs.Abstract.{AreOfOneKind}
-use Rattle.cc_places.specs.declared.abs.Abs.{Abs}
-use Rattle.cc_places.specs.declared.abs.Abs.TheVariants as abs
-use Rattle.cc_places.specs.declared.addrs.Addrs.{Addrs}
+use Rattle.cc_state_operators.specs.CcLattice.Domains.{IsIntValue}
+use Rattle.cc_program.specs.CcNum.declared.int_type.IntType.{IntType}
+use Rattle.cc_program.specs.CcNum.declared.op.BinOp.{BinOp}
+use Rattle.cc_program.specs.CcNum.declared.op.UnOp.{UnOp}
+use Rattle.cc_program.specs.CcNum.declared.target.Target.{Target}
+use Rattle.cc_program.specs.CcNum.Integers.{IsValueOf}
+use Rattle.cc_program.proofs.CcNum.ResultLaws.{value_from_test}
+use Rattle.cc_state_operators.proofs.CcLattice.IntValues.{value_is_int}
+use Rattle.cc_state_operators.specs.CcPlaces.Abstract.{AreOfOneKind}
+use Rattle.cc_state_operators.specs.CcPlaces.declared.abs.Abs.{Abs}
+use Rattle.cc_state_operators.specs.CcPlaces.declared.abs.Abs.TheVariants as abs
+use Rattle.cc_state_operators.specs.CcPlaces.declared.addrs.Addrs.{Addrs}
 use Rattle.cc_program.specs.declared.expr.Expr.{Expr, out-Expr, Const, Null, FuncAddr, Load, AddrOf, Un, Bin, Conv, Qualify, Move, Gap, Compare, Both, Either, Choose, Assign, Change, After, Call, Intr, Seq}
 use Rattle.cc_program.specs.declared.expr.Expr.TheVariants.{outs-Const, outs-Null, outs-FuncAddr, outs-Load, outs-AddrOf, outs-Un, outs-Bin, outs-Conv, outs-Qualify, outs-Move, outs-Gap, outs-Compare, outs-Both, outs-Either, outs-Choose, outs-Assign, outs-Change, outs-After, outs-Call, outs-Intr, outs-Seq}
 use Rattle.cc_program.specs.declared.expr.Expr.TheOpen as one
@@ -24,15 +24,15 @@ use Rattle.cc_program.specs.declared.expr.Place.TheVariants.{outs-Local, outs-St
 use Rattle.cc_program.specs.declared.func.Func.{Func}
 use Rattle.cc_program.specs.declared.program.Program.{Program}
 use Rattle.cc_program.specs.declared.types.CType.{CType}
-use Rattle.cc_places.specs.Kept.{member_for}
-use Rattle.cc_places.specs.laws.ListLaws.{none_in}
+use Rattle.cc_state_operators.specs.CcPlaces.Kept.{member_for}
+use Rattle.cc_state_operators.specs.CcPlaces.laws.ListLaws.{none_in}
 use Rattle.cc_program.specs.declared.value.Address.{Address}
 use Rattle.cc_program.specs.declared.value.Address.TheVariants as address
 use Rattle.cc_program.specs.declared.value.Root.TheVariants as root
-use Rattle.cc_syntax.specs.Expressions.{of_one}
-use Rattle.cc_syntax.specs.Operators.{subscript_type}
-use Rattle.cc_syntax.specs.Programs.{type_of, place_type}
-use Rattle.cc_syntax.specs.Values.{ValueType, PlaceType, Integer, is_scalar, pointed_to, read_from, address_of, object_place}
+use Rattle.cc_state_operators.specs.CcSyntax.Expressions.{of_one}
+use Rattle.cc_state_operators.specs.CcSyntax.Operators.{subscript_type}
+use Rattle.cc_state_operators.specs.CcSyntax.Programs.{type_of, place_type}
+use Rattle.cc_state_operators.specs.CcSyntax.Values.{ValueType, PlaceType, Integer, is_scalar, pointed_to, read_from, address_of, object_place}
 use Rattle.cc_state_operators.specs.declared.operators.OneOperand.{OneOperand}
 use Rattle.cc_state_operators.specs.declared.operators.OneOperand.TheVariants as kind_one
 use Rattle.cc_state_operators.specs.declared.operators.TwoOperands.{TwoOperands}

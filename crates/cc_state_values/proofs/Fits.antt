@@ -1,20 +1,20 @@
 -- Values of the types of operands: on them the operators work, and what they give is of the type of the whole.
 use Rattle.std.proofs.Common.{◌≡◌, ℤ, Bool, true, false, inl, inr, Some, refl, sym, ◌∙◌, subst, Result, Ok, Err, IfOk}
-use Rattle.cc_lattice.specs.Domains.{IsSecond, AreOperands, AreOperandsOne}
-use Rattle.cc_lattice.proofs.IntValues.{value_is_int}
-use Rattle.cc_num.specs.declared.int_type.IntType.{IntType}
-use Rattle.cc_num.specs.declared.op.BinOp.{BinOp}
-use Rattle.cc_num.specs.declared.op.UnOp.{UnOp}
-use Rattle.cc_num.specs.declared.target.Target.{Target}
-use Rattle.cc_num.specs.Results.{is_shift}
-use Rattle.cc_places.specs.Abstract.{AreOfOneKind}
-use Rattle.cc_places.specs.declared.abs.Abs.{Abs}
-use Rattle.cc_places.specs.declared.abs.Abs.TheVariants as abs
+use Rattle.cc_state_operators.specs.CcLattice.Domains.{IsSecond, AreOperands, AreOperandsOne}
+use Rattle.cc_state_operators.proofs.CcLattice.IntValues.{value_is_int}
+use Rattle.cc_program.specs.CcNum.declared.int_type.IntType.{IntType}
+use Rattle.cc_program.specs.CcNum.declared.op.BinOp.{BinOp}
+use Rattle.cc_program.specs.CcNum.declared.op.UnOp.{UnOp}
+use Rattle.cc_program.specs.CcNum.declared.target.Target.{Target}
+use Rattle.cc_program.specs.CcNum.Results.{is_shift}
+use Rattle.cc_state_operators.specs.CcPlaces.Abstract.{AreOfOneKind}
+use Rattle.cc_state_operators.specs.CcPlaces.declared.abs.Abs.{Abs}
+use Rattle.cc_state_operators.specs.CcPlaces.declared.abs.Abs.TheVariants as abs
 use Rattle.cc_program.specs.declared.func.Func.{Func}
 use Rattle.cc_program.specs.declared.program.Program.{Program}
-use Rattle.cc_syntax.specs.Values.{ValueType, NoValue, Integer, ToObject, ToFunction, is_assignable}
-use Rattle.cc_syntax.proofs.Prefixes.{both_true}
-use Rattle.cc_syntax.proofs.SameLemmas.{int_same}
+use Rattle.cc_state_operators.specs.CcSyntax.Values.{ValueType, NoValue, Integer, ToObject, ToFunction, is_assignable}
+use Rattle.cc_state_operators.proofs.CcSyntax.Prefixes.{both_true}
+use Rattle.cc_state_operators.proofs.CcSyntax.SameLemmas.{int_same}
 use Rattle.cc_state_operators.specs.declared.operators.OneOperand.{OneOperand}
 use Rattle.cc_state_operators.specs.declared.operators.OneOperand.TheVariants as kind_one
 use Rattle.cc_state_operators.specs.declared.operators.TwoOperands.{TwoOperands}

@@ -1,8 +1,8 @@
 -- How high expressions and places are: a measure of the recursion over them.
 use Rattle.std.proofs.Common.{◌≡◌, ℕ, ◌+◌, max, ap, sym, ◌∙◌}
-use Rattle.cc_num.specs.declared.int_type.IntType.{IntType}
-use Rattle.cc_num.specs.declared.op.BinOp.{BinOp}
-use Rattle.cc_num.specs.declared.op.UnOp.{UnOp}
+use Rattle.cc_program.specs.CcNum.declared.int_type.IntType.{IntType}
+use Rattle.cc_program.specs.CcNum.declared.op.BinOp.{BinOp}
+use Rattle.cc_program.specs.CcNum.declared.op.UnOp.{UnOp}
 use Rattle.std.specs.Prelude.{Bool}
 use Rattle.cc_program.specs.declared.expr.Expr.{Expr, out-Expr, roll-Expr, roll-out-Expr, map-Expr, fold-Expr, fold-roll-Expr}
 use Rattle.cc_program.specs.declared.expr.Expr.TheOpen as one

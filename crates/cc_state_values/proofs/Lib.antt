@@ -4,3 +4,6 @@ pub mod Heights
 pub mod Parts
 pub mod Rules
 pub mod Same
+pub mod CcEval
+pub mod CcLattice
+pub mod CcSyntax

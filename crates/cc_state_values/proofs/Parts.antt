@@ -8,14 +8,14 @@ use Rattle.cc_program.specs.declared.expr.Place.{Place, out-Place, roll-Place, r
 use Rattle.cc_program.specs.declared.func.Func.{Func}
 use Rattle.cc_program.specs.declared.program.Program.{Program}
 use Rattle.cc_program.specs.declared.types.CType.{CType}
-use Rattle.cc_syntax.specs.Effects.{Effects, PlaceEffects, no_one, is_soft, effect_step, place_effect_step, effects_of, place_effects_of}
-use Rattle.cc_syntax.specs.Expressions as typing
-use Rattle.cc_syntax.specs.Expressions.{of_one, of_two}
-use Rattle.cc_syntax.specs.Operators.{unary_type, binary_type, conversion_type, moved_type, gap_type, comparison_type, logical_type, choice_type, subscript_type}
-use Rattle.cc_syntax.specs.Programs.{expr_step, place_step, type_of, place_type, pointer_type, qualified_type}
-use Rattle.cc_syntax.specs.Registers.{is_register}
-use Rattle.cc_syntax.specs.Values.{ValueType, PlaceType, is_scalar, is_assignable, read_from, address_of, pointed_to, member_of, object_place}
-use Rattle.cc_syntax.proofs.Prefixes.{both_true}
+use Rattle.cc_state_operators.specs.CcSyntax.Effects.{Effects, PlaceEffects, no_one, is_soft, effect_step, place_effect_step, effects_of, place_effects_of}
+use Rattle.cc_state_operators.specs.CcSyntax.Expressions as typing
+use Rattle.cc_state_operators.specs.CcSyntax.Expressions.{of_one, of_two}
+use Rattle.cc_state_operators.specs.CcSyntax.Operators.{unary_type, binary_type, conversion_type, moved_type, gap_type, comparison_type, logical_type, choice_type, subscript_type}
+use Rattle.cc_state_operators.specs.CcSyntax.Programs.{expr_step, place_step, type_of, place_type, pointer_type, qualified_type}
+use Rattle.cc_state_operators.specs.CcSyntax.Registers.{is_register}
+use Rattle.cc_state_operators.specs.CcSyntax.Values.{ValueType, PlaceType, is_scalar, is_assignable, read_from, address_of, pointed_to, member_of, object_place}
+use Rattle.cc_state_operators.proofs.CcSyntax.Prefixes.{both_true}
 use Rattle.cc_state_operators.specs.declared.operators.OneOperand.{OneOperand}
 use Rattle.cc_state_operators.specs.declared.operators.OneOperand.TheVariants as kind_one
 use Rattle.cc_state_operators.specs.declared.operators.TwoOperands.{TwoOperands}

@@ -2,12 +2,12 @@
 use Rattle.std.proofs.Common.{◌≡◌, ◌⊎◌, Bool, true, false, not, ◌&&◌, ◌||◌, inl, inr, List, Option, Some, None, refl, ap, sym, ◌∙◌, subst}
 use Rattle.std.specs.Prelude.{if◌then◌else◌}
 use Rattle.std.proofs.lemmas.Option.{same_Some}
-use Rattle.cc_num.specs.declared.int_type.IntType.{IntType}
-use Rattle.cc_num.specs.declared.op.BinOp.{BinOp}
-use Rattle.cc_num.specs.declared.op.UnOp.{UnOp}
-use Rattle.cc_num.specs.declared.target.Target.{Target}
-use Rattle.cc_num.specs.Promotions.{promoted}
-use Rattle.cc_num.specs.Results.{is_shift}
+use Rattle.cc_program.specs.CcNum.declared.int_type.IntType.{IntType}
+use Rattle.cc_program.specs.CcNum.declared.op.BinOp.{BinOp}
+use Rattle.cc_program.specs.CcNum.declared.op.UnOp.{UnOp}
+use Rattle.cc_program.specs.CcNum.declared.target.Target.{Target}
+use Rattle.cc_program.specs.CcNum.Promotions.{promoted}
+use Rattle.cc_program.specs.CcNum.Results.{is_shift}
 use Rattle.cc_program.specs.declared.func.Func.{Func}
 use Rattle.cc_program.specs.declared.program.Program.{Program}
 use Rattle.cc_program.specs.declared.types.CType.{CType}
@@ -15,13 +15,13 @@ use Rattle.cc_program.specs.declared.types.Shape.{Shape, out-Shape}
 use Rattle.cc_program.specs.declared.types.Shape.TheOpen as shape
 use Rattle.cc_program.specs.declared.types.Sig.{Sig}
 use Rattle.cc_program.specs.declared.types.Structure.{Structure}
-use Rattle.cc_syntax.specs.Expressions.{of_one, of_two}
-use Rattle.cc_syntax.specs.Operators.{when, pointer_in, void_pointer_in, first_of, is_unqualified, function_type, is_promoted, is_of, is_integer, is_promoted_value, second_fits, unary_type, unary_result, binary_type, binary_result, when_assignable, points_to_object, common_type, choice_type, subscript_type}
-use Rattle.cc_syntax.specs.Programs.{pointer_type, null_type}
-use Rattle.cc_syntax.specs.SameTypes.{same_int, same_sig, alike}
-use Rattle.cc_syntax.specs.Values.{ValueType, NoValue, Integer, ToObject, ToFunction, PlaceType, DevicePlace, ObjectPlace, FunctionPlace, pointer_shape, pointer_to, is_scalar, is_void, is_assignable, point_alike, pointed_to, address_of, element_of}
-use Rattle.cc_syntax.proofs.Prefixes.{both_true}
-use Rattle.cc_syntax.proofs.SameLemmas.{int_same}
+use Rattle.cc_state_operators.specs.CcSyntax.Expressions.{of_one, of_two}
+use Rattle.cc_state_operators.specs.CcSyntax.Operators.{when, pointer_in, void_pointer_in, first_of, is_unqualified, function_type, is_promoted, is_of, is_integer, is_promoted_value, second_fits, unary_type, unary_result, binary_type, binary_result, when_assignable, points_to_object, common_type, choice_type, subscript_type}
+use Rattle.cc_state_operators.specs.CcSyntax.Programs.{pointer_type, null_type}
+use Rattle.cc_state_operators.specs.CcSyntax.SameTypes.{same_int, same_sig, alike}
+use Rattle.cc_state_operators.specs.CcSyntax.Values.{ValueType, NoValue, Integer, ToObject, ToFunction, PlaceType, DevicePlace, ObjectPlace, FunctionPlace, pointer_shape, pointer_to, is_scalar, is_void, is_assignable, point_alike, pointed_to, address_of, element_of}
+use Rattle.cc_state_operators.proofs.CcSyntax.Prefixes.{both_true}
+use Rattle.cc_state_operators.proofs.CcSyntax.SameLemmas.{int_same}
 
 -- options that are there
 

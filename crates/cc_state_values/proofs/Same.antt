@@ -3,18 +3,18 @@
 use Rattle.std.proofs.Common.{◌≡◌, ℕ, ℤ, Bool, true, false, ◌&&◌, [], Option, Some, ap, sym, ◌∙◌, subst}
 use Rattle.std.proofs.lemmas.Option.{same_Some}
 use Rattle.std.specs.Prelude.{option_and_then}
-use Rattle.cc_lattice.specs.Domains.{AreOperands, AreOperandsOne}
-use Rattle.cc_num.specs.declared.int_type.IntType.{IntType}
-use Rattle.cc_num.specs.declared.op.BinOp.{BinOp}
-use Rattle.cc_num.specs.declared.op.UnOp.{UnOp}
-use Rattle.cc_num.specs.declared.target.Target.{Target}
-use Rattle.cc_places.specs.Moves.{HasMoved}
-use Rattle.cc_places.specs.Sets.{IsSetOf}
-use Rattle.cc_places.specs.declared.abs.Abs.{Abs}
-use Rattle.cc_places.specs.declared.abs.Abs.TheVariants as abs
-use Rattle.cc_places.specs.declared.addrs.Addrs.{Addrs}
-use Rattle.cc_places.specs.laws.AbstractLaws.{abs_same}
-use Rattle.cc_places.specs.laws.SetLaws.{sets_same, set_within}
+use Rattle.cc_state_operators.specs.CcLattice.Domains.{AreOperands, AreOperandsOne}
+use Rattle.cc_program.specs.CcNum.declared.int_type.IntType.{IntType}
+use Rattle.cc_program.specs.CcNum.declared.op.BinOp.{BinOp}
+use Rattle.cc_program.specs.CcNum.declared.op.UnOp.{UnOp}
+use Rattle.cc_program.specs.CcNum.declared.target.Target.{Target}
+use Rattle.cc_state_operators.specs.CcPlaces.Moves.{HasMoved}
+use Rattle.cc_state_operators.specs.CcPlaces.Sets.{IsSetOf}
+use Rattle.cc_state_operators.specs.CcPlaces.declared.abs.Abs.{Abs}
+use Rattle.cc_state_operators.specs.CcPlaces.declared.abs.Abs.TheVariants as abs
+use Rattle.cc_state_operators.specs.CcPlaces.declared.addrs.Addrs.{Addrs}
+use Rattle.cc_state_operators.specs.CcPlaces.laws.AbstractLaws.{abs_same}
+use Rattle.cc_state_operators.specs.CcPlaces.laws.SetLaws.{sets_same, set_within}
 use Rattle.cc_program.specs.declared.expr.Expr.{Expr, out-Expr}
 use Rattle.cc_program.specs.declared.expr.Expr.TheOpen as one
 use Rattle.cc_program.specs.declared.expr.Place.{Place as PlaceOf, out-Place}
@@ -27,9 +27,9 @@ use Rattle.cc_state_operators.specs.Addresses.{object_address, IsOnly, IsNone, A
 use Rattle.cc_state_operators.specs.Domains.{Domain, IsHull, IsWhole, IsUnion}
 use Rattle.cc_state_operators.specs.Results.{is_told, offsets, IsComparison, ByBoth, ByEither, IsArm, IsGap}
 use Rattle.cc_state_values.specs.Values.{IsVal, OfConst, OfNull, OfFunction, OfRegister, OfAddress, OfUn, OfBin, OfConv, OfQualify, OfMove, OfGap, OfCompare, OfBoth, OfEither, OfChoose, Designates, AtLocal, AtStatic, AtDevice, AtElement, AtMember, AtTarget}
-use Rattle.cc_syntax.specs.Effects.{place_effects_of}
-use Rattle.cc_syntax.specs.Programs.{place_type}
-use Rattle.cc_syntax.specs.Values.{PlaceType}
+use Rattle.cc_state_operators.specs.CcSyntax.Effects.{place_effects_of}
+use Rattle.cc_state_operators.specs.CcSyntax.Programs.{place_type}
+use Rattle.cc_state_operators.specs.CcSyntax.Values.{PlaceType}
 
 -- sets of addresses
 

@@ -1,8 +1,8 @@
 -- Where expressions are worked, as the code has it: a function, and the sets of its registers in their order.
 use Rattle.std.specs.Prelude.{◌≡◌, ℕ, ℤ, ◌==◌, List, Option, None, option_and_then, slice_get, position}
-use Rattle.cc_places.specs.declared.abs.Abs.{Abs}
-use Rattle.cc_places.specs.declared.abs.Abs.TheVariants as abs
-use Rattle.cc_places.specs.declared.addrs.Addrs.{Addrs}
+use Rattle.cc_state_operators.specs.CcPlaces.declared.abs.Abs.{Abs}
+use Rattle.cc_state_operators.specs.CcPlaces.declared.abs.Abs.TheVariants as abs
+use Rattle.cc_state_operators.specs.CcPlaces.declared.addrs.Addrs.{Addrs}
 use Rattle.cc_program.specs.declared.expr.Expr.{Expr, out-Expr}
 use Rattle.cc_program.specs.declared.expr.Expr.TheOpen as one
 use Rattle.cc_program.specs.declared.expr.Place.{Place, out-Place}

@@ -2,3 +2,9 @@ pub mod Contexts
 pub mod Layers
 pub mod Typed
 pub mod Values
+pub mod CcEval
+pub mod CcLattice
+pub mod CcPlaces
+pub mod CcStateOperators
+pub mod CcSyntax
+pub mod CcValues

@@ -1,6 +1,6 @@
 -- Pure expressions with a value, and sets of the registers of a function, each of values of its type.
 use Rattle.std.specs.Prelude.{◌≡◌, ℕ, true, Option, Some, slice_get}
-use Rattle.cc_places.specs.declared.abs.Abs.{Abs}
+use Rattle.cc_state_operators.specs.CcPlaces.declared.abs.Abs.{Abs}
 use Rattle.cc_program.specs.declared.expr.Expr.{Expr}
 use Rattle.cc_program.specs.declared.expr.Place.{Place}
 use Rattle.cc_program.specs.declared.func.Func.{Func}
@@ -8,11 +8,11 @@ use Rattle.cc_program.specs.declared.program.Program.{Program}
 use Rattle.cc_state_operators.specs.Domains.{Domain}
 use Rattle.cc_state_operators.specs.Types.{AreOf}
 use Rattle.cc_state_values.specs.Values.{IsVal}
-use Rattle.cc_syntax.specs.Effects.{no_one, effects_of, place_effects_of}
-use Rattle.cc_syntax.specs.Programs.{type_of, place_type}
-use Rattle.cc_syntax.specs.Registers.{is_register}
-use Rattle.cc_syntax.specs.Types.{Named}
-use Rattle.cc_syntax.specs.Values.{ValueType, PlaceType, is_scalar, scalar_value}
+use Rattle.cc_state_operators.specs.CcSyntax.Effects.{no_one, effects_of, place_effects_of}
+use Rattle.cc_state_operators.specs.CcSyntax.Programs.{type_of, place_type}
+use Rattle.cc_state_operators.specs.CcSyntax.Registers.{is_register}
+use Rattle.cc_state_operators.specs.CcSyntax.Types.{Named}
+use Rattle.cc_state_operators.specs.CcSyntax.Values.{ValueType, PlaceType, is_scalar, scalar_value}
 
 -- a pure expression, nothing behind which assigns a register, with a value
 pub record IsPure (p : Program) (f : Func) (e : Expr) : Type 0 where

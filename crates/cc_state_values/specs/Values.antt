@@ -2,10 +2,10 @@
 -- gives for the sets of its operands, which are of its type; where they are sets of addresses, the hull of what pairs of members give
 -- without a trap.
 use Rattle.std.specs.Prelude.{◌≡◌, ℕ, ℤ, Bool, ◌&&◌, [], Option, Some}
-use Rattle.cc_lattice.specs.Domains.{AreOperands, AreOperandsOne}
-use Rattle.cc_num.specs.declared.int_type.IntType.{IntType}
-use Rattle.cc_num.specs.declared.op.BinOp.{BinOp}
-use Rattle.cc_num.specs.declared.op.UnOp.{UnOp}
+use Rattle.cc_state_operators.specs.CcLattice.Domains.{AreOperands, AreOperandsOne}
+use Rattle.cc_program.specs.CcNum.declared.int_type.IntType.{IntType}
+use Rattle.cc_program.specs.CcNum.declared.op.BinOp.{BinOp}
+use Rattle.cc_program.specs.CcNum.declared.op.UnOp.{UnOp}
 use Rattle.cc_program.specs.declared.expr.Expr.{Expr, out-Expr}
 use Rattle.cc_program.specs.declared.expr.Expr.TheOpen as one
 use Rattle.cc_program.specs.declared.expr.Place.{Place as PlaceOf, out-Place}
@@ -14,17 +14,17 @@ use Rattle.cc_program.specs.declared.program.Program.{Program}
 use Rattle.cc_program.specs.declared.types.CType.{CType}
 use Rattle.cc_program.specs.declared.value.Address.TheVariants as address
 use Rattle.cc_program.specs.declared.value.Root.TheVariants as root
-use Rattle.cc_places.specs.declared.abs.Abs.{Abs}
-use Rattle.cc_places.specs.declared.abs.Abs.TheVariants as abs
-use Rattle.cc_places.specs.declared.addrs.Addrs.{Addrs}
-use Rattle.cc_places.specs.Moves.{HasMoved}
-use Rattle.cc_places.specs.Sets.{IsSetOf}
+use Rattle.cc_state_operators.specs.CcPlaces.declared.abs.Abs.{Abs}
+use Rattle.cc_state_operators.specs.CcPlaces.declared.abs.Abs.TheVariants as abs
+use Rattle.cc_state_operators.specs.CcPlaces.declared.addrs.Addrs.{Addrs}
+use Rattle.cc_state_operators.specs.CcPlaces.Moves.{HasMoved}
+use Rattle.cc_state_operators.specs.CcPlaces.Sets.{IsSetOf}
 use Rattle.cc_state_operators.specs.Addresses.{object_address, IsOnly, IsNone, AreMembers, AreElements}
 use Rattle.cc_state_operators.specs.Domains.{Domain, IsHull, IsUnion}
 use Rattle.cc_state_operators.specs.Results.{is_told, offsets, IsComparison, ByBoth, ByEither, IsArm, IsGap}
-use Rattle.cc_syntax.specs.Effects.{place_effects_of}
-use Rattle.cc_syntax.specs.Programs.{place_type}
-use Rattle.cc_syntax.specs.Values.{PlaceType}
+use Rattle.cc_state_operators.specs.CcSyntax.Effects.{place_effects_of}
+use Rattle.cc_state_operators.specs.CcSyntax.Programs.{place_type}
+use Rattle.cc_state_operators.specs.CcSyntax.Values.{PlaceType}
 
 -- in a function of a program, where registers have these sets
 module _ {I : Type 0} (d : Domain I) (p : Program) (id : ℕ) (f : Func) (register : ℕ → Option (Abs I)) where

@@ -5,9 +5,9 @@ ghost use Rattle.std.specs.Option.{option_copied};
 ghost use Rattle.cc_program.specs.declared.expr.Place.{out-Place};
 ghost use Rattle.cc_state_values.specs.Contexts.{set_of, set_at};
 
-use cc_num::at;
-use cc_places::Abs;
+use cc_program::num::at;
 use cc_program::{Func, Place, Program};
+use cc_state_operators::places_crate::Abs;
 use cc_state_shared::Shared;
 
 /// A function of a program, and what its registers may hold.

@@ -1,6 +1,6 @@
 ghost use Rattle.std.specs.Prelude.{◌≡◌, ℕ, Option};
-ghost use Rattle.cc_places.specs.declared.abs.Abs.{Abs};
-ghost use Rattle.cc_places.specs.declared.addrs.Addrs.{Addrs};
+ghost use Rattle.cc_state_operators.specs.CcPlaces.declared.abs.Abs.{Abs};
+ghost use Rattle.cc_state_operators.specs.CcPlaces.declared.addrs.Addrs.{Addrs};
 ghost use Rattle.cc_program.specs.declared.expr.Expr.{Expr};
 ghost use Rattle.cc_program.specs.declared.expr.Place.{Place};
 ghost use Rattle.cc_program.specs.declared.func.Func.{Func};
@@ -8,7 +8,7 @@ ghost use Rattle.cc_program.specs.declared.program.Program.{Program};
 ghost use Rattle.cc_state_operators.specs.Domains.{domain};
 ghost use Rattle.cc_state_values.specs.Values.{IsVal, Designates};
 
-use cc_lattice::IntDomain;
+use cc_state_operators::lattice::IntDomain;
 
 /// What expressions may give is one value, and the addresses of a place are one set, over each domain. The call does nothing.
 pub fn laws<I: IntDomain>()

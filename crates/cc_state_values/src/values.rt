@@ -1,27 +1,27 @@
 //! What a pure expression may give, and the addresses of a place (C99 6.5).
 
 ghost use Rattle.std.specs.Prelude.{◌≡◌, option_map, IfOk};
-ghost use Rattle.cc_lattice.specs.Domains.{IsIntValue};
+ghost use Rattle.cc_state_operators.specs.CcLattice.Domains.{IsIntValue};
 ghost use Rattle.cc_program.specs.declared.expr.Expr.TheOpen as layer;
-ghost use Rattle.cc_syntax.specs.Programs.{type_of, place_type as place_type_of};
-ghost use Rattle.cc_syntax.specs.Sizes.{AreSized};
-ghost use Rattle.cc_syntax.specs.Values.{ValueType};
-ghost use Rattle.cc_typed.specs.View.{place_view};
+ghost use Rattle.cc_state_operators.specs.CcSyntax.Programs.{type_of, place_type as place_type_of};
+ghost use Rattle.cc_state_operators.specs.CcSyntax.Sizes.{AreSized};
+ghost use Rattle.cc_state_operators.specs.CcSyntax.Values.{ValueType};
+ghost use Rattle.cc_state_operators.specs.CcTyped.View.{place_view};
 ghost use Rattle.cc_state_values.specs.Contexts.{HaveSetsIn, IsPureIn, IsPurePlaceIn, IsValIn, DesignatesIn, IsKnownIn, ArePointersIn, IsPureAs, IsPurePlaceAs, IsKnownAs, DesignatesAs, IsConstant, IsOneAddress};
 ghost use Rattle.cc_state_operators.specs.Domains.{domain};
 ghost use Rattle.cc_state_values.specs.Layers.{of_one as one_layer, of_two as two_layer};
 ghost use Rattle.cc_state_operators.specs.Types.{AreOf};
 
 use crate::context::{Context, set_at};
-use cc_lattice::{IntDomain, copied};
-use cc_num::NoMemory;
-use cc_places::{Abs, Addrs};
+use cc_program::num::NoMemory;
 use cc_program::{Address, Expr, Place, Root};
+use cc_state_operators::lattice::{IntDomain, copied};
+use cc_state_operators::places_crate::{Abs, Addrs};
+use cc_state_operators::typed::{PlaceType, Scope};
 use cc_state_operators::{
     OneOperand, TwoOperands, chosen, elements, integers, members, object, only, result_of_one,
     result_of_two,
 };
-use cc_typed::{PlaceType, Scope};
 use std::alloc::Global;
 
 /// What a pure expression may give, where the registers of its function hold values of these sets.

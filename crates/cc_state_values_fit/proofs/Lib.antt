@@ -5,3 +5,4 @@ pub mod Taken
 pub mod Sets
 pub mod Results
 pub mod Values
+pub mod CcStateValuesGrow

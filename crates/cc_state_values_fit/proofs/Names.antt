@@ -2,9 +2,9 @@
 use Rattle.std.proofs.Common.{arith, ◌≡◌, ⊎_elim, ℕ, ℤ, pos, ◌+ℤ◌, Bool, true, false, true≢false, not, ◌&&◌, nat_le, nat_eq, List, [], ◌∷◌, map, Option, Some, None, refl, ap, sym, ◌∙◌, subst, slice_get}
 use Rattle.std.specs.List.{Contains, list_any}
 use Rattle.std.proofs.lemmas.Bool.{le-leb, eqb-true}
-use Rattle.cc_eval.specs.Context.{object_type}
-use Rattle.cc_places.specs.Kept.{kept, starred_part, starred}
-use Rattle.cc_places.specs.laws.ListLaws.{any_at, any_from}
+use Rattle.cc_state_reads.specs.CcEval.Context.{object_type}
+use Rattle.cc_state_reads.specs.CcPlaces.Kept.{kept, starred_part, starred}
+use Rattle.cc_state_reads.specs.CcPlaces.laws.ListLaws.{any_at, any_from}
 use Rattle.cc_program.specs.declared.program.Program.{Program}
 use Rattle.cc_program.specs.declared.types.Structure.{Structure}
 use Rattle.cc_program.specs.declared.value.Address.{Address}
@@ -15,24 +15,24 @@ use Rattle.cc_program.specs.declared.value.Root.{Root}
 use Rattle.cc_program.specs.declared.value.Root.TheVariants as root
 use Rattle.cc_state.proofs.Lists.{same_key, is_itself}
 use Rattle.cc_state.specs.Shape.{IsSlot, MayPoint}
-use Rattle.cc_state_facts.specs.declared.facts.Key.{Key}
-use Rattle.cc_state_keys.specs.Addressed.{IsAddressed, taken_keys}
-use Rattle.cc_state_keys.specs.Keys.{is_key, key_of_step, key_along, cell_key, root_key}
-use Rattle.cc_state_values.proofs.Rules.{one_there}
+use Rattle.cc_state_reads.specs.CcStateFacts.declared.facts.Key.{Key}
+use Rattle.cc_state_reads.specs.CcStateKeys.Addressed.{IsAddressed, taken_keys}
+use Rattle.cc_state_reads.specs.CcStateKeys.Keys.{is_key, key_of_step, key_along, cell_key, root_key}
+use Rattle.cc_state_reads.proofs.CcStateValues.Rules.{one_there}
 use Rattle.cc_state_values_grow.proofs.Fitting.{IsKept}
 use Rattle.cc_state_values_sound.proofs.Starring.{path_starred}
-use Rattle.cc_states.proofs.Options.{mapped, either_true, left_true, right_true}
-use Rattle.cc_states.proofs.TypedLemmas.{within}
-use Rattle.cc_states.specs.Typed.{place_in}
-use Rattle.cc_syntax.proofs.AlikeLemmas.{assigned_on_some}
-use Rattle.cc_syntax.proofs.Prefixes.{both_true}
-use Rattle.cc_syntax.proofs.SameLemmas.{and_true}
-use Rattle.cc_syntax.specs.Expressions.{of_one}
-use Rattle.cc_syntax.specs.Initial.{step_into, bound_of, place_at, leads_to_element, names, names_element, names_whole}
-use Rattle.cc_syntax.specs.Lists.{is_count}
-use Rattle.cc_syntax.specs.Operators.{function_type}
-use Rattle.cc_syntax.specs.Values.{ValueType, ToObject, ToFunction, PlaceType, DevicePlace, ObjectPlace, FunctionPlace, address_of, element_of, is_assignable, is_assignable_some}
-use Rattle.cc_values.specs.Values.{index_in, offset, moved_address}
+use Rattle.cc_flow_sound.proofs.CcStates.Options.{mapped, either_true, left_true, right_true}
+use Rattle.cc_flow_sound.proofs.CcStates.TypedLemmas.{within}
+use Rattle.cc_flow_sound.specs.CcStates.Typed.{place_in}
+use Rattle.cc_state_reads.proofs.CcSyntax.AlikeLemmas.{assigned_on_some}
+use Rattle.cc_state_reads.proofs.CcSyntax.Prefixes.{both_true}
+use Rattle.cc_state_reads.proofs.CcSyntax.SameLemmas.{and_true}
+use Rattle.cc_state_reads.specs.CcSyntax.Expressions.{of_one}
+use Rattle.cc_state_reads.specs.CcSyntax.Initial.{step_into, bound_of, place_at, leads_to_element, names, names_element, names_whole}
+use Rattle.cc_state_reads.specs.CcSyntax.Lists.{is_count}
+use Rattle.cc_state_reads.specs.CcSyntax.Operators.{function_type}
+use Rattle.cc_state_reads.specs.CcSyntax.Values.{ValueType, ToObject, ToFunction, PlaceType, DevicePlace, ObjectPlace, FunctionPlace, address_of, element_of, is_assignable, is_assignable_some}
+use Rattle.cc_state_reads.specs.CcValues.Values.{index_in, offset, moved_address}
 
 -- ---- what names an element, or a whole
 

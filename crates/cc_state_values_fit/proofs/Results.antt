@@ -1,24 +1,24 @@
 -- What operators on addresses and on truths give is 0 or 1, or a difference of the type that differences have.
 use Rattle.std.proofs.Common.{◌≡◌, inl, inr, ℕ, ℤ, pos, ◌-ℤ◌, Bool, true, false, not, Option, Some, None, refl, sym, subst}
 use Rattle.std.specs.Prelude.{option_map, option_and_then, nat_le, nat_lt, if◌then◌else◌}
-use Rattle.cc_lattice.specs.Domains.{type_given, type_given_of_one}
-use Rattle.cc_num.proofs.ResultLaws.{value_from_test, truth_value}
-use Rattle.cc_num.specs.declared.int_type.IntType.{IntType}
-use Rattle.cc_num.specs.declared.op.BinOp.{BinOp}
-use Rattle.cc_num.specs.declared.op.BinOp.TheVariants as op
-use Rattle.cc_num.specs.declared.op.UnOp.{UnOp}
-use Rattle.cc_num.specs.declared.op.UnOp.TheVariants as unary
-use Rattle.cc_num.specs.declared.target.Target.{Target}
-use Rattle.cc_num.specs.Integers.{is_value_of, IsValueOf}
-use Rattle.cc_num.specs.Results.{one_if}
+use Rattle.cc_state_reads.specs.CcLattice.Domains.{type_given, type_given_of_one}
+use Rattle.cc_program.proofs.CcNum.ResultLaws.{value_from_test, truth_value}
+use Rattle.cc_program.specs.CcNum.declared.int_type.IntType.{IntType}
+use Rattle.cc_program.specs.CcNum.declared.op.BinOp.{BinOp}
+use Rattle.cc_program.specs.CcNum.declared.op.BinOp.TheVariants as op
+use Rattle.cc_program.specs.CcNum.declared.op.UnOp.{UnOp}
+use Rattle.cc_program.specs.CcNum.declared.op.UnOp.TheVariants as unary
+use Rattle.cc_program.specs.CcNum.declared.target.Target.{Target}
+use Rattle.cc_program.specs.CcNum.Integers.{is_value_of, IsValueOf}
+use Rattle.cc_program.specs.CcNum.Results.{one_if}
 use Rattle.cc_program.specs.declared.value.Address.{Address}
 use Rattle.cc_program.specs.declared.value.Value.TheVariants.{Int}
-use Rattle.cc_state_operators.specs.Domains.{Domain}
-use Rattle.cc_state_operators.specs.Results.{Together, IsZeroOrOne, ByBoth, ByEither}
-use Rattle.cc_places.specs.declared.abs.Abs.{Abs}
-use Rattle.cc_places.specs.declared.addrs.Addrs.{Addrs}
-use Rattle.cc_syntax.specs.Operators.{unary_result, binary_result, difference_type}
-use Rattle.cc_values.specs.Values.{same_address, in_one_array, difference, gap, compared, comparison}
+use Rattle.cc_state_reads.specs.CcStateOperators.Domains.{Domain}
+use Rattle.cc_state_reads.specs.CcStateOperators.Results.{Together, IsZeroOrOne, ByBoth, ByEither}
+use Rattle.cc_state_reads.specs.CcPlaces.declared.abs.Abs.{Abs}
+use Rattle.cc_state_reads.specs.CcPlaces.declared.addrs.Addrs.{Addrs}
+use Rattle.cc_state_reads.specs.CcSyntax.Operators.{unary_result, binary_result, difference_type}
+use Rattle.cc_state_reads.specs.CcValues.Values.{same_address, in_one_array, difference, gap, compared, comparison}
 
 -- ---- the types of results, as domains and as programs have them
 

@@ -1,30 +1,30 @@
 -- Sets of values of a type: those of integers are below the set of all, those of addresses have each one that a pointer of the type may have. So is
 -- a set that is the least above some of them.
 use Rattle.std.proofs.Common.{◌≡◌, ⊎_elim, inl, inr, ℤ, Bool, true, false, List, [], ◌∷◌, Contains, refl, sym, subst}
-use Rattle.cc_lattice.specs.Domains.{AreOperands, AreOperandsOne, type_given, type_given_of_one}
-use Rattle.cc_num.proofs.ResultLaws.{is_value_from, value_from_test}
-use Rattle.cc_num.specs.declared.int_type.IntType.{IntType}
-use Rattle.cc_num.specs.declared.op.BinOp.{BinOp}
-use Rattle.cc_num.specs.declared.op.UnOp.{UnOp}
-use Rattle.cc_num.specs.declared.target.Target.{Target}
-use Rattle.cc_num.specs.Integers.{is_value_of, IsValueOf}
-use Rattle.cc_places.specs.Abstract.{AreOfOneKind, IsBelowAbs}
-use Rattle.cc_places.specs.declared.abs.Abs.{Abs}
-use Rattle.cc_places.specs.declared.abs.Abs.TheVariants as abs
-use Rattle.cc_places.specs.declared.addrs.Addrs.{Addrs}
-use Rattle.cc_places.specs.laws.ListLaws.{cons_cases, at_head, behind_head, none_in}
-use Rattle.cc_places.specs.laws.SetLaws.{sets_same}
-use Rattle.cc_places.specs.Sets.{IsWithin}
+use Rattle.cc_state_reads.specs.CcLattice.Domains.{AreOperands, AreOperandsOne, type_given, type_given_of_one}
+use Rattle.cc_program.proofs.CcNum.ResultLaws.{is_value_from, value_from_test}
+use Rattle.cc_program.specs.CcNum.declared.int_type.IntType.{IntType}
+use Rattle.cc_program.specs.CcNum.declared.op.BinOp.{BinOp}
+use Rattle.cc_program.specs.CcNum.declared.op.UnOp.{UnOp}
+use Rattle.cc_program.specs.CcNum.declared.target.Target.{Target}
+use Rattle.cc_program.specs.CcNum.Integers.{is_value_of, IsValueOf}
+use Rattle.cc_state_reads.specs.CcPlaces.Abstract.{AreOfOneKind, IsBelowAbs}
+use Rattle.cc_state_reads.specs.CcPlaces.declared.abs.Abs.{Abs}
+use Rattle.cc_state_reads.specs.CcPlaces.declared.abs.Abs.TheVariants as abs
+use Rattle.cc_state_reads.specs.CcPlaces.declared.addrs.Addrs.{Addrs}
+use Rattle.cc_state_reads.specs.CcPlaces.laws.ListLaws.{cons_cases, at_head, behind_head, none_in}
+use Rattle.cc_state_reads.specs.CcPlaces.laws.SetLaws.{sets_same}
+use Rattle.cc_state_reads.specs.CcPlaces.Sets.{IsWithin}
 use Rattle.cc_program.specs.declared.program.Program.{Program}
 use Rattle.cc_state.specs.Shape.{MayPoint, HoldsIntegers, IsSetIn}
-use Rattle.cc_state_operators.specs.Domains.{Domain, AllOf, IsHull, IsUnion}
-use Rattle.cc_state_operators.specs.Results.{IsArm}
-use Rattle.cc_state_values.proofs.Rules.{IsPointer}
+use Rattle.cc_state_reads.specs.CcStateOperators.Domains.{Domain, AllOf, IsHull, IsUnion}
+use Rattle.cc_state_reads.specs.CcStateOperators.Results.{IsArm}
+use Rattle.cc_state_reads.proofs.CcStateValues.Rules.{IsPointer}
 use Rattle.cc_state_values_fit.proofs.Names.{point_kept, point_surely, point_wider}
 use Rattle.cc_state_values_fit.proofs.Unions.{IsOver, over, those_never}
 use Rattle.cc_state_values_fit.specs.Fit.{HasWholes, AllMayPoint}
-use Rattle.cc_syntax.proofs.SameLemmas.{int_same}
-use Rattle.cc_syntax.specs.Values.{ValueType, NoValue, Integer, ToObject, ToFunction, is_scalar, is_assignable}
+use Rattle.cc_state_reads.proofs.CcSyntax.SameLemmas.{int_same}
+use Rattle.cc_state_reads.specs.CcSyntax.Values.{ValueType, NoValue, Integer, ToObject, ToFunction, is_scalar, is_assignable}
 
 -- what the laws of a domain say of the members of sets
 pub record IsTyping {I : Type 0} (d : Domain I) : Type 0 where

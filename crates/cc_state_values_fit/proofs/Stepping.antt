@@ -3,8 +3,8 @@
 use Rattle.std.proofs.Common.{◌≡◌, ℕ, zero, suc, ℤ, Bool, true, false, not, nat_lt, List, [], ◌∷◌, ◌++◌, Option, Some, None, refl, ap, sym, ◌∙◌, subst, slice_get}
 use Rattle.std.specs.Prelude.{is_some, option_map, option_and_then, if◌then◌else◌}
 use Rattle.std.proofs.lemmas.Option.{same_Some}
-use Rattle.cc_eval.specs.Context.{object_type, has_elements, path_to, named_by, element_in as spot_in}
-use Rattle.cc_eval.specs.declared.spots.Spot.TheVariants as spot
+use Rattle.cc_state_reads.specs.CcEval.Context.{object_type, has_elements, path_to, named_by, element_in as spot_in}
+use Rattle.cc_state_reads.specs.CcEval.declared.spots.Spot.TheVariants as spot
 use Rattle.cc_program.specs.declared.program.Program.{Program}
 use Rattle.cc_program.specs.declared.types.CType.{CType}
 use Rattle.cc_program.specs.declared.types.Shape.{Shape, out-Shape}
@@ -19,24 +19,24 @@ use Rattle.cc_program.specs.declared.value.Root.{Root}
 use Rattle.cc_program.specs.declared.value.Root.TheVariants as root
 use Rattle.cc_program.specs.declared.value.Value.TheVariants.{Int}
 use Rattle.cc_state.specs.Shape.{MayPoint}
-use Rattle.cc_state_facts.specs.declared.facts.Key.{Key}
-use Rattle.cc_state_facts.specs.declared.facts.Key.TheVariants as key
-use Rattle.cc_state_keys.specs.Addressed.{IsAddressed}
-use Rattle.cc_state_keys.specs.Keys.{structure_shape, structure_of, key_of_member, key_of_step, key_along, cell_key, root_key}
-use Rattle.cc_state_operators.specs.Addresses.{object_address, member_address, element_in, element_address}
+use Rattle.cc_state_reads.specs.CcStateFacts.declared.facts.Key.{Key}
+use Rattle.cc_state_reads.specs.CcStateFacts.declared.facts.Key.TheVariants as key
+use Rattle.cc_state_reads.specs.CcStateKeys.Addressed.{IsAddressed}
+use Rattle.cc_state_reads.specs.CcStateKeys.Keys.{structure_shape, structure_of, key_of_member, key_of_step, key_along, cell_key, root_key}
+use Rattle.cc_state_reads.specs.CcStateOperators.Addresses.{object_address, member_address, element_in, element_address}
 use Rattle.cc_state_values_fit.proofs.Names.{element_of_names, whole_of_names, as_whole, by_names, named_there, Names, IsKeyBy, HasKey, Stands, PlaceStands, stands_to, stands_from}
 use Rattle.cc_state_values_grow.proofs.Fitting.{IsNamed}
 use Rattle.cc_state_values_sound.proofs.InStates.{no_elements}
-use Rattle.cc_states.proofs.MemoryLemmas.{part_in_memory}
-use Rattle.cc_states.proofs.Options.{mapped, one_as_then}
-use Rattle.cc_states.proofs.PlaceLemmas.{CanPoint, real}
-use Rattle.cc_states.proofs.SpotLemmas.{designates, may_lead_member, may_lead_element}
-use Rattle.cc_states.specs.Typed.{place_in, IsOpened, IsSpot, MayLead}
-use Rattle.cc_syntax.proofs.AlikeLemmas.{alike-struct}
-use Rattle.cc_syntax.specs.Initial.{bound_shape, bound_of, step_into, place_at, leads_to_element, names, names_element, names_whole}
-use Rattle.cc_syntax.specs.Lists.{is_count}
-use Rattle.cc_syntax.specs.Values.{ValueType, NoValue, Integer, ToObject, ToFunction, PlaceType, DevicePlace, ObjectPlace, FunctionPlace, scalar_shape, read_from, address_of, pointed_to, element_of, member_shape, member_of, is_void}
-use Rattle.cc_values.specs.Values.{index_in}
+use Rattle.cc_flow_sound.proofs.CcStates.MemoryLemmas.{part_in_memory}
+use Rattle.cc_flow_sound.proofs.CcStates.Options.{mapped, one_as_then}
+use Rattle.cc_flow_sound.proofs.CcStates.PlaceLemmas.{CanPoint, real}
+use Rattle.cc_flow_sound.proofs.CcStates.SpotLemmas.{designates, may_lead_member, may_lead_element}
+use Rattle.cc_flow_sound.specs.CcStates.Typed.{place_in, IsOpened, IsSpot, MayLead}
+use Rattle.cc_state_reads.proofs.CcSyntax.AlikeLemmas.{alike-struct}
+use Rattle.cc_state_reads.specs.CcSyntax.Initial.{bound_shape, bound_of, step_into, place_at, leads_to_element, names, names_element, names_whole}
+use Rattle.cc_state_reads.specs.CcSyntax.Lists.{is_count}
+use Rattle.cc_state_reads.specs.CcSyntax.Values.{ValueType, NoValue, Integer, ToObject, ToFunction, PlaceType, DevicePlace, ObjectPlace, FunctionPlace, scalar_shape, read_from, address_of, pointed_to, element_of, member_shape, member_of, is_void}
+use Rattle.cc_state_reads.specs.CcValues.Values.{index_in}
 
 only_if : {A : Type 0} (b : Bool) (x : Option A) (y : A) → (if b then x else None) ≡ Some y → (b ≡ true) × (x ≡ Some y)
 only_if true x y h = (refl, h)

@@ -2,21 +2,21 @@
 use Rattle.std.proofs.Common.{◌≡◌, ℕ, List, [], ◌++◌, Contains, Option, Some, ap, sym, ◌∙◌, subst}
 use Rattle.std.specs.Prelude.{option_map, option_and_then}
 use Rattle.std.proofs.lemmas.List.Elements.{Contains-append_left, Contains-append_right}
-use Rattle.cc_places.specs.laws.ListLaws.{at_head}
+use Rattle.cc_state_reads.specs.CcPlaces.laws.ListLaws.{at_head}
 use Rattle.cc_program.specs.declared.expr.Expr.{Expr, out-Expr, roll-Expr, roll-out-Expr, map-Expr, fold-roll-Expr}
 use Rattle.cc_program.specs.declared.expr.Expr.TheOpen as one
 use Rattle.cc_program.specs.declared.expr.Place.{Place, out-Place, roll-Place, roll-out-Place, map-Place, fold-roll-Place}
 use Rattle.cc_program.specs.declared.func.Func.{Func}
 use Rattle.cc_program.specs.declared.program.Program.{Program}
-use Rattle.cc_state_facts.specs.declared.facts.Key.{Key}
-use Rattle.cc_state_facts.specs.declared.facts.Key.TheVariants as key
-use Rattle.cc_state_keys.proofs.PlaceTypes.{place_typed}
-use Rattle.cc_state_keys.specs.Addressed.{InExpr, InPlace, taken_step, place_taken_step, own_step, expr_in, place_in, in_expr, in_place, taken_in, IsAddressed}
-use Rattle.cc_state_keys.specs.Keys.{structure_of}
-use Rattle.cc_state_keys.specs.Lists.{only}
+use Rattle.cc_state_reads.specs.CcStateFacts.declared.facts.Key.{Key}
+use Rattle.cc_state_reads.specs.CcStateFacts.declared.facts.Key.TheVariants as key
+use Rattle.cc_state_reads.proofs.CcStateKeys.PlaceTypes.{place_typed}
+use Rattle.cc_state_reads.specs.CcStateKeys.Addressed.{InExpr, InPlace, taken_step, place_taken_step, own_step, expr_in, place_in, in_expr, in_place, taken_in, IsAddressed}
+use Rattle.cc_state_reads.specs.CcStateKeys.Keys.{structure_of}
+use Rattle.cc_state_reads.specs.CcStateKeys.Lists.{only}
 use Rattle.cc_state_values_fit.specs.Fit.{AreAddressed}
-use Rattle.cc_syntax.specs.Programs.{place_type}
-use Rattle.cc_syntax.specs.Values.{PlaceType}
+use Rattle.cc_state_reads.specs.CcSyntax.Programs.{place_type}
+use Rattle.cc_state_reads.specs.CcSyntax.Values.{PlaceType}
 
 pub first_addressed : (p : Program) (xs ys : List Key) → AreAddressed p (xs ++ ys) → AreAddressed p xs
 first_addressed p xs ys h k c = h k (Contains-append_left xs ys k c)

@@ -3,13 +3,13 @@
 use Rattle.std.proofs.Common.{◌≡◌, ◌↔◌, inl, inr, ⊎_elim, ◌<◌, ◌≤◌, Bool, true, false, List, [], ◌∷◌, length, IsTrue, refl, ap, sym, ◌∙◌, subst}
 use Rattle.std.proofs.lemmas.Bool.{cases_lt}
 use Rattle.std.specs.List.{Contains}
-use Rattle.cc_places.specs.Kept.{kept, starred}
-use Rattle.cc_places.specs.Members.{most_exact, are_members, added}
-use Rattle.cc_places.specs.Order.{ascends}
-use Rattle.cc_places.specs.Sets.{HasAddress, IsWithin, IsSetOf, OneMore, AreStarred}
-use Rattle.cc_places.specs.declared.addrs.Addrs.{Addrs}
-use Rattle.cc_places.specs.laws.ListLaws.{cons_cases, at_head, behind_head, none_in, same_in, added_only, added_old, added_new, ascends_added}
-use Rattle.cc_places.specs.laws.SetLaws.{ascending, has_member, members_within, sets_same, set_has, set_in, set_added, set_starred, listed_added, listed_starred}
+use Rattle.cc_state_reads.specs.CcPlaces.Kept.{kept, starred}
+use Rattle.cc_state_reads.specs.CcPlaces.Members.{most_exact, are_members, added}
+use Rattle.cc_state_reads.specs.CcPlaces.Order.{ascends}
+use Rattle.cc_state_reads.specs.CcPlaces.Sets.{HasAddress, IsWithin, IsSetOf, OneMore, AreStarred}
+use Rattle.cc_state_reads.specs.CcPlaces.declared.addrs.Addrs.{Addrs}
+use Rattle.cc_state_reads.specs.CcPlaces.laws.ListLaws.{cons_cases, at_head, behind_head, none_in, same_in, added_only, added_old, added_new, ascends_added}
+use Rattle.cc_state_reads.specs.CcPlaces.laws.SetLaws.{ascending, has_member, members_within, sets_same, set_has, set_in, set_added, set_starred, listed_added, listed_starred}
 use Rattle.cc_program.specs.declared.value.Address.{Address}
 use Rattle.cc_state_values_grow.proofs.Fitting.{IsKept}
 use Rattle.cc_state_values_grow.proofs.Joins.{All}

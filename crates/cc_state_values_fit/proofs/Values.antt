@@ -2,22 +2,22 @@
 use Rattle.std.proofs.Common.{◌≡◌, inl, inr, ℕ, ℤ, Bool, true, false, true≢false, ◌&&◌, List, [], ◌∷◌, ◌++◌, Contains, Option, Some, None, refl, ap, sym, ◌∙◌, subst, slice_get}
 use Rattle.std.specs.Prelude.{option_map, option_and_then, if◌then◌else◌}
 use Rattle.std.proofs.lemmas.Option.{same_Some}
-use Rattle.cc_eval.specs.Context.{local_type, named_by}
-use Rattle.cc_lattice.specs.Domains.{type_given, type_given_of_one}
-use Rattle.cc_num.proofs.ResultLaws.{value_from_test}
-use Rattle.cc_num.specs.declared.int_type.IntType.{IntType}
-use Rattle.cc_num.specs.declared.int_type.IntType.TheVariants as int
-use Rattle.cc_num.specs.declared.op.BinOp.{BinOp}
-use Rattle.cc_num.specs.declared.op.UnOp.{UnOp}
-use Rattle.cc_num.specs.Integers.{is_value_of, IsValueOf}
-use Rattle.cc_places.specs.declared.abs.Abs.{Abs}
-use Rattle.cc_places.specs.declared.abs.Abs.TheVariants as abs
-use Rattle.cc_places.specs.declared.addrs.Addrs.{Addrs}
-use Rattle.cc_places.specs.Kept.{starred, member_for, is_object}
-use Rattle.cc_places.specs.laws.KeptLaws.{object_starred}
-use Rattle.cc_places.specs.laws.SetLaws.{has_same}
-use Rattle.cc_places.specs.Moves.{HasMoved}
-use Rattle.cc_places.specs.Sets.{HasAddress, IsSetOf}
+use Rattle.cc_state_reads.specs.CcEval.Context.{local_type, named_by}
+use Rattle.cc_state_reads.specs.CcLattice.Domains.{type_given, type_given_of_one}
+use Rattle.cc_program.proofs.CcNum.ResultLaws.{value_from_test}
+use Rattle.cc_program.specs.CcNum.declared.int_type.IntType.{IntType}
+use Rattle.cc_program.specs.CcNum.declared.int_type.IntType.TheVariants as int
+use Rattle.cc_program.specs.CcNum.declared.op.BinOp.{BinOp}
+use Rattle.cc_program.specs.CcNum.declared.op.UnOp.{UnOp}
+use Rattle.cc_program.specs.CcNum.Integers.{is_value_of, IsValueOf}
+use Rattle.cc_state_reads.specs.CcPlaces.declared.abs.Abs.{Abs}
+use Rattle.cc_state_reads.specs.CcPlaces.declared.abs.Abs.TheVariants as abs
+use Rattle.cc_state_reads.specs.CcPlaces.declared.addrs.Addrs.{Addrs}
+use Rattle.cc_state_reads.specs.CcPlaces.Kept.{starred, member_for, is_object}
+use Rattle.cc_state_reads.specs.CcPlaces.laws.KeptLaws.{object_starred}
+use Rattle.cc_state_reads.specs.CcPlaces.laws.SetLaws.{has_same}
+use Rattle.cc_state_reads.specs.CcPlaces.Moves.{HasMoved}
+use Rattle.cc_state_reads.specs.CcPlaces.Sets.{HasAddress, IsSetOf}
 use Rattle.cc_program.specs.declared.expr.Expr.{Expr, out-Expr}
 use Rattle.cc_program.specs.declared.expr.Expr.TheOpen as one
 use Rattle.cc_program.specs.declared.expr.Place.{Place, out-Place}
@@ -33,19 +33,19 @@ use Rattle.cc_program.specs.declared.value.Root.{Root}
 use Rattle.cc_program.specs.declared.value.Root.TheVariants as root
 use Rattle.cc_program.specs.Qualifiers.{is_const, is_volatile}
 use Rattle.cc_state.specs.Shape.{MayPoint, IsSetIn}
-use Rattle.cc_state_facts.specs.declared.facts.Key.{Key}
-use Rattle.cc_state_facts.specs.declared.facts.Key.TheVariants as key
-use Rattle.cc_state_keys.specs.Addressed.{in_place, taken_in}
-use Rattle.cc_state_keys.specs.Keys.{structure_of, cell_key}
-use Rattle.cc_state_keys.specs.Lists.{only}
-use Rattle.cc_state_operators.specs.Addresses.{object_address, IsOnly, IsNone, member_address, element_in, IsElement, HasStepped}
-use Rattle.cc_state_operators.specs.declared.operators.OneOperand.TheVariants as kind_one
-use Rattle.cc_state_operators.specs.declared.operators.TwoOperands.TheVariants as kind_two
-use Rattle.cc_state_operators.specs.Domains.{Domain, AllOf, IsHull}
-use Rattle.cc_state_operators.specs.Results.{is_told, offsets, Together, IsZeroOrOne, IsComparison, IsGap, ByBoth, ByEither}
-use Rattle.cc_state_values.proofs.Parts.{place_effects_at, typed_as, place_typed_as, one_type, two_type, qualified_assigned, by_place, register_type}
-use Rattle.cc_state_values.proofs.Rules.{one_there, two_there, when_there, IsPointer, pointer_scalar, object_pointer, assigned_scalar, pointed_pointer, address_pointer, are_integers, is_one_integer, null_pointer, function_pointer}
-use Rattle.cc_state_values.specs.Values.{IsVal, OfConst, OfNull, OfFunction, OfRegister, OfAddress, OfUn, OfBin, OfConv, OfQualify, OfMove, OfGap, OfCompare, OfBoth, OfEither, OfChoose, Designates, AtLocal, AtStatic, AtDevice, AtElement, AtMember, AtTarget}
+use Rattle.cc_state_reads.specs.CcStateFacts.declared.facts.Key.{Key}
+use Rattle.cc_state_reads.specs.CcStateFacts.declared.facts.Key.TheVariants as key
+use Rattle.cc_state_reads.specs.CcStateKeys.Addressed.{in_place, taken_in}
+use Rattle.cc_state_reads.specs.CcStateKeys.Keys.{structure_of, cell_key}
+use Rattle.cc_state_reads.specs.CcStateKeys.Lists.{only}
+use Rattle.cc_state_reads.specs.CcStateOperators.Addresses.{object_address, IsOnly, IsNone, member_address, element_in, IsElement, HasStepped}
+use Rattle.cc_state_reads.specs.CcStateOperators.declared.operators.OneOperand.TheVariants as kind_one
+use Rattle.cc_state_reads.specs.CcStateOperators.declared.operators.TwoOperands.TheVariants as kind_two
+use Rattle.cc_state_reads.specs.CcStateOperators.Domains.{Domain, AllOf, IsHull}
+use Rattle.cc_state_reads.specs.CcStateOperators.Results.{is_told, offsets, Together, IsZeroOrOne, IsComparison, IsGap, ByBoth, ByEither}
+use Rattle.cc_state_reads.proofs.CcStateValues.Parts.{place_effects_at, typed_as, place_typed_as, one_type, two_type, qualified_assigned, by_place, register_type}
+use Rattle.cc_state_reads.proofs.CcStateValues.Rules.{one_there, two_there, when_there, IsPointer, pointer_scalar, object_pointer, assigned_scalar, pointed_pointer, address_pointer, are_integers, is_one_integer, null_pointer, function_pointer}
+use Rattle.cc_state_reads.specs.CcStateValues.Values.{IsVal, OfConst, OfNull, OfFunction, OfRegister, OfAddress, OfUn, OfBin, OfConv, OfQualify, OfMove, OfGap, OfCompare, OfBoth, OfEither, OfChoose, Designates, AtLocal, AtStatic, AtDevice, AtElement, AtMember, AtTarget}
 use Rattle.cc_state_values_fit.proofs.Names.{as_whole, PlaceStands, place_kept, point_kept, point_moved}
 use Rattle.cc_state_values_fit.proofs.Results.{IsTruth, binary_same, unary_same, truth_in, compared_together, zero_or_one, both_truth, either_truth, gap_together}
 use Rattle.cc_state_values_fit.proofs.Sets.{IsTyping, ints_set, addrs_set, points_of, wider_set, hull_in, arms_in}
@@ -54,18 +54,18 @@ use Rattle.cc_state_values_fit.proofs.Taken.{first_addressed, second_addressed, 
 use Rattle.cc_state_values_fit.specs.Fit.{HasWholes, AreAddressed, RegistersFit, AllMayPoint}
 use Rattle.cc_state_values_grow.proofs.Fitting.{IsKept}
 use Rattle.cc_state_values_grow.proofs.Joins.{All, set_all, places_all}
-use Rattle.cc_states.proofs.GivenLemmas.{TakesBoth, common}
-use Rattle.cc_states.proofs.Options.{mapped}
-use Rattle.cc_states.specs.Typed.{place_in}
-use Rattle.cc_syntax.proofs.AlikeLemmas.{alike_itself, implies_itself, assignable_object, function_itself}
-use Rattle.cc_syntax.specs.Effects.{PlaceEffects, place_effects_of}
-use Rattle.cc_syntax.specs.Expressions.{of_one, of_two}
-use Rattle.cc_syntax.specs.Initial.{bound_of, names}
-use Rattle.cc_syntax.specs.Operators.{unary_result, binary_result, function_type, common_type, choice_type, moved_type, points_to_object, is_integer, subscript_type, difference_type}
-use Rattle.cc_syntax.specs.Programs.{type_of, place_type}
-use Rattle.cc_syntax.specs.Types.{Named}
-use Rattle.cc_syntax.specs.Values.{ValueType, NoValue, Integer, ToObject, ToFunction, PlaceType, object_place, read_from, address_of, pointed_to, element_of, member_of, is_scalar, is_assignable, is_assignable_some, scalar_value}
-use Rattle.cc_values.specs.Values.{index_in, gap, comparison, moved_address}
+use Rattle.cc_flow_sound.proofs.CcStates.GivenLemmas.{TakesBoth, common}
+use Rattle.cc_flow_sound.proofs.CcStates.Options.{mapped}
+use Rattle.cc_flow_sound.specs.CcStates.Typed.{place_in}
+use Rattle.cc_state_reads.proofs.CcSyntax.AlikeLemmas.{alike_itself, implies_itself, assignable_object, function_itself}
+use Rattle.cc_state_reads.specs.CcSyntax.Effects.{PlaceEffects, place_effects_of}
+use Rattle.cc_state_reads.specs.CcSyntax.Expressions.{of_one, of_two}
+use Rattle.cc_state_reads.specs.CcSyntax.Initial.{bound_of, names}
+use Rattle.cc_state_reads.specs.CcSyntax.Operators.{unary_result, binary_result, function_type, common_type, choice_type, moved_type, points_to_object, is_integer, subscript_type, difference_type}
+use Rattle.cc_state_reads.specs.CcSyntax.Programs.{type_of, place_type}
+use Rattle.cc_state_reads.specs.CcSyntax.Types.{Named}
+use Rattle.cc_state_reads.specs.CcSyntax.Values.{ValueType, NoValue, Integer, ToObject, ToFunction, PlaceType, object_place, read_from, address_of, pointed_to, element_of, member_of, is_scalar, is_assignable, is_assignable_some, scalar_value}
+use Rattle.cc_state_reads.specs.CcValues.Values.{index_in, gap, comparison, moved_address}
 
 -- ---- what is stepped to is an object
 

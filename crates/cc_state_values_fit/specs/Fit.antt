@@ -1,19 +1,19 @@
 -- Sets of registers that fit their types, and what else is asked so that what expressions give is of theirs.
 use Rattle.std.specs.Prelude.{◌≡◌, ℕ, List, Some, Option, slice_get}
 use Rattle.std.specs.List.{Contains}
-use Rattle.cc_num.specs.declared.int_type.IntType.{IntType}
-use Rattle.cc_num.specs.declared.target.Target.{Target}
-use Rattle.cc_places.specs.declared.abs.Abs.{Abs}
-use Rattle.cc_places.specs.declared.addrs.Addrs.{Addrs}
+use Rattle.cc_program.specs.CcNum.declared.int_type.IntType.{IntType}
+use Rattle.cc_program.specs.CcNum.declared.target.Target.{Target}
+use Rattle.cc_state_reads.specs.CcPlaces.declared.abs.Abs.{Abs}
+use Rattle.cc_state_reads.specs.CcPlaces.declared.addrs.Addrs.{Addrs}
 use Rattle.cc_program.specs.declared.func.Func.{Func}
 use Rattle.cc_program.specs.declared.program.Program.{Program}
 use Rattle.cc_program.specs.declared.value.Address.{Address}
 use Rattle.cc_state.specs.Shape.{MayPoint, IsSetIn}
-use Rattle.cc_state_facts.specs.declared.facts.Key.{Key}
-use Rattle.cc_state_keys.specs.Addressed.{IsAddressed}
-use Rattle.cc_state_operators.specs.Domains.{Domain, IsWhole}
-use Rattle.cc_syntax.specs.Types.{Named}
-use Rattle.cc_syntax.specs.Values.{ValueType, scalar_value}
+use Rattle.cc_state_reads.specs.CcStateFacts.declared.facts.Key.{Key}
+use Rattle.cc_state_reads.specs.CcStateKeys.Addressed.{IsAddressed}
+use Rattle.cc_state_reads.specs.CcStateOperators.Domains.{Domain, IsWhole}
+use Rattle.cc_state_reads.specs.CcSyntax.Types.{Named}
+use Rattle.cc_state_reads.specs.CcSyntax.Values.{ValueType, scalar_value}
 
 -- for each type there is the set of all its values
 abbrev pub HasWholes : {I : Type 0} → Domain I → Target → Type 0

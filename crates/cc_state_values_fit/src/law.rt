@@ -1,21 +1,21 @@
 ghost use Rattle.std.specs.Prelude.{◌≡◌, ℕ, true, Option, Some, slice_get};
-ghost use Rattle.cc_places.specs.declared.abs.Abs.{Abs};
-ghost use Rattle.cc_places.specs.declared.addrs.Addrs.{Addrs};
+ghost use Rattle.cc_state_reads.specs.CcPlaces.declared.abs.Abs.{Abs};
+ghost use Rattle.cc_state_reads.specs.CcPlaces.declared.addrs.Addrs.{Addrs};
 ghost use Rattle.cc_program.specs.declared.expr.Expr.{Expr};
 ghost use Rattle.cc_program.specs.declared.expr.Place.{Place};
 ghost use Rattle.cc_program.specs.declared.func.Func.{Func};
 ghost use Rattle.cc_program.specs.declared.program.Program.{Program};
 ghost use Rattle.cc_state.specs.Shape.{IsSetIn};
-ghost use Rattle.cc_state_keys.specs.Addressed.{in_place, taken_in};
-ghost use Rattle.cc_state_keys.specs.Lists.{only};
-ghost use Rattle.cc_state_operators.specs.Domains.{domain};
-ghost use Rattle.cc_state_values.specs.Values.{IsVal, Designates};
+ghost use Rattle.cc_state_reads.specs.CcStateKeys.Addressed.{in_place, taken_in};
+ghost use Rattle.cc_state_reads.specs.CcStateKeys.Lists.{only};
+ghost use Rattle.cc_state_reads.specs.CcStateOperators.Domains.{domain};
+ghost use Rattle.cc_state_reads.specs.CcStateValues.Values.{IsVal, Designates};
 ghost use Rattle.cc_state_values_fit.specs.Fit.{HasWholes, AreAddressed, RegistersFit, AllMayPoint};
-ghost use Rattle.cc_syntax.specs.Programs.{type_of, place_type};
-ghost use Rattle.cc_syntax.specs.Values.{ValueType, PlaceType, is_scalar, address_of};
+ghost use Rattle.cc_state_reads.specs.CcSyntax.Programs.{type_of, place_type};
+ghost use Rattle.cc_state_reads.specs.CcSyntax.Values.{ValueType, PlaceType, is_scalar, address_of};
 
-use cc_lattice::IntDomain;
-use cc_num::{IntType, Target};
+use cc_program::num::{IntType, Target};
+use cc_state_reads::lattice::IntDomain;
 use std::alloc::Global;
 
 /// What holds over each domain of expressions where the sets of registers fit their types. The call does nothing.

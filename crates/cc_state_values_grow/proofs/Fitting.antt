@@ -3,10 +3,10 @@
 use Rattle.std.proofs.Common.{◌≡◌, ◌⊎◌, inl, inr, ⊎_elim, ℕ, zero, suc, ℤ, pos, ◌+ℤ◌, Bool, true, false, not, ◌&&◌, ◌||◌, List, [], ◌∷◌, ◌++◌, map, Option, Some, None, refl, ap, sym, ◌∙◌, subst, arith}
 use Rattle.std.proofs.lemmas.Bool.{ltb-true, le-leb}
 use Rattle.std.specs.Prelude.{is_some, nat_le, nat_lt, nat_eq, option_map, option_and_then, slice_get, if◌then◌else◌}
-use Rattle.cc_eval.specs.declared.spots.Spot.{Spot}
-use Rattle.cc_eval.specs.declared.spots.Spot.TheVariants as spot
-use Rattle.cc_eval.specs.Context.{object_type, has_elements, path_to, named_by, designated, element_in as spot_in}
-use Rattle.cc_places.specs.Kept.{kept, starred_part, starred}
+use Rattle.cc_state_values_sound.specs.CcEval.declared.spots.Spot.{Spot}
+use Rattle.cc_state_values_sound.specs.CcEval.declared.spots.Spot.TheVariants as spot
+use Rattle.cc_state_values_sound.specs.CcEval.Context.{object_type, has_elements, path_to, named_by, designated, element_in as spot_in}
+use Rattle.cc_state_values_sound.specs.CcPlaces.Kept.{kept, starred_part, starred}
 use Rattle.cc_program.specs.declared.program.Program.{Program}
 use Rattle.cc_program.specs.declared.types.CType.{CType}
 use Rattle.cc_program.specs.declared.types.Shape.{Shape, out-Shape}
@@ -19,25 +19,25 @@ use Rattle.cc_program.specs.declared.value.Part.TheVariants as part
 use Rattle.cc_program.specs.declared.value.Root.{Root}
 use Rattle.cc_program.specs.declared.value.Root.TheVariants as root
 use Rattle.cc_program.specs.declared.value.Value.TheVariants.{Int}
-use Rattle.cc_state_operators.specs.Addresses.{object_address, member_address, element_in, element_address}
-use Rattle.cc_state_values.proofs.Rules.{one_there}
+use Rattle.cc_state_values_sound.specs.CcStateOperators.Addresses.{object_address, member_address, element_in, element_address}
+use Rattle.cc_state_values_sound.proofs.CcStateValues.Rules.{one_there}
 use Rattle.cc_state_values_grow.specs.Growth.{MayPoint}
 use Rattle.cc_state_values_sound.proofs.InStates.{no_elements}
 use Rattle.cc_state_values_sound.proofs.Starring.{path_starred}
 use Rattle.cc_state_values_sound.specs.Steps.{IsReal}
-use Rattle.cc_states.proofs.MemoryLemmas.{part_in_memory}
-use Rattle.cc_states.proofs.Options.{mapped, one_as_then, either_true, left_true, right_true}
-use Rattle.cc_states.proofs.PlaceLemmas.{CanPoint, real}
-use Rattle.cc_states.proofs.SpotLemmas.{may_lead_member, may_lead_element}
-use Rattle.cc_states.specs.Typed.{place_in, IsOpened, IsAddress, IsSpot, MayLead}
-use Rattle.cc_syntax.proofs.AlikeLemmas.{assigned_on_some}
-use Rattle.cc_syntax.proofs.Prefixes.{both_true}
-use Rattle.cc_syntax.proofs.SameLemmas.{and_true}
-use Rattle.cc_syntax.specs.Expressions.{of_one}
-use Rattle.cc_syntax.specs.Initial.{bound_shape, bound_of, place_at, leads_to_element, names, names_element, names_whole}
-use Rattle.cc_syntax.specs.Lists.{is_count}
-use Rattle.cc_values.specs.Values.{index_in, offset, moved_address}
-use Rattle.cc_syntax.specs.Values.{ValueType, NoValue, Integer, ToObject, ToFunction, PlaceType, DevicePlace, ObjectPlace, FunctionPlace, scalar_shape, read_from, address_of, element_of, member_of, is_assignable, is_assignable_some}
+use Rattle.cc_state_values_sound.proofs.CcStates.MemoryLemmas.{part_in_memory}
+use Rattle.cc_state_values_sound.proofs.CcStates.Options.{mapped, one_as_then, either_true, left_true, right_true}
+use Rattle.cc_state_values_sound.proofs.CcStates.PlaceLemmas.{CanPoint, real}
+use Rattle.cc_state_values_sound.proofs.CcStates.SpotLemmas.{may_lead_member, may_lead_element}
+use Rattle.cc_state_values_sound.specs.CcStates.Typed.{place_in, IsOpened, IsAddress, IsSpot, MayLead}
+use Rattle.cc_state_values_sound.proofs.CcSyntax.AlikeLemmas.{assigned_on_some}
+use Rattle.cc_state_values_sound.proofs.CcSyntax.Prefixes.{both_true}
+use Rattle.cc_state_values_sound.proofs.CcSyntax.SameLemmas.{and_true}
+use Rattle.cc_state_values_sound.specs.CcSyntax.Expressions.{of_one}
+use Rattle.cc_state_values_sound.specs.CcSyntax.Initial.{bound_shape, bound_of, place_at, leads_to_element, names, names_element, names_whole}
+use Rattle.cc_state_values_sound.specs.CcSyntax.Lists.{is_count}
+use Rattle.cc_state_values_sound.specs.CcValues.Values.{index_in, offset, moved_address}
+use Rattle.cc_state_values_sound.specs.CcSyntax.Values.{ValueType, NoValue, Integer, ToObject, ToFunction, PlaceType, DevicePlace, ObjectPlace, FunctionPlace, scalar_shape, read_from, address_of, element_of, member_of, is_assignable, is_assignable_some}
 
 -- ---- tests
 

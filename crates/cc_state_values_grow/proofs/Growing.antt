@@ -3,30 +3,30 @@
 use Rattle.std.proofs.Common.{◌≡◌, ℕ, Option, Some, sym, ◌∙◌, subst}
 use Rattle.std.proofs.lemmas.Option.{same_Some}
 use Rattle.std.specs.List.{Contains}
-use Rattle.cc_places.specs.Abstract.{IsBelowAbs}
-use Rattle.cc_places.specs.Sets.{IsWithin}
-use Rattle.cc_places.specs.declared.abs.Abs.{Abs}
-use Rattle.cc_places.specs.declared.abs.Abs.TheVariants as abs
-use Rattle.cc_places.specs.declared.addrs.Addrs.{Addrs}
-use Rattle.cc_places.specs.laws.SetLaws.{set_within}
+use Rattle.cc_state_values_sound.specs.CcPlaces.Abstract.{IsBelowAbs}
+use Rattle.cc_state_values_sound.specs.CcPlaces.Sets.{IsWithin}
+use Rattle.cc_state_values_sound.specs.CcPlaces.declared.abs.Abs.{Abs}
+use Rattle.cc_state_values_sound.specs.CcPlaces.declared.abs.Abs.TheVariants as abs
+use Rattle.cc_state_values_sound.specs.CcPlaces.declared.addrs.Addrs.{Addrs}
+use Rattle.cc_state_values_sound.specs.CcPlaces.laws.SetLaws.{set_within}
 use Rattle.cc_program.specs.declared.expr.Expr.{Expr}
 use Rattle.cc_program.specs.declared.expr.Expr.TheOpen as one
 use Rattle.cc_program.specs.declared.expr.Place.{Place as PlaceOf}
 use Rattle.cc_program.specs.declared.func.Func.{Func}
 use Rattle.cc_program.specs.declared.program.Program.{Program}
 use Rattle.cc_program.specs.declared.value.Address.{Address}
-use Rattle.cc_state_operators.specs.Addresses.{IsElement, member_address, AreMembers, AreElements}
-use Rattle.cc_state_operators.specs.Domains.{Domain}
-use Rattle.cc_state_values.proofs.Same.{IsOrdered, value_at, places_at}
-use Rattle.cc_state_values.specs.Values.{IsVal, OfConst, OfNull, OfFunction, OfRegister, OfAddress, OfUn, OfBin, OfConv, OfQualify, OfMove, OfGap, OfCompare, OfBoth, OfEither, OfChoose, Designates, AtLocal, AtStatic, AtDevice, AtElement, AtMember, AtTarget}
+use Rattle.cc_state_values_sound.specs.CcStateOperators.Addresses.{IsElement, member_address, AreMembers, AreElements}
+use Rattle.cc_state_values_sound.specs.CcStateOperators.Domains.{Domain}
+use Rattle.cc_state_values_sound.proofs.CcStateValues.Same.{IsOrdered, value_at, places_at}
+use Rattle.cc_state_values_sound.specs.CcStateValues.Values.{IsVal, OfConst, OfNull, OfFunction, OfRegister, OfAddress, OfUn, OfBin, OfConv, OfQualify, OfMove, OfGap, OfCompare, OfBoth, OfEither, OfChoose, Designates, AtLocal, AtStatic, AtDevice, AtElement, AtMember, AtTarget}
 use Rattle.cc_state_values_grow.proofs.Images.{IsOrder, hull_grows, both_grows, either_grows, union_grows, gap_grows, comparison_grows}
 use Rattle.cc_state_values_grow.proofs.Sets.{moved_more, stepped_grows}
 use Rattle.cc_state_values_grow.specs.Growth.{AreRegistersBelow, LeadSomewhere}
 use Rattle.cc_state_values_sound.proofs.Starring.{member_steps, element_steps}
 use Rattle.cc_state_values_sound.specs.Steps.{IsReal}
-use Rattle.cc_syntax.specs.Effects.{place_effects_of}
-use Rattle.cc_syntax.specs.Programs.{place_type}
-use Rattle.cc_syntax.specs.Values.{PlaceType}
+use Rattle.cc_state_values_sound.specs.CcSyntax.Effects.{place_effects_of}
+use Rattle.cc_state_values_sound.specs.CcSyntax.Programs.{place_type}
+use Rattle.cc_state_values_sound.specs.CcSyntax.Values.{PlaceType}
 
 module _ {I : Type 0} (d : Domain I) (o : IsOrdered d) (order : IsOrder d) (p : Program) (id : ℕ) (f : Func) (register more : ℕ → Option (Abs I))
     (below : AreRegistersBelow d.below register more) (real : LeadSomewhere d p id f register) where

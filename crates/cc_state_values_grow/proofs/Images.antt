@@ -1,25 +1,25 @@
 -- What operators give grows with the sets of their operands, by the laws of a domain.
 use Rattle.std.proofs.Common.{◌≡◌, inl, inr, ℤ, Bool, true, false, ◌&&◌, Option, Some, refl, sym, subst}
-use Rattle.cc_num.specs.declared.int_type.IntType.{IntType}
-use Rattle.cc_num.specs.declared.op.BinOp.{BinOp}
-use Rattle.cc_num.specs.declared.target.Target.{Target}
-use Rattle.cc_places.specs.Abstract.{AreOfOneKind, IsBelowAbs, HasValue}
-use Rattle.cc_places.specs.Sets.{IsWithin}
-use Rattle.cc_places.specs.declared.abs.Abs.{Abs}
-use Rattle.cc_places.specs.declared.abs.Abs.TheVariants as abs
-use Rattle.cc_places.specs.declared.addrs.Addrs.{Addrs}
-use Rattle.cc_places.specs.laws.AbstractLaws.{abs_through}
-use Rattle.cc_places.specs.laws.SetLaws.{has_member}
+use Rattle.cc_program.specs.CcNum.declared.int_type.IntType.{IntType}
+use Rattle.cc_program.specs.CcNum.declared.op.BinOp.{BinOp}
+use Rattle.cc_program.specs.CcNum.declared.target.Target.{Target}
+use Rattle.cc_state_values_sound.specs.CcPlaces.Abstract.{AreOfOneKind, IsBelowAbs, HasValue}
+use Rattle.cc_state_values_sound.specs.CcPlaces.Sets.{IsWithin}
+use Rattle.cc_state_values_sound.specs.CcPlaces.declared.abs.Abs.{Abs}
+use Rattle.cc_state_values_sound.specs.CcPlaces.declared.abs.Abs.TheVariants as abs
+use Rattle.cc_state_values_sound.specs.CcPlaces.declared.addrs.Addrs.{Addrs}
+use Rattle.cc_state_values_sound.specs.CcPlaces.laws.AbstractLaws.{abs_through}
+use Rattle.cc_state_values_sound.specs.CcPlaces.laws.SetLaws.{has_member}
 use Rattle.cc_program.specs.declared.value.Value.{Value}
 use Rattle.cc_program.specs.declared.value.Value.TheVariants.{Int, Place}
-use Rattle.cc_state_operators.specs.Domains.{Domain, IsHull, IsWhole, IsUnion, MayBe}
-use Rattle.cc_state_operators.specs.Results.{is_told, Together, IsZeroOrOne, IsComparison, ByBoth, ByEither, IsArm, IsGap}
-use Rattle.cc_state_values.proofs.Same.{IsOrdered}
+use Rattle.cc_state_values_sound.specs.CcStateOperators.Domains.{Domain, IsHull, IsWhole, IsUnion, MayBe}
+use Rattle.cc_state_values_sound.specs.CcStateOperators.Results.{is_told, Together, IsZeroOrOne, IsComparison, ByBoth, ByEither, IsArm, IsGap}
+use Rattle.cc_state_values_sound.proofs.CcStateValues.Same.{IsOrdered}
 use Rattle.cc_state_values_grow.proofs.Sets.{untold_within}
 use Rattle.cc_state_values_sound.proofs.Pointers.{gap_gives, comparison_gives}
 use Rattle.cc_state_values_sound.specs.Steps.{MayGive}
-use Rattle.cc_syntax.specs.Operators.{difference_type}
-use Rattle.cc_values.specs.Values.{gap, comparison}
+use Rattle.cc_state_values_sound.specs.CcSyntax.Operators.{difference_type}
+use Rattle.cc_state_values_sound.specs.CcValues.Values.{gap, comparison}
 
 -- what the laws of a domain say of the order of sets and of their members
 pub record IsOrder {I : Type 0} (d : Domain I) : Type 0 where

@@ -4,16 +4,16 @@ use Rattle.std.proofs.Common.{◌≡◌, ◌⊎◌, inl, inr, ℕ, ℤ, Bool, tr
 use Rattle.std.proofs.lemmas.Option.{same_Some}
 use Rattle.std.specs.List.{Contains}
 use Rattle.std.specs.Prelude.{option_map, option_and_then, slice_get, if◌then◌else◌}
-use Rattle.cc_eval.specs.Context.{local_type, named_by}
-use Rattle.cc_places.specs.Abstract.{IsBelowAbs}
-use Rattle.cc_places.specs.Kept.{starred, member_for, is_object}
-use Rattle.cc_places.specs.Moves.{HasMoved}
-use Rattle.cc_places.specs.Sets.{HasAddress, IsWithin, IsSetOf}
-use Rattle.cc_places.specs.declared.abs.Abs.{Abs}
-use Rattle.cc_places.specs.declared.abs.Abs.TheVariants as abs
-use Rattle.cc_places.specs.declared.addrs.Addrs.{Addrs}
-use Rattle.cc_places.specs.laws.KeptLaws.{object_starred}
-use Rattle.cc_places.specs.laws.SetLaws.{has_same, within_itself, sets_same}
+use Rattle.cc_state_values_sound.specs.CcEval.Context.{local_type, named_by}
+use Rattle.cc_state_values_sound.specs.CcPlaces.Abstract.{IsBelowAbs}
+use Rattle.cc_state_values_sound.specs.CcPlaces.Kept.{starred, member_for, is_object}
+use Rattle.cc_state_values_sound.specs.CcPlaces.Moves.{HasMoved}
+use Rattle.cc_state_values_sound.specs.CcPlaces.Sets.{HasAddress, IsWithin, IsSetOf}
+use Rattle.cc_state_values_sound.specs.CcPlaces.declared.abs.Abs.{Abs}
+use Rattle.cc_state_values_sound.specs.CcPlaces.declared.abs.Abs.TheVariants as abs
+use Rattle.cc_state_values_sound.specs.CcPlaces.declared.addrs.Addrs.{Addrs}
+use Rattle.cc_state_values_sound.specs.CcPlaces.laws.KeptLaws.{object_starred}
+use Rattle.cc_state_values_sound.specs.CcPlaces.laws.SetLaws.{has_same, within_itself, sets_same}
 use Rattle.cc_program.specs.declared.expr.Expr.{Expr, out-Expr}
 use Rattle.cc_program.specs.declared.expr.Expr.TheOpen as one
 use Rattle.cc_program.specs.declared.expr.Place.{Place as PlaceOf, out-Place}
@@ -28,28 +28,28 @@ use Rattle.cc_program.specs.declared.value.Part.{Part}
 use Rattle.cc_program.specs.declared.value.Part.TheVariants as part
 use Rattle.cc_program.specs.declared.value.Root.{Root}
 use Rattle.cc_program.specs.declared.value.Root.TheVariants as root
-use Rattle.cc_state_operators.specs.Addresses.{object_address, IsOnly, IsNone, member_address, element_in, IsElement, HasStepped}
-use Rattle.cc_state_operators.specs.Domains.{Domain, IsUnion, MayBe}
-use Rattle.cc_state_operators.specs.Results.{IsArm, offsets}
-use Rattle.cc_state_operators.specs.declared.operators.TwoOperands.TheVariants as kind_two
-use Rattle.cc_state_values.proofs.Parts.{place_effects_at, typed_as, place_typed_as, two_type, qualified_assigned, by_place, register_type}
-use Rattle.cc_state_values.proofs.Rules.{one_there, two_there, when_there}
-use Rattle.cc_state_values.specs.Values.{IsVal, OfConst, OfNull, OfFunction, OfRegister, OfAddress, OfUn, OfBin, OfConv, OfQualify, OfMove, OfGap, OfCompare, OfBoth, OfEither, OfChoose, Designates, AtLocal, AtStatic, AtDevice, AtElement, AtMember, AtTarget}
+use Rattle.cc_state_values_sound.specs.CcStateOperators.Addresses.{object_address, IsOnly, IsNone, member_address, element_in, IsElement, HasStepped}
+use Rattle.cc_state_values_sound.specs.CcStateOperators.Domains.{Domain, IsUnion, MayBe}
+use Rattle.cc_state_values_sound.specs.CcStateOperators.Results.{IsArm, offsets}
+use Rattle.cc_state_values_sound.specs.CcStateOperators.declared.operators.TwoOperands.TheVariants as kind_two
+use Rattle.cc_state_values_sound.proofs.CcStateValues.Parts.{place_effects_at, typed_as, place_typed_as, two_type, qualified_assigned, by_place, register_type}
+use Rattle.cc_state_values_sound.proofs.CcStateValues.Rules.{one_there, two_there, when_there}
+use Rattle.cc_state_values_sound.specs.CcStateValues.Values.{IsVal, OfConst, OfNull, OfFunction, OfRegister, OfAddress, OfUn, OfBin, OfConv, OfQualify, OfMove, OfGap, OfCompare, OfBoth, OfEither, OfChoose, Designates, AtLocal, AtStatic, AtDevice, AtElement, AtMember, AtTarget}
 use Rattle.cc_state_values_grow.proofs.Fitting.{IsKept, Points, Fits, real_fits, points_surely, may_points, whole_leads, points_kept, fits_kept, null_points, function_points, moved_points, wider_points, member_fits, element_fits}
 use Rattle.cc_state_values_grow.proofs.Joins.{All, set_all, places_all, both_all, none_all}
 use Rattle.cc_state_values_grow.specs.Growth.{LeadSomewhere, RegistersPoint}
-use Rattle.cc_states.proofs.GivenLemmas.{TakesBoth, common}
-use Rattle.cc_states.proofs.Options.{mapped}
-use Rattle.cc_states.specs.Typed.{place_in}
-use Rattle.cc_syntax.proofs.AlikeLemmas.{alike_itself, assignable_object}
-use Rattle.cc_syntax.specs.Effects.{PlaceEffects, place_effects_of}
-use Rattle.cc_syntax.specs.Operators.{common_type, choice_type, moved_type, points_to_object, is_integer, subscript_type}
-use Rattle.cc_syntax.specs.Expressions.{of_one, of_two}
-use Rattle.cc_syntax.specs.Initial.{bound_of}
-use Rattle.cc_syntax.specs.Programs.{type_of, place_type}
-use Rattle.cc_syntax.specs.Types.{Named}
-use Rattle.cc_syntax.specs.Values.{ValueType, NoValue, Integer, ToObject, ToFunction, PlaceType, DevicePlace, ObjectPlace, FunctionPlace, object_place, read_from, address_of, pointed_to, element_of, member_of, is_void, is_scalar, implies, is_assignable, scalar_value}
-use Rattle.cc_values.specs.Values.{index_in, moved_address}
+use Rattle.cc_state_values_sound.proofs.CcStates.GivenLemmas.{TakesBoth, common}
+use Rattle.cc_state_values_sound.proofs.CcStates.Options.{mapped}
+use Rattle.cc_state_values_sound.specs.CcStates.Typed.{place_in}
+use Rattle.cc_state_values_sound.proofs.CcSyntax.AlikeLemmas.{alike_itself, assignable_object}
+use Rattle.cc_state_values_sound.specs.CcSyntax.Effects.{PlaceEffects, place_effects_of}
+use Rattle.cc_state_values_sound.specs.CcSyntax.Operators.{common_type, choice_type, moved_type, points_to_object, is_integer, subscript_type}
+use Rattle.cc_state_values_sound.specs.CcSyntax.Expressions.{of_one, of_two}
+use Rattle.cc_state_values_sound.specs.CcSyntax.Initial.{bound_of}
+use Rattle.cc_state_values_sound.specs.CcSyntax.Programs.{type_of, place_type}
+use Rattle.cc_state_values_sound.specs.CcSyntax.Types.{Named}
+use Rattle.cc_state_values_sound.specs.CcSyntax.Values.{ValueType, NoValue, Integer, ToObject, ToFunction, PlaceType, DevicePlace, ObjectPlace, FunctionPlace, object_place, read_from, address_of, pointed_to, element_of, member_of, is_void, is_scalar, implies, is_assignable, scalar_value}
+use Rattle.cc_state_values_sound.specs.CcValues.Values.{index_in, moved_address}
 
 -- what holds where it is not known which of two are allowed
 

@@ -2,18 +2,18 @@
 -- nothing that does not.
 use Rattle.std.proofs.Common.{◌≡◌, ⊎_elim, ℤ, Bool, true, false, ◌&&◌, refl, sym, ◌∙◌, subst}
 use Rattle.std.specs.List.{Contains, list_all}
-use Rattle.cc_places.specs.Kept.{kept, starred, member_for}
-use Rattle.cc_places.specs.Moves.{HasMoved}
-use Rattle.cc_places.specs.Sets.{HasAddress, IsWithin, IsSetOf}
-use Rattle.cc_places.specs.declared.addrs.Addrs.{Addrs}
-use Rattle.cc_places.specs.laws.ListLaws.{both_true, and_true, all_at, all_from}
-use Rattle.cc_places.specs.laws.SetLaws.{has_member, coarser, set_in}
+use Rattle.cc_state_values_sound.specs.CcPlaces.Kept.{kept, starred, member_for}
+use Rattle.cc_state_values_sound.specs.CcPlaces.Moves.{HasMoved}
+use Rattle.cc_state_values_sound.specs.CcPlaces.Sets.{HasAddress, IsWithin, IsSetOf}
+use Rattle.cc_state_values_sound.specs.CcPlaces.declared.addrs.Addrs.{Addrs}
+use Rattle.cc_state_values_sound.specs.CcPlaces.laws.ListLaws.{both_true, and_true, all_at, all_from}
+use Rattle.cc_state_values_sound.specs.CcPlaces.laws.SetLaws.{has_member, coarser, set_in}
 use Rattle.cc_program.specs.declared.program.Program.{Program}
 use Rattle.cc_program.specs.declared.value.Address.{Address}
 use Rattle.cc_program.specs.declared.value.Address.TheVariants as address
 use Rattle.cc_program.specs.declared.value.Root.TheVariants as root
-use Rattle.cc_state_operators.specs.Addresses.{HasStepped}
-use Rattle.cc_state_operators.specs.Results.{is_static, is_told, offsets}
+use Rattle.cc_state_values_sound.specs.CcStateOperators.Addresses.{HasStepped}
+use Rattle.cc_state_values_sound.specs.CcStateOperators.Results.{is_static, is_told, offsets}
 use Rattle.cc_state_values_sound.proofs.Pointers.{moved_in}
 use Rattle.cc_state_values_sound.proofs.Starring.{IsStepOf, stepped_has}
 use Rattle.cc_state_values_sound.specs.Steps.{IsReal}

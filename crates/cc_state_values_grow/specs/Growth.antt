@@ -1,23 +1,23 @@
 -- Sets of registers, and greater ones; and that places have addresses that lead somewhere.
 use Rattle.std.specs.Prelude.{◌≡◌, ℕ, true, Option, Some, slice_get}
 use Rattle.std.specs.List.{Contains}
-use Rattle.cc_places.specs.Abstract.{IsBelowAbs}
-use Rattle.cc_places.specs.declared.abs.Abs.{Abs}
-use Rattle.cc_places.specs.declared.abs.Abs.TheVariants as abs
-use Rattle.cc_places.specs.declared.addrs.Addrs.{Addrs}
+use Rattle.cc_state_values_sound.specs.CcPlaces.Abstract.{IsBelowAbs}
+use Rattle.cc_state_values_sound.specs.CcPlaces.declared.abs.Abs.{Abs}
+use Rattle.cc_state_values_sound.specs.CcPlaces.declared.abs.Abs.TheVariants as abs
+use Rattle.cc_state_values_sound.specs.CcPlaces.declared.addrs.Addrs.{Addrs}
 use Rattle.cc_program.specs.declared.expr.Place.{Place}
 use Rattle.cc_program.specs.declared.func.Func.{Func}
 use Rattle.cc_program.specs.declared.program.Program.{Program}
 use Rattle.cc_program.specs.declared.value.Address.{Address}
 use Rattle.cc_program.specs.declared.value.Address.TheVariants as address
-use Rattle.cc_state_operators.specs.Domains.{Domain}
-use Rattle.cc_state_values.specs.Values.{Designates}
+use Rattle.cc_state_values_sound.specs.CcStateOperators.Domains.{Domain}
+use Rattle.cc_state_values_sound.specs.CcStateValues.Values.{Designates}
 use Rattle.cc_state_values_sound.specs.Steps.{IsReal}
-use Rattle.cc_states.specs.Typed.{place_in}
-use Rattle.cc_syntax.specs.Initial.{names}
-use Rattle.cc_syntax.specs.Programs.{place_type}
-use Rattle.cc_syntax.specs.Types.{Named}
-use Rattle.cc_syntax.specs.Values.{ValueType, PlaceType, scalar_value}
+use Rattle.cc_state_values_sound.specs.CcStates.Typed.{place_in}
+use Rattle.cc_state_values_sound.specs.CcSyntax.Initial.{names}
+use Rattle.cc_state_values_sound.specs.CcSyntax.Programs.{place_type}
+use Rattle.cc_state_values_sound.specs.CcSyntax.Types.{Named}
+use Rattle.cc_state_values_sound.specs.CcSyntax.Values.{ValueType, PlaceType, scalar_value}
 
 -- the set of each register is below that which it has among others
 abbrev pub AreRegistersBelow : {I : Type 0} → (I → I → Type 0) → (ℕ → Option (Abs I)) → (ℕ → Option (Abs I)) → Type 0

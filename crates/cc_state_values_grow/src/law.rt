@@ -1,17 +1,17 @@
 ghost use Rattle.std.specs.Prelude.{◌≡◌, ℕ, Bool, Option, Some, slice_get};
-ghost use Rattle.cc_places.specs.declared.abs.Abs.{Abs};
-ghost use Rattle.cc_places.specs.declared.addrs.Addrs.{Addrs};
-ghost use Rattle.cc_places.specs.Abstract.{IsBelowAbs};
-ghost use Rattle.cc_places.specs.Sets.{IsWithin};
+ghost use Rattle.cc_state_values_sound.specs.CcPlaces.declared.abs.Abs.{Abs};
+ghost use Rattle.cc_state_values_sound.specs.CcPlaces.declared.addrs.Addrs.{Addrs};
+ghost use Rattle.cc_state_values_sound.specs.CcPlaces.Abstract.{IsBelowAbs};
+ghost use Rattle.cc_state_values_sound.specs.CcPlaces.Sets.{IsWithin};
 ghost use Rattle.cc_program.specs.declared.expr.Expr.{Expr};
 ghost use Rattle.cc_program.specs.declared.expr.Place.{Place};
 ghost use Rattle.cc_program.specs.declared.func.Func.{Func};
 ghost use Rattle.cc_program.specs.declared.program.Program.{Program};
-ghost use Rattle.cc_state_operators.specs.Domains.{domain, MayBe};
-ghost use Rattle.cc_state_values.specs.Values.{IsVal, Designates};
+ghost use Rattle.cc_state_values_sound.specs.CcStateOperators.Domains.{domain, MayBe};
+ghost use Rattle.cc_state_values_sound.specs.CcStateValues.Values.{IsVal, Designates};
 ghost use Rattle.cc_state_values_grow.specs.Growth.{AreRegistersBelow, LeadSomewhere, RegistersPoint};
 
-use cc_lattice::IntDomain;
+use cc_state_values_sound::lattice::IntDomain;
 
 /// What holds over each domain of the sets of the registers of a function, and of greater ones. The call does nothing.
 pub fn laws<I: IntDomain>()

@@ -2,31 +2,31 @@
 use Rattle.std.proofs.Common.{◌≡◌, inl, inr, ℤ, pos, Bool, true, false, Option, Some, None, refl, ap, sym, ◌∙◌, subst}
 use Rattle.std.proofs.lemmas.Option.{same_Some}
 use Rattle.std.specs.Prelude.{option_map, if◌then◌else◌}
-use Rattle.cc_eval.specs.declared.action.Action.{Action}
-use Rattle.cc_eval.specs.declared.action.Action.TheVariants as action
-use Rattle.cc_eval.specs.declared.mark.Mark.{Mark}
-use Rattle.cc_eval.specs.declared.mark.Mark.TheVariants.{Chose}
-use Rattle.cc_eval.specs.Eval.{Meaning, from_one, both_values, from_two, branch, outcome, arms, choice, as_condition}
-use Rattle.cc_eval.specs.Marks.{Works}
-use Rattle.cc_eval.specs.Progress.{Get, known, ask, bind, chosen}
-use Rattle.cc_eval.proofs.Works.{works_known, works_ask, works_bind, works_needs}
-use Rattle.cc_lattice.specs.Domains.{AreOperands, AreOperandsOne}
-use Rattle.cc_num.specs.declared.int_type.IntType.{IntType}
-use Rattle.cc_num.specs.declared.op.BinOp.{BinOp}
-use Rattle.cc_num.specs.declared.op.UnOp.{UnOp}
-use Rattle.cc_num.specs.declared.target.Target.{Target}
-use Rattle.cc_num.specs.Integers.{converted}
-use Rattle.cc_num.specs.Results.{result_of, unary_result_of, one_if}
-use Rattle.cc_places.specs.Abstract.{HasValue, IsBelowAbs}
-use Rattle.cc_places.specs.declared.abs.Abs.{Abs}
-use Rattle.cc_places.specs.declared.abs.Abs.TheVariants as abs
+use Rattle.cc_state_values.specs.CcEval.declared.action.Action.{Action}
+use Rattle.cc_state_values.specs.CcEval.declared.action.Action.TheVariants as action
+use Rattle.cc_state_values.specs.CcEval.declared.mark.Mark.{Mark}
+use Rattle.cc_state_values.specs.CcEval.declared.mark.Mark.TheVariants.{Chose}
+use Rattle.cc_state_values.specs.CcEval.Eval.{Meaning, from_one, both_values, from_two, branch, outcome, arms, choice, as_condition}
+use Rattle.cc_state_values.specs.CcEval.Marks.{Works}
+use Rattle.cc_state_values.specs.CcEval.Progress.{Get, known, ask, bind, chosen}
+use Rattle.cc_state_values.proofs.CcEval.Works.{works_known, works_ask, works_bind, works_needs}
+use Rattle.cc_state_values.specs.CcLattice.Domains.{AreOperands, AreOperandsOne}
+use Rattle.cc_program.specs.CcNum.declared.int_type.IntType.{IntType}
+use Rattle.cc_program.specs.CcNum.declared.op.BinOp.{BinOp}
+use Rattle.cc_program.specs.CcNum.declared.op.UnOp.{UnOp}
+use Rattle.cc_program.specs.CcNum.declared.target.Target.{Target}
+use Rattle.cc_program.specs.CcNum.Integers.{converted}
+use Rattle.cc_program.specs.CcNum.Results.{result_of, unary_result_of, one_if}
+use Rattle.cc_state_values.specs.CcPlaces.Abstract.{HasValue, IsBelowAbs}
+use Rattle.cc_state_values.specs.CcPlaces.declared.abs.Abs.{Abs}
+use Rattle.cc_state_values.specs.CcPlaces.declared.abs.Abs.TheVariants as abs
 use Rattle.cc_program.specs.declared.value.Value.{Value}
 use Rattle.cc_program.specs.declared.value.Value.TheVariants.{Int, Place}
-use Rattle.cc_state_operators.specs.Domains.{Domain, IsHull, IsUnion, MayBe}
-use Rattle.cc_state_operators.specs.Results.{ByBoth, ByEither, IsArm}
+use Rattle.cc_state_values.specs.CcStateOperators.Domains.{Domain, IsHull, IsUnion, MayBe}
+use Rattle.cc_state_values.specs.CcStateOperators.Results.{ByBoth, ByEither, IsArm}
 use Rattle.cc_state_values_sound.specs.Steps.{MayGive}
-use Rattle.cc_syntax.specs.Effects.{Registers, also}
-use Rattle.cc_values.specs.Values.{takes, takes_both, unary_result, binary_result, unary, binary, conversion, is_true, truth, of_truth}
+use Rattle.cc_state_values.specs.CcSyntax.Effects.{Registers, also}
+use Rattle.cc_state_values.specs.CcValues.Values.{takes, takes_both, unary_result, binary_result, unary, binary, conversion, is_true, truth, of_truth}
 
 -- what the laws of a domain say of what its operators give
 pub record GivesAll {I : Type 0} (d : Domain I) : Type 0 where

@@ -3,22 +3,22 @@
 use Rattle.std.proofs.Common.{◌≡◌, ℕ, Bool, true, false, List, [], Option, Some, None, refl, ap, sym, ◌∙◌, subst}
 use Rattle.std.proofs.lemmas.Option.{same_Some}
 use Rattle.std.specs.Prelude.{option_map, if◌then◌else◌}
-use Rattle.cc_eval.specs.declared.action.Action.{Action}
-use Rattle.cc_eval.specs.declared.action.Action.TheVariants as action
-use Rattle.cc_eval.specs.declared.action.Manner.{Manner}
-use Rattle.cc_eval.specs.declared.mark.Mark.{Mark}
-use Rattle.cc_eval.specs.declared.mark.Mark.TheVariants.{Chose}
-use Rattle.cc_eval.specs.declared.spots.Spot.{Spot}
-use Rattle.cc_eval.specs.declared.spots.Spot.TheVariants as spot
-use Rattle.cc_eval.specs.Context.{Context, cell_at, member}
-use Rattle.cc_eval.specs.Eval.{Meaning, Designation, meaning, designation, opened, place_opened, expr_effects, manner, fetched, place_and_value, from_one, address_of, element_at}
-use Rattle.cc_eval.specs.Marks.{AnswerSteps, Works}
-use Rattle.cc_eval.specs.Progress.{Get, Known, known, ask, bind, needs, given}
-use Rattle.cc_eval.proofs.Links.{level, place_level, place_effects_linked, place_type_linked}
-use Rattle.cc_eval.proofs.Works.{works_known, works_trap, works_ask, works_bind}
-use Rattle.cc_places.specs.declared.abs.Abs.{Abs}
-use Rattle.cc_places.specs.declared.abs.Abs.TheVariants as abs
-use Rattle.cc_places.specs.declared.addrs.Addrs.{Addrs}
+use Rattle.cc_state_values.specs.CcEval.declared.action.Action.{Action}
+use Rattle.cc_state_values.specs.CcEval.declared.action.Action.TheVariants as action
+use Rattle.cc_state_values.specs.CcEval.declared.action.Manner.{Manner}
+use Rattle.cc_state_values.specs.CcEval.declared.mark.Mark.{Mark}
+use Rattle.cc_state_values.specs.CcEval.declared.mark.Mark.TheVariants.{Chose}
+use Rattle.cc_state_values.specs.CcEval.declared.spots.Spot.{Spot}
+use Rattle.cc_state_values.specs.CcEval.declared.spots.Spot.TheVariants as spot
+use Rattle.cc_state_values.specs.CcEval.Context.{Context, cell_at, member}
+use Rattle.cc_state_values.specs.CcEval.Eval.{Meaning, Designation, meaning, designation, opened, place_opened, expr_effects, manner, fetched, place_and_value, from_one, address_of, element_at}
+use Rattle.cc_state_values.specs.CcEval.Marks.{AnswerSteps, Works}
+use Rattle.cc_state_values.specs.CcEval.Progress.{Get, Known, known, ask, bind, needs, given}
+use Rattle.cc_state_values.proofs.CcEval.Links.{level, place_level, place_effects_linked, place_type_linked}
+use Rattle.cc_state_values.proofs.CcEval.Works.{works_known, works_trap, works_ask, works_bind}
+use Rattle.cc_state_values.specs.CcPlaces.declared.abs.Abs.{Abs}
+use Rattle.cc_state_values.specs.CcPlaces.declared.abs.Abs.TheVariants as abs
+use Rattle.cc_state_values.specs.CcPlaces.declared.addrs.Addrs.{Addrs}
 use Rattle.cc_program.proofs.ExprInduction.{Parts, PlaceParts}
 use Rattle.cc_program.specs.declared.expr.Expr.{Expr, out-Expr, roll-Expr, roll-out-Expr, map-Expr}
 use Rattle.cc_program.specs.declared.expr.Expr.TheOpen as one
@@ -27,19 +27,19 @@ use Rattle.cc_program.specs.declared.value.Address.TheVariants as address
 use Rattle.cc_program.specs.declared.value.Root.TheVariants as root
 use Rattle.cc_program.specs.declared.value.Value.{Value}
 use Rattle.cc_program.specs.declared.value.Value.TheVariants.{Int, Place}
-use Rattle.cc_state_operators.specs.Addresses.{AreMembers, AreElements}
-use Rattle.cc_state_operators.specs.Domains.{Domain}
+use Rattle.cc_state_values.specs.CcStateOperators.Addresses.{AreMembers, AreElements}
+use Rattle.cc_state_values.specs.CcStateOperators.Domains.{Domain}
 use Rattle.cc_state_values.specs.Values.{IsVal, OfConst, OfNull, OfFunction, OfRegister, OfAddress, OfUn, OfBin, OfConv, OfQualify, OfMove, OfGap, OfCompare, OfBoth, OfEither, OfChoose, Designates, AtLocal, AtStatic, AtDevice, AtElement, AtMember, AtTarget}
 use Rattle.cc_state_values_sound.proofs.Choices.{GivesAll, unary_gives, binary_gives, conversion_gives, one_fits, two_fits, both_fits, either_fits, chosen_fits}
 use Rattle.cc_state_values_sound.proofs.Named.{only_has, local_leads, static_leads, device_leads, pointer_leads, address_gives, member_leads, element_leads}
 use Rattle.cc_state_values_sound.proofs.Pointers.{movement_gives, gap_gives, comparison_gives}
 use Rattle.cc_state_values_sound.specs.Steps.{MayGive, own_cell, LeadsInto, MayFit}
-use Rattle.cc_syntax.specs.Effects.{Registers, also, PlaceEffects, place_effects_of}
-use Rattle.cc_syntax.specs.Expressions.{of_two}
-use Rattle.cc_syntax.specs.Programs.{place_type}
-use Rattle.cc_syntax.specs.Registers.{is_register}
-use Rattle.cc_syntax.specs.Values.{PlaceType}
-use Rattle.cc_values.specs.Values.{address_in, unary, binary, conversion, movement, gap, comparison}
+use Rattle.cc_state_values.specs.CcSyntax.Effects.{Registers, also, PlaceEffects, place_effects_of}
+use Rattle.cc_state_values.specs.CcSyntax.Expressions.{of_two}
+use Rattle.cc_state_values.specs.CcSyntax.Programs.{place_type}
+use Rattle.cc_state_values.specs.CcSyntax.Registers.{is_register}
+use Rattle.cc_state_values.specs.CcSyntax.Values.{PlaceType}
+use Rattle.cc_state_values.specs.CcValues.Values.{address_in, unary, binary, conversion, movement, gap, comparison}
 
 -- what is worked gives what else holds of what is given
 both_work : {A : Type 0} (IsMark : Action → Mark → Type 0) (IsStep : Action → Type 0) (P Q : A → Type 0) (g : Get A) → Works IsMark IsStep P g →

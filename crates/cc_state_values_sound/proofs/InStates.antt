@@ -2,16 +2,16 @@
 -- types, so where they lead is fit.
 use Rattle.std.proofs.Common.{◌≡◌, ℕ, Bool, true, false, List, [], ◌∷◌, Option, Some, None, refl, ap, sym, ◌∙◌, subst}
 use Rattle.std.specs.Prelude.{is_some, option_and_then}
-use Rattle.cc_eval.specs.declared.action.Action.{Action}
-use Rattle.cc_eval.specs.declared.mark.Mark.{Mark}
-use Rattle.cc_eval.specs.declared.spots.Spot.{Spot}
-use Rattle.cc_eval.specs.declared.spots.Spot.TheVariants as spot
-use Rattle.cc_eval.specs.Context.{Context, object_type, are_alike, has_elements}
-use Rattle.cc_eval.specs.Eval.{meaning, designation}
-use Rattle.cc_eval.specs.Marks.{AnswerSteps, Works}
-use Rattle.cc_eval.specs.Progress.{Known}
-use Rattle.cc_places.specs.declared.abs.Abs.{Abs}
-use Rattle.cc_places.specs.declared.addrs.Addrs.{Addrs}
+use Rattle.cc_state_values.specs.CcEval.declared.action.Action.{Action}
+use Rattle.cc_state_values.specs.CcEval.declared.mark.Mark.{Mark}
+use Rattle.cc_state_values.specs.CcEval.declared.spots.Spot.{Spot}
+use Rattle.cc_state_values.specs.CcEval.declared.spots.Spot.TheVariants as spot
+use Rattle.cc_state_values.specs.CcEval.Context.{Context, object_type, are_alike, has_elements}
+use Rattle.cc_state_values.specs.CcEval.Eval.{meaning, designation}
+use Rattle.cc_state_values.specs.CcEval.Marks.{AnswerSteps, Works}
+use Rattle.cc_state_values.specs.CcEval.Progress.{Known}
+use Rattle.cc_state_values.specs.CcPlaces.declared.abs.Abs.{Abs}
+use Rattle.cc_state_values.specs.CcPlaces.declared.addrs.Addrs.{Addrs}
 use Rattle.cc_program.proofs.Each.{Each}
 use Rattle.cc_program.proofs.ExprInduction.{Parts, PlaceParts}
 use Rattle.cc_program.specs.declared.expr.Expr.{Expr, out-Expr, roll-out-Expr}
@@ -24,7 +24,7 @@ use Rattle.cc_program.specs.declared.value.Address.{Address}
 use Rattle.cc_program.specs.declared.value.Address.TheVariants as address
 use Rattle.cc_program.specs.declared.value.Part.{Part}
 use Rattle.cc_program.specs.declared.value.Root.{Root}
-use Rattle.cc_state_operators.specs.Domains.{Domain}
+use Rattle.cc_state_values.specs.CcStateOperators.Domains.{Domain}
 use Rattle.cc_state_values.specs.Values.{IsVal, Designates}
 use Rattle.cc_state_values_sound.proofs.Choices.{GivesAll}
 use Rattle.cc_state_values_sound.proofs.Given.{value_gives, place_leads}
@@ -36,9 +36,9 @@ use Rattle.cc_states.proofs.AddressLemmas.{IfTaken, PlaceIfTaken, parts_at, plac
 use Rattle.cc_states.proofs.EvalTypes.{designation_typed}
 use Rattle.cc_states.proofs.Options.{one_as_then}
 use Rattle.cc_states.proofs.PlaceLemmas.{CanPoint, not_whole}
-use Rattle.cc_syntax.specs.Effects.{Registers}
-use Rattle.cc_syntax.specs.Initial.{place_at, names}
-use Rattle.cc_syntax.specs.Values.{ValueType, ToObject, ToFunction, PlaceType, DevicePlace, ObjectPlace, FunctionPlace, element_of}
+use Rattle.cc_state_values.specs.CcSyntax.Effects.{Registers}
+use Rattle.cc_state_values.specs.CcSyntax.Initial.{place_at, names}
+use Rattle.cc_state_values.specs.CcSyntax.Values.{ValueType, ToObject, ToFunction, PlaceType, DevicePlace, ObjectPlace, FunctionPlace, element_of}
 
 -- ---- where places lead is fit
 

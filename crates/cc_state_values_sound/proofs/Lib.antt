@@ -4,3 +4,9 @@ pub mod InStates
 pub mod Named
 pub mod Pointers
 pub mod Starring
+pub mod CcEval
+pub mod CcLattice
+pub mod CcStateValues
+pub mod CcStates
+pub mod CcSteps
+pub mod CcSyntax

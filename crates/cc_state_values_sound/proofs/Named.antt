@@ -2,14 +2,14 @@
 use Rattle.std.proofs.Common.{◌≡◌, ℕ, ℤ, Bool, true, false, List, [], ◌∷◌, ◌++◌, Option, Some, None, refl, ap, sym, subst}
 use Rattle.std.proofs.lemmas.Option.{same_Some}
 use Rattle.std.specs.Prelude.{option_map, option_and_then}
-use Rattle.cc_eval.specs.Context.{Context, has_elements, path_to, named_by, designated, element_in as spot_in, element, member, address_at}
-use Rattle.cc_eval.specs.Eval.{element_at as spot_at}
-use Rattle.cc_eval.specs.declared.spots.Spot.{Spot}
-use Rattle.cc_eval.specs.declared.spots.Spot.TheVariants as spot
-use Rattle.cc_places.specs.Kept.{member_for}
-use Rattle.cc_places.specs.Sets.{HasAddress}
-use Rattle.cc_places.specs.declared.abs.Abs.TheVariants as abs
-use Rattle.cc_places.specs.declared.addrs.Addrs.{Addrs}
+use Rattle.cc_state_values.specs.CcEval.Context.{Context, has_elements, path_to, named_by, designated, element_in as spot_in, element, member, address_at}
+use Rattle.cc_state_values.specs.CcEval.Eval.{element_at as spot_at}
+use Rattle.cc_state_values.specs.CcEval.declared.spots.Spot.{Spot}
+use Rattle.cc_state_values.specs.CcEval.declared.spots.Spot.TheVariants as spot
+use Rattle.cc_state_values.specs.CcPlaces.Kept.{member_for}
+use Rattle.cc_state_values.specs.CcPlaces.Sets.{HasAddress}
+use Rattle.cc_state_values.specs.CcPlaces.declared.abs.Abs.TheVariants as abs
+use Rattle.cc_state_values.specs.CcPlaces.declared.addrs.Addrs.{Addrs}
 use Rattle.cc_program.specs.declared.program.Program.{Program}
 use Rattle.cc_program.specs.declared.value.Address.{Address}
 use Rattle.cc_program.specs.declared.value.Part.{Part}
@@ -18,13 +18,13 @@ use Rattle.cc_program.specs.declared.value.Root.{Root}
 use Rattle.cc_program.specs.declared.value.Root.TheVariants as root
 use Rattle.cc_program.specs.declared.value.Value.{Value}
 use Rattle.cc_program.specs.declared.value.Value.TheVariants.{Int, Place}
-use Rattle.cc_state_operators.specs.Addresses.{object_address, IsOnly, member_address, element_in, IsElement, AreMembers, AreElements}
+use Rattle.cc_state_values.specs.CcStateOperators.Addresses.{object_address, IsOnly, member_address, element_in, IsElement, AreMembers, AreElements}
 use Rattle.cc_state_values_sound.proofs.Starring.{stepped_has, member_steps, element_steps}
 use Rattle.cc_state_values_sound.specs.Steps.{MayGive, LeadsInto, IsReal, IsFit, MayFit}
-use Rattle.cc_syntax.specs.Expressions.{of_two}
-use Rattle.cc_syntax.specs.Initial.{bound_of}
-use Rattle.cc_syntax.specs.Values.{PlaceType}
-use Rattle.cc_values.specs.Values.{address_in, element_at}
+use Rattle.cc_state_values.specs.CcSyntax.Expressions.{of_two}
+use Rattle.cc_state_values.specs.CcSyntax.Initial.{bound_of}
+use Rattle.cc_state_values.specs.CcSyntax.Values.{PlaceType}
+use Rattle.cc_state_values.specs.CcValues.Values.{address_in, element_at}
 
 -- a named object, whatever the number of its activation is
 

@@ -4,29 +4,29 @@ use Rattle.std.proofs.lemmas.Int.{ints}
 use Rattle.std.proofs.lemmas.Option.{same_Some}
 use Rattle.std.specs.List.{Contains, list_all}
 use Rattle.std.specs.Prelude.{nat_lt, nat_le, option_map, option_and_then, if◌then◌else◌}
-use Rattle.cc_num.specs.declared.op.BinOp.{BinOp}
-use Rattle.cc_num.specs.declared.op.BinOp.TheVariants as op
-use Rattle.cc_num.specs.declared.target.Target.{Target}
-use Rattle.cc_num.specs.Integers.{is_value_of}
-use Rattle.cc_num.specs.Results.{one_if}
-use Rattle.cc_num.proofs.ResultLaws.{value_from_test}
-use Rattle.cc_places.specs.Kept.{kept_root, kept, starred, member_for, is_object}
-use Rattle.cc_places.specs.Moves.{IsMoved, HasMoved}
-use Rattle.cc_places.specs.Sets.{HasAddress, IsSetOf}
-use Rattle.cc_places.specs.declared.abs.Abs.TheVariants as abs
-use Rattle.cc_places.specs.declared.addrs.Addrs.{Addrs}
-use Rattle.cc_places.specs.laws.KeptLaws.{kept_twice, starred_of_kept}
-use Rattle.cc_places.specs.laws.ListLaws.{both_true, all_at}
+use Rattle.cc_program.specs.CcNum.declared.op.BinOp.{BinOp}
+use Rattle.cc_program.specs.CcNum.declared.op.BinOp.TheVariants as op
+use Rattle.cc_program.specs.CcNum.declared.target.Target.{Target}
+use Rattle.cc_program.specs.CcNum.Integers.{is_value_of}
+use Rattle.cc_program.specs.CcNum.Results.{one_if}
+use Rattle.cc_program.proofs.CcNum.ResultLaws.{value_from_test}
+use Rattle.cc_state_values.specs.CcPlaces.Kept.{kept_root, kept, starred, member_for, is_object}
+use Rattle.cc_state_values.specs.CcPlaces.Moves.{IsMoved, HasMoved}
+use Rattle.cc_state_values.specs.CcPlaces.Sets.{HasAddress, IsSetOf}
+use Rattle.cc_state_values.specs.CcPlaces.declared.abs.Abs.TheVariants as abs
+use Rattle.cc_state_values.specs.CcPlaces.declared.addrs.Addrs.{Addrs}
+use Rattle.cc_state_values.specs.CcPlaces.laws.KeptLaws.{kept_twice, starred_of_kept}
+use Rattle.cc_state_values.specs.CcPlaces.laws.ListLaws.{both_true, all_at}
 use Rattle.cc_program.specs.declared.value.Address.{Address}
 use Rattle.cc_program.specs.declared.value.Address.TheVariants as address
 use Rattle.cc_program.specs.declared.value.Root.TheVariants as root
 use Rattle.cc_program.specs.declared.value.Value.{Value}
 use Rattle.cc_program.specs.declared.value.Value.TheVariants.{Int, Place}
-use Rattle.cc_state_operators.specs.Domains.{Domain}
-use Rattle.cc_state_operators.specs.Results.{is_static, is_told, offsets, IsZeroOrOne, IsComparison, IsGap}
+use Rattle.cc_state_values.specs.CcStateOperators.Domains.{Domain}
+use Rattle.cc_state_values.specs.CcStateOperators.Results.{is_static, is_told, offsets, IsZeroOrOne, IsComparison, IsGap}
 use Rattle.cc_state_values_sound.specs.Steps.{MayGive}
-use Rattle.cc_syntax.specs.Operators.{difference_type}
-use Rattle.cc_values.specs.Values.{index_in, offset, moved_address, movement, in_one_array, difference, gap, same_address, compared, comparison}
+use Rattle.cc_state_values.specs.CcSyntax.Operators.{difference_type}
+use Rattle.cc_state_values.specs.CcValues.Values.{index_in, offset, moved_address, movement, in_one_array, difference, gap, same_address, compared, comparison}
 
 -- ---- moves
 

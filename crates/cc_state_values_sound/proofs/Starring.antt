@@ -5,11 +5,11 @@ use Rattle.std.proofs.lemmas.List.{map-append}
 use Rattle.std.proofs.lemmas.Option.{same_Some}
 use Rattle.std.specs.List.{Contains}
 use Rattle.std.specs.Prelude.{is_some, nat_lt, option_map, option_and_then, if◌then◌else◌}
-use Rattle.cc_eval.specs.Context.{object_type, has_elements, path_to, named_by, are_alike}
-use Rattle.cc_places.specs.Kept.{kept_root, kept, starred_part, starred, member_for}
-use Rattle.cc_places.specs.Sets.{HasAddress, IsSetOf}
-use Rattle.cc_places.specs.declared.addrs.Addrs.{Addrs}
-use Rattle.cc_places.specs.laws.KeptLaws.{kept_twice, starred_of_kept}
+use Rattle.cc_state_values.specs.CcEval.Context.{object_type, has_elements, path_to, named_by, are_alike}
+use Rattle.cc_state_values.specs.CcPlaces.Kept.{kept_root, kept, starred_part, starred, member_for}
+use Rattle.cc_state_values.specs.CcPlaces.Sets.{HasAddress, IsSetOf}
+use Rattle.cc_state_values.specs.CcPlaces.declared.addrs.Addrs.{Addrs}
+use Rattle.cc_state_values.specs.CcPlaces.laws.KeptLaws.{kept_twice, starred_of_kept}
 use Rattle.cc_program.specs.declared.program.Program.{Program}
 use Rattle.cc_program.specs.declared.types.Structure.{Structure}
 use Rattle.cc_program.specs.declared.value.Address.{Address}
@@ -18,12 +18,12 @@ use Rattle.cc_program.specs.declared.value.Part.{Part}
 use Rattle.cc_program.specs.declared.value.Part.TheVariants as part
 use Rattle.cc_program.specs.declared.value.Root.{Root}
 use Rattle.cc_program.specs.declared.value.Root.TheVariants as root
-use Rattle.cc_state_operators.specs.Addresses.{object_address, member_address, element_in, IsElement, HasStepped}
+use Rattle.cc_state_values.specs.CcStateOperators.Addresses.{object_address, member_address, element_in, IsElement, HasStepped}
 use Rattle.cc_state_values_sound.specs.Steps.{leads_anywhere, IsReal}
-use Rattle.cc_syntax.specs.Expressions.{of_one}
-use Rattle.cc_syntax.specs.Initial.{bound_of, is_below, step_into, place_at}
-use Rattle.cc_syntax.specs.Values.{PlaceType, element_of}
-use Rattle.cc_values.specs.Values.{index_in}
+use Rattle.cc_state_values.specs.CcSyntax.Expressions.{of_one}
+use Rattle.cc_state_values.specs.CcSyntax.Initial.{bound_of, is_below, step_into, place_at}
+use Rattle.cc_state_values.specs.CcSyntax.Values.{PlaceType, element_of}
+use Rattle.cc_state_values.specs.CcValues.Values.{index_in}
 
 -- ---- paths
 

@@ -1,2 +1,13 @@
 pub mod Steps
 pub mod Typed
+pub mod CcCells
+pub mod CcControl
+pub mod CcEval
+pub mod CcLattice
+pub mod CcPlaces
+pub mod CcStateOperators
+pub mod CcStateValues
+pub mod CcStates
+pub mod CcSteps
+pub mod CcSyntax
+pub mod CcValues

@@ -1,18 +1,18 @@
 -- The steps that a pure expression asks for, what answers them where registers hold values of their sets, and what it gives then.
 use Rattle.std.specs.Prelude.{◌≡◌, ℕ, ℤ, Bool, true, false, is_some, [], List, Option, Some, None, option_and_then}
-use Rattle.cc_eval.specs.declared.action.Action.{Action}
-use Rattle.cc_eval.specs.declared.action.Action.TheVariants as action
-use Rattle.cc_eval.specs.declared.action.Manner.{Manner}
-use Rattle.cc_eval.specs.declared.mark.Mark.{Mark}
-use Rattle.cc_eval.specs.declared.mark.Mark.TheVariants.{Chose}
-use Rattle.cc_eval.specs.declared.spots.Spot.{Spot}
-use Rattle.cc_eval.specs.declared.spots.Spot.TheVariants as spot
-use Rattle.cc_eval.specs.Context.{Context, object_type, has_elements, address_at}
-use Rattle.cc_eval.specs.Progress.{given}
-use Rattle.cc_places.specs.declared.abs.Abs.{Abs}
-use Rattle.cc_places.specs.declared.addrs.Addrs.{Addrs}
-use Rattle.cc_places.specs.Abstract.{HasValue}
-use Rattle.cc_places.specs.Sets.{HasAddress}
+use Rattle.cc_state_values.specs.CcEval.declared.action.Action.{Action}
+use Rattle.cc_state_values.specs.CcEval.declared.action.Action.TheVariants as action
+use Rattle.cc_state_values.specs.CcEval.declared.action.Manner.{Manner}
+use Rattle.cc_state_values.specs.CcEval.declared.mark.Mark.{Mark}
+use Rattle.cc_state_values.specs.CcEval.declared.mark.Mark.TheVariants.{Chose}
+use Rattle.cc_state_values.specs.CcEval.declared.spots.Spot.{Spot}
+use Rattle.cc_state_values.specs.CcEval.declared.spots.Spot.TheVariants as spot
+use Rattle.cc_state_values.specs.CcEval.Context.{Context, object_type, has_elements, address_at}
+use Rattle.cc_state_values.specs.CcEval.Progress.{given}
+use Rattle.cc_state_values.specs.CcPlaces.declared.abs.Abs.{Abs}
+use Rattle.cc_state_values.specs.CcPlaces.declared.addrs.Addrs.{Addrs}
+use Rattle.cc_state_values.specs.CcPlaces.Abstract.{HasValue}
+use Rattle.cc_state_values.specs.CcPlaces.Sets.{HasAddress}
 use Rattle.cc_program.specs.declared.program.Program.{Program}
 use Rattle.cc_program.specs.declared.value.Address.{Address}
 use Rattle.cc_program.specs.declared.value.Address.TheVariants as address
@@ -22,9 +22,9 @@ use Rattle.cc_program.specs.declared.value.Part.{Part}
 use Rattle.cc_program.specs.declared.value.Root.{Root}
 use Rattle.cc_program.specs.declared.value.Root.TheVariants as root
 use Rattle.cc_program.specs.declared.value.Value.{Value}
-use Rattle.cc_syntax.specs.Initial.{place_at}
-use Rattle.cc_syntax.specs.Registers.{is_register}
-use Rattle.cc_syntax.specs.Values.{PlaceType}
+use Rattle.cc_state_values.specs.CcSyntax.Initial.{place_at}
+use Rattle.cc_state_values.specs.CcSyntax.Registers.{is_register}
+use Rattle.cc_state_values.specs.CcSyntax.Values.{PlaceType}
 
 -- a value of a set, or a bad one, which stands for none
 abbrev pub MayGive : {I : Type 0} → (I → ℤ → Type 0) → Abs I → Option Value → Type 0

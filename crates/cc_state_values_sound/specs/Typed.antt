@@ -1,9 +1,9 @@
 -- The marks that a run gives an activation: each has the type of its step, and registers give values of their sets.
 use Rattle.std.specs.Prelude.{ℕ, ℤ, List, Option}
-use Rattle.cc_eval.specs.declared.action.Action.{Action}
-use Rattle.cc_eval.specs.declared.mark.Mark.{Mark}
-use Rattle.cc_eval.specs.Context.{Context}
-use Rattle.cc_places.specs.declared.abs.Abs.{Abs}
+use Rattle.cc_state_values.specs.CcEval.declared.action.Action.{Action}
+use Rattle.cc_state_values.specs.CcEval.declared.mark.Mark.{Mark}
+use Rattle.cc_state_values.specs.CcEval.Context.{Context}
+use Rattle.cc_state_values.specs.CcPlaces.declared.abs.Abs.{Abs}
 use Rattle.cc_states.specs.Answers.{IsMarkOf}
 use Rattle.cc_state_values_sound.specs.Steps.{IsAnswer}
 

@@ -1,19 +1,19 @@
 ghost use Rattle.std.specs.Prelude.{ℕ, List, Option};
-ghost use Rattle.cc_eval.specs.Context.{Context};
-ghost use Rattle.cc_eval.specs.Eval.{meaning, designation};
-ghost use Rattle.cc_eval.specs.Marks.{Works};
-ghost use Rattle.cc_places.specs.declared.abs.Abs.{Abs};
-ghost use Rattle.cc_places.specs.declared.addrs.Addrs.{Addrs};
+ghost use Rattle.cc_state_values.specs.CcEval.Context.{Context};
+ghost use Rattle.cc_state_values.specs.CcEval.Eval.{meaning, designation};
+ghost use Rattle.cc_state_values.specs.CcEval.Marks.{Works};
+ghost use Rattle.cc_state_values.specs.CcPlaces.declared.abs.Abs.{Abs};
+ghost use Rattle.cc_state_values.specs.CcPlaces.declared.addrs.Addrs.{Addrs};
 ghost use Rattle.cc_program.specs.declared.expr.Expr.{Expr};
 ghost use Rattle.cc_program.specs.declared.expr.Place.{Place};
-ghost use Rattle.cc_state_operators.specs.Domains.{domain};
+ghost use Rattle.cc_state_values.specs.CcStateOperators.Domains.{domain};
 ghost use Rattle.cc_state_values.specs.Values.{IsVal, Designates};
 ghost use Rattle.cc_state_values_sound.specs.Steps.{MayGive, IsOwnStep, LeadsInto};
 ghost use Rattle.cc_state_values_sound.specs.Typed.{IsTypedAnswer};
 ghost use Rattle.cc_states.specs.Answers.{IsActivation, TakesAddressesOf, PlaceTakesAddressesOf};
-ghost use Rattle.cc_syntax.specs.Effects.{Registers};
+ghost use Rattle.cc_state_values.specs.CcSyntax.Effects.{Registers};
 
-use cc_lattice::IntDomain;
+use cc_state_values::lattice::IntDomain;
 
 /// What holds in an activation whose registers hold values of these sets, where each mark has the type of its step. The call
 /// does nothing.

@@ -3,4 +3,5 @@
 
 mod law;
 
+pub use cc_state_values::lattice;
 pub use law::laws;

@@ -8,15 +8,15 @@ use Rattle.cc_program.specs.declared.stmt.Case.{Case}
 use Rattle.cc_program.specs.declared.stmt.Stmt.{Stmt, out-Stmt}
 use Rattle.cc_program.specs.declared.stmt.Stmt.TheOpen as is
 use Rattle.cc_program.specs.declared.value.Address.TheVariants as address
-use Rattle.cc_control.specs.Control.{Control, behind}
-use Rattle.cc_eval.specs.declared.action.Action.{Action}
-use Rattle.cc_eval.specs.declared.action.Action.TheVariants.{Call}
-use Rattle.cc_eval.specs.declared.mark.Mark.{Mark}
-use Rattle.cc_eval.specs.Context.{Context}
-use Rattle.cc_eval.specs.Eval.{next_of}
-use Rattle.cc_eval.proofs.MarkLemmas.{nothing_in}
-use Rattle.cc_eval.proofs.Works.{one_answer}
-use Rattle.cc_eval.specs.Progress.{Waits}
+use Rattle.cc_steps.specs.CcControl.Control.{Control, behind}
+use Rattle.cc_steps.specs.CcEval.declared.action.Action.{Action}
+use Rattle.cc_steps.specs.CcEval.declared.action.Action.TheVariants.{Call}
+use Rattle.cc_steps.specs.CcEval.declared.mark.Mark.{Mark}
+use Rattle.cc_steps.specs.CcEval.Context.{Context}
+use Rattle.cc_steps.specs.CcEval.Eval.{next_of}
+use Rattle.cc_steps.proofs.CcEval.MarkLemmas.{nothing_in}
+use Rattle.cc_steps.proofs.CcEval.Works.{one_answer}
+use Rattle.cc_steps.specs.CcEval.Progress.{Waits}
 use Rattle.cc_steps.specs.State.{Active, IsSameCall}
 use Rattle.cc_steps.specs.Step.{moved, with_mark, at_test, progress_in, progress_of, is_known, passes, begun_at, goes_to, settled_in, settled, marked}
 use Rattle.cc_states.specs.Answers.{IsMarkOf}

@@ -3,9 +3,9 @@
 use Rattle.std.proofs.Common.{◌≡◌, ◌∙◌, ◌∷◌, ◌++◌, ◌||◌, ◌⊎◌, inl, inr, ℕ, Bool, true, List, [], map, Some, None, refl, ap, sym, subst}
 use Rattle.std.proofs.lemmas.Bool.{eq-eqb}
 use Rattle.std.specs.List.{list_any}
-use Rattle.cc_control.specs.declared.phase.Phase.{Phase}
-use Rattle.cc_control.specs.declared.phase.Phase.TheVariants.{First, Test, Again}
-use Rattle.cc_control.specs.Control.{Level, bodies}
+use Rattle.cc_steps.specs.CcControl.declared.phase.Phase.{Phase}
+use Rattle.cc_steps.specs.CcControl.declared.phase.Phase.TheVariants.{First, Test, Again}
+use Rattle.cc_steps.specs.CcControl.Control.{Level, bodies}
 use Rattle.cc_program.specs.declared.expr.Expr.{Expr, roll-Expr, map-Expr, fold-roll-Expr}
 use Rattle.cc_program.specs.declared.expr.Expr.TheOpen as one
 use Rattle.cc_program.specs.declared.expr.Place.{Place, out-Place, roll-Place, map-Place, fold-roll-Place, fold_out-Place}
@@ -17,7 +17,7 @@ use Rattle.cc_program.proofs.Each.{Each}
 use Rattle.cc_program.proofs.ExprInduction.{Parts, PlaceParts}
 use Rattle.cc_steps.specs.State.{Active}
 use Rattle.cc_steps.specs.Step.{worked}
-use Rattle.cc_syntax.specs.Registers.{is_taken_in_optional, PlaceUse, address_step, use_step, is_address_taken, place_use, stmt_step, is_taken_in, is_addressed}
+use Rattle.cc_steps.specs.CcSyntax.Registers.{is_taken_in_optional, PlaceUse, address_step, use_step, is_address_taken, place_use, stmt_step, is_taken_in, is_addressed}
 use Rattle.cc_states.specs.Answers.{TakesAddressesOf, PlaceTakesAddressesOf}
 use Rattle.cc_states.specs.Inside.{IsListIn, IsListInFirst, IsLeft, AreInside}
 use Rattle.cc_states.specs.States.{worked_at, expression_of}

@@ -11,17 +11,17 @@ use Rattle.cc_program.specs.declared.stmt.Case.{Case, out-Case, fold_out-Case}
 use Rattle.cc_program.specs.declared.stmt.Stmt.{Stmt, out-Stmt}
 use Rattle.cc_program.specs.declared.stmt.Stmt.TheOpen as is
 use Rattle.cc_program.specs.declared.value.Value.{Value}
-use Rattle.cc_control.specs.Control.{Level, Control, level, counted, is_loop, is_left_by_break, behind_body, opening, begun, behind_first, first_is, around_list, close, behind, broken, continued, arm, bodies, from_label, is_label, is_default}
-use Rattle.cc_control.proofs.Begun.{begun_stands, begun_enters}
+use Rattle.cc_steps.specs.CcControl.Control.{Level, Control, level, counted, is_loop, is_left_by_break, behind_body, opening, begun, behind_first, first_is, around_list, close, behind, broken, continued, arm, bodies, from_label, is_label, is_default}
+use Rattle.cc_steps.proofs.CcControl.Begun.{begun_stands, begun_enters}
 use Rattle.cc_steps.specs.State.{Active}
 use Rattle.cc_steps.specs.Step.{in_case, looped, is_passed, next_place, number_in}
-use Rattle.cc_syntax.specs.Statements.{SoundWhere, Labelled, sound_case, is_condition, labels_fit, are_apart, has_label}
-use Rattle.cc_syntax.specs.Programs.{sound_step, is_sound_stmt, is_typed, is_optional_condition, is_sound_body}
-use Rattle.cc_syntax.proofs.Prefixes.{both_true}
-use Rattle.cc_values.specs.Values.{is_true}
+use Rattle.cc_steps.specs.CcSyntax.Statements.{SoundWhere, Labelled, sound_case, is_condition, labels_fit, are_apart, has_label}
+use Rattle.cc_steps.specs.CcSyntax.Programs.{sound_step, is_sound_stmt, is_typed, is_optional_condition, is_sound_body}
+use Rattle.cc_steps.proofs.CcSyntax.Prefixes.{both_true}
+use Rattle.cc_steps.specs.CcValues.Values.{is_true}
 use Rattle.cc_states.specs.States.{may_break, may_continue, is_sound_in, AreSound}
 use Rattle.cc_states.proofs.Openings.{by_opening}
-use Rattle.cc_syntax.proofs.SameLemmas.{and_true}
+use Rattle.cc_steps.proofs.CcSyntax.SameLemmas.{and_true}
 use Rattle.cc_states.proofs.SoundLemmas.{typed, labelled, parts, sound-opens}
 
 module _ (p : Program) (f : Func) where

@@ -2,9 +2,9 @@
 use Rattle.std.proofs.Common.{inl, ◌≡◌, ℕ, ℤ, pos, Bool, true, false, not, List, [], ◌∷◌, ◌++◌, map, Option, Some, None, refl, ap, sym, ◌∙◌, subst}
 use Rattle.std.proofs.lemmas.Option.{same_Some}
 use Rattle.std.specs.Prelude.{option_map, option_and_then, slice_get, if◌then◌else◌}
-use Rattle.cc_num.specs.declared.int_type.IntType.{IntType}
-use Rattle.cc_num.specs.declared.int_type.IntType.TheVariants as int
-use Rattle.cc_num.specs.declared.op.BinOp.{BinOp}
+use Rattle.cc_program.specs.CcNum.declared.int_type.IntType.{IntType}
+use Rattle.cc_program.specs.CcNum.declared.int_type.IntType.TheVariants as int
+use Rattle.cc_program.specs.CcNum.declared.op.BinOp.{BinOp}
 use Rattle.cc_program.specs.declared.expr.Expr.{Expr, roll-Expr}
 use Rattle.cc_program.specs.declared.expr.Expr.TheOpen as one
 use Rattle.cc_program.specs.declared.expr.Intr.TheVariants as intr
@@ -26,30 +26,30 @@ use Rattle.cc_program.specs.declared.value.Value.{Value}
 use Rattle.cc_program.specs.declared.value.Value.TheVariants.{Int, Place}
 use Rattle.cc_program.proofs.Each.{Each}
 use Rattle.cc_program.proofs.ExprInduction.{Parts, PlaceParts, by_expr, by_place}
-use Rattle.cc_eval.specs.declared.action.Action.{Action}
-use Rattle.cc_eval.specs.declared.action.Action.TheVariants as action
-use Rattle.cc_eval.specs.declared.mark.Mark.{Mark}
-use Rattle.cc_eval.specs.declared.spots.Spot.{Spot}
-use Rattle.cc_eval.specs.declared.spots.Spot.TheVariants as spot
-use Rattle.cc_eval.specs.Context.{Context, local_type, designated, element, element_in, reached, is_seen, member}
-use Rattle.cc_eval.specs.Eval.{Meaning, Designation, place_meaning, meaning, designation, opened, place_opened, manner, from_one, both_values, from_two, place_and_value, choice, as_condition, each, assigned_by, all_good, called_with, restored, sequence, changed, sum_or_difference, one_more_type, address_of as address_of_spot, element_at, value_type, fetched, stored, changed_back, changed_with, stepped_back, stepped_with}
-use Rattle.cc_eval.specs.Marks.{Works}
-use Rattle.cc_eval.specs.Progress.{Known, Get, known, ask, bind, needs, given}
-use Rattle.cc_eval.proofs.Links.{level, place_level}
-use Rattle.cc_eval.proofs.Works.{works_known, works_ask, works_bind, works_needs, works_and, works_as, works_choice, gives_made}
-use Rattle.cc_syntax.specs.Effects.{Registers, also}
-use Rattle.cc_syntax.specs.Expressions.{of_one, of_two}
-use Rattle.cc_syntax.specs.Initial.{bound_of}
-use Rattle.cc_syntax.specs.Operators as rule
-use Rattle.cc_syntax.specs.Operators.{when, constant_type, function_type, common_type, change_type, after_type, call_type, is_promoted, is_integer, is_of}
-use Rattle.cc_syntax.specs.Programs.{null_type, pointer_type, qualified_type}
-use Rattle.cc_syntax.specs.Registers.{is_addressed}
-use Rattle.cc_syntax.specs.Values.{ValueType, NoValue, Integer, ToObject, ToFunction, PlaceType, DevicePlace, pointer_shape, pointer_to, member_of, scalar_value, result_value, object_place, read_from, written_to, address_of, pointed_to, element_of, is_assignable, is_assignable_some, are_assignable}
-use Rattle.cc_syntax.proofs.Prefixes.{both_true}
-use Rattle.cc_values.specs.Values.{integer, element_at as element_at_address, address_in, truth, of_truth, unary, binary, conversion, movement, gap, comparison}
+use Rattle.cc_steps.specs.CcEval.declared.action.Action.{Action}
+use Rattle.cc_steps.specs.CcEval.declared.action.Action.TheVariants as action
+use Rattle.cc_steps.specs.CcEval.declared.mark.Mark.{Mark}
+use Rattle.cc_steps.specs.CcEval.declared.spots.Spot.{Spot}
+use Rattle.cc_steps.specs.CcEval.declared.spots.Spot.TheVariants as spot
+use Rattle.cc_steps.specs.CcEval.Context.{Context, local_type, designated, element, element_in, reached, is_seen, member}
+use Rattle.cc_steps.specs.CcEval.Eval.{Meaning, Designation, place_meaning, meaning, designation, opened, place_opened, manner, from_one, both_values, from_two, place_and_value, choice, as_condition, each, assigned_by, all_good, called_with, restored, sequence, changed, sum_or_difference, one_more_type, address_of as address_of_spot, element_at, value_type, fetched, stored, changed_back, changed_with, stepped_back, stepped_with}
+use Rattle.cc_steps.specs.CcEval.Marks.{Works}
+use Rattle.cc_steps.specs.CcEval.Progress.{Known, Get, known, ask, bind, needs, given}
+use Rattle.cc_steps.proofs.CcEval.Links.{level, place_level}
+use Rattle.cc_steps.proofs.CcEval.Works.{works_known, works_ask, works_bind, works_needs, works_and, works_as, works_choice, gives_made}
+use Rattle.cc_steps.specs.CcSyntax.Effects.{Registers, also}
+use Rattle.cc_steps.specs.CcSyntax.Expressions.{of_one, of_two}
+use Rattle.cc_steps.specs.CcSyntax.Initial.{bound_of}
+use Rattle.cc_steps.specs.CcSyntax.Operators as rule
+use Rattle.cc_steps.specs.CcSyntax.Operators.{when, constant_type, function_type, common_type, change_type, after_type, call_type, is_promoted, is_integer, is_of}
+use Rattle.cc_steps.specs.CcSyntax.Programs.{null_type, pointer_type, qualified_type}
+use Rattle.cc_steps.specs.CcSyntax.Registers.{is_addressed}
+use Rattle.cc_steps.specs.CcSyntax.Values.{ValueType, NoValue, Integer, ToObject, ToFunction, PlaceType, DevicePlace, pointer_shape, pointer_to, member_of, scalar_value, result_value, object_place, read_from, written_to, address_of, pointed_to, element_of, is_assignable, is_assignable_some, are_assignable}
+use Rattle.cc_steps.proofs.CcSyntax.Prefixes.{both_true}
+use Rattle.cc_steps.specs.CcValues.Values.{integer, element_at as element_at_address, address_in, truth, of_truth, unary, binary, conversion, movement, gap, comparison}
 use Rattle.cc_states.specs.Answers.{IsActivation, IsMarkOf, IsStep, TakesAddressesOf, PlaceTakesAddressesOf}
 use Rattle.cc_states.specs.Typed.{is_register_in, IsInMemory, MayHave, MayLead}
-use Rattle.cc_syntax.proofs.AlikeLemmas.{function_itself}
+use Rattle.cc_steps.proofs.CcSyntax.AlikeLemmas.{function_itself}
 use Rattle.cc_states.proofs.Options.{with_one, with_two, when_true, when_is, mapped}
 use Rattle.cc_states.proofs.SpotLemmas.{may_lead_member, may_lead_element}
 use Rattle.cc_states.proofs.TypedLemmas.{may_widen, promoted_value, has_unary, has_binary, has_conversion, has_truth, has_movement, has_gap, has_comparison}

@@ -2,9 +2,9 @@
 use Rattle.std.proofs.Common.{◌≡◌, ℕ, Bool, true, false, not, ◌&&◌, ◌||◌, ◌⊎◌, inl, inr, List, [], ◌∷◌, Option, Some, None, refl, ap, sym, ◌∙◌, subst}
 use Rattle.std.proofs.lemmas.Option.{same_Some}
 use Rattle.std.specs.Prelude.{option_map, slice_get, nat_eq, nat_le, if◌then◌else◌}
-use Rattle.cc_num.specs.declared.int_type.IntType.{IntType}
-use Rattle.cc_num.specs.declared.op.BinOp.{BinOp}
-use Rattle.cc_num.specs.declared.target.Target.{Target}
+use Rattle.cc_program.specs.CcNum.declared.int_type.IntType.{IntType}
+use Rattle.cc_program.specs.CcNum.declared.op.BinOp.{BinOp}
+use Rattle.cc_program.specs.CcNum.declared.target.Target.{Target}
 use Rattle.cc_program.specs.Qualifiers.{is_const, is_volatile}
 use Rattle.cc_program.specs.declared.func.Func.{Func}
 use Rattle.cc_program.specs.declared.program.Program.{Program}
@@ -18,28 +18,28 @@ use Rattle.cc_program.specs.declared.value.Part.{Part}
 use Rattle.cc_program.specs.declared.value.Root.{Root}
 use Rattle.cc_program.specs.declared.value.Value.{Value}
 use Rattle.cc_program.specs.declared.value.Value.TheVariants.{Int, Place}
-use Rattle.cc_eval.specs.declared.action.Action.{Action}
-use Rattle.cc_eval.specs.declared.action.Action.TheVariants as action
-use Rattle.cc_eval.specs.declared.mark.Mark.{Mark}
-use Rattle.cc_eval.specs.declared.mark.Mark.TheVariants.{Gave, Did, Chose}
-use Rattle.cc_eval.specs.declared.spots.Spot.{Spot}
-use Rattle.cc_eval.specs.declared.spots.Spot.TheVariants as spot
-use Rattle.cc_eval.specs.Context.{object_type, reached}
-use Rattle.cc_eval.specs.Eval.{in_front, all_good, is_back, changed, address_of as address_of_spot}
-use Rattle.cc_eval.specs.Progress.{given}
-use Rattle.cc_syntax.specs.Expressions.{of_one}
-use Rattle.cc_syntax.specs.Initial.{leads_to_element, names, names_element, names_whole}
-use Rattle.cc_syntax.specs.Operators as rule
-use Rattle.cc_syntax.specs.Operators.{when, constant_type, function_type, common_type, change_type, after_type, call_type, is_promoted, is_integer, is_of}
-use Rattle.cc_syntax.specs.SameTypes.{same_int, same_sig, alike}
-use Rattle.cc_syntax.specs.Values.{ValueType, NoValue, Integer, ToObject, ToFunction, PlaceType, DevicePlace, ObjectPlace, FunctionPlace, scalar_value, result_value, object_place, is_void, read_from, written_to, address_of, pointed_to, implies, is_assignable, is_assignable_some}
-use Rattle.cc_syntax.proofs.Prefixes.{both_true}
-use Rattle.cc_values.specs.Values.{address_in, binary, conversion}
+use Rattle.cc_steps.specs.CcEval.declared.action.Action.{Action}
+use Rattle.cc_steps.specs.CcEval.declared.action.Action.TheVariants as action
+use Rattle.cc_steps.specs.CcEval.declared.mark.Mark.{Mark}
+use Rattle.cc_steps.specs.CcEval.declared.mark.Mark.TheVariants.{Gave, Did, Chose}
+use Rattle.cc_steps.specs.CcEval.declared.spots.Spot.{Spot}
+use Rattle.cc_steps.specs.CcEval.declared.spots.Spot.TheVariants as spot
+use Rattle.cc_steps.specs.CcEval.Context.{object_type, reached}
+use Rattle.cc_steps.specs.CcEval.Eval.{in_front, all_good, is_back, changed, address_of as address_of_spot}
+use Rattle.cc_steps.specs.CcEval.Progress.{given}
+use Rattle.cc_steps.specs.CcSyntax.Expressions.{of_one}
+use Rattle.cc_steps.specs.CcSyntax.Initial.{leads_to_element, names, names_element, names_whole}
+use Rattle.cc_steps.specs.CcSyntax.Operators as rule
+use Rattle.cc_steps.specs.CcSyntax.Operators.{when, constant_type, function_type, common_type, change_type, after_type, call_type, is_promoted, is_integer, is_of}
+use Rattle.cc_steps.specs.CcSyntax.SameTypes.{same_int, same_sig, alike}
+use Rattle.cc_steps.specs.CcSyntax.Values.{ValueType, NoValue, Integer, ToObject, ToFunction, PlaceType, DevicePlace, ObjectPlace, FunctionPlace, scalar_value, result_value, object_place, is_void, read_from, written_to, address_of, pointed_to, implies, is_assignable, is_assignable_some}
+use Rattle.cc_steps.proofs.CcSyntax.Prefixes.{both_true}
+use Rattle.cc_steps.specs.CcValues.Values.{address_in, binary, conversion}
 use Rattle.cc_states.specs.Answers.{IsCall, IsMarkOf, given_type, result_in}
 use Rattle.cc_states.specs.Typed.{IsOpened, IsInMemory, place_in, IsAddress, HasType, MayHave, IsSpot, MayLead, cell_type, IsThere, AreArguments}
-use Rattle.cc_syntax.proofs.AlikeLemmas.{alike_itself, implies_itself, assignable_object, function_itself}
+use Rattle.cc_steps.proofs.CcSyntax.AlikeLemmas.{alike_itself, implies_itself, assignable_object, function_itself}
 use Rattle.cc_states.proofs.Options.{when_is, right_true}
-use Rattle.cc_syntax.proofs.SameLemmas.{and_true, int_itself, sig_compared}
+use Rattle.cc_steps.proofs.CcSyntax.SameLemmas.{and_true, int_itself, sig_compared}
 use Rattle.cc_states.proofs.MemoryLemmas.{part_in_memory}
 use Rattle.cc_states.proofs.SpotLemmas.{cell_there}
 use Rattle.cc_states.proofs.PlaceLemmas.{CanPoint, real}

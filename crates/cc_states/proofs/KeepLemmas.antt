@@ -1,6 +1,6 @@
 -- What holds where activations of some functions were opened holds where more were opened behind them.
 use Rattle.std.proofs.Common.{arith, ◌≡◌, ℕ, zero, suc, List, [], ◌∷◌, ◌++◌, length, Option, Some, None, slice_get, refl, sym, ◌∙◌, subst}
-use Rattle.cc_syntax.specs.Types.{Named}
+use Rattle.cc_steps.specs.CcSyntax.Types.{Named}
 use Rattle.cc_program.specs.declared.object.Object.{Object}
 use Rattle.std.proofs.lemmas.Option.{slice_get_within}
 use Rattle.cc_program.specs.declared.expr.Expr.{Expr}
@@ -13,13 +13,13 @@ use Rattle.cc_program.specs.declared.value.Root.{Root}
 use Rattle.cc_program.specs.declared.value.Root.TheVariants as root
 use Rattle.cc_program.specs.declared.value.Value.{Value}
 use Rattle.cc_program.specs.declared.value.Value.TheVariants.{Int, Place}
-use Rattle.cc_eval.specs.declared.action.Action.{Action}
-use Rattle.cc_eval.specs.declared.mark.Mark.{Mark}
-use Rattle.cc_eval.specs.declared.mark.Mark.TheVariants.{Gave, Did, Chose}
-use Rattle.cc_eval.specs.Context.{Context}
-use Rattle.cc_eval.specs.Eval.{next_of}
+use Rattle.cc_steps.specs.CcEval.declared.action.Action.{Action}
+use Rattle.cc_steps.specs.CcEval.declared.mark.Mark.{Mark}
+use Rattle.cc_steps.specs.CcEval.declared.mark.Mark.TheVariants.{Gave, Did, Chose}
+use Rattle.cc_steps.specs.CcEval.Context.{Context}
+use Rattle.cc_steps.specs.CcEval.Eval.{next_of}
 use Rattle.cc_steps.specs.State.{Active}
-use Rattle.cc_syntax.specs.Values.{ValueType, NoValue, Integer, ToObject, ToFunction}
+use Rattle.cc_steps.specs.CcSyntax.Values.{ValueType, NoValue, Integer, ToObject, ToFunction}
 use Rattle.cc_states.proofs.ListLemmas.{get_before}
 use Rattle.cc_states.specs.Answers.{IsMarkOf, AreItsMarks}
 use Rattle.cc_states.specs.States.{AreStatics, AreLocals, expression_of, AreMarks, context_in, IsActive, AreActive, AreScalars}

@@ -27,3 +27,8 @@ pub mod AddressLemmas
 pub mod ParameterLemmas
 pub mod ReachLemmas
 pub mod RegisterLemmas
+pub mod CcCells
+pub mod CcControl
+pub mod CcEval
+pub mod CcSteps
+pub mod CcSyntax

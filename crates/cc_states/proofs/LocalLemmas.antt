@@ -1,6 +1,6 @@
 -- The locals of an activation that is opened: arguments of the types of parameters, and nothing written in the others.
 use Rattle.std.proofs.Common.{arith, ◌≡◌, ◌<◌, ℕ, zero, suc, Bool, true, List, [], ◌∷◌, length, replicate, Option, Some, None, refl, ap, sym, ◌∙◌, subst}
-use Rattle.cc_syntax.specs.Initial.{place_at}
+use Rattle.cc_steps.specs.CcSyntax.Initial.{place_at}
 use Rattle.cc_program.specs.Qualifiers.{is_const, is_volatile}
 use Rattle.std.proofs.lemmas.Bool.{eqb-true}
 use Rattle.std.proofs.lemmas.List.{length-replicate}
@@ -14,17 +14,17 @@ use Rattle.cc_program.specs.declared.types.Shape.TheOpen as shape
 use Rattle.cc_program.specs.declared.types.Sig.{out-Sig, Sig}
 use Rattle.cc_program.specs.declared.value.Part.{Part}
 use Rattle.cc_program.specs.declared.value.Value.{Value}
-use Rattle.cc_cells.specs.Scalars.{zeros, structure_zeros, position}
-use Rattle.cc_control.specs.Control.{close}
+use Rattle.cc_steps.specs.CcCells.Scalars.{zeros, structure_zeros, position}
+use Rattle.cc_steps.specs.CcControl.Control.{close}
 use Rattle.cc_steps.specs.State.{locals_with}
 use Rattle.cc_steps.specs.Step.{activation, passes}
-use Rattle.cc_syntax.specs.Expressions.{of_one}
-use Rattle.cc_syntax.specs.Operators.{is_handler}
-use Rattle.cc_syntax.specs.SameTypes.{same_shape}
-use Rattle.cc_syntax.specs.Sound.{any_names, IsFuncBy, are_parameters}
-use Rattle.cc_syntax.specs.Types.{Named, IsInOrder}
-use Rattle.cc_syntax.specs.Values.{ValueType, scalar_shape, scalar_value, object_place, read_from}
-use Rattle.cc_syntax.proofs.Prefixes.{both_true}
+use Rattle.cc_steps.specs.CcSyntax.Expressions.{of_one}
+use Rattle.cc_steps.specs.CcSyntax.Operators.{is_handler}
+use Rattle.cc_steps.specs.CcSyntax.SameTypes.{same_shape}
+use Rattle.cc_steps.specs.CcSyntax.Sound.{any_names, IsFuncBy, are_parameters}
+use Rattle.cc_steps.specs.CcSyntax.Types.{Named, IsInOrder}
+use Rattle.cc_steps.specs.CcSyntax.Values.{ValueType, scalar_shape, scalar_value, object_place, read_from}
+use Rattle.cc_steps.proofs.CcSyntax.Prefixes.{both_true}
 use Rattle.cc_states.specs.States.{AreScalars, AreWritten, IsActive, context_in, expression_of}
 use Rattle.cc_states.specs.Typed.{HasType, MayHave, AreArguments}
 use Rattle.cc_states.proofs.ActiveLemmas.{no_marks, begun_by}
@@ -32,7 +32,7 @@ use Rattle.cc_states.proofs.ControlLemmas.{body_sound}
 use Rattle.cc_states.proofs.InsideLemmas.{body_inside}
 use Rattle.cc_states.proofs.PathLemmas.{within, no_path}
 use Rattle.cc_states.proofs.ZeroLemmas.{zeros-shape}
-use Rattle.cc_syntax.proofs.SameLemmas.{shape_of_same}
+use Rattle.cc_steps.proofs.CcSyntax.SameLemmas.{shape_of_same}
 
 pub get_replicate : {A : Type 0} → (x : A) (n k : ℕ) → k < n → slice_get (replicate n x) k ≡ Some x
 get_replicate x zero k h = absurd (omega (arith, h))

@@ -1,19 +1,19 @@
 -- A register is a scalar, so nothing is a part of one, and what is no scalar is in memory.
 use Rattle.std.proofs.Common.{◌≡◌, ◌∙◌, ◌∷◌, ◌&&◌, ℕ, Bool, true, false, not, List, [], Option, Some, None, refl, ap, sym}
 use Rattle.std.specs.Prelude.{is_some, option_map, slice_get}
-use Rattle.cc_eval.specs.Context.{local_type}
+use Rattle.cc_steps.specs.CcEval.Context.{local_type}
 use Rattle.cc_program.specs.declared.func.Func.{Func}
 use Rattle.cc_program.specs.declared.program.Program.{Program}
 use Rattle.cc_program.specs.declared.types.CType.{CType}
 use Rattle.cc_program.specs.declared.value.Part.{Part}
 use Rattle.cc_program.specs.declared.value.Root.{Root}
 use Rattle.cc_program.specs.declared.value.Root.TheVariants as root
-use Rattle.cc_syntax.specs.Expressions.{of_one}
-use Rattle.cc_syntax.specs.Initial.{place_at}
-use Rattle.cc_syntax.specs.Registers.{may_be_register, is_register, is_addressed}
-use Rattle.cc_syntax.specs.Types.{Named}
-use Rattle.cc_syntax.specs.Values.{PlaceType, scalar_value, object_place, read_from}
-use Rattle.cc_syntax.proofs.Prefixes.{both_true}
+use Rattle.cc_steps.specs.CcSyntax.Expressions.{of_one}
+use Rattle.cc_steps.specs.CcSyntax.Initial.{place_at}
+use Rattle.cc_steps.specs.CcSyntax.Registers.{may_be_register, is_register, is_addressed}
+use Rattle.cc_steps.specs.CcSyntax.Types.{Named}
+use Rattle.cc_steps.specs.CcSyntax.Values.{PlaceType, scalar_value, object_place, read_from}
+use Rattle.cc_steps.proofs.CcSyntax.Prefixes.{both_true}
 use Rattle.cc_steps.proofs.ScalarPlaces.{scalar_flat}
 use Rattle.cc_states.specs.Typed.{is_register_in, IsInMemory, place_in}
 

@@ -6,7 +6,7 @@ use Rattle.cc_program.specs.declared.stmt.Stmt.{Stmt, out-Stmt, roll-Stmt, out-r
 use Rattle.cc_program.specs.declared.stmt.Stmt.TheOpen as is
 use Rattle.cc_program.proofs.Each.{Each}
 use Rattle.cc_program.proofs.StmtInduction.{StmtParts, by_stmt}
-use Rattle.cc_control.specs.Control.{opening}
+use Rattle.cc_steps.specs.CcControl.Control.{opening}
 
 module _ (P : Stmt → Type 0) where
   abbrev AnyCase : Case → Type 0

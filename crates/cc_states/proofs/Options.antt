@@ -2,8 +2,8 @@
 use Rattle.std.proofs.Common.{◌≡◌, Bool, true, false, ◌||◌, ◌⊎◌, inl, inr, Option, Some, None, refl}
 use Rattle.std.proofs.lemmas.Option.{same_Some}
 use Rattle.std.specs.Prelude.{option_map, option_and_then}
-use Rattle.cc_syntax.specs.Expressions.{of_one, of_two}
-use Rattle.cc_syntax.specs.Operators.{when}
+use Rattle.cc_steps.specs.CcSyntax.Expressions.{of_one, of_two}
+use Rattle.cc_steps.specs.CcSyntax.Operators.{when}
 
 pub with_one : {A B : Type 0} (C : Type 0) (a : Option A) (f : A → Option B) (w : B) → of_one a f ≡ Some w → ((x : A) → a ≡ Some x → f x ≡ Some w → C) → C
 with_one C None f w h k = absurd (cc)

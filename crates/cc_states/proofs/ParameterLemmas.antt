@@ -2,7 +2,7 @@
 use Rattle.std.proofs.Common.{◌≡◌, ◌∙◌, ◌==◌, ◌∷◌, ℕ, zero, suc, Bool, true, false, List, [], Option, Some, slice_get, slice_set, refl, ap, sym, subst}
 use Rattle.std.proofs.lemmas.Bool.{eqb-true}
 use Rattle.std.specs.Prelude.{option_map}
-use Rattle.cc_cells.specs.Cells.{with_scalar}
+use Rattle.cc_steps.specs.CcCells.Cells.{with_scalar}
 use Rattle.cc_program.specs.declared.value.Value.{Value}
 use Rattle.cc_states.specs.States.{AreWritten}
 use Rattle.cc_steps.proofs.CellsApart.{elsewhere, written_here}

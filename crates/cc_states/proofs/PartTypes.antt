@@ -8,12 +8,12 @@ use Rattle.cc_program.specs.declared.types.CType.{CType}
 use Rattle.cc_program.specs.declared.types.Sig.{out-Sig}
 use Rattle.cc_program.proofs.Each.{Each}
 use Rattle.cc_program.proofs.ExprInduction.{Parts, PlaceParts}
-use Rattle.cc_syntax.specs.Expressions.{of_one, of_two}
-use Rattle.cc_syntax.specs.Operators.{choice_type, call_type, intrinsic_type}
-use Rattle.cc_syntax.specs.Values.{ValueType, NoValue, Integer, ToObject, ToFunction, written_to, scalar_value, is_assignable_some, are_assignable, result_value}
-use Rattle.cc_eval.specs.Context.{Context}
-use Rattle.cc_eval.specs.Eval.{Meaning, meaning, designation, opened, place_opened}
-use Rattle.cc_syntax.proofs.Prefixes.{both_true}
+use Rattle.cc_steps.specs.CcSyntax.Expressions.{of_one, of_two}
+use Rattle.cc_steps.specs.CcSyntax.Operators.{choice_type, call_type, intrinsic_type}
+use Rattle.cc_steps.specs.CcSyntax.Values.{ValueType, NoValue, Integer, ToObject, ToFunction, written_to, scalar_value, is_assignable_some, are_assignable, result_value}
+use Rattle.cc_steps.specs.CcEval.Context.{Context}
+use Rattle.cc_steps.specs.CcEval.Eval.{Meaning, meaning, designation, opened, place_opened}
+use Rattle.cc_steps.proofs.CcSyntax.Prefixes.{both_true}
 use Rattle.cc_states.specs.Answers.{IsTyped, IsTypedPlace}
 use Rattle.cc_states.proofs.Options.{with_one, with_two}
 

@@ -18,17 +18,17 @@ use Rattle.cc_program.specs.declared.value.Part.{Part}
 use Rattle.cc_program.specs.declared.value.Part.TheVariants as part
 use Rattle.cc_program.specs.declared.value.Value.{Value}
 use Rattle.cc_program.specs.declared.value.Value.TheVariants.{Int, Place}
-use Rattle.cc_cells.specs.Scalars.{zeros_over, member_zeros, structure_zeros, zeros, members_before, before_part, position}
-use Rattle.cc_cells.proofs.StructureLemmas.{zeros-at}
-use Rattle.cc_syntax.specs.Expressions.{of_one}
-use Rattle.cc_syntax.specs.Initial.{bound_shape, is_below, step_into, place_at}
-use Rattle.cc_syntax.specs.Types.{Named, is_complete, IsInOrder}
-use Rattle.cc_syntax.specs.Values.{ValueType, Integer, PlaceType, ObjectPlace, pointer_shape, pointer_to, scalar_shape, scalar_value, object_place, read_from, element_shape, member_at, member_in, member_shape}
-use Rattle.cc_syntax.proofs.Parts.{all_at}
-use Rattle.cc_syntax.proofs.Prefixes.{get_taken}
+use Rattle.cc_steps.specs.CcCells.Scalars.{zeros_over, member_zeros, structure_zeros, zeros, members_before, before_part, position}
+use Rattle.cc_steps.proofs.CcCells.StructureLemmas.{zeros-at}
+use Rattle.cc_steps.specs.CcSyntax.Expressions.{of_one}
+use Rattle.cc_steps.specs.CcSyntax.Initial.{bound_shape, is_below, step_into, place_at}
+use Rattle.cc_steps.specs.CcSyntax.Types.{Named, is_complete, IsInOrder}
+use Rattle.cc_steps.specs.CcSyntax.Values.{ValueType, Integer, PlaceType, ObjectPlace, pointer_shape, pointer_to, scalar_shape, scalar_value, object_place, read_from, element_shape, member_at, member_in, member_shape}
+use Rattle.cc_steps.proofs.CcSyntax.Parts.{all_at}
+use Rattle.cc_steps.proofs.CcSyntax.Prefixes.{get_taken}
 use Rattle.cc_states.specs.States.{AreScalars}
 use Rattle.cc_states.specs.Typed.{HasType}
-use Rattle.cc_syntax.proofs.AlikeLemmas.{same_of}
+use Rattle.cc_steps.proofs.CcSyntax.AlikeLemmas.{same_of}
 use Rattle.cc_states.proofs.Options.{with_one}
 use Rattle.cc_states.proofs.TypedLemmas.{promoted_value}
 use Rattle.cc_states.proofs.ListLemmas.{get_repeat, get_member, row_same, member_same, same_struct, not_equal}

@@ -12,16 +12,16 @@ use Rattle.cc_program.specs.declared.value.Part.{Part}
 use Rattle.cc_program.specs.declared.value.Part.TheVariants as part
 use Rattle.cc_program.specs.declared.value.Root.{Root}
 use Rattle.cc_program.proofs.TypeInduction.{with_shape, TypeParts, by_type}
-use Rattle.cc_eval.specs.Context.{object_type, are_alike}
-use Rattle.cc_syntax.specs.Expressions.{of_one}
-use Rattle.cc_syntax.specs.Initial.{bound_of, is_below, step_into, place_at, leads_to_element, names_element, names_whole}
-use Rattle.cc_syntax.specs.Lists.{is_count}
-use Rattle.cc_syntax.specs.SameTypes.{alike}
-use Rattle.cc_syntax.specs.Values.{ToObject, PlaceType, DevicePlace, ObjectPlace, FunctionPlace, address_of, element_shape, element_of, implies, is_assignable_some}
-use Rattle.cc_syntax.proofs.Prefixes.{both_true}
+use Rattle.cc_steps.specs.CcEval.Context.{object_type, are_alike}
+use Rattle.cc_steps.specs.CcSyntax.Expressions.{of_one}
+use Rattle.cc_steps.specs.CcSyntax.Initial.{bound_of, is_below, step_into, place_at, leads_to_element, names_element, names_whole}
+use Rattle.cc_steps.specs.CcSyntax.Lists.{is_count}
+use Rattle.cc_steps.specs.CcSyntax.SameTypes.{alike}
+use Rattle.cc_steps.specs.CcSyntax.Values.{ToObject, PlaceType, DevicePlace, ObjectPlace, FunctionPlace, address_of, element_shape, element_of, implies, is_assignable_some}
+use Rattle.cc_steps.proofs.CcSyntax.Prefixes.{both_true}
 use Rattle.cc_states.specs.Typed.{place_in}
-use Rattle.cc_syntax.proofs.AlikeLemmas.{same_of, alike_joined, shares, array_view, alike_mirrored, assignable_object}
-use Rattle.cc_syntax.proofs.SameLemmas.{Alike, SameShape, Arrays}
+use Rattle.cc_steps.proofs.CcSyntax.AlikeLemmas.{same_of, alike_joined, shares, array_view, alike_mirrored, assignable_object}
+use Rattle.cc_steps.proofs.CcSyntax.SameLemmas.{Alike, SameShape, Arrays}
 
 pub step_on : (structures : List Structure) (step : Part) (path : List Part) (x : Option PlaceType) →
     ((a : PlaceType) → place_at structures (path ++ step ∷ []) a ≡ of_one (place_at structures path a) (step_into structures step)) →

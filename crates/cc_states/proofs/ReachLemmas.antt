@@ -2,10 +2,10 @@
 use Rattle.std.proofs.Common.{◌≡◌, ◌∷◌, ◌++◌, inr, ℕ, ℤ, Bool, true, false, List, [], Option, Some, None, refl, subst, if◌then◌else◌}
 use Rattle.std.proofs.lemmas.Option.{same_Some}
 use Rattle.std.specs.Prelude.{nat_lt, option_map, option_and_then}
-use Rattle.cc_eval.specs.declared.spots.Spot.{Spot}
-use Rattle.cc_eval.specs.declared.spots.Spot.TheVariants as spot
-use Rattle.cc_eval.specs.Context.{Context, has_elements, path_to, named_by, designated, cell_of, reached, element_in, element, member}
-use Rattle.cc_eval.specs.Eval.{element_at}
+use Rattle.cc_steps.specs.CcEval.declared.spots.Spot.{Spot}
+use Rattle.cc_steps.specs.CcEval.declared.spots.Spot.TheVariants as spot
+use Rattle.cc_steps.specs.CcEval.Context.{Context, has_elements, path_to, named_by, designated, cell_of, reached, element_in, element, member}
+use Rattle.cc_steps.specs.CcEval.Eval.{element_at}
 use Rattle.cc_program.specs.declared.program.Program.{Program}
 use Rattle.cc_program.specs.declared.value.Address.{Address}
 use Rattle.cc_program.specs.declared.value.Address.TheVariants as address
@@ -16,10 +16,10 @@ use Rattle.cc_program.specs.declared.value.Part.TheVariants as part
 use Rattle.cc_program.specs.declared.value.Root.{Root}
 use Rattle.cc_program.specs.declared.value.Root.TheVariants as root
 use Rattle.cc_program.specs.declared.value.Value.{Value}
-use Rattle.cc_syntax.specs.Expressions.{of_two}
-use Rattle.cc_syntax.specs.Initial.{bound_of}
-use Rattle.cc_syntax.specs.Values.{ValueType, ToObject, ToFunction, PlaceType, DevicePlace, ObjectPlace, FunctionPlace}
-use Rattle.cc_values.specs.Values.{integer, element_at as element_at_address}
+use Rattle.cc_steps.specs.CcSyntax.Expressions.{of_two}
+use Rattle.cc_steps.specs.CcSyntax.Initial.{bound_of}
+use Rattle.cc_steps.specs.CcSyntax.Values.{ValueType, ToObject, ToFunction, PlaceType, DevicePlace, ObjectPlace, FunctionPlace}
+use Rattle.cc_steps.specs.CcValues.Values.{integer, element_at as element_at_address}
 use Rattle.cc_states.specs.Answers.{IsReached, IsCellReached}
 use Rattle.cc_states.specs.Typed.{IsInMemory, IsAddress, IsSpot, MayLead}
 use Rattle.cc_states.proofs.Options.{mapped}

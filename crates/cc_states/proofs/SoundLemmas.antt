@@ -10,17 +10,17 @@ use Rattle.cc_program.specs.declared.stmt.Case.{Case, fold-Case}
 use Rattle.cc_program.specs.declared.stmt.Stmt.{Stmt, out-Stmt, map-Stmt, fold_out-Stmt}
 use Rattle.cc_program.specs.declared.stmt.Stmt.TheOpen as is
 use Rattle.cc_program.specs.declared.types.Sig.{out-Sig}
-use Rattle.cc_control.specs.declared.phase.Phase.{Phase}
-use Rattle.cc_control.specs.declared.phase.Phase.TheVariants.{First, Test, Again}
-use Rattle.cc_control.specs.Control.{Level}
+use Rattle.cc_steps.specs.CcControl.declared.phase.Phase.{Phase}
+use Rattle.cc_steps.specs.CcControl.declared.phase.Phase.TheVariants.{First, Test, Again}
+use Rattle.cc_steps.specs.CcControl.Control.{Level}
 use Rattle.cc_steps.specs.Step.{worked}
-use Rattle.cc_syntax.specs.Programs.{type_of, sound_step, is_sound_stmt, is_typed, is_optional_condition, returns}
-use Rattle.cc_syntax.specs.Statements.{SoundWhere, Labelled, sound_case, is_condition, labels_fit, are_apart, has_label}
-use Rattle.cc_syntax.specs.Sizes.{AreSized}
-use Rattle.cc_syntax.specs.Sound.{any_names, IsTypedProgram}
-use Rattle.cc_syntax.proofs.StructureLemmas.{structures_sized_by}
-use Rattle.cc_syntax.specs.Values.{ValueType, scalar_value, is_assignable_some}
-use Rattle.cc_syntax.proofs.Prefixes.{both_true}
+use Rattle.cc_steps.specs.CcSyntax.Programs.{type_of, sound_step, is_sound_stmt, is_typed, is_optional_condition, returns}
+use Rattle.cc_steps.specs.CcSyntax.Statements.{SoundWhere, Labelled, sound_case, is_condition, labels_fit, are_apart, has_label}
+use Rattle.cc_steps.specs.CcSyntax.Sizes.{AreSized}
+use Rattle.cc_steps.specs.CcSyntax.Sound.{any_names, IsTypedProgram}
+use Rattle.cc_steps.proofs.CcSyntax.StructureLemmas.{structures_sized_by}
+use Rattle.cc_steps.specs.CcSyntax.Values.{ValueType, scalar_value, is_assignable_some}
+use Rattle.cc_steps.proofs.CcSyntax.Prefixes.{both_true}
 use Rattle.cc_states.specs.States.{may_break, may_continue, AreSound, worked_at}
 
 abbrev pub HasSome : Option ValueType → Type 0

@@ -3,7 +3,7 @@ use Rattle.std.proofs.Common.{◌≡◌, ℕ, ℤ, Bool, true, false, ◌&&◌, 
 use Rattle.std.proofs.lemmas.Bool.{eq-eqb}
 use Rattle.std.proofs.lemmas.Option.{same_Some}
 use Rattle.std.specs.Prelude.{nat_le, nat_lt, nat_eq, is_some, option_map, option_and_then, slice_get, if◌then◌else◌}
-use Rattle.cc_num.specs.declared.int_type.IntType.{IntType}
+use Rattle.cc_program.specs.CcNum.declared.int_type.IntType.{IntType}
 use Rattle.cc_program.specs.Qualifiers.{is_const, is_volatile}
 use Rattle.cc_program.specs.declared.object.Device.{Device}
 use Rattle.cc_program.specs.declared.program.Program.{Program}
@@ -20,19 +20,19 @@ use Rattle.cc_program.specs.declared.value.Part.{Part}
 use Rattle.cc_program.specs.declared.value.Part.TheVariants as part
 use Rattle.cc_program.specs.declared.value.Root.{Root}
 use Rattle.cc_program.specs.declared.value.Value.{Value}
-use Rattle.cc_eval.specs.declared.spots.Spot.{Spot}
-use Rattle.cc_eval.specs.declared.spots.Spot.TheVariants as spot
-use Rattle.cc_eval.specs.Context.{object_type, are_alike, has_elements, path_to, named_by, designated, cell_of, cell_at, element_in, element, member}
-use Rattle.cc_syntax.specs.Expressions.{of_one, of_two}
-use Rattle.cc_syntax.specs.Initial.{bound_shape, bound_of, is_below, step_into, place_at, names, names_element, names_whole}
-use Rattle.cc_syntax.specs.Lists.{is_count}
-use Rattle.cc_syntax.specs.Types.{Named}
-use Rattle.cc_syntax.specs.Values.{ValueType, Integer, ToObject, PlaceType, DevicePlace, ObjectPlace, FunctionPlace, scalar_shape, scalar_value, read_from, address_of, element_shape, element_of, member_at, member_in, member_shape, member_of, implies, is_assignable_some}
-use Rattle.cc_values.specs.Values.{integer, index_in}
+use Rattle.cc_steps.specs.CcEval.declared.spots.Spot.{Spot}
+use Rattle.cc_steps.specs.CcEval.declared.spots.Spot.TheVariants as spot
+use Rattle.cc_steps.specs.CcEval.Context.{object_type, are_alike, has_elements, path_to, named_by, designated, cell_of, cell_at, element_in, element, member}
+use Rattle.cc_steps.specs.CcSyntax.Expressions.{of_one, of_two}
+use Rattle.cc_steps.specs.CcSyntax.Initial.{bound_shape, bound_of, is_below, step_into, place_at, names, names_element, names_whole}
+use Rattle.cc_steps.specs.CcSyntax.Lists.{is_count}
+use Rattle.cc_steps.specs.CcSyntax.Types.{Named}
+use Rattle.cc_steps.specs.CcSyntax.Values.{ValueType, Integer, ToObject, PlaceType, DevicePlace, ObjectPlace, FunctionPlace, scalar_shape, scalar_value, read_from, address_of, element_shape, element_of, member_at, member_in, member_shape, member_of, implies, is_assignable_some}
+use Rattle.cc_steps.specs.CcValues.Values.{integer, index_in}
 use Rattle.cc_states.specs.Typed.{IsOpened, place_in, IsAddress, IsSpot, MayLead, cell_type, IsThere}
-use Rattle.cc_syntax.proofs.AlikeLemmas.{alike_itself, shares, array_view, tested, alike-scalar, alike-struct, assignable_object}
+use Rattle.cc_steps.proofs.CcSyntax.AlikeLemmas.{alike_itself, shares, array_view, tested, alike-scalar, alike-struct, assignable_object}
 use Rattle.cc_states.proofs.Options.{one_as_then, either_true, left_true}
-use Rattle.cc_syntax.proofs.SameLemmas.{and_true}
+use Rattle.cc_steps.proofs.CcSyntax.SameLemmas.{and_true}
 use Rattle.cc_states.proofs.MemoryLemmas.{part_in_memory}
 use Rattle.cc_states.proofs.TypedLemmas.{within}
 use Rattle.cc_states.proofs.PlaceLemmas.{in_more, leads_member, RealPlace, CanPoint, real, element_place, whole_place, below_count, taken_step, elements_by, not_whole, no_true}

@@ -21,20 +21,20 @@ use Rattle.cc_program.specs.declared.value.Part.TheVariants as part
 use Rattle.cc_program.specs.declared.value.Root.TheVariants as root
 use Rattle.cc_program.specs.declared.value.Value.{Value}
 use Rattle.cc_program.specs.declared.value.Value.TheVariants.{Int, Place}
-use Rattle.cc_cells.specs.Scalars.{zeros_over, member_zeros, structure_zeros, zeros}
+use Rattle.cc_steps.specs.CcCells.Scalars.{zeros_over, member_zeros, structure_zeros, zeros}
 use Rattle.cc_steps.specs.Runs.{Arrivals, run}
 use Rattle.cc_steps.specs.State.{State, first_value, values_or, first_values}
 use Rattle.cc_steps.specs.Step.{activation}
 use Rattle.cc_steps.specs.Turn.{start, turn, first_of_stack}
-use Rattle.cc_syntax.specs.Initial.{OfInteger, OfPointer, OfArray, OfStructure, NoElement, Element, NoMember, Member}
-use Rattle.cc_syntax.specs.Programs.{is_address, AreLeaves, AreElements, AreMembers, IsInitial}
-use Rattle.cc_syntax.specs.Operators.{is_handler}
-use Rattle.cc_syntax.specs.Sound.{any_names, IsTypedProgram, IsFuncBy, is_main, is_main_there, is_plain_int, is_plain_void, takes_nothing}
-use Rattle.cc_syntax.specs.Types.{Named, IsInOrder}
-use Rattle.cc_syntax.specs.Values.{ValueType, Integer, pointer_shape, pointer_to, scalar_shape, scalar_value}
+use Rattle.cc_steps.specs.CcSyntax.Initial.{OfInteger, OfPointer, OfArray, OfStructure, NoElement, Element, NoMember, Member}
+use Rattle.cc_steps.specs.CcSyntax.Programs.{is_address, AreLeaves, AreElements, AreMembers, IsInitial}
+use Rattle.cc_steps.specs.CcSyntax.Operators.{is_handler}
+use Rattle.cc_steps.specs.CcSyntax.Sound.{any_names, IsTypedProgram, IsFuncBy, is_main, is_main_there, is_plain_int, is_plain_void, takes_nothing}
+use Rattle.cc_steps.specs.CcSyntax.Types.{Named, IsInOrder}
+use Rattle.cc_steps.specs.CcSyntax.Values.{ValueType, Integer, pointer_shape, pointer_to, scalar_shape, scalar_value}
 use Rattle.cc_program.specs.Qualifiers.{is_const, is_volatile}
-use Rattle.cc_syntax.proofs.Parts.{all_at}
-use Rattle.cc_syntax.proofs.Prefixes.{both_true}
+use Rattle.cc_steps.proofs.CcSyntax.Parts.{all_at}
+use Rattle.cc_steps.proofs.CcSyntax.Prefixes.{both_true}
 use Rattle.cc_states.specs.States.{AreScalars, AreStatics, AreActive, AreCalled, IsStateOf, IsState, AreInOrder}
 use Rattle.cc_states.specs.Typed.{IsAddress, HasType}
 use Rattle.cc_states.proofs.PathLemmas.{structure-whole, element_step, member_step, at, scalar_in, stepped, element_position, member_position, element_scalar, member_scalar, zeros_typed}

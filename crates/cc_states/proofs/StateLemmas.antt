@@ -19,26 +19,26 @@ use Rattle.cc_program.specs.declared.value.Cell.TheVariants as cell
 use Rattle.cc_program.specs.declared.value.Part.{Part}
 use Rattle.cc_program.specs.declared.value.Root.TheVariants as root
 use Rattle.cc_program.specs.declared.value.Value.{Value}
-use Rattle.cc_cells.specs.Cells.{scalar_in}
-use Rattle.cc_cells.specs.Scalars.{position}
-use Rattle.cc_eval.specs.declared.action.Action.{Action}
-use Rattle.cc_eval.specs.declared.action.Action.TheVariants.{Read, Write, Choose, Call, Flag, Save}
-use Rattle.cc_eval.specs.Context.{local_type, object_type}
-use Rattle.cc_eval.specs.Eval.{next_of}
-use Rattle.cc_eval.specs.Progress.{Waits}
-use Rattle.cc_eval.proofs.Links.{type_linked}
+use Rattle.cc_steps.specs.CcCells.Cells.{scalar_in}
+use Rattle.cc_steps.specs.CcCells.Scalars.{position}
+use Rattle.cc_steps.specs.CcEval.declared.action.Action.{Action}
+use Rattle.cc_steps.specs.CcEval.declared.action.Action.TheVariants.{Read, Write, Choose, Call, Flag, Save}
+use Rattle.cc_steps.specs.CcEval.Context.{local_type, object_type}
+use Rattle.cc_steps.specs.CcEval.Eval.{next_of}
+use Rattle.cc_steps.specs.CcEval.Progress.{Waits}
+use Rattle.cc_steps.proofs.CcEval.Links.{type_linked}
 use Rattle.cc_steps.specs.Access.{is_open}
 use Rattle.cc_steps.specs.State.{Active, State}
 use Rattle.cc_steps.specs.Step.{progress_in, progress_of, cell_position}
-use Rattle.cc_syntax.specs.Effects.{no_one}
-use Rattle.cc_syntax.specs.Expressions.{of_one}
-use Rattle.cc_syntax.specs.Programs.{type_of}
-use Rattle.cc_syntax.specs.Initial.{place_at}
-use Rattle.cc_syntax.specs.Operators.{is_handler}
-use Rattle.cc_syntax.specs.Sound.{any_names, IsTypedProgram, IsFuncBy}
-use Rattle.cc_syntax.specs.Types.{Named}
-use Rattle.cc_syntax.specs.Values.{ValueType, Integer, PlaceType, object_place, read_from}
-use Rattle.cc_syntax.proofs.Parts.{all_at}
+use Rattle.cc_steps.specs.CcSyntax.Effects.{no_one}
+use Rattle.cc_steps.specs.CcSyntax.Expressions.{of_one}
+use Rattle.cc_steps.specs.CcSyntax.Programs.{type_of}
+use Rattle.cc_steps.specs.CcSyntax.Initial.{place_at}
+use Rattle.cc_steps.specs.CcSyntax.Operators.{is_handler}
+use Rattle.cc_steps.specs.CcSyntax.Sound.{any_names, IsTypedProgram, IsFuncBy}
+use Rattle.cc_steps.specs.CcSyntax.Types.{Named}
+use Rattle.cc_steps.specs.CcSyntax.Values.{ValueType, Integer, PlaceType, object_place, read_from}
+use Rattle.cc_steps.proofs.CcSyntax.Parts.{all_at}
 use Rattle.cc_states.specs.Answers.{AreReached, IsAction, IsCall, IsMarkOf}
 use Rattle.cc_states.specs.States.{AreWritten, AreStatics, expression_of, AreMarks, context_in, IsActive, AreActive, IsState, local_scalar, IsCellThere, IsCalleeThere, IsPossible}
 use Rattle.cc_states.specs.Typed.{HasType, MayHave, cell_type, IsThere, AreArguments}
@@ -46,7 +46,7 @@ use Rattle.cc_states.proofs.AddressLemmas.{expression_takes}
 use Rattle.cc_states.proofs.EvalTypes.{meaning_typed}
 use Rattle.cc_states.proofs.Options.{mapped}
 use Rattle.cc_states.proofs.SoundLemmas.{level_typed}
-use Rattle.cc_eval.proofs.Works.{answers_of}
+use Rattle.cc_steps.proofs.CcEval.Works.{answers_of}
 
 -- ---- what is asked for can be done
 

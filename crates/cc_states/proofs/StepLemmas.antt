@@ -4,9 +4,9 @@ use Rattle.std.proofs.lemmas.List.{length-set}
 use Rattle.std.proofs.lemmas.Bool.{eqb-true}
 use Rattle.std.proofs.lemmas.Option.{same_Some}
 use Rattle.std.specs.Prelude.{option_map, slice_get, slice_set, if◌then◌else◌, ◌==◌}
-use Rattle.cc_num.specs.Integers.{converted}
-use Rattle.cc_num.proofs.Conversions.{converted-IsValueOf}
-use Rattle.cc_num.proofs.ResultLaws.{is_value_from}
+use Rattle.cc_program.specs.CcNum.Integers.{converted}
+use Rattle.cc_program.proofs.CcNum.Conversions.{converted-IsValueOf}
+use Rattle.cc_program.proofs.CcNum.ResultLaws.{is_value_from}
 use Rattle.cc_program.specs.declared.func.Func.{Func}
 use Rattle.cc_program.specs.declared.object.Device.{Device}
 use Rattle.cc_program.specs.declared.object.Object.{Object}
@@ -19,15 +19,15 @@ use Rattle.cc_program.specs.declared.value.Root.{Root}
 use Rattle.cc_program.specs.declared.value.Root.TheVariants as root
 use Rattle.cc_program.specs.declared.value.Value.{Value}
 use Rattle.cc_program.specs.declared.value.Value.TheVariants.{Int}
-use Rattle.cc_cells.specs.Cells.{scalar_in, set_scalar, with_scalar}
-use Rattle.cc_cells.specs.Scalars.{position}
-use Rattle.cc_eval.specs.declared.action.Action.{Action}
-use Rattle.cc_eval.specs.declared.action.Action.TheVariants.{Read, Write, Call}
-use Rattle.cc_eval.specs.declared.action.Manner.{Manner}
-use Rattle.cc_eval.specs.declared.mark.Mark.{Mark}
-use Rattle.cc_eval.specs.declared.mark.Mark.TheVariants.{Gave, Did}
-use Rattle.cc_eval.specs.Context.{local_type, object_type}
-use Rattle.cc_eval.specs.Progress.{Waits}
+use Rattle.cc_steps.specs.CcCells.Cells.{scalar_in, set_scalar, with_scalar}
+use Rattle.cc_steps.specs.CcCells.Scalars.{position}
+use Rattle.cc_steps.specs.CcEval.declared.action.Action.{Action}
+use Rattle.cc_steps.specs.CcEval.declared.action.Action.TheVariants.{Read, Write, Call}
+use Rattle.cc_steps.specs.CcEval.declared.action.Manner.{Manner}
+use Rattle.cc_steps.specs.CcEval.declared.mark.Mark.{Mark}
+use Rattle.cc_steps.specs.CcEval.declared.mark.Mark.TheVariants.{Gave, Did}
+use Rattle.cc_steps.specs.CcEval.Context.{local_type, object_type}
+use Rattle.cc_steps.specs.CcEval.Progress.{Waits}
 use Rattle.cc_steps.specs.declared.content.Content.{Content}
 use Rattle.cc_steps.specs.declared.content.Content.TheVariants.{Gone, Unwritten, Holds}
 use Rattle.cc_steps.specs.declared.event.End.{End}
@@ -38,10 +38,10 @@ use Rattle.cc_steps.specs.Access.{content, local_content, with_locals, is_open, 
 use Rattle.cc_steps.specs.State.{Active, IsSameCall, State}
 use Rattle.cc_steps.specs.Step.{stopped, with_stack, with_flag, with_statics, with_inputs, with_event, static_content, content_at, progress_of, on_top, did, marked, cell_position, has_read, input_read, read, has_written, write}
 use Rattle.cc_steps.specs.Turn.{is_going}
-use Rattle.cc_syntax.specs.Expressions.{of_one}
-use Rattle.cc_syntax.specs.Initial.{place_at}
-use Rattle.cc_syntax.specs.Types.{Named, IsInOrder}
-use Rattle.cc_syntax.specs.Values.{ValueType, Integer, PlaceType, object_place, read_from}
+use Rattle.cc_steps.specs.CcSyntax.Expressions.{of_one}
+use Rattle.cc_steps.specs.CcSyntax.Initial.{place_at}
+use Rattle.cc_steps.specs.CcSyntax.Types.{Named, IsInOrder}
+use Rattle.cc_steps.specs.CcSyntax.Values.{ValueType, Integer, PlaceType, object_place, read_from}
 use Rattle.cc_states.specs.Answers.{IsAction, IsMarkOf}
 use Rattle.cc_states.specs.States.{AreWritten, AreScalars, AreStatics, AreLocals, expression_of, IsActive, AreActive, AreCalled, IsStateOf, AreInOrder}
 use Rattle.cc_states.specs.Typed.{IsOpened, HasType, MayHave, cell_type}

@@ -1,25 +1,25 @@
 -- Operators work on values of their types alone.
 use Rattle.std.proofs.Common.{if◌then◌else◌, ◌≡◌, ℕ, ℤ, Bool, true, false, ◌&&◌, ◌||◌, List, Some, refl, ap, ◌∙◌, subst}
-use Rattle.cc_num.specs.declared.int_type.IntType.{IntType}
-use Rattle.cc_num.specs.declared.op.BinOp.{BinOp}
-use Rattle.cc_num.specs.declared.op.UnOp.{UnOp}
-use Rattle.cc_num.specs.Integers.{is_value_of, converted}
-use Rattle.cc_num.specs.Promotions.{promoted, usual_of}
-use Rattle.cc_num.specs.Results.{is_shift}
-use Rattle.cc_num.proofs.Conversions.{converted-IsValueOf}
-use Rattle.cc_num.proofs.PromotionLaws.{promoted-promoted, promoted-usual_of}
-use Rattle.cc_num.proofs.ResultLaws.{is_value_from}
+use Rattle.cc_program.specs.CcNum.declared.int_type.IntType.{IntType}
+use Rattle.cc_program.specs.CcNum.declared.op.BinOp.{BinOp}
+use Rattle.cc_program.specs.CcNum.declared.op.UnOp.{UnOp}
+use Rattle.cc_program.specs.CcNum.Integers.{is_value_of, converted}
+use Rattle.cc_program.specs.CcNum.Promotions.{promoted, usual_of}
+use Rattle.cc_program.specs.CcNum.Results.{is_shift}
+use Rattle.cc_program.proofs.CcNum.Conversions.{converted-IsValueOf}
+use Rattle.cc_program.proofs.CcNum.PromotionLaws.{promoted-promoted, promoted-usual_of}
+use Rattle.cc_program.proofs.CcNum.ResultLaws.{is_value_from}
 use Rattle.cc_program.specs.declared.program.Program.{Program}
 use Rattle.cc_program.specs.declared.value.Value.{Value}
 use Rattle.cc_program.specs.declared.value.Value.TheVariants.{Int, Place}
-use Rattle.cc_syntax.specs.Operators.{is_promoted, is_promoted_value, is_of, second_fits, unary_type, binary_type, unary_result, binary_result, changes_by}
-use Rattle.cc_syntax.specs.SameTypes.{same_int}
-use Rattle.cc_syntax.specs.Values.{ValueType, NoValue, Integer, ToObject, ToFunction}
-use Rattle.cc_syntax.proofs.Prefixes.{both_true}
-use Rattle.cc_values.specs.Values.{takes, takes_both}
+use Rattle.cc_steps.specs.CcSyntax.Operators.{is_promoted, is_promoted_value, is_of, second_fits, unary_type, binary_type, unary_result, binary_result, changes_by}
+use Rattle.cc_steps.specs.CcSyntax.SameTypes.{same_int}
+use Rattle.cc_steps.specs.CcSyntax.Values.{ValueType, NoValue, Integer, ToObject, ToFunction}
+use Rattle.cc_steps.proofs.CcSyntax.Prefixes.{both_true}
+use Rattle.cc_steps.specs.CcValues.Values.{takes, takes_both}
 use Rattle.cc_states.specs.Typed.{HasType}
 use Rattle.cc_states.proofs.Options.{when_true}
-use Rattle.cc_syntax.proofs.SameLemmas.{and_true, int_same, int_itself}
+use Rattle.cc_steps.proofs.CcSyntax.SameLemmas.{and_true, int_same, int_itself}
 
 of_type : (t : IntType) (a : ValueType) → is_of t a ≡ true → a ≡ Integer t
 of_type t NoValue h = absurd (cc)

@@ -3,18 +3,18 @@ use Rattle.std.proofs.Common.{arith, ◌≡◌, ◌⊎◌, inl, inr, ℕ, suc, B
 use Rattle.std.proofs.lemmas.Bool.{eqb-true}
 use Rattle.std.proofs.lemmas.Option.{same_Some}
 use Rattle.std.specs.Prelude.{option_map, if◌then◌else◌, nat_eq}
-use Rattle.cc_num.specs.declared.int_type.IntType.TheVariants as int
+use Rattle.cc_program.specs.CcNum.declared.int_type.IntType.TheVariants as int
 use Rattle.cc_program.specs.declared.func.Func.{Func}
 use Rattle.cc_program.specs.declared.types.CType.{CType}
 use Rattle.cc_program.specs.declared.types.Shape.{out-Shape, Shape}
 use Rattle.cc_program.specs.declared.types.Shape.TheOpen as shape
 use Rattle.cc_program.specs.declared.types.Sig.{Sig}
-use Rattle.cc_syntax.specs.Operators.{is_handler, is_unqualified}
-use Rattle.cc_syntax.specs.SameTypes.{is_int_shape, is_void_shape}
-use Rattle.cc_syntax.specs.Sound.{is_plain_int, is_plain_void}
-use Rattle.cc_syntax.specs.Values.{ValueType, Integer, scalar_shape, scalar_value, is_void, is_assignable_some}
-use Rattle.cc_syntax.proofs.Prefixes.{both_true}
-use Rattle.cc_syntax.proofs.SameLemmas.{int_there}
+use Rattle.cc_steps.specs.CcSyntax.Operators.{is_handler, is_unqualified}
+use Rattle.cc_steps.specs.CcSyntax.SameTypes.{is_int_shape, is_void_shape}
+use Rattle.cc_steps.specs.CcSyntax.Sound.{is_plain_int, is_plain_void}
+use Rattle.cc_steps.specs.CcSyntax.Values.{ValueType, Integer, scalar_shape, scalar_value, is_void, is_assignable_some}
+use Rattle.cc_steps.proofs.CcSyntax.Prefixes.{both_true}
+use Rattle.cc_steps.proofs.CcSyntax.SameLemmas.{int_there}
 
 pub not_void : {C : Type 0} (b : Bool) → b ≡ true → b ≡ false → C
 not_void b h k = absurd (cc)

@@ -5,8 +5,8 @@ use Rattle.std.proofs.lemmas.Bool.{eqb-true}
 use Rattle.std.proofs.lemmas.Option.{same_Some, slice_get_within}
 use Rattle.std.specs.Prelude.{option_map, slice_get, if◌then◌else◌, ◌==◌, nat_eq}
 use Rattle.std.specs.List.{list_all, flat_map}
-use Rattle.cc_num.specs.declared.int_type.IntType.TheVariants as int
-use Rattle.cc_num.specs.Results.{one_if}
+use Rattle.cc_program.specs.CcNum.declared.int_type.IntType.TheVariants as int
+use Rattle.cc_program.specs.CcNum.Results.{one_if}
 use Rattle.cc_program.specs.declared.expr.Expr.{Expr}
 use Rattle.cc_program.specs.declared.func.Func.{Func}
 use Rattle.cc_program.specs.declared.program.Program.{Program}
@@ -20,27 +20,27 @@ use Rattle.cc_program.specs.declared.value.Address.{Address}
 use Rattle.cc_program.specs.declared.value.Address.TheVariants as address
 use Rattle.cc_program.specs.declared.value.Value.{Value}
 use Rattle.cc_program.specs.declared.value.Value.TheVariants.{Int}
-use Rattle.cc_eval.specs.declared.action.Action.{Action}
-use Rattle.cc_eval.specs.declared.action.Action.TheVariants.{Read, Write, Choose, Call, Flag, Save}
-use Rattle.cc_eval.specs.declared.mark.Mark.{Mark}
-use Rattle.cc_eval.specs.declared.mark.Mark.TheVariants.{Gave, Did, Chose}
-use Rattle.cc_eval.specs.Eval.{next_of}
-use Rattle.cc_eval.specs.Progress.{Progress, Known, Waits, Traps, no_value}
-use Rattle.cc_eval.proofs.Links.{type_linked}
+use Rattle.cc_steps.specs.CcEval.declared.action.Action.{Action}
+use Rattle.cc_steps.specs.CcEval.declared.action.Action.TheVariants.{Read, Write, Choose, Call, Flag, Save}
+use Rattle.cc_steps.specs.CcEval.declared.mark.Mark.{Mark}
+use Rattle.cc_steps.specs.CcEval.declared.mark.Mark.TheVariants.{Gave, Did, Chose}
+use Rattle.cc_steps.specs.CcEval.Eval.{next_of}
+use Rattle.cc_steps.specs.CcEval.Progress.{Progress, Known, Waits, Traps, no_value}
+use Rattle.cc_steps.proofs.CcEval.Links.{type_linked}
 use Rattle.cc_steps.specs.declared.event.End.TheVariants.{Exit, Trap}
 use Rattle.cc_steps.specs.declared.event.Event.TheVariants.{Enter}
 use Rattle.cc_steps.specs.State.{Active, State}
 use Rattle.cc_steps.specs.Step.{stopped, with_stack, with_flag, with_event, worked, next_place, is_return, number_in, gives_nothing, progress_in, progress_of, goes_to, marked, activation, opened, opened_if, call, return_mark, returned, fallen, perform, stepped, active_step, proceed}
 use Rattle.cc_steps.specs.Turn.{is_going, only_handler, may_enter, entering, entered, turn_by, turn}
-use Rattle.cc_syntax.specs.Effects.{no_one}
-use Rattle.cc_syntax.specs.Programs.{type_of, is_sound_stmt, returns, sound_step}
-use Rattle.cc_syntax.specs.Operators.{is_handler}
-use Rattle.cc_syntax.specs.Sound.{any_names, IsTypedProgram, IsFuncBy, is_main, is_main_there, is_plain_int, is_plain_void, takes_nothing}
-use Rattle.cc_syntax.specs.Statements.{Labelled, labels_fit, are_apart, has_label}
-use Rattle.cc_syntax.specs.Types.{IsInOrder}
-use Rattle.cc_syntax.specs.Values.{ValueType, NoValue, Integer, scalar_value, is_void, is_assignable_some, ToObject, ToFunction}
-use Rattle.cc_syntax.proofs.Parts.{all_at}
-use Rattle.cc_syntax.proofs.Prefixes.{both_true}
+use Rattle.cc_steps.specs.CcSyntax.Effects.{no_one}
+use Rattle.cc_steps.specs.CcSyntax.Programs.{type_of, is_sound_stmt, returns, sound_step}
+use Rattle.cc_steps.specs.CcSyntax.Operators.{is_handler}
+use Rattle.cc_steps.specs.CcSyntax.Sound.{any_names, IsTypedProgram, IsFuncBy, is_main, is_main_there, is_plain_int, is_plain_void, takes_nothing}
+use Rattle.cc_steps.specs.CcSyntax.Statements.{Labelled, labels_fit, are_apart, has_label}
+use Rattle.cc_steps.specs.CcSyntax.Types.{IsInOrder}
+use Rattle.cc_steps.specs.CcSyntax.Values.{ValueType, NoValue, Integer, scalar_value, is_void, is_assignable_some, ToObject, ToFunction}
+use Rattle.cc_steps.proofs.CcSyntax.Parts.{all_at}
+use Rattle.cc_steps.proofs.CcSyntax.Prefixes.{both_true}
 use Rattle.cc_states.proofs.SoundLemmas.{typed-sized}
 use Rattle.cc_states.specs.Answers.{IsAction, IsMarkOf, result_in}
 use Rattle.cc_states.specs.Inside.{AreInside}
@@ -57,7 +57,7 @@ use Rattle.cc_states.proofs.SoundLemmas.{typed, parts, labelled}
 use Rattle.cc_states.proofs.StateLemmas.{asked}
 use Rattle.cc_states.proofs.StepLemmas.{event_state, flag_state, stopped_state, with_top, did_state, read_state, write_state}
 use Rattle.cc_states.proofs.InsideLemmas.{next_inside}
-use Rattle.cc_eval.proofs.Works.{answers_of}
+use Rattle.cc_steps.proofs.CcEval.Works.{answers_of}
 use Rattle.cc_states.proofs.TypedLemmas.{promoted_value, widened}
 use Rattle.cc_states.proofs.LocalLemmas.{opened_active}
 use Rattle.cc_states.proofs.TestLemmas.{not_void, both_not, not_empty, plain, void_returns, handler_by}

@@ -4,17 +4,17 @@ use Rattle.std.proofs.lemmas.Bool.{eqb-true}
 use Rattle.std.proofs.lemmas.Option.{same_Some}
 use Rattle.std.specs.Prelude.{negsuc, ◌-ℤ◌, ◌+ℤ◌, nat_le, nat_lt, nat_eq, option_map, option_and_then, slice_get, IfSome, int_lt, int_le, if◌then◌else◌}
 use Rattle.std.specs.Ordering.{int_eq}
-use Rattle.cc_num.specs.declared.int_type.IntType.{IntType}
-use Rattle.cc_num.specs.declared.int_type.IntType.TheVariants as int
-use Rattle.cc_num.specs.declared.op.BinOp.{BinOp}
-use Rattle.cc_num.specs.declared.op.BinOp.TheVariants as op
-use Rattle.cc_num.specs.declared.op.UnOp.{UnOp}
-use Rattle.cc_num.specs.declared.op.UnOp.TheVariants as one_op
-use Rattle.cc_num.specs.declared.target.Target.{Target}
-use Rattle.cc_num.specs.Integers.{IsValueOf, is_value_of, converted}
-use Rattle.cc_num.specs.Results.{result_of, unary_result_of, is_shift, one_if}
-use Rattle.cc_num.proofs.Conversions.{converted-IsValueOf}
-use Rattle.cc_num.proofs.ResultLaws.{is_value_from, value_from_test, truth_value, result_lands, unary_result_lands}
+use Rattle.cc_program.specs.CcNum.declared.int_type.IntType.{IntType}
+use Rattle.cc_program.specs.CcNum.declared.int_type.IntType.TheVariants as int
+use Rattle.cc_program.specs.CcNum.declared.op.BinOp.{BinOp}
+use Rattle.cc_program.specs.CcNum.declared.op.BinOp.TheVariants as op
+use Rattle.cc_program.specs.CcNum.declared.op.UnOp.{UnOp}
+use Rattle.cc_program.specs.CcNum.declared.op.UnOp.TheVariants as one_op
+use Rattle.cc_program.specs.CcNum.declared.target.Target.{Target}
+use Rattle.cc_program.specs.CcNum.Integers.{IsValueOf, is_value_of, converted}
+use Rattle.cc_program.specs.CcNum.Results.{result_of, unary_result_of, is_shift, one_if}
+use Rattle.cc_program.proofs.CcNum.Conversions.{converted-IsValueOf}
+use Rattle.cc_program.proofs.CcNum.ResultLaws.{is_value_from, value_from_test, truth_value, result_lands, unary_result_lands}
 use Rattle.cc_program.specs.declared.program.Program.{Program}
 use Rattle.cc_program.specs.declared.types.CType.{CType}
 use Rattle.cc_program.specs.declared.value.Address.{Address}
@@ -23,19 +23,19 @@ use Rattle.cc_program.specs.declared.value.Part.{Part}
 use Rattle.cc_program.specs.declared.value.Root.{Root}
 use Rattle.cc_program.specs.declared.value.Value.{Value}
 use Rattle.cc_program.specs.declared.value.Value.TheVariants.{Int, Place}
-use Rattle.cc_syntax.specs.Expressions.{of_one}
-use Rattle.cc_syntax.specs.Initial.{names, names_element, names_whole, leads_to_element, bound_of}
-use Rattle.cc_syntax.specs.Lists.{is_count}
-use Rattle.cc_syntax.specs.Operators as rule
-use Rattle.cc_syntax.specs.Operators.{is_promoted, is_comparison, function_type, difference_type}
-use Rattle.cc_syntax.specs.Values.{ValueType, NoValue, Integer, ToObject, ToFunction, PlaceType, address_of, element_of, is_assignable, is_assignable_some}
-use Rattle.cc_syntax.proofs.Prefixes.{both_true}
-use Rattle.cc_values.specs.Values as value
-use Rattle.cc_values.specs.Values.{integer, address_in, takes, takes_both, unary, binary, conversion, is_true, truth, of_truth, index_in, element_at, offset, moved_address, movement, in_one_array, difference, gap, ordered, compared, comparison}
+use Rattle.cc_steps.specs.CcSyntax.Expressions.{of_one}
+use Rattle.cc_steps.specs.CcSyntax.Initial.{names, names_element, names_whole, leads_to_element, bound_of}
+use Rattle.cc_steps.specs.CcSyntax.Lists.{is_count}
+use Rattle.cc_steps.specs.CcSyntax.Operators as rule
+use Rattle.cc_steps.specs.CcSyntax.Operators.{is_promoted, is_comparison, function_type, difference_type}
+use Rattle.cc_steps.specs.CcSyntax.Values.{ValueType, NoValue, Integer, ToObject, ToFunction, PlaceType, address_of, element_of, is_assignable, is_assignable_some}
+use Rattle.cc_steps.proofs.CcSyntax.Prefixes.{both_true}
+use Rattle.cc_steps.specs.CcValues.Values as value
+use Rattle.cc_steps.specs.CcValues.Values.{integer, address_in, takes, takes_both, unary, binary, conversion, is_true, truth, of_truth, index_in, element_at, offset, moved_address, movement, in_one_array, difference, gap, ordered, compared, comparison}
 use Rattle.cc_states.specs.Typed.{place_in, IsAddress, HasType, MayHave}
-use Rattle.cc_syntax.proofs.AlikeLemmas.{assigned_on_some, points_as, integer_as, function_as}
+use Rattle.cc_steps.proofs.CcSyntax.AlikeLemmas.{assigned_on_some, points_as, integer_as, function_as}
 use Rattle.cc_states.proofs.Options.{either_true, left_true, right_true}
-use Rattle.cc_syntax.proofs.SameLemmas.{and_true}
+use Rattle.cc_steps.proofs.CcSyntax.SameLemmas.{and_true}
 
 -- ---- addresses
 

@@ -8,10 +8,10 @@ use Rattle.cc_program.specs.declared.types.Sig.{Sig, fold-Sig}
 use Rattle.cc_program.specs.declared.types.Structure.{Structure}
 use Rattle.cc_program.specs.declared.value.Value.{Value}
 use Rattle.cc_program.proofs.TypeInduction.{with_shape, TypeParts, by_type}
-use Rattle.cc_cells.specs.Scalars.{shape_zeros, zeros_over}
-use Rattle.cc_syntax.specs.Types.{Named, has_members, complete_shape, is_complete}
-use Rattle.cc_syntax.proofs.Prefixes.{both_true}
-use Rattle.cc_syntax.proofs.TypeLayouts.{parts_complete, complete-roll}
+use Rattle.cc_steps.specs.CcCells.Scalars.{shape_zeros, zeros_over}
+use Rattle.cc_steps.specs.CcSyntax.Types.{Named, has_members, complete_shape, is_complete}
+use Rattle.cc_steps.proofs.CcSyntax.Prefixes.{both_true}
+use Rattle.cc_steps.proofs.CcSyntax.TypeLayouts.{parts_complete, complete-roll}
 
 module _ (table : List (List Value)) where
   abbrev pub parts_zeros : shape.Shape-F Shape CType Sig → shape.Shape-F (List Value) (List Value) (Unit {0})

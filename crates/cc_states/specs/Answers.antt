@@ -1,6 +1,6 @@
 -- The steps that full expressions ask for, and what they may give: each in its type (C99 6.5).
 use Rattle.std.specs.Prelude.{◌≡◌, ◌⊎◌, ℕ, Bool, true, false, List, Option, Some, None, slice_get}
-use Rattle.cc_num.specs.declared.int_type.IntType.TheVariants as int
+use Rattle.cc_program.specs.CcNum.declared.int_type.IntType.TheVariants as int
 use Rattle.cc_program.specs.declared.expr.Expr.{Expr}
 use Rattle.cc_program.specs.declared.expr.Place.{Place}
 use Rattle.cc_program.specs.declared.func.Func.{Func}
@@ -13,16 +13,16 @@ use Rattle.cc_program.specs.declared.value.Cell.TheVariants as cell
 use Rattle.cc_program.specs.declared.value.Root.{Root}
 use Rattle.cc_program.specs.declared.value.Root.TheVariants as root
 use Rattle.cc_program.specs.declared.value.Value.{Value}
-use Rattle.cc_eval.specs.declared.action.Action.{Action}
-use Rattle.cc_eval.specs.declared.action.Action.TheVariants.{Read, Write, Choose, Call, Flag, Save}
-use Rattle.cc_eval.specs.declared.mark.Mark.{Mark}
-use Rattle.cc_eval.specs.declared.mark.Mark.TheVariants.{Gave, Did, Chose}
-use Rattle.cc_eval.specs.Context.{Context}
-use Rattle.cc_eval.specs.Eval.{meaning, designation}
-use Rattle.cc_eval.specs.Marks.{AnswerSteps, AnswerEach, Works}
-use Rattle.cc_eval.specs.Progress.{Get}
-use Rattle.cc_syntax.specs.Registers.{is_address_taken, place_use, is_addressed}
-use Rattle.cc_syntax.specs.Values.{ValueType, NoValue, Integer, PlaceType, result_value}
+use Rattle.cc_steps.specs.CcEval.declared.action.Action.{Action}
+use Rattle.cc_steps.specs.CcEval.declared.action.Action.TheVariants.{Read, Write, Choose, Call, Flag, Save}
+use Rattle.cc_steps.specs.CcEval.declared.mark.Mark.{Mark}
+use Rattle.cc_steps.specs.CcEval.declared.mark.Mark.TheVariants.{Gave, Did, Chose}
+use Rattle.cc_steps.specs.CcEval.Context.{Context}
+use Rattle.cc_steps.specs.CcEval.Eval.{meaning, designation}
+use Rattle.cc_steps.specs.CcEval.Marks.{AnswerSteps, AnswerEach, Works}
+use Rattle.cc_steps.specs.CcEval.Progress.{Get}
+use Rattle.cc_steps.specs.CcSyntax.Registers.{is_address_taken, place_use, is_addressed}
+use Rattle.cc_steps.specs.CcSyntax.Values.{ValueType, NoValue, Integer, PlaceType, result_value}
 use Rattle.cc_states.specs.Typed.{IsInMemory, HasType, cell_type, IsThere, AreArguments}
 
 -- whether a step may give a bad value

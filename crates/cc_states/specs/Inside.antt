@@ -4,7 +4,7 @@ use Rattle.std.specs.Prelude.{◌≡◌, ◌⊎◌, ◌+◌, ℕ, List, [], ◌�
 use Rattle.cc_program.specs.declared.stmt.Case.{Case}
 use Rattle.cc_program.specs.declared.stmt.Stmt.{Stmt, out-Stmt}
 use Rattle.cc_program.specs.declared.stmt.Stmt.TheOpen as is
-use Rattle.cc_control.specs.Control.{Level, counted, bodies}
+use Rattle.cc_steps.specs.CcControl.Control.{Level, counted, bodies}
 
 -- the lists inside a statement, with the number at which positions in each begin: those in the second arm of an `if` count on from
 -- the first, and the bodies of a `switch` are one list

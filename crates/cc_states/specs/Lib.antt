@@ -2,3 +2,10 @@ pub mod Answers
 pub mod Inside
 pub mod States
 pub mod Typed
+pub mod CcCells
+pub mod CcControl
+pub mod CcEval
+pub mod CcSteps
+pub mod CcSyntax
+pub mod CcTyped
+pub mod CcValues

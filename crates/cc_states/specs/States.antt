@@ -16,26 +16,26 @@ use Rattle.cc_program.specs.declared.value.Cell.TheVariants as cell
 use Rattle.cc_program.specs.declared.value.Part.{Part}
 use Rattle.cc_program.specs.declared.value.Root.TheVariants as root
 use Rattle.cc_program.specs.declared.value.Value.{Value}
-use Rattle.cc_cells.specs.Cells.{scalar_in}
-use Rattle.cc_cells.specs.Scalars.{zeros, position}
-use Rattle.cc_control.specs.Control.{Level, first_is, is_loop, is_left_by_break}
-use Rattle.cc_eval.specs.declared.action.Action.{Action}
-use Rattle.cc_eval.specs.declared.action.Action.TheVariants.{Read, Write, Choose, Call, Flag, Save}
-use Rattle.cc_eval.specs.declared.mark.Mark.{Mark}
-use Rattle.cc_eval.specs.Context.{Context}
-use Rattle.cc_eval.specs.Eval.{next_of}
-use Rattle.cc_eval.specs.Progress.{Waits}
+use Rattle.cc_steps.specs.CcCells.Cells.{scalar_in}
+use Rattle.cc_steps.specs.CcCells.Scalars.{zeros, position}
+use Rattle.cc_steps.specs.CcControl.Control.{Level, first_is, is_loop, is_left_by_break}
+use Rattle.cc_steps.specs.CcEval.declared.action.Action.{Action}
+use Rattle.cc_steps.specs.CcEval.declared.action.Action.TheVariants.{Read, Write, Choose, Call, Flag, Save}
+use Rattle.cc_steps.specs.CcEval.declared.mark.Mark.{Mark}
+use Rattle.cc_steps.specs.CcEval.Context.{Context}
+use Rattle.cc_steps.specs.CcEval.Eval.{next_of}
+use Rattle.cc_steps.specs.CcEval.Progress.{Waits}
 use Rattle.cc_steps.specs.Access.{is_open}
 use Rattle.cc_steps.specs.State.{Active, State}
 use Rattle.cc_steps.specs.Step.{progress_of, cell_position}
 pub use Rattle.cc_steps.specs.Step.{worked_at}
 use Rattle.cc_steps.specs.Turn.{is_going}
-use Rattle.cc_syntax.specs.Expressions.{of_one}
-use Rattle.cc_syntax.specs.Initial.{place_at}
-use Rattle.cc_syntax.specs.Operators.{is_handler}
-use Rattle.cc_syntax.specs.Programs.{is_sound_stmt}
-use Rattle.cc_syntax.specs.Types.{Named}
-use Rattle.cc_syntax.specs.Values.{ValueType, object_place, read_from}
+use Rattle.cc_steps.specs.CcSyntax.Expressions.{of_one}
+use Rattle.cc_steps.specs.CcSyntax.Initial.{place_at}
+use Rattle.cc_steps.specs.CcSyntax.Operators.{is_handler}
+use Rattle.cc_steps.specs.CcSyntax.Programs.{is_sound_stmt}
+use Rattle.cc_steps.specs.CcSyntax.Types.{Named}
+use Rattle.cc_steps.specs.CcSyntax.Values.{ValueType, object_place, read_from}
 use Rattle.cc_states.specs.Answers.{AreItsMarks}
 use Rattle.cc_states.specs.Inside.{AreInside}
 use Rattle.cc_states.specs.Typed.{is_register_in, HasType, MayHave}

@@ -3,4 +3,6 @@
 
 mod law;
 
+pub use cc_steps as steps;
+pub use cc_steps::{eval, syntax, typed as typed_crate};
 pub use law::{expression_laws, state_laws};

@@ -3,8 +3,8 @@ use Rattle.std.specs.Prelude.{ℕ, List, [], ◌++◌, Option, Some, None, codes
 use Rattle.std.specs.Fmt.{decimal}
 use Rattle.cc_causes.specs.declared.fault.LinkFault.{LinkFault}
 use Rattle.cc_causes.specs.declared.fault.LinkFault.TheVariants as link
-use Rattle.cc_lex.specs.declared.fault.LexFault.{LexFault}
-use Rattle.cc_lex.specs.declared.fault.LexFault.TheVariants as fault
+use Rattle.cc_type.specs.CcLex.declared.fault.LexFault.{LexFault}
+use Rattle.cc_type.specs.CcLex.declared.fault.LexFault.TheVariants as fault
 use Rattle.cc_read.specs.declared.refusal.ReadRefusal.{ReadRefusal}
 use Rattle.cc_read.specs.declared.refusal.ReadRefusal.TheVariants as why
 use Rattle.cc_tree.specs.declared.fault.GramFault.{GramFault}

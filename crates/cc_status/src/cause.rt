@@ -4,11 +4,11 @@ ghost use Rattle.std.specs.Prelude.{◌≡◌, ◌++◌, IfOk, OnOk, option_map}
 ghost use Rattle.cc_status.specs.Causes.{word_text, offset_text, told as told_text, lex_cause as lex_text, lex_offset as lex_place, gram_cause as gram_text, gram_word as gram_name, gram_offset as gram_place, link_cause as link_text, link_word as link_name, type_cause as type_text, cause_of};
 
 use cc_causes::LinkFault;
-use cc_lex::LexFault;
-use cc_num::NoMemory;
+use cc_program::num::NoMemory;
 use cc_read::ReadRefusal;
 use cc_tree::GramFault;
 use cc_type::TypeFault;
+use cc_type::lex::LexFault;
 use std::alloc::Global;
 
 /// Puts a word behind a text, where there is one.

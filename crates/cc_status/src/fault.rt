@@ -7,7 +7,7 @@ ghost use Rattle.cc_status.specs.declared.status.Status.TheVariants.{NoMemory as
 use crate::status::Status;
 use cc_cost::ProfileFault;
 use cc_files::Unread;
-use cc_num::{Name, NoMemory};
+use cc_program::num::{Name, NoMemory};
 use cc_read::ReadRefusal;
 
 impl From<NoMemory> for Status {

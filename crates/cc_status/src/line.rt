@@ -8,7 +8,7 @@ ghost use Rattle.cc_status.specs.declared.status.Status.TheVariants.{Refused, Pr
 use crate::cause::cause;
 use crate::status::{Status, What};
 use cc_cost::ProfileFault;
-use cc_num::NoMemory;
+use cc_program::num::NoMemory;
 use cc_read::ReadRefusal;
 use std::alloc::Global;
 

@@ -4,7 +4,7 @@ ghost use Rattle.std.specs.Prelude.{◌≡◌, [], codes, slice_index_or, IfOk};
 ghost use Rattle.cc_files.specs.Unread.{names_of};
 
 use cc_files::copy_name;
-use cc_num::{List, Name, NoMemory, at};
+use cc_program::num::{List, Name, NoMemory, at};
 use std::alloc::Global;
 
 /// The name of the source of a number; nothing where there is none.

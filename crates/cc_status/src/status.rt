@@ -4,7 +4,7 @@ ghost use Rattle.std.specs.Prelude.{◌≡◌};
 ghost use Rattle.cc_status.specs.Statuses.{number_of};
 
 use cc_cost::ProfileFault;
-use cc_num::Name;
+use cc_program::num::Name;
 use cc_read::ReadRefusal;
 
 /// Which limit a number passes.

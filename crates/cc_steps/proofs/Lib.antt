@@ -16,3 +16,7 @@ pub mod StepLemmas
 pub mod SwitchLemmas
 pub mod TurnLemmas
 pub mod WriteLemmas
+pub mod CcCells
+pub mod CcControl
+pub mod CcEval
+pub mod CcSyntax

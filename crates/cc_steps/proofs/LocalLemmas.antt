@@ -10,7 +10,7 @@ use Rattle.cc_control.proofs.LevelLemmas.{levels_of-nil}
 use Rattle.cc_program.specs.declared.stmt.Stmt.{Stmt}
 use Rattle.cc_program.specs.declared.program.Program.{Program}
 use Rattle.cc_program.specs.declared.value.Value.{Value}
-use Rattle.cc_syntax.specs.Types.{Named}
+use Rattle.cc_eval.specs.CcSyntax.Types.{Named}
 use Rattle.cc_steps.specs.State.{local_with, locals_with}
 
 pub count-known : (n k : ℕ) → k ≡ counted n → k ≢ 2 ^ 64 - 1 → k ≡ n

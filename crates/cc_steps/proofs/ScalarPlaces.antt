@@ -9,8 +9,8 @@ use Rattle.cc_program.specs.declared.types.Sig.{Sig}
 use Rattle.cc_program.specs.declared.types.Structure.{Structure}
 use Rattle.cc_program.specs.declared.value.Part.{Part}
 use Rattle.cc_program.specs.declared.value.Part.TheVariants as part
-use Rattle.cc_syntax.specs.Initial.{step_into}
-use Rattle.cc_syntax.specs.Values.{PlaceType, scalar_shape, scalar_value, object_place, element_shape, element_of, member_shape}
+use Rattle.cc_eval.specs.CcSyntax.Initial.{step_into}
+use Rattle.cc_eval.specs.CcSyntax.Values.{PlaceType, scalar_shape, scalar_value, object_place, element_shape, element_of, member_shape}
 
 module _ (structures : List Structure) where
   -- a place without elements and members

@@ -3,9 +3,9 @@ use Rattle.std.proofs.Common.{◌≡◌, ◌<◌, ◌+◌, ℕ, max, List, [], l
 use Rattle.std.proofs.lemmas.List.{take_more}
 use Rattle.cc_program.specs.declared.func.Func.{Func}
 use Rattle.cc_program.specs.declared.program.Program.{Program}
-use Rattle.cc_syntax.specs.Sizes.{AreSized}
-use Rattle.cc_syntax.specs.Sound.{IsSound}
-use Rattle.cc_syntax.proofs.StructureLemmas.{structures_sized}
+use Rattle.cc_eval.specs.CcSyntax.Sizes.{AreSized}
+use Rattle.cc_eval.specs.CcSyntax.Sound.{IsSound}
+use Rattle.cc_eval.proofs.CcSyntax.StructureLemmas.{structures_sized}
 use Rattle.cc_steps.specs.declared.activation.Activation.{Activation}
 use Rattle.cc_steps.specs.declared.event.Took.TheVariants.{Entered, Stepped, Ended}
 use Rattle.cc_steps.specs.State.{State}

@@ -6,3 +6,9 @@ pub mod Step
 pub mod Turn
 pub mod View
 pub mod Whole
+pub mod CcCells
+pub mod CcControl
+pub mod CcEval
+pub mod CcSyntax
+pub mod CcTyped
+pub mod CcValues

@@ -18,8 +18,8 @@ use Rattle.cc_program.specs.declared.value.Root.{Root}
 use Rattle.cc_program.specs.declared.value.Root.TheVariants as root
 use Rattle.cc_program.specs.declared.value.Value.{Value}
 use Rattle.cc_program.specs.declared.value.Value.TheVariants as value
-use Rattle.cc_syntax.specs.Initial.{step_into}
-use Rattle.cc_syntax.specs.Values.{PlaceType, DevicePlace, ObjectPlace, FunctionPlace}
+use Rattle.cc_eval.specs.CcSyntax.Initial.{step_into}
+use Rattle.cc_eval.specs.CcSyntax.Values.{PlaceType, DevicePlace, ObjectPlace, FunctionPlace}
 use Rattle.cc_steps.specs.declared.event.Event.{Event}
 use Rattle.cc_steps.specs.declared.event.Event.TheVariants as event
 use Rattle.cc_eval.specs.Context.{object_type}

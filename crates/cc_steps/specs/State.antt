@@ -8,7 +8,7 @@ use Rattle.cc_program.specs.declared.value.Leaf.{Leaf}
 use Rattle.cc_program.specs.declared.value.Leaf.TheVariants as leaf
 use Rattle.cc_program.specs.declared.value.Value.{Value}
 use Rattle.cc_program.specs.declared.value.Value.TheVariants as value
-use Rattle.cc_syntax.specs.Types.{Named}
+use Rattle.cc_eval.specs.CcSyntax.Types.{Named}
 use Rattle.cc_steps.specs.declared.event.End.{End}
 use Rattle.cc_steps.specs.declared.event.Event.{Event}
 use Rattle.cc_eval.specs.declared.mark.Mark.{Mark}

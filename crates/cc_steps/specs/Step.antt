@@ -3,8 +3,8 @@
 use Rattle.std.specs.Prelude.{ℕ, ◌+◌, ◌==◌, ℤ, pos, Bool, true, false, ◌||◌, List, [], ◌∷◌, ◌++◌, Option, Some, None, slice_get, if◌then◌else◌}
 use Rattle.std.specs.List.{list_any}
 use Rattle.std.specs.Option.{option_or}
-use Rattle.cc_num.specs.Integers.{converted}
-use Rattle.cc_num.specs.Results.{one_if}
+use Rattle.cc_program.specs.CcNum.Integers.{converted}
+use Rattle.cc_program.specs.CcNum.Results.{one_if}
 use Rattle.cc_program.specs.declared.expr.Expr.{Expr}
 use Rattle.cc_program.specs.declared.func.Func.{Func}
 use Rattle.cc_program.specs.declared.object.Device.{Device}
@@ -22,7 +22,7 @@ use Rattle.cc_program.specs.declared.value.Root.{Root}
 use Rattle.cc_program.specs.declared.value.Root.TheVariants as root
 use Rattle.cc_program.specs.declared.value.Value.{Value}
 use Rattle.cc_program.specs.declared.value.Value.TheVariants.{Int, Place}
-use Rattle.cc_syntax.specs.Values.{is_void}
+use Rattle.cc_eval.specs.CcSyntax.Values.{is_void}
 use Rattle.cc_eval.specs.declared.action.Action.{Action}
 use Rattle.cc_eval.specs.declared.action.Action.TheVariants.{Read, Write, Choose, Call, Flag, Save}
 use Rattle.cc_eval.specs.declared.action.Manner.{Manner}
@@ -44,7 +44,7 @@ use Rattle.cc_eval.specs.Eval.{next_of}
 use Rattle.cc_eval.specs.Progress.{Progress, Known, Waits, Traps, no_value}
 use Rattle.cc_cells.specs.Scalars.{position}
 use Rattle.cc_steps.specs.State.{Active, Memory, State, locals_with}
-use Rattle.cc_values.specs.Values.{is_true}
+use Rattle.cc_eval.specs.CcValues.Values.{is_true}
 
 abbrev pub stopped : State → End → State
 stopped s end = record { memory = s.memory; stack = s.stack; opened = s.opened; end = end }

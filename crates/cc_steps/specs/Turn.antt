@@ -8,7 +8,7 @@ use Rattle.cc_steps.specs.declared.event.End.TheVariants.{Going, Exit, Trap, Sta
 use Rattle.cc_steps.specs.declared.event.Event.TheVariants.{Enter}
 use Rattle.cc_steps.specs.declared.event.Took.{Took}
 use Rattle.cc_steps.specs.declared.event.Took.TheVariants.{Entered, Stepped, Ended}
-use Rattle.cc_syntax.specs.Operators.{is_handler}
+use Rattle.cc_eval.specs.CcSyntax.Operators.{is_handler}
 use Rattle.cc_steps.specs.State.{Active, State, first_values}
 use Rattle.cc_steps.specs.Step.{with_flag, with_event, activation, opened, proceed}
 

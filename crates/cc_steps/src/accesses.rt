@@ -6,7 +6,7 @@ ghost use Rattle.cc_cells.specs.Counts.{counted};
 ghost use Rattle.cc_eval.specs.declared.mark.Mark.TheVariants as mark;
 ghost use Rattle.cc_program.specs.declared.value.Cell.TheVariants as cell;
 ghost use Rattle.cc_program.specs.declared.value.Root.TheVariants as root;
-ghost use Rattle.cc_syntax.specs.Sizes.{AreSized};
+ghost use Rattle.cc_eval.specs.CcSyntax.Sizes.{AreSized};
 ghost use Rattle.cc_steps.specs.declared.event.Event.TheVariants as event;
 ghost use Rattle.cc_steps.specs.Step.{stopped, with_event, static_content as static_content_of, content_at as content_at_of, cell_position, did, has_read as has_read_of, read as read_of, has_written, written, write as write_of};
 ghost use Rattle.cc_steps.specs.View.{state_of};
@@ -17,7 +17,7 @@ use crate::run::Run;
 use crate::stack::{is_open, local_content, mark_top, write_local};
 use cc_cells::{position, read_scalar, write_scalar};
 use cc_eval::{Manner, Mark, object_type};
-use cc_num::{List, NoMemory, at, convert};
+use cc_program::num::{List, NoMemory, at, convert};
 use cc_program::{Cell, Part, Root, Value};
 use std::alloc::Global;
 

@@ -3,7 +3,7 @@
 ghost use Rattle.std.specs.Prelude.{◌≡◌, IfOk, OnOk, OnErr, option_map};
 ghost use Rattle.cc_program.specs.declared.stmt.Stmt.{out-Stmt};
 ghost use Rattle.cc_program.specs.declared.stmt.Stmt.TheOpen as is;
-ghost use Rattle.cc_syntax.specs.Sizes.{AreSized};
+ghost use Rattle.cc_eval.specs.CcSyntax.Sizes.{AreSized};
 ghost use Rattle.cc_control.specs.Control.{path_of as path_of_control, behind as behind_of};
 ghost use Rattle.cc_control.specs.View.{level_of, levels_of, control_of};
 ghost use Rattle.cc_eval.specs.Progress.{operands_of as operands_of_marks};
@@ -13,7 +13,7 @@ ghost use Rattle.cc_steps.specs.View.{active_of, moved_if};
 use crate::progress::{at_test, begun_at, is_known, passes, progress_at};
 use cc_control::{Control, Level, behind, first};
 use cc_eval::Mark;
-use cc_num::NoMemory;
+use cc_program::num::NoMemory;
 use cc_program::{Expr, Program, Stmt, Value};
 use std::alloc::Global;
 

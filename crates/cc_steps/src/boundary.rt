@@ -17,7 +17,7 @@ use crate::event::End;
 use crate::turn::is_going;
 use cc_control::{Level, Phase, first};
 use cc_eval::Mark;
-use cc_num::NoMemory;
+use cc_program::num::NoMemory;
 use cc_program::{Expr, Stmt, Value};
 use std::alloc::Global;
 

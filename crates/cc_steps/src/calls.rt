@@ -6,7 +6,7 @@ ghost use Rattle.cc_cells.specs.Cells.{cells_of};
 ghost use Rattle.cc_cells.specs.Scalars.{zeros};
 ghost use Rattle.cc_control.specs.Control.{close as close_of};
 ghost use Rattle.cc_control.specs.View.{control_of};
-ghost use Rattle.cc_syntax.specs.Sizes.{AreSized};
+ghost use Rattle.cc_eval.specs.CcSyntax.Sizes.{AreSized};
 ghost use Rattle.cc_steps.specs.State.{local_with as local_with_of, locals_with as locals_with_of};
 ghost use Rattle.cc_steps.specs.Step.{activation as activation_of, opened as opened_of};
 ghost use Rattle.cc_steps.specs.View.{active_of, state_of};
@@ -16,7 +16,7 @@ use crate::progress::begun_at;
 use crate::run::Run;
 use cc_cells::count;
 use cc_control::{Control, Left, close};
-use cc_num::{Name, NoMemory, at};
+use cc_program::num::{Name, NoMemory, at};
 use cc_program::{CType, Func, Program, Structure, Value};
 use std::alloc::Global;
 

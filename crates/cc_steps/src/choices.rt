@@ -14,9 +14,9 @@ use cc_control::{
     Control, Left, Level, Phase, arm, around_list, behind, broken, by_default, by_label, close,
     continued,
 };
-use cc_num::{Boxed, List, NoMemory};
+use cc_eval::values::is_true;
+use cc_program::num::{Boxed, List, NoMemory};
 use cc_program::{Case, Expr, Stmt, Value};
-use cc_values::is_true;
 use std::alloc::Global;
 
 /// The expression in a box, where there is one.

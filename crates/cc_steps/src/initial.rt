@@ -2,8 +2,8 @@
 
 ghost use Rattle.std.specs.Prelude.{◌≡◌, IfOk, map, slice_get};
 ghost use Rattle.cc_cells.specs.Cells.{cells_of};
-ghost use Rattle.cc_syntax.specs.Sizes.{AreSized};
-ghost use Rattle.cc_syntax.specs.Sound.{IsSound};
+ghost use Rattle.cc_eval.specs.CcSyntax.Sizes.{AreSized};
+ghost use Rattle.cc_eval.specs.CcSyntax.Sound.{IsSound};
 ghost use Rattle.cc_steps.specs.State.{first_value as first_value_of};
 ghost use Rattle.cc_steps.specs.Turn.{first_of_stack, start as start_of};
 ghost use Rattle.cc_steps.specs.View.{actives_of, state_of};
@@ -14,7 +14,7 @@ use crate::calls::activation;
 use crate::event::End;
 use crate::run::Run;
 use cc_cells::{structure_zeros, zeros_over};
-use cc_num::{List, NoMemory, at};
+use cc_program::num::{List, NoMemory, at};
 use cc_program::{Leaf, Object, Program, Value};
 use std::alloc::Global;
 

@@ -20,6 +20,8 @@ mod turn;
 
 pub use activation::Activation;
 pub use boundary::at_boundary;
+pub use cc_eval as eval;
+pub use cc_eval::{syntax, typed};
 pub use event::{End, Event, Took};
 pub use initial::start;
 pub use laws::{

@@ -3,7 +3,7 @@
 ghost use Rattle.std.specs.Prelude.{◌≡◌, IfOk, option_map};
 ghost use Rattle.std.specs.Option.{option_copied};
 ghost use Rattle.cc_program.specs.declared.stmt.Stmt.{out-Stmt};
-ghost use Rattle.cc_syntax.specs.Sizes.{AreSized};
+ghost use Rattle.cc_eval.specs.CcSyntax.Sizes.{AreSized};
 ghost use Rattle.cc_control.specs.View.{level_of, control_of};
 ghost use Rattle.cc_eval.specs.View.{progress_of as stage_of};
 ghost use Rattle.cc_steps.specs.Step.{progress_at as progress_at_of, passed as passed_of, passes as passes_of, is_known as is_known_of, at_test as at_test_of, begun_at as begun_at_of};
@@ -11,7 +11,7 @@ ghost use Rattle.cc_steps.specs.Step.{progress_at as progress_at_of, passed as p
 use crate::choices::expression_in;
 use cc_control::{Control, Level, Phase, first};
 use cc_eval::{Context, Mark, Stage, next_of};
-use cc_num::{NoMemory, at};
+use cc_program::num::{NoMemory, at};
 use cc_program::{Expr, Program, Stmt, Value};
 use std::alloc::Global;
 

@@ -2,7 +2,7 @@
 
 ghost use Rattle.std.specs.Prelude.{◌≡◌, ◌<◌, ◌-◌, length, take, get_or, OnOk, OnErr};
 ghost use Rattle.std.specs.Option.{option_copied};
-ghost use Rattle.cc_syntax.specs.Sizes.{AreSized};
+ghost use Rattle.cc_eval.specs.CcSyntax.Sizes.{AreSized};
 ghost use Rattle.cc_steps.specs.declared.activation.Activation.{Activation};
 ghost use Rattle.cc_steps.specs.Step.{with_stack, on_top, gives_nothing as gives_nothing_of, return_mark as return_mark_of};
 ghost use Rattle.cc_steps.specs.View.{actives_of, state_of, returned_first};
@@ -11,9 +11,9 @@ use crate::choices::number_in;
 use crate::event::End;
 use crate::run::Run;
 use cc_eval::Mark;
-use cc_num::{NoMemory, at};
+use cc_eval::typed::is_void;
+use cc_program::num::{NoMemory, at};
 use cc_program::{Func, Program, Value};
-use cc_typed::is_void;
 use std::alloc::Global;
 
 /// Whether a function returns no value.

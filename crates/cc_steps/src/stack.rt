@@ -3,7 +3,7 @@
 ghost use Rattle.std.specs.Prelude.{◌≡◌, ℕ, IfOk, OnOk, OnErr, MatchOption, Some};
 ghost use Rattle.std.specs.Option.{option_copied};
 ghost use Rattle.cc_cells.specs.Counts.{counted};
-ghost use Rattle.cc_syntax.specs.Sizes.{AreSized};
+ghost use Rattle.cc_eval.specs.CcSyntax.Sizes.{AreSized};
 ghost use Rattle.cc_steps.specs.Access.{content as content_of, local_content as local_content_of, is_open as is_open_of, with_local, with_locals};
 ghost use Rattle.cc_cells.specs.Cells.{with_scalar};
 ghost use Rattle.cc_steps.specs.Step.{on_top};
@@ -13,7 +13,7 @@ use crate::activation::Activation;
 use crate::content::Content;
 use cc_cells::{read_scalar, write_scalar};
 use cc_eval::Mark;
-use cc_num::NoMemory;
+use cc_program::num::NoMemory;
 use cc_program::{Program, Value};
 use std::alloc::Global;
 

@@ -1,9 +1,9 @@
 //! The steps of a program.
 
 ghost use Rattle.std.specs.Prelude.{◌≡◌, ◌<◌, ◌-◌, ◌^◌, List as Items, IfOk, OnOk, OnErr};
-ghost use Rattle.cc_num.specs.Results.{one_if as one_if_of};
+ghost use Rattle.cc_program.specs.CcNum.Results.{one_if as one_if_of};
 ghost use Rattle.cc_program.specs.declared.stmt.Stmt.{out-Stmt};
-ghost use Rattle.cc_syntax.specs.Sizes.{AreSized};
+ghost use Rattle.cc_eval.specs.CcSyntax.Sizes.{AreSized};
 ghost use Rattle.cc_control.specs.View.{level_of};
 ghost use Rattle.cc_steps.specs.State.{Active, State};
 ghost use Rattle.cc_steps.specs.Step.{goes_to, next_place, call as call_of, did, with_flag, perform as perform_of, active_step, proceed as proceed_of};
@@ -19,7 +19,7 @@ use crate::run::Run;
 use crate::stack::mark_top;
 use cc_control::first;
 use cc_eval::{Action, Mark, Stage};
-use cc_num::{Boxed, List, NoMemory, at};
+use cc_program::num::{Boxed, List, NoMemory, at};
 use cc_program::{Address, Program, Stmt, Value};
 use std::alloc::Global;
 

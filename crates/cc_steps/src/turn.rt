@@ -3,8 +3,8 @@
 ghost use Rattle.std.specs.Prelude.{◌≡◌, ◌<◌, ◌≤◌, ◌+◌, ◌-◌, ◌^◌, max, IfOk, OnOk, OnErr, None, option_map, slice_get, if◌then◌else◌};
 ghost use Rattle.std.specs.Option.{option_copied};
 ghost use Rattle.std.specs.Str.{bytes_eq};
-ghost use Rattle.cc_syntax.specs.Sizes.{AreSized};
-ghost use Rattle.cc_syntax.specs.Sound.{IsSound};
+ghost use Rattle.cc_eval.specs.CcSyntax.Sizes.{AreSized};
+ghost use Rattle.cc_eval.specs.CcSyntax.Sound.{IsSound};
 ghost use Rattle.cc_steps.specs.Turn.{is_going as is_going_of, named_level as named_level_of, level_in as level_in_of, level_of as level_of_func, running_level as running_level_of, only_handler as only_handler_of, may_enter as may_enter_of, entering as entering_of, entered, turn_by, turn as turn_of, took as took_of};
 ghost use Rattle.cc_steps.specs.declared.event.Took.TheVariants.{Stepped, Ended};
 ghost use Rattle.cc_steps.specs.View.{actives_of, state_of, entry_view};
@@ -13,7 +13,7 @@ use crate::activation::Activation;
 use crate::calls::activation;
 use crate::event::{End, Event, Took};
 use crate::run::Run;
-use cc_num::{Name, NoMemory, at};
+use cc_program::num::{Name, NoMemory, at};
 use cc_program::{Func, Program};
 use std::alloc::Global;
 

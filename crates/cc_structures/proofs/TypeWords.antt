@@ -2,8 +2,8 @@
 use Rattle.std.proofs.Common.{rules, ◌≡◌, ◌∙◌, ℕ, Bool, false, true≢false, List, [], ◌∷◌, ◌++◌, length, map, flat_map, refl, ap, sym, append_assoc, arith}
 use Rattle.std.proofs.lemmas.Bool.{eq-eqb}
 use denote.Enum.Bare.{same_true}
-use Rattle.cc_num.specs.contracts.int_type.IntType as int_type
-use Rattle.cc_num.specs.declared.int_type.IntType.{IntType}
+use Rattle.cc_program.specs.CcNum.contracts.int_type.IntType as int_type
+use Rattle.cc_program.specs.CcNum.declared.int_type.IntType.{IntType}
 use Rattle.cc_program.specs.declared.types.CType.{CType}
 use Rattle.cc_program.specs.declared.types.Shape.{Shape, out-Shape, roll-Shape, out-roll-Shape, roll-out-Shape}
 use Rattle.cc_program.specs.declared.types.Shape.TheOpen as shape

@@ -5,7 +5,7 @@ ghost use Rattle.std.specs.List.{position_or_len};
 ghost use Rattle.indexmap.specs.IndexSet.{insert_key};
 ghost use Rattle.cc_structures.specs.Classes.{class_numbers as class_numbers_of, distinct};
 
-use cc_num::NoMemory;
+use cc_program::num::NoMemory;
 use indexmap::IndexSet;
 use std::alloc::Global;
 use std::hash::Hash;

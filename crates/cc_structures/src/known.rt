@@ -4,7 +4,7 @@ ghost use Rattle.std.specs.Prelude.{◌≡◌, ◌++◌, IfOk, OnOk};
 ghost use Rattle.cc_structures.specs.Structures.{known_in, structures};
 ghost use Rattle.cc_structures.specs.View.{knowns_of, units_of};
 
-use cc_num::NoMemory;
+use cc_program::num::NoMemory;
 use cc_things::Text;
 use cc_unit::UnitStructure;
 use std::alloc::Global;

@@ -11,8 +11,8 @@ ghost use Rattle.cc_structures.specs.Words.{type_words, type_parts};
 use crate::known::Known;
 use crate::nodes::Node;
 use crate::words::{Word, put_type};
-use cc_num::{Name, NoMemory};
 use cc_program::CType;
+use cc_program::num::{Name, NoMemory};
 use cc_unit::UnitStructure;
 use std::alloc::Global;
 

@@ -6,7 +6,7 @@ ghost use Rattle.cc_structures.specs.View.{known_of, knowns_of, looks_of, nodes_
 
 use crate::known::Known;
 use crate::looks::{Look, look_of};
-use cc_num::NoMemory;
+use cc_program::num::NoMemory;
 use std::alloc::Global;
 
 /// A structure, and those that it has or points to, by their positions in its source.

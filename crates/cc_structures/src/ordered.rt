@@ -9,7 +9,7 @@ ghost use Rattle.cc_structures.specs.View.{known_of, knowns_of};
 
 use crate::known::Known;
 use crate::refined::number_at;
-use cc_num::{List, NoMemory};
+use cc_program::num::{List, NoMemory};
 use indexmap::IndexSet;
 use std::alloc::Global;
 

@@ -10,7 +10,7 @@ ghost use Rattle.cc_structures.specs.View.{node_view, nodes_of, lists_of, same_l
 use crate::classes::{Classes, class_numbers};
 use crate::looks::Look;
 use crate::nodes::Node;
-use cc_num::{List, NoMemory, at};
+use cc_program::num::{List, NoMemory, at};
 use cc_things::Text;
 use std::alloc::Global;
 

@@ -11,7 +11,7 @@ use crate::known::{Known, knowns};
 use crate::nodes::{Described, describe};
 use crate::ordered::{Firsts, firsts_in_order, positions};
 use crate::refined::{by_lists, by_looks, by_source, refined};
-use cc_num::{List, NoMemory};
+use cc_program::num::{List, NoMemory};
 use cc_things::Text;
 use indexmap::IndexSet;
 use std::alloc::Global;

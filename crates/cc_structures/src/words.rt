@@ -3,7 +3,7 @@
 ghost use Rattle.std.specs.Prelude.{◌≡◌, ◌++◌, [], ◌∷◌, OnOk};
 ghost use Rattle.cc_structures.specs.Words.{word, type_words, shape_words, sig_words, type_parts, shape_parts, sig_parts};
 
-use cc_num::NoMemory;
+use cc_program::num::NoMemory;
 use cc_program::{CType, Shape, Sig};
 use cc_things::position_of;
 

@@ -1,9 +1,9 @@
 -- What the definitions of sound programs and of normal form say of some small cases, by evaluation.
 use Rattle.std.proofs.Common.{◌≡◌, pos, true, false, [], ◌∷◌, refl, ap, ◌∙◌, Option, Some, None}
-use Rattle.cc_num.specs.declared.int_type.IntType.TheVariants as int
-use Rattle.cc_num.specs.declared.op.BinOp.TheVariants as op
-use Rattle.cc_num.specs.Promotions.{promoted, usual_of}
-use Rattle.cc_num.specs.Results.{represented, result_of}
+use Rattle.cc_program.specs.CcNum.declared.int_type.IntType.TheVariants as int
+use Rattle.cc_program.specs.CcNum.declared.op.BinOp.TheVariants as op
+use Rattle.cc_program.specs.CcNum.Promotions.{promoted, usual_of}
+use Rattle.cc_program.specs.CcNum.Results.{represented, result_of}
 use Rattle.cc_program.specs.declared.types.CType.{CType}
 use Rattle.cc_program.specs.declared.types.Shape.{Shape, Pointer}
 use Rattle.cc_program.specs.declared.types.Shape.TheOpen as shape

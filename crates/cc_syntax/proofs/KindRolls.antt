@@ -1,6 +1,6 @@
 -- The kind of a type, from its opened shape, by the extents of structures.
 use Rattle.std.proofs.Common.{◌≡◌, ◌||◌, ℕ, Bool, Option, ap, ◌∙◌}
-use Rattle.cc_num.specs.declared.target.Target.{Target}
+use Rattle.cc_program.specs.CcNum.declared.target.Target.{Target}
 use Rattle.cc_program.specs.declared.types.CType.{CType, fold_out-CType}
 use Rattle.cc_program.specs.declared.types.Shape.{Shape, fold-Shape, fold_out-Shape, out-Shape, out-roll-Shape, roll-Shape, map-Shape}
 use Rattle.cc_program.specs.declared.types.Shape.TheOpen as shape

@@ -1,8 +1,8 @@
 -- A complete object type that may stand in a program has a size, and so has each of its parts: its kind
 -- tells the size. By induction over types, where the structures' members are small.
 use Rattle.std.proofs.Common.{arith, ◌≡◌, ◌≤◌, ◌*◌, inl, inr, ℕ, Bool, true, false, nat_lt, nat_le, ◌&&◌, ◌||◌, if◌then◌else◌, List, refl, ap, sym, ◌∙◌, subst, Option, Some, None, slice_get, unwrap_or}
-use Rattle.cc_num.specs.Integers.{bytes_of}
-use Rattle.cc_num.specs.declared.target.Target.{Target}
+use Rattle.cc_program.specs.CcNum.Integers.{bytes_of}
+use Rattle.cc_program.specs.CcNum.declared.target.Target.{Target}
 use Rattle.cc_program.specs.declared.types.CType.{CType}
 use Rattle.cc_program.specs.declared.types.Shape.{Shape, Struct, out-Shape, out-roll-Shape, roll-Shape}
 use Rattle.cc_program.specs.declared.types.Shape.TheOpen as shape

@@ -3,7 +3,7 @@ use Rattle.std.proofs.Common.{arith, ◌≡◌, ◌<◌, ◌≤◌, ◌+◌, ◌
 use Rattle.std.specs.List.{All, list_all}
 use Rattle.std.proofs.lemmas.List.{append-nil, get_or-take, length-take}
 use Rattle.std.proofs.lemmas.Option.{slice_get_within, get_or_from_slice_get}
-use Rattle.cc_num.specs.declared.target.Target.{Target}
+use Rattle.cc_program.specs.CcNum.declared.target.Target.{Target}
 use Rattle.cc_program.specs.declared.types.CType.{CType}
 use Rattle.cc_program.specs.declared.types.Structure.{Structure}
 use Rattle.cc_syntax.specs.Kinds.{Kind, bytes_in, is_small, is_object_kind, is_object_type, kind_of, extent_with}

@@ -1,7 +1,7 @@
 -- Types and targets whose layouts are known.
 use Rattle.std.specs.Prelude.{ℕ, true, false, refl, List, [], ◌∷◌, codes}
-use Rattle.cc_num.specs.declared.int_type.IntType.TheVariants as int
-use Rattle.cc_num.specs.declared.target.Target.{Target}
+use Rattle.cc_program.specs.CcNum.declared.int_type.IntType.TheVariants as int
+use Rattle.cc_program.specs.CcNum.declared.target.Target.{Target}
 use Rattle.cc_program.specs.declared.types.CType.{CType}
 use Rattle.cc_program.specs.declared.types.Shape.{Shape, Int, Pointer, Array, Struct}
 use Rattle.cc_program.specs.declared.types.Structure.{Structure}

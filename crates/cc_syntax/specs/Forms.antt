@@ -1,6 +1,6 @@
 -- What an expression is at its top, as far as statements in normal form tell expressions apart.
 use Rattle.std.specs.Prelude.{ℤ, List, Option}
-use Rattle.cc_num.specs.declared.int_type.IntType.{IntType}
+use Rattle.cc_program.specs.CcNum.declared.int_type.IntType.{IntType}
 use Rattle.cc_program.specs.declared.expr.Expr.{Expr, out-Expr}
 use Rattle.cc_program.specs.declared.expr.Expr.TheOpen as one
 use Rattle.cc_program.specs.declared.expr.Place.{Place}

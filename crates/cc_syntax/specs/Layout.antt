@@ -2,8 +2,8 @@
 -- divides (C99 3.2, 6.5.3.4, 6.7.2.1).
 use Rattle.std.specs.Prelude.{◌≡◌, ◌≤◌, ◌<◌, ◌^◌, ◌⊎◌, ℕ, ◌+◌, ◌*◌, ◌%◌, min, max, true, List, [], ◌∷◌, ◌++◌, All, length, fold, map, unwrap_or, slice_get}
 use Rattle.std.specs.Int.{next_multiple_of}
-use Rattle.cc_num.specs.declared.target.Target.{Target}
-use Rattle.cc_num.specs.Integers.{bytes_of}
+use Rattle.cc_program.specs.CcNum.declared.target.Target.{Target}
+use Rattle.cc_program.specs.CcNum.Integers.{bytes_of}
 use Rattle.cc_program.specs.declared.program.Program.{Program}
 use Rattle.cc_program.specs.declared.types.CType.{CType, fold-CType}
 use Rattle.cc_program.specs.declared.types.Shape.TheOpen as shape

@@ -3,8 +3,8 @@
 use Rattle.std.specs.Prelude.{ℕ, Bool, true, false, not, ◌&&◌, nat_eq}
 use Rattle.cc_syntax.specs.Pairs.{all_pairs}
 use denote.Enum.Declared.{tag_of}
-use Rattle.cc_num.specs.contracts.int_type.IntType as int_type
-use Rattle.cc_num.specs.declared.int_type.IntType.{IntType}
+use Rattle.cc_program.specs.CcNum.contracts.int_type.IntType as int_type
+use Rattle.cc_program.specs.CcNum.declared.int_type.IntType.{IntType}
 use Rattle.cc_program.specs.declared.types.CType.{CType, fold-CType}
 use Rattle.cc_program.specs.declared.types.Shape.{Shape, fold-Shape, out-Shape}
 use Rattle.cc_program.specs.declared.types.Shape.TheOpen as shape

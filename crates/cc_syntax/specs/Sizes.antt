@@ -1,7 +1,7 @@
 -- Structures over which the types that may stand in a program have sizes.
 use Rattle.std.specs.Prelude.{◌≡◌, ◌≤◌, ℕ, List, Some, slice_get}
 use Rattle.std.specs.List.{All}
-use Rattle.cc_num.specs.declared.target.Target.{Target}
+use Rattle.cc_program.specs.CcNum.declared.target.Target.{Target}
 use Rattle.cc_program.specs.declared.types.Structure.{Structure}
 use Rattle.cc_syntax.specs.Layout.{HasSmallParts, size_of}
 use Rattle.cc_syntax.specs.Types.{Named, IsInOrder, AreShort}

@@ -2,7 +2,7 @@
 -- functions name. A program is such a view. A unit that is still read has one too, in which a structure's number says nothing of
 -- where its parts stand (C99 6.5, 6.7.2.1).
 use Rattle.std.specs.Prelude.{ℕ, List, Option, option_map, slice_get}
-use Rattle.cc_num.specs.declared.target.Target.{Target}
+use Rattle.cc_program.specs.CcNum.declared.target.Target.{Target}
 use Rattle.cc_program.specs.declared.program.Program.{Program}
 use Rattle.cc_program.specs.declared.types.CType.{CType}
 use Rattle.cc_program.specs.declared.types.Structure.{Structure}

@@ -1,8 +1,8 @@
 ghost use Rattle.std.specs.Prelude.{◌≡◌, ◌↔◌, ◌≤◌, ◌*◌, ◌%◌, ℕ, pos, true, false, List, [], ◌∷◌, Some, None, slice_get};
 ghost use Rattle.std.specs.List.{All};
-ghost use Rattle.cc_num.specs.declared.int_type.IntType.TheVariants as int;
-ghost use Rattle.cc_num.specs.declared.op.BinOp.TheVariants as op;
-ghost use Rattle.cc_num.specs.declared.target.Target.{Target as OfTarget};
+ghost use Rattle.cc_program.specs.CcNum.declared.int_type.IntType.TheVariants as int;
+ghost use Rattle.cc_program.specs.CcNum.declared.op.BinOp.TheVariants as op;
+ghost use Rattle.cc_program.specs.CcNum.declared.target.Target.{Target as OfTarget};
 ghost use Rattle.cc_program.specs.declared.types.CType.{CType};
 ghost use Rattle.cc_program.specs.declared.types.Shape.{Array, Pointer, Struct};
 ghost use Rattle.cc_program.specs.declared.types.Structure.{Structure};

@@ -4,7 +4,7 @@ ghost use Rattle.std.specs.Prelude.{◌≡◌, ◌≤◌, ◌<◌, ◌^◌, ◌+
 ghost use Rattle.std.specs.List.{All};
 ghost use Rattle.cc_syntax.specs.Layout.{scalar as scalar_of, aligned as aligned_of, structure as structure_of, layout_of as layout_is, size_of as size_is, align_of as align_is, member_layouts, IsAlign, HasSize, IsSmall};
 
-use cc_num::{Name, Target};
+use cc_program::num::{Name, Target};
 use cc_program::{CType, Shape, Structure};
 
 /// How many bytes an object takes, and what divides the addresses at which it may stand (C99 3.2): 1, 2

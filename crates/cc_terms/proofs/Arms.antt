@@ -1,20 +1,20 @@
 -- What expressions mean whose parts are found, where the rules for operands are not to be opened: an expression means what
 -- the step of its construct makes of the meanings of its parts, and that is found part for part.
 use Rattle.std.proofs.Common.{◌≡◌, ◌∙◌, ℕ, true, List, Result, Ok, Err, refl, ap, sym, subst, map}
-use Rattle.cc_designators.specs.Assignments.{assign_of}
-use Rattle.cc_designators.specs.Casts.{cast_of}
-use Rattle.cc_designators.specs.Designators.{TypedExpr}
-use Rattle.cc_designators.specs.View.{expr_view}
-use Rattle.cc_designators.specs.declared.designated.TypedExpr.{TypedExpr as CodeExpr}
-use Rattle.cc_lex.specs.declared.token.Mark.{Mark}
-use Rattle.cc_num.specs.declared.target.Target.{Target}
-use Rattle.cc_operands.specs.Choices.{choose_of, comma_of}
-use Rattle.cc_operands.specs.Operands.{Operand}
-use Rattle.cc_operands.specs.Operators.{operator_of}
-use Rattle.cc_operands.specs.Verdicts.{Judged, Judges}
-use Rattle.cc_operands.specs.View.{operand_view}
-use Rattle.cc_operands.specs.declared.operand.Operand.{Operand as CodeOperand}
-use Rattle.cc_operands.specs.declared.verdict.Breach.{Breach}
+use Rattle.cc_typed_terms.specs.CcDesignators.Assignments.{assign_of}
+use Rattle.cc_typed_terms.specs.CcDesignators.Casts.{cast_of}
+use Rattle.cc_typed_terms.specs.CcDesignators.Designators.{TypedExpr}
+use Rattle.cc_typed_terms.specs.CcDesignators.View.{expr_view}
+use Rattle.cc_typed_terms.specs.CcDesignators.declared.designated.TypedExpr.{TypedExpr as CodeExpr}
+use Rattle.cc_typed_terms.specs.CcLex.declared.token.Mark.{Mark}
+use Rattle.cc_program.specs.CcNum.declared.target.Target.{Target}
+use Rattle.cc_typed_terms.specs.CcOperands.Choices.{choose_of, comma_of}
+use Rattle.cc_typed_terms.specs.CcOperands.Operands.{Operand}
+use Rattle.cc_typed_terms.specs.CcOperands.Operators.{operator_of}
+use Rattle.cc_typed_terms.specs.CcOperands.Verdicts.{Judged, Judges}
+use Rattle.cc_typed_terms.specs.CcOperands.View.{operand_view}
+use Rattle.cc_typed_terms.specs.CcOperands.declared.operand.Operand.{Operand as CodeOperand}
+use Rattle.cc_typed_terms.specs.CcOperands.declared.verdict.Breach.{Breach}
 use Rattle.cc_typed_terms.specs.Operators.{binary_by}
 use Rattle.cc_typed_terms.specs.Values.{found_value, gives, value_found, designated_found}
 use Rattle.cc_typed_terms.specs.View.{operands_view}

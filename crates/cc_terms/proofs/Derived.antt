@@ -1,7 +1,7 @@
 -- What breaks no rule by itself: want of memory alone stops it.
 use Rattle.std.proofs.Common.{ℕ, Result, Ok}
-use Rattle.cc_operands.specs.Verdicts.{Judges}
-use Rattle.cc_operands.specs.declared.verdict.Breach.{Breach}
+use Rattle.cc_typed_terms.specs.CcOperands.Verdicts.{Judges}
+use Rattle.cc_typed_terms.specs.CcOperands.declared.verdict.Breach.{Breach}
 use Rattle.cc_scopes.proofs.Outcomes.{judged-gives}
 use Rattle.cc_scopes.specs.Outcomes.{Gives, stopped}
 use Rattle.cc_scopes.specs.State.{State}

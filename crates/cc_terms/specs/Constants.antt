@@ -2,16 +2,16 @@
 use Rattle.std.specs.Prelude.{ℕ, ℤ, pos, ◌+ℤ◌, is_some, List, Option, Some, None, Ok}
 use Rattle.cc_typed_terms.specs.Names.{new_name}
 use Rattle.cc_typed_terms.specs.Specifiers.{as_type}
-use Rattle.cc_num.specs.declared.target.Target.{Target}
-use Rattle.cc_operands.specs.Operands.{constancy}
+use Rattle.cc_program.specs.CcNum.declared.target.Target.{Target}
+use Rattle.cc_typed_terms.specs.CcOperands.Operands.{constancy}
 use Rattle.cc_typed_terms.specs.Values.{value}
 use Rattle.cc_program.specs.declared.program.Roles.{Roles}
 use Rattle.cc_scopes.specs.State.{State, Name, bind}
 use Rattle.cc_scopes.specs.Structures.{tagged_option, enumeration_closed, enumeration_constant, in_list}
 use Rattle.cc_scopes.specs.Verdicts.{Found, whole, and_then}
 use Rattle.cc_scopes.specs.declared.designated.Designated.TheVariants as means
-use Rattle.cc_specifiers.specs.declared.specifier.Specifier.{Specifier}
-use Rattle.cc_syntax.specs.Folding.{Constant, Value}
+use Rattle.cc_typed_terms.specs.CcSpecifiers.declared.specifier.Specifier.{Specifier}
+use Rattle.cc_typed_terms.specs.CcSyntax.Folding.{Constant, Value}
 use Rattle.cc_tree.specs.declared.at.At.{At}
 use Rattle.cc_tree.specs.declared.tree.Declr.TheOpen as one
 use Rattle.cc_terms.specs.InTurn.{in_turn}

@@ -3,25 +3,25 @@ use Rattle.std.specs.Prelude.{ℕ, Bool, true, false, not, ◌||◌, ◌&&◌, L
 use Rattle.cc_typed_terms.specs.Declarators.{derived_type}
 use Rattle.cc_typed_terms.specs.Located.{located}
 use Rattle.cc_typed_terms.specs.Parameters.{parameter, parameter_bound}
-use Rattle.cc_num.specs.declared.target.Target.{Target}
-use Rattle.cc_operands.specs.Operands.{Operand}
-use Rattle.cc_operands.specs.Verdicts.{Judged, must, judge_then}
-use Rattle.cc_operands.specs.declared.rule.Rule.TheVariants as rule
+use Rattle.cc_program.specs.CcNum.declared.target.Target.{Target}
+use Rattle.cc_typed_terms.specs.CcOperands.Operands.{Operand}
+use Rattle.cc_typed_terms.specs.CcOperands.Verdicts.{Judged, must, judge_then}
+use Rattle.cc_typed_terms.specs.CcOperands.declared.rule.Rule.TheVariants as rule
 use Rattle.cc_typed_terms.specs.Values.{value}
 use Rattle.cc_program.specs.declared.program.Roles.{Roles}
 use Rattle.cc_program.specs.declared.types.CType.{CType}
 use Rattle.cc_scopes.specs.State.{State, Scope, empty, innermost, entered, left}
 use Rattle.cc_scopes.specs.Verdicts.{Found, whole, and_then}
-use Rattle.cc_specifiers.specs.Bounds.{bound_judged}
-use Rattle.cc_specifiers.specs.Derivations.{in_parameter, in_type_name, with_derivation, is_next_to_name, suffix_found, pointer_derivation}
-use Rattle.cc_specifiers.specs.Parameters.{parameter_type}
-use Rattle.cc_specifiers.specs.Storage.{setting}
-use Rattle.cc_specifiers.specs.declared.attribute.Entity.TheVariants as entity
-use Rattle.cc_specifiers.specs.declared.derivation.Allowed.{Allowed}
-use Rattle.cc_specifiers.specs.declared.derivation.Declarator.{Declarator}
-use Rattle.cc_specifiers.specs.declared.derivation.Derivation.TheVariants as to
-use Rattle.cc_specifiers.specs.declared.derivation.Parameter.{Parameter}
-use Rattle.cc_specifiers.specs.declared.storage.Where.TheVariants as stands
+use Rattle.cc_typed_terms.specs.CcSpecifiers.Bounds.{bound_judged}
+use Rattle.cc_typed_terms.specs.CcSpecifiers.Derivations.{in_parameter, in_type_name, with_derivation, is_next_to_name, suffix_found, pointer_derivation}
+use Rattle.cc_typed_terms.specs.CcSpecifiers.Parameters.{parameter_type}
+use Rattle.cc_typed_terms.specs.CcSpecifiers.Storage.{setting}
+use Rattle.cc_typed_terms.specs.CcSpecifiers.declared.attribute.Entity.TheVariants as entity
+use Rattle.cc_typed_terms.specs.CcSpecifiers.declared.derivation.Allowed.{Allowed}
+use Rattle.cc_typed_terms.specs.CcSpecifiers.declared.derivation.Declarator.{Declarator}
+use Rattle.cc_typed_terms.specs.CcSpecifiers.declared.derivation.Derivation.TheVariants as to
+use Rattle.cc_typed_terms.specs.CcSpecifiers.declared.derivation.Parameter.{Parameter}
+use Rattle.cc_typed_terms.specs.CcSpecifiers.declared.storage.Where.TheVariants as stands
 use Rattle.cc_tree.specs.declared.at.At.{At}
 use Rattle.cc_tree.specs.declared.tree.Declr.TheOpen as one
 use Rattle.cc_terms.specs.InTurn.{in_turn, one_more}

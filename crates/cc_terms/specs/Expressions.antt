@@ -1,12 +1,12 @@
 -- What an expression means (C99 6.5): construct by construct, from the meanings of its parts in the order of the text.
 use Rattle.std.specs.Prelude.{true, false, List, [], length, Ok}
-use Rattle.cc_designators.specs.Assignments.{assign_of, stepped_after}
-use Rattle.cc_designators.specs.Casts.{cast_of}
-use Rattle.cc_designators.specs.Postfix.{dot, arrow}
-use Rattle.cc_num.specs.declared.target.Target.{Target}
-use Rattle.cc_operands.specs.Choices.{choose_of, comma_of}
-use Rattle.cc_operands.specs.Operands.{Operand}
-use Rattle.cc_operands.specs.Operators.{operator_of}
+use Rattle.cc_typed_terms.specs.CcDesignators.Assignments.{assign_of, stepped_after}
+use Rattle.cc_typed_terms.specs.CcDesignators.Casts.{cast_of}
+use Rattle.cc_typed_terms.specs.CcDesignators.Postfix.{dot, arrow}
+use Rattle.cc_program.specs.CcNum.declared.target.Target.{Target}
+use Rattle.cc_typed_terms.specs.CcOperands.Choices.{choose_of, comma_of}
+use Rattle.cc_typed_terms.specs.CcOperands.Operands.{Operand}
+use Rattle.cc_typed_terms.specs.CcOperands.Operators.{operator_of}
 use Rattle.cc_typed_terms.specs.Operators.{binary_by, is_minus}
 use Rattle.cc_typed_terms.specs.Primary.{named, number, character, string_found}
 use Rattle.cc_typed_terms.specs.Values.{gives, value_found, value, designator}

@@ -8,3 +8,11 @@ pub mod Operations
 pub mod Specifiers
 pub mod Structures
 pub mod Terms
+pub mod CcDesignators
+pub mod CcLex
+pub mod CcOperands
+pub mod CcScopes
+pub mod CcSpecifiers
+pub mod CcSyntax
+pub mod CcTypedTerms
+pub mod CcUnit

@@ -1,15 +1,15 @@
 -- What each kind of construct means (C99 6.5, 6.7.2 to 6.7.6), at the place where it stands, behind what is known
 -- there.
 use Rattle.std.specs.Prelude.{ℤ, Bool, List}
-use Rattle.cc_designators.specs.Designators.{TypedExpr}
+use Rattle.cc_typed_terms.specs.CcDesignators.Designators.{TypedExpr}
 use Rattle.cc_program.specs.declared.types.CType.{CType}
 use Rattle.cc_scopes.specs.State.{State, Scope}
 use Rattle.cc_scopes.specs.Verdicts.{Found, Meaning}
-use Rattle.cc_specifiers.specs.declared.derivation.Allowed.{Allowed}
-use Rattle.cc_specifiers.specs.declared.derivation.Declarator.{Declarator}
-use Rattle.cc_specifiers.specs.declared.derivation.Parameter.{Parameter}
-use Rattle.cc_specifiers.specs.declared.specifier.Specifier.{Specifier}
-use Rattle.cc_syntax.specs.Types.{Named}
+use Rattle.cc_typed_terms.specs.CcSpecifiers.declared.derivation.Allowed.{Allowed}
+use Rattle.cc_typed_terms.specs.CcSpecifiers.declared.derivation.Declarator.{Declarator}
+use Rattle.cc_typed_terms.specs.CcSpecifiers.declared.derivation.Parameter.{Parameter}
+use Rattle.cc_typed_terms.specs.CcSpecifiers.declared.specifier.Specifier.{Specifier}
+use Rattle.cc_typed_terms.specs.CcSyntax.Types.{Named}
 
 abbrev pub TreeMeaning : Type 0
 TreeMeaning = Meaning TypedExpr

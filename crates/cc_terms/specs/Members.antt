@@ -1,14 +1,14 @@
 -- Declarations of members (C99 6.7.2.1).
 use Rattle.std.specs.Prelude.{List}
-use Rattle.cc_num.specs.declared.target.Target.{Target}
+use Rattle.cc_program.specs.CcNum.declared.target.Target.{Target}
 use Rattle.cc_program.specs.declared.types.CType.{CType}
 use Rattle.cc_scopes.specs.State.{State}
 use Rattle.cc_scopes.specs.Verdicts.{Found, and_then}
-use Rattle.cc_specifiers.specs.Derivations.{nothing_more}
-use Rattle.cc_specifiers.specs.Storage.{setting}
-use Rattle.cc_specifiers.specs.declared.attribute.Entity.TheVariants as entity
-use Rattle.cc_specifiers.specs.declared.storage.Where.TheVariants as stands
-use Rattle.cc_syntax.specs.Types.{Named}
+use Rattle.cc_typed_terms.specs.CcSpecifiers.Derivations.{nothing_more}
+use Rattle.cc_typed_terms.specs.CcSpecifiers.Storage.{setting}
+use Rattle.cc_typed_terms.specs.CcSpecifiers.declared.attribute.Entity.TheVariants as entity
+use Rattle.cc_typed_terms.specs.CcSpecifiers.declared.storage.Where.TheVariants as stands
+use Rattle.cc_typed_terms.specs.CcSyntax.Types.{Named}
 use Rattle.cc_tree.specs.declared.at.At.{At}
 use Rattle.cc_tree.specs.declared.tree.Declr.TheOpen as one
 use Rattle.cc_terms.specs.Declarators.{declarator}

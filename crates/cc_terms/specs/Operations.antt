@@ -1,16 +1,16 @@
 -- What operators make of operands that are found (C99 6.5.2, 6.5.3), where the operator's construct begins at the first place
 -- and its operand at the second.
 use Rattle.std.specs.Prelude.{ℕ, List, Option, Some, None, Ok, Err, take, if◌then◌else◌}
-use Rattle.cc_designators.specs.Assignments.{stepped_before}
-use Rattle.cc_designators.specs.Calls.{called, intrinsic}
-use Rattle.cc_designators.specs.Designators.{TypedExpr, IsPlace, IsValue, IsIntrinsic}
-use Rattle.cc_designators.specs.Postfix.{subscripted, element, is_array_place, address}
-use Rattle.cc_lex.specs.declared.token.Mark.{Mark}
-use Rattle.cc_num.specs.declared.target.Target.{Target}
-use Rattle.cc_operands.specs.Operands.{Operand}
-use Rattle.cc_operands.specs.Operators.{unary_operator_of}
-use Rattle.cc_operands.specs.Verdicts.{Judged}
-use Rattle.cc_operands.specs.declared.rule.Rule.TheVariants as rule
+use Rattle.cc_typed_terms.specs.CcDesignators.Assignments.{stepped_before}
+use Rattle.cc_typed_terms.specs.CcDesignators.Calls.{called, intrinsic}
+use Rattle.cc_typed_terms.specs.CcDesignators.Designators.{TypedExpr, IsPlace, IsValue, IsIntrinsic}
+use Rattle.cc_typed_terms.specs.CcDesignators.Postfix.{subscripted, element, is_array_place, address}
+use Rattle.cc_typed_terms.specs.CcLex.declared.token.Mark.{Mark}
+use Rattle.cc_program.specs.CcNum.declared.target.Target.{Target}
+use Rattle.cc_typed_terms.specs.CcOperands.Operands.{Operand}
+use Rattle.cc_typed_terms.specs.CcOperands.Operators.{unary_operator_of}
+use Rattle.cc_typed_terms.specs.CcOperands.Verdicts.{Judged}
+use Rattle.cc_typed_terms.specs.CcOperands.declared.rule.Rule.TheVariants as rule
 use Rattle.cc_typed_terms.specs.Devices.{starred}
 use Rattle.cc_typed_terms.specs.Operators.{prefix_of, intrinsic_in, unary_by}
 use Rattle.cc_typed_terms.specs.Values.{gives, valued, designating}

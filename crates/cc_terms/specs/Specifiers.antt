@@ -1,15 +1,15 @@
 -- What specifiers mean, and lists of them, each judged where it stands (C99 6.7, 6.7.2).
 use Rattle.std.specs.Prelude.{ℕ, List, Option, Some, None, Ok}
 use Rattle.cc_typed_terms.specs.Specifiers.{begin, type_named, marked, structure_tag, enumeration_tag}
-use Rattle.cc_num.specs.declared.target.Target.{Target}
+use Rattle.cc_program.specs.CcNum.declared.target.Target.{Target}
 use Rattle.cc_scopes.specs.State.{State, Name, designated}
 use Rattle.cc_scopes.specs.Verdicts.{Found, Meaning, whole, and_then, part}
-use Rattle.cc_specifiers.specs.Specifiers.{no_specifier, with_specifier, specified}
-use Rattle.cc_specifiers.specs.declared.specifier.Specified.{Specified}
-use Rattle.cc_specifiers.specs.declared.specifier.Specifier.{Specifier}
-use Rattle.cc_specifiers.specs.declared.specifier.Specifier.TheVariants as specifier
-use Rattle.cc_specifiers.specs.declared.specifier.Specs.{Specs}
-use Rattle.cc_specifiers.specs.declared.storage.Setting.{Setting}
+use Rattle.cc_typed_terms.specs.CcSpecifiers.Specifiers.{no_specifier, with_specifier, specified}
+use Rattle.cc_typed_terms.specs.CcSpecifiers.declared.specifier.Specified.{Specified}
+use Rattle.cc_typed_terms.specs.CcSpecifiers.declared.specifier.Specifier.{Specifier}
+use Rattle.cc_typed_terms.specs.CcSpecifiers.declared.specifier.Specifier.TheVariants as specifier
+use Rattle.cc_typed_terms.specs.CcSpecifiers.declared.specifier.Specs.{Specs}
+use Rattle.cc_typed_terms.specs.CcSpecifiers.declared.storage.Setting.{Setting}
 use Rattle.cc_tree.specs.declared.at.At.{At}
 use Rattle.cc_tree.specs.declared.tree.Attr.{Attr}
 use Rattle.cc_tree.specs.declared.tree.Declr.TheOpen as one

@@ -4,17 +4,17 @@ use Rattle.cc_typed_terms.specs.Declarators.{derived_type}
 use Rattle.cc_typed_terms.specs.Located.{located}
 use Rattle.cc_typed_terms.specs.Members.{member_judged}
 use Rattle.cc_typed_terms.specs.Specifiers.{as_type}
-use Rattle.cc_num.specs.declared.target.Target.{Target}
+use Rattle.cc_program.specs.CcNum.declared.target.Target.{Target}
 use Rattle.cc_program.specs.declared.types.CType.{CType}
 use Rattle.cc_scopes.specs.State.{State, Scope, Name}
 use Rattle.cc_scopes.specs.Structures.{opened, tagged_option, is_enumeration, closed}
 use Rattle.cc_scopes.specs.Verdicts.{Found, whole, and_then}
-use Rattle.cc_specifiers.specs.Attributes.{attributes}
-use Rattle.cc_specifiers.specs.Derivations.{nothing_more}
-use Rattle.cc_specifiers.specs.declared.attribute.Entity.TheVariants as entity
-use Rattle.cc_specifiers.specs.declared.derivation.Declarator.{Declarator}
-use Rattle.cc_specifiers.specs.declared.specifier.Specifier.{Specifier}
-use Rattle.cc_syntax.specs.Types.{Named}
+use Rattle.cc_typed_terms.specs.CcSpecifiers.Attributes.{attributes}
+use Rattle.cc_typed_terms.specs.CcSpecifiers.Derivations.{nothing_more}
+use Rattle.cc_typed_terms.specs.CcSpecifiers.declared.attribute.Entity.TheVariants as entity
+use Rattle.cc_typed_terms.specs.CcSpecifiers.declared.derivation.Declarator.{Declarator}
+use Rattle.cc_typed_terms.specs.CcSpecifiers.declared.specifier.Specifier.{Specifier}
+use Rattle.cc_typed_terms.specs.CcSyntax.Types.{Named}
 use Rattle.cc_tree.specs.declared.at.At.{At}
 use Rattle.cc_tree.specs.declared.tree.Attr.{Attr}
 use Rattle.cc_terms.specs.InTurn.{in_turn}

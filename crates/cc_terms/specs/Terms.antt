@@ -1,5 +1,5 @@
 -- What expressions, type names, specifiers, declarators and parameters mean (C99 6.5, 6.7.2 to 6.7.6).
-use Rattle.cc_num.specs.declared.target.Target.{Target}
+use Rattle.cc_program.specs.CcNum.declared.target.Target.{Target}
 use Rattle.cc_program.specs.declared.program.Roles.{Roles}
 use Rattle.cc_tree.specs.declared.at.At.{At}
 use Rattle.cc_tree.specs.declared.tree.Declr.{Declr, fold-Declr}

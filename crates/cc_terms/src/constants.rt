@@ -1,23 +1,23 @@
 //! Enumerations with their constants (C99 6.7.2.2).
 
 ghost use Rattle.std.specs.Prelude.{map};
-ghost use Rattle.cc_operands.specs.View.{constant_view};
+ghost use Rattle.cc_typed_terms.specs.CcOperands.View.{constant_view};
 ghost use Rattle.cc_scopes.specs.Outcomes.{Gives};
 ghost use Rattle.cc_scopes.specs.View.{state_of};
 ghost use Rattle.cc_terms.specs.Constants.{constants_found, enumeration_found, constant_declared as constant_declared_of};
 ghost use Rattle.cc_terms.specs.Terms.{enumr_of, enumr_here};
 
 use crate::trees::operand;
-use cc_num::{List, Name, Target};
-use cc_operands::Constant;
+use cc_program::num::{List, Name, Target};
 use cc_scopes::{
     Designated, State, Stop, begin_list, enumeration_closed, enumeration_constant, has_tag_here,
     placed,
 };
-use cc_specifiers::Specifier;
-use cc_syntax::Roles;
 use cc_tree::{At, Enumr};
 use cc_typed_terms::new_name;
+use cc_typed_terms::operands::Constant;
+use cc_typed_terms::specifiers_crate::Specifier;
+use cc_typed_terms::syntax::Roles;
 use std::alloc::Global;
 
 /// `enum x { .. }` (C99 6.7.2.2).

@@ -2,25 +2,25 @@
 
 ghost use Rattle.std.specs.Prelude.{false};
 ghost use Rattle.cc_typed_terms.specs.Located.{located as located_of};
-ghost use Rattle.cc_operands.specs.Verdicts.{Judges};
-ghost use Rattle.cc_operands.specs.View.{operand_view};
+ghost use Rattle.cc_typed_terms.specs.CcOperands.Verdicts.{Judges};
+ghost use Rattle.cc_typed_terms.specs.CcOperands.View.{operand_view};
 ghost use Rattle.cc_typed_terms.specs.Values.{value as value_and};
 ghost use Rattle.cc_scopes.specs.Outcomes.{Gives};
 ghost use Rattle.cc_scopes.specs.State.{State as Known};
 ghost use Rattle.cc_scopes.specs.Verdicts.{and_then, whole};
 ghost use Rattle.cc_scopes.specs.View.{state_of};
-ghost use Rattle.cc_specifiers.specs.Derivations.{with_derivation as with_derivation_of, suffix_found as suffix_found_of};
+ghost use Rattle.cc_typed_terms.specs.CcSpecifiers.Derivations.{with_derivation as with_derivation_of, suffix_found as suffix_found_of};
 ghost use Rattle.cc_terms.specs.Declarators.{without_bound as without_bound_of, with_bound as with_bound_of};
 ghost use Rattle.cc_terms.specs.Terms.{declr_of, here};
 
 use crate::parameters::params;
 use crate::trees::boxed_operand;
-use cc_num::{Boxed, Target};
-use cc_operands::{Breach, Operand, Rule};
+use cc_program::num::{Boxed, Target};
 use cc_scopes::{Scope, State, Stop, placed};
-use cc_specifiers::{Allowed, Derivation, bound_judged, pointer_derivation};
-use cc_syntax::Roles;
 use cc_tree::{At, Declr, Tree};
+use cc_typed_terms::operands::{Breach, Operand, Rule};
+use cc_typed_terms::specifiers_crate::{Allowed, Derivation, bound_judged, pointer_derivation};
+use cc_typed_terms::syntax::Roles;
 use cc_typed_terms::{ScopedDeclarator, copied, declarator_of, is_next_to_name, suffix};
 use std::alloc::Global;
 

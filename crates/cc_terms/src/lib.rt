@@ -14,6 +14,7 @@ mod structures;
 mod trees;
 mod type_names;
 
+pub use cc_typed_terms::{lex, operands, specifiers_crate, syntax, unit};
 pub use declarators::declr;
 pub use specifiers::specified;
 pub use trees::{designator, tree, value};

@@ -4,18 +4,18 @@ ghost use Rattle.std.specs.Prelude.{map};
 ghost use Rattle.cc_typed_terms.specs.Declarators.{derived_type as derived_type_of};
 ghost use Rattle.cc_scopes.specs.Outcomes.{Gives};
 ghost use Rattle.cc_scopes.specs.View.{state_of};
-ghost use Rattle.cc_specifiers.specs.Derivations.{nothing_more as nothing_more_of};
+ghost use Rattle.cc_typed_terms.specs.CcSpecifiers.Derivations.{nothing_more as nothing_more_of};
 ghost use Rattle.cc_terms.specs.Members.{member_found, declared_members as declared_members_of};
 ghost use Rattle.cc_terms.specs.Structures.{member_behind as member_behind_of};
 ghost use Rattle.cc_terms.specs.Terms.{members_of, declr_of, declr_here};
 
 use crate::declarators::declr;
 use crate::specifiers::specified;
-use cc_num::{List, Target};
+use cc_program::num::{List, Target};
 use cc_scopes::{State, Stop, placed};
-use cc_specifiers::{Allowed, Entity, Setting, Where};
-use cc_syntax::{CType, Roles};
 use cc_tree::{At, Declr, MemberDecl};
+use cc_typed_terms::specifiers_crate::{Allowed, Entity, Setting, Where};
+use cc_typed_terms::syntax::{CType, Roles};
 use cc_typed_terms::{Members, ScopedDeclarator, derived_type, with_member};
 use std::alloc::Global;
 

@@ -1,21 +1,21 @@
 //! What operators make of operands that are found (C99 6.5.2, 6.5.3).
 
 ghost use Rattle.std.specs.Prelude.{map};
-ghost use Rattle.cc_designators.specs.View.{expr_view};
-ghost use Rattle.cc_operands.specs.Verdicts.{Judges};
-ghost use Rattle.cc_operands.specs.View.{operand_view};
+ghost use Rattle.cc_typed_terms.specs.CcDesignators.View.{expr_view};
+ghost use Rattle.cc_typed_terms.specs.CcOperands.Verdicts.{Judges};
+ghost use Rattle.cc_typed_terms.specs.CcOperands.View.{operand_view};
 ghost use Rattle.cc_typed_terms.specs.Values.{found_value};
 ghost use Rattle.cc_scopes.specs.Outcomes.{Gives};
 ghost use Rattle.cc_scopes.specs.State.{State as Known};
 ghost use Rattle.cc_scopes.specs.View.{state_of};
 ghost use Rattle.cc_terms.specs.Operations.{as_value as as_value_of, subscript_base as subscript_base_of, subscript_judged, callee as callee_of, call_judged, prefixed as prefixed_of, sizeof_found as sizeof_found_of, sizeof_type_found as sizeof_type_found_of};
 
-use cc_designators::{TypedExpr, element, subscripted, valued};
-use cc_lex::Mark;
-use cc_num::{List, Target};
-use cc_operands::{Breach, Operand, Rule};
+use cc_program::num::{List, Target};
 use cc_scopes::{State, Stop, placed};
-use cc_syntax::{CType, Structure};
+use cc_typed_terms::designators::{TypedExpr, element, subscripted, valued};
+use cc_typed_terms::lex::Mark;
+use cc_typed_terms::operands::{Breach, Operand, Rule};
+use cc_typed_terms::syntax::{CType, Structure};
 use cc_typed_terms::{
     Prefix, address_expr, call_expr, designating, intrinsic_expr, intrinsic_in, prefix_of,
     sizeof_expr, sizeof_type_expr, starred, step_expr, unary_expr, value_of,

@@ -1,6 +1,6 @@
 //! Operators on parts that are to be found (C99 6.5.3 to 6.5.17), each at the place where its construct begins.
 
-ghost use Rattle.cc_designators.specs.View.{expr_view};
+ghost use Rattle.cc_typed_terms.specs.CcDesignators.View.{expr_view};
 ghost use Rattle.cc_scopes.specs.Outcomes.{Gives};
 ghost use Rattle.cc_scopes.specs.View.{state_of};
 ghost use Rattle.cc_terms.specs.Expressions.{tree_step};
@@ -10,12 +10,12 @@ ghost use Rattle.cc_tree.specs.declared.tree.Declr.TheOpen as one;
 use crate::operations::{prefixed, sizeof_found, sizeof_type_found};
 use crate::trees::{boxed_operand, designator, tree};
 use crate::type_names::type_name;
-use cc_designators::{TypedExpr, cast};
-use cc_lex::Mark;
-use cc_num::{Boxed, Target};
+use cc_program::num::{Boxed, Target};
 use cc_scopes::{State, Stop, placed};
-use cc_syntax::Roles;
 use cc_tree::{At, Tree, TypeName};
+use cc_typed_terms::designators::{TypedExpr, cast};
+use cc_typed_terms::lex::Mark;
+use cc_typed_terms::syntax::Roles;
 use cc_typed_terms::{after_expr, assign_expr, binary_expr, choose_expr, comma_expr};
 use std::alloc::Global;
 

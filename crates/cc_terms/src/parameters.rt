@@ -6,18 +6,20 @@ ghost use Rattle.cc_scopes.specs.Outcomes.{Gives};
 ghost use Rattle.cc_scopes.specs.State.{State as Known};
 ghost use Rattle.cc_scopes.specs.Verdicts.{and_then, whole};
 ghost use Rattle.cc_scopes.specs.View.{state_of};
-ghost use Rattle.cc_specifiers.specs.Parameters.{parameter_type as parameter_type_of};
+ghost use Rattle.cc_typed_terms.specs.CcSpecifiers.Parameters.{parameter_type as parameter_type_of};
 ghost use Rattle.cc_terms.specs.Declarators.{parameter_declared as parameter_declared_of, parameters_found};
 ghost use Rattle.cc_terms.specs.InTurn.{one_more as one_more_of};
 ghost use Rattle.cc_terms.specs.Terms.{params_of, param_of, param_here};
 
 use crate::declarators::declr;
 use crate::specifiers::specified;
-use cc_num::{List, Name, Target};
+use cc_program::num::{List, Name, Target};
 use cc_scopes::{Scope, State, Stop, placed};
-use cc_specifiers::{Allowed, Entity, Parameter, Setting, Where, parameter_type};
-use cc_syntax::{CType, Roles};
 use cc_tree::{At, Param, Params};
+use cc_typed_terms::specifiers_crate::{
+    Allowed, Entity, Parameter, Setting, Where, parameter_type,
+};
+use cc_typed_terms::syntax::{CType, Roles};
 use cc_typed_terms::{ScopedDeclarator, derived_type, no_parameters, parameter_bound};
 use std::alloc::Global;
 

@@ -1,7 +1,7 @@
 //! Subscripts, calls and members (C99 6.5.2.1 to 6.5.2.3), each at the place where its construct begins.
 
 ghost use Rattle.std.specs.Prelude.{map};
-ghost use Rattle.cc_designators.specs.View.{expr_view};
+ghost use Rattle.cc_typed_terms.specs.CcDesignators.View.{expr_view};
 ghost use Rattle.cc_typed_terms.specs.View.{operands_view};
 ghost use Rattle.cc_scopes.specs.Outcomes.{Gives};
 ghost use Rattle.cc_scopes.specs.View.{state_of};
@@ -11,12 +11,12 @@ ghost use Rattle.cc_tree.specs.declared.tree.Declr.TheOpen as one;
 
 use crate::operations::{called_expr, callee, subscript_base, subscript_expr};
 use crate::trees::{boxed_operand, designator, operand, tree};
-use cc_designators::{TypedExpr, arrow, dot};
-use cc_num::{Boxed, List, Name, Target};
-use cc_operands::Operand;
+use cc_program::num::{Boxed, List, Name, Target};
 use cc_scopes::{State, Stop, placed};
-use cc_syntax::Roles;
 use cc_tree::{At, Tree};
+use cc_typed_terms::designators::{TypedExpr, arrow, dot};
+use cc_typed_terms::operands::Operand;
+use cc_typed_terms::syntax::Roles;
 use std::alloc::Global;
 
 /// `a[i]` (C99 6.5.2.1).

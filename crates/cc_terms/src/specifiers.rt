@@ -8,11 +8,11 @@ ghost use Rattle.cc_terms.specs.Terms.{spec_of, spec_here};
 
 use crate::constants::enumeration;
 use crate::structures::structure;
-use cc_num::{List, Target};
+use cc_program::num::{List, Target};
 use cc_scopes::{State, Stop, placed};
-use cc_specifiers::{Setting, Specified, Specifier, Specs, no_specifier};
-use cc_syntax::Roles;
 use cc_tree::{At, Spec};
+use cc_typed_terms::specifiers_crate::{Setting, Specified, Specifier, Specs, no_specifier};
+use cc_typed_terms::syntax::Roles;
 use cc_typed_terms::{begin, enumeration_tagged, marked, structure_tagged, type_named};
 use std::alloc::Global;
 

@@ -7,11 +7,11 @@ ghost use Rattle.cc_terms.specs.Structures.{structure_opened as structure_opened
 ghost use Rattle.cc_terms.specs.Terms.{members_here};
 
 use crate::members::member_decl;
-use cc_num::{List, Name, Target};
+use cc_program::num::{List, Name, Target};
 use cc_scopes::{State, Stop, closed, is_enumeration_here, opened};
-use cc_specifiers::Specifier;
-use cc_syntax::Roles;
 use cc_tree::{At, Attr, MemberDecl};
+use cc_typed_terms::specifiers_crate::Specifier;
+use cc_typed_terms::syntax::Roles;
 use cc_typed_terms::{Members, of_structure};
 use std::alloc::Global;
 

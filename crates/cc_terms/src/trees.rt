@@ -1,7 +1,7 @@
 //! Expressions (C99 6.5).
 
-ghost use Rattle.cc_designators.specs.View.{expr_view};
-ghost use Rattle.cc_operands.specs.View.{operand_view};
+ghost use Rattle.cc_typed_terms.specs.CcDesignators.View.{expr_view};
+ghost use Rattle.cc_typed_terms.specs.CcOperands.View.{operand_view};
 ghost use Rattle.cc_typed_terms.specs.Values.{valued, value_found, designated_found};
 ghost use Rattle.cc_scopes.specs.Outcomes.{Gives};
 ghost use Rattle.cc_scopes.specs.Verdicts.{and_then};
@@ -12,12 +12,12 @@ use crate::operators::{
     assignment, binary, cast_to_named, choice, comma, prefix, size_of, size_of_type, step_behind,
 };
 use crate::postfix::{call, member_of, member_pointed_to, subscript};
-use cc_designators::TypedExpr;
-use cc_num::{Boxed, Target};
-use cc_operands::Operand;
+use cc_program::num::{Boxed, Target};
 use cc_scopes::{State, Stop, placed};
-use cc_syntax::Roles;
 use cc_tree::{At, Tree};
+use cc_typed_terms::designators::TypedExpr;
+use cc_typed_terms::operands::Operand;
+use cc_typed_terms::syntax::Roles;
 use cc_typed_terms::{character, designating, named, number, text, value_of};
 use std::alloc::Global;
 

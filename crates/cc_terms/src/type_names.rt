@@ -6,12 +6,12 @@ ghost use Rattle.cc_terms.specs.Terms.{type_name_of};
 
 use crate::declarators::declr;
 use crate::specifiers::specified;
-use cc_num::Target;
+use cc_program::num::Target;
 use cc_scopes::{State, Stop};
-use cc_specifiers::{Allowed, Entity, Setting, Where};
-use cc_syntax::{CType, Roles};
 use cc_tree::TypeName;
 use cc_typed_terms::derived_type;
+use cc_typed_terms::specifiers_crate::{Allowed, Entity, Setting, Where};
+use cc_typed_terms::syntax::{CType, Roles};
 use std::alloc::Global;
 
 /// The type that a type name names. The flag says that it stands in a cast.

@@ -3,8 +3,8 @@ use Rattle.std.specs.Prelude.{ℕ, Bool, true, false, not, ◌&&◌, ◌||◌, n
 use Rattle.std.specs.List.{list_any, position_or_len}
 use Rattle.std.specs.Str.{bytes_eq}
 use denote.Enum.Declared.{tag_of}
-use Rattle.cc_num.specs.contracts.int_type.IntType as int_type
-use Rattle.cc_num.specs.declared.int_type.IntType.{IntType}
+use Rattle.cc_program.specs.CcNum.contracts.int_type.IntType as int_type
+use Rattle.cc_program.specs.CcNum.declared.int_type.IntType.{IntType}
 use Rattle.cc_program.specs.declared.object.Device.{Device}
 use Rattle.cc_syntax.specs.SameTypes.{same_flag}
 use Rattle.cc_things.specs.Mentions.{Mention, mentions}

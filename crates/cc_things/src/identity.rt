@@ -5,8 +5,8 @@ ghost use Rattle.cc_things.specs.Things.{identity_of as identity_of_mention, ext
 ghost use Rattle.cc_things.specs.View.{view_of, identity_view};
 
 use crate::mention::Mention;
-use cc_num::{IntType, Name};
 use cc_program::Device;
+use cc_program::num::{IntType, Name};
 use cc_unit::{Linkage, UnitKind};
 
 /// What tells things apart.

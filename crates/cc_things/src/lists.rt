@@ -1,6 +1,6 @@
 ghost use Rattle.std.specs.Prelude.{◌≡◌, ◌++◌, ◌∷◌, [], OnOk};
 
-use cc_num::NoMemory;
+use cc_program::num::NoMemory;
 
 /// Puts one element more behind a list.
 pub fn push<T: Drop>(list: &mut Vec<T>, item: T) -> Result<(), NoMemory>

@@ -7,7 +7,7 @@ ghost use Rattle.cc_things.specs.View.{views_of};
 
 use crate::lists::push;
 use crate::text::Text;
-use cc_num::NoMemory;
+use cc_program::num::NoMemory;
 use cc_unit::{UnitName, mentioned};
 use std::alloc::Global;
 

@@ -1,4 +1,4 @@
-use cc_num::{List, Name};
+use cc_program::num::{List, Name};
 use cc_unit::TypedUnit;
 
 /// What linking takes of one source.

@@ -8,7 +8,7 @@ ghost use Rattle.cc_things.specs.View.{view_of, views_of, identity_view, identit
 use crate::identity::{Identity, identity_of};
 use crate::lists::push;
 use crate::mention::Mention;
-use cc_num::NoMemory;
+use cc_program::num::NoMemory;
 use indexmap::IndexSet;
 use std::alloc::Global;
 

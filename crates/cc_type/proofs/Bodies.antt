@@ -1,20 +1,20 @@
 -- What a function's body leaves known, from what each step of its reading leaves.
 use Rattle.std.proofs.Common.{◌≡◌, ◌∙◌, ℕ, List, map, length, Ok, ap, sym, subst}
-use Rattle.cc_num.specs.declared.target.Target.{Target}
+use Rattle.cc_program.specs.CcNum.declared.target.Target.{Target}
 use Rattle.cc_program.specs.declared.program.Roles.{Roles}
 use Rattle.cc_program.specs.declared.stmt.Stmt.{Stmt}
 use Rattle.cc_program.specs.declared.types.CType.{CType}
 use Rattle.cc_program.specs.declared.types.Sig.{Sig, out-Sig}
 use Rattle.cc_scopes.specs.State.{State, Scope, Name, entered, with_locals}
 use Rattle.cc_scopes.specs.Verdicts.{Found, and_then, Checked, checked}
-use Rattle.cc_syntax.specs.Types.{Named}
+use Rattle.cc_typed_bodies.specs.CcSyntax.Types.{Named}
 use Rattle.cc_tree.specs.declared.at.At.{At}
 use Rattle.cc_tree.specs.declared.unit.Line.{Line}
 use Rattle.cc_type.specs.Functions.{function_defined, function_body_found}
 use Rattle.cc_typed_bodies.specs.Lines.{line_here}
 use Rattle.cc_typed_bodies.specs.Meanings.{lines_found}
-use Rattle.cc_typed_statements.specs.Jumps.{no_jumps}
-use Rattle.cc_typed_statements.specs.declared.jumps.Jumps.{Jumps}
+use Rattle.cc_typed_bodies.specs.CcTypedStatements.Jumps.{no_jumps}
+use Rattle.cc_typed_bodies.specs.CcTypedStatements.declared.jumps.Jumps.{Jumps}
 
 module _ (target : Target) (roles : Roles) (defined : List Name) (body : List (At Line)) where
   abbrev read : Jumps → CType → State → Found (List Stmt)

@@ -1,7 +1,7 @@
 -- A tree has one typed unit or one fault, and not both: the definition gives one answer of two.
 use Rattle.std.proofs.Common.{◌≡◌, ◌≢◌, ◌⊎◌, inl, inr, ℕ, Result, Ok, Err, refl, ap}
-use Rattle.cc_num.specs.declared.target.Target.{Target}
-use Rattle.cc_operands.specs.RuleNumbers.{number_of}
+use Rattle.cc_program.specs.CcNum.declared.target.Target.{Target}
+use Rattle.cc_typed_bodies.specs.CcOperands.RuleNumbers.{number_of}
 use Rattle.cc_program.specs.declared.program.Roles.{Roles}
 use Rattle.cc_scopes.specs.declared.verdict.Fault.{Fault}
 use Rattle.cc_tree.specs.declared.unit.Unit.{Unit as UnitTree}
@@ -9,7 +9,7 @@ use Rattle.cc_type.specs.Typed.{IsTyped, IsBroken, Refuses}
 use Rattle.cc_type.specs.Units.{unit_of}
 use Rattle.cc_type.specs.declared.fault.TypeFault.{TypeFault}
 use Rattle.cc_type.specs.declared.fault.TypeFault.TheVariants as fault
-use Rattle.cc_unit.specs.declared.unit.TypedUnit.{TypedUnit}
+use Rattle.cc_typed_bodies.specs.CcUnit.declared.unit.TypedUnit.{TypedUnit}
 
 module _ {A B : Type 0} where
   one_value : (r : Result A B) (a b : A) → r ≡ Ok a → r ≡ Ok b → a ≡ b

@@ -1,6 +1,6 @@
 -- A unit is refused by the fault of its items.
 use Rattle.std.proofs.Common.{Err, refl, ap}
-use Rattle.cc_num.specs.declared.target.Target.{Target}
+use Rattle.cc_program.specs.CcNum.declared.target.Target.{Target}
 use Rattle.cc_program.specs.declared.program.Roles.{Roles}
 use Rattle.cc_scopes.specs.Outcomes.{Gives}
 use Rattle.cc_scopes.specs.State.{State, at_first}

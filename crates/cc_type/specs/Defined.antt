@@ -1,7 +1,7 @@
 -- The objects that a unit defines: those that it declares at file scope other than by `extern` alone (C99 6.9.2).
 use Rattle.std.specs.Prelude.{List, [], option_to_list, Option, Some, if◌then◌else◌}
 use Rattle.std.specs.List.{flat_map}
-use Rattle.cc_objects.specs.Categories.{storage_in, is_given}
+use Rattle.cc_typed_bodies.specs.CcObjects.Categories.{storage_in, is_given}
 use Rattle.cc_scopes.specs.State.{Name}
 use Rattle.cc_tree.specs.Scopes.{name_of}
 use Rattle.cc_tree.specs.declared.at.At.{At}
@@ -9,8 +9,8 @@ use Rattle.cc_tree.specs.declared.unit.Init.{Init}
 use Rattle.cc_tree.specs.declared.unit.Item.{Item}
 use Rattle.cc_tree.specs.declared.unit.Item.TheVariants as item
 use Rattle.cc_tree.specs.declared.unit.Unit.{Unit as UnitTree}
-use Rattle.cc_words.specs.declared.word.Word.{Word}
-use Rattle.cc_words.specs.declared.word.Word.TheVariants as w
+use Rattle.cc_program.specs.CcWords.declared.word.Word.{Word}
+use Rattle.cc_program.specs.CcWords.declared.word.Word.TheVariants as w
 
 abbrev pub name_in : At Init → List Name
 name_in i = option_to_list (name_of i.node.declr.node)

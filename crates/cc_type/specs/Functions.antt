@@ -2,14 +2,14 @@
 use Rattle.std.specs.Prelude.{ℕ, List, [], ◌∷◌, ◌++◌, map, length, Option, Some, None, slice_get, Ok, Err, if◌then◌else◌}
 use Rattle.cc_typed_terms.specs.Declarators.{derived_type}
 use Rattle.cc_typed_terms.specs.Located.{located}
-use Rattle.cc_linkage.specs.Linkage.{declared}
-use Rattle.cc_linkage.specs.declared.linkage.DeclaredAs.{DeclaredAs}
-use Rattle.cc_linkage.specs.declared.linkage.DeclaredAs.TheVariants.{AsStatic, AsExtern}
-use Rattle.cc_num.specs.declared.target.Target.{Target}
-use Rattle.cc_objects.specs.Names.{function_judged}
-use Rattle.cc_operands.specs.Qualified.{plain}
-use Rattle.cc_operands.specs.Verdicts.{Judged, judge_then}
-use Rattle.cc_operands.specs.declared.rule.Rule.TheVariants as rule
+use Rattle.cc_typed_bodies.specs.CcLinkage.Linkage.{declared}
+use Rattle.cc_typed_bodies.specs.CcLinkage.declared.linkage.DeclaredAs.{DeclaredAs}
+use Rattle.cc_typed_bodies.specs.CcLinkage.declared.linkage.DeclaredAs.TheVariants.{AsStatic, AsExtern}
+use Rattle.cc_program.specs.CcNum.declared.target.Target.{Target}
+use Rattle.cc_typed_bodies.specs.CcObjects.Names.{function_judged}
+use Rattle.cc_typed_bodies.specs.CcOperands.Qualified.{plain}
+use Rattle.cc_typed_bodies.specs.CcOperands.Verdicts.{Judged, judge_then}
+use Rattle.cc_typed_bodies.specs.CcOperands.declared.rule.Rule.TheVariants as rule
 use Rattle.cc_typed_terms.specs.Primary.{is_intrinsic}
 use Rattle.cc_program.specs.declared.func.Entry.{Entry}
 use Rattle.cc_program.specs.declared.func.Func.{Func}
@@ -23,18 +23,18 @@ use Rattle.cc_scopes.specs.Definitions.{defined_at, with_entry, entry_in}
 use Rattle.cc_scopes.specs.State.{State, Scope, Name, name_or_none, entered, left, with_locals, change_name}
 use Rattle.cc_scopes.specs.Verdicts.{Found, whole, and_then, Checked, checked}
 use Rattle.cc_scopes.specs.declared.unit.Declared.{Declared}
-use Rattle.cc_unit.specs.declared.unit.UnitKind.TheVariants as kind
-use Rattle.cc_specifiers.specs.Attributes.{attributes, entry_by}
-use Rattle.cc_specifiers.specs.Derivations.{in_definition}
-use Rattle.cc_specifiers.specs.Storage.{setting}
-use Rattle.cc_specifiers.specs.declared.attribute.Attribute.{Attribute}
-use Rattle.cc_specifiers.specs.declared.attribute.Entity.TheVariants as entity
-use Rattle.cc_specifiers.specs.declared.derivation.Derivation.{Derivation}
-use Rattle.cc_specifiers.specs.declared.derivation.Derivation.TheVariants as to
-use Rattle.cc_specifiers.specs.declared.derivation.Parameter.{Parameter}
-use Rattle.cc_specifiers.specs.declared.specifier.Specified.{Specified}
-use Rattle.cc_specifiers.specs.declared.storage.Where.TheVariants as stands
-use Rattle.cc_syntax.specs.Types.{Named}
+use Rattle.cc_typed_bodies.specs.CcUnit.declared.unit.UnitKind.TheVariants as kind
+use Rattle.cc_typed_bodies.specs.CcSpecifiers.Attributes.{attributes, entry_by}
+use Rattle.cc_typed_bodies.specs.CcSpecifiers.Derivations.{in_definition}
+use Rattle.cc_typed_bodies.specs.CcSpecifiers.Storage.{setting}
+use Rattle.cc_typed_bodies.specs.CcSpecifiers.declared.attribute.Attribute.{Attribute}
+use Rattle.cc_typed_bodies.specs.CcSpecifiers.declared.attribute.Entity.TheVariants as entity
+use Rattle.cc_typed_bodies.specs.CcSpecifiers.declared.derivation.Derivation.{Derivation}
+use Rattle.cc_typed_bodies.specs.CcSpecifiers.declared.derivation.Derivation.TheVariants as to
+use Rattle.cc_typed_bodies.specs.CcSpecifiers.declared.derivation.Parameter.{Parameter}
+use Rattle.cc_typed_bodies.specs.CcSpecifiers.declared.specifier.Specified.{Specified}
+use Rattle.cc_typed_bodies.specs.CcSpecifiers.declared.storage.Where.TheVariants as stands
+use Rattle.cc_typed_bodies.specs.CcSyntax.Types.{Named}
 use Rattle.cc_terms.specs.Declarators.{declarator}
 use Rattle.cc_terms.specs.Specifiers.{specified_found}
 use Rattle.cc_terms.specs.Terms.{spec_here, declr_here}
@@ -45,9 +45,9 @@ use Rattle.cc_tree.specs.declared.tree.Spec.{Spec}
 use Rattle.cc_tree.specs.declared.unit.Line.{Line}
 use Rattle.cc_typed_bodies.specs.Lines.{line_here}
 use Rattle.cc_typed_bodies.specs.Meanings.{lines_found}
-use Rattle.cc_typed_statements.specs.Jumps.{no_jumps}
-use Rattle.cc_words.specs.declared.word.Word.{Word}
-use Rattle.cc_words.specs.declared.word.Word.TheVariants as w
+use Rattle.cc_typed_bodies.specs.CcTypedStatements.Jumps.{no_jumps}
+use Rattle.cc_program.specs.CcWords.declared.word.Word.{Word}
+use Rattle.cc_program.specs.CcWords.declared.word.Word.TheVariants as w
 
 -- ---- the declarator of a definition has parameters of its own (6.9.1, 2)
 

@@ -1,7 +1,7 @@
 -- Which typed unit a tree stands for, and which fault is carried where it breaks a rule.
 use Rattle.std.specs.Prelude.{◌≡◌, Ok, Err, ⊤}
-use Rattle.cc_num.specs.declared.target.Target.{Target}
-use Rattle.cc_operands.specs.RuleNumbers.{number_of}
+use Rattle.cc_program.specs.CcNum.declared.target.Target.{Target}
+use Rattle.cc_typed_bodies.specs.CcOperands.RuleNumbers.{number_of}
 use Rattle.cc_program.specs.declared.program.Roles.{Roles}
 use Rattle.cc_scopes.specs.declared.verdict.Fault.{Fault}
 use Rattle.cc_scopes.specs.declared.verdict.Stop.{Stop}
@@ -10,7 +10,7 @@ use Rattle.cc_tree.specs.declared.unit.Unit.{Unit as UnitTree}
 use Rattle.cc_type.specs.Units.{unit_of}
 use Rattle.cc_type.specs.declared.fault.TypeFault.{TypeFault}
 use Rattle.cc_type.specs.declared.fault.TypeFault.TheVariants as fault
-use Rattle.cc_unit.specs.declared.unit.TypedUnit.{TypedUnit}
+use Rattle.cc_typed_bodies.specs.CcUnit.declared.unit.TypedUnit.{TypedUnit}
 
 -- no rule is broken, and this is the unit
 abbrev pub IsTyped : UnitTree → Target → Roles → TypedUnit → Type 0

@@ -1,12 +1,12 @@
 -- What a translation unit means (C99 6.9).
 use Rattle.std.specs.Prelude.{List, Result, Ok, Err}
-use Rattle.cc_num.specs.declared.target.Target.{Target}
+use Rattle.cc_program.specs.CcNum.declared.target.Target.{Target}
 use Rattle.cc_numbering.specs.Units.{unit_left}
 use Rattle.cc_program.specs.declared.program.Roles.{Roles}
 use Rattle.cc_scopes.specs.State.{State, Name, at_first}
 use Rattle.cc_scopes.specs.Verdicts.{Found, and_then, Checked, checked}
 use Rattle.cc_scopes.specs.declared.verdict.Fault.{Fault}
-use Rattle.cc_specifiers.specs.declared.storage.Where.TheVariants as stands
+use Rattle.cc_typed_bodies.specs.CcSpecifiers.declared.storage.Where.TheVariants as stands
 use Rattle.cc_terms.specs.InTurn.{in_turn}
 use Rattle.cc_tree.specs.declared.at.At.{At}
 use Rattle.cc_tree.specs.declared.unit.Item.{Item}
@@ -15,7 +15,7 @@ use Rattle.cc_tree.specs.declared.unit.Unit.{Unit as UnitTree}
 use Rattle.cc_type.specs.Defined.{defined_names}
 use Rattle.cc_type.specs.Functions.{function_found}
 use Rattle.cc_typed_bodies.specs.Declarations.{declaration}
-use Rattle.cc_unit.specs.declared.unit.TypedUnit.{TypedUnit}
+use Rattle.cc_typed_bodies.specs.CcUnit.declared.unit.TypedUnit.{TypedUnit}
 
 module _ (target : Target) (roles : Roles) (defined : List Name) where
   abbrev pub item_found : Item → State → Found Checked

@@ -4,11 +4,11 @@ ghost use Rattle.std.specs.Prelude.{◌≡◌, ◌++◌, IfOk, OnOk};
 ghost use Rattle.std.specs.List.{flat_map};
 ghost use Rattle.cc_type.specs.Defined.{name_in, given_in, defined_with, defined_by, defined_names as defined_names_of};
 
-use cc_lex::Word;
-use cc_num::{List, Name, NoMemory};
-use cc_objects::{declared_name, is_given, storage_in};
 use cc_program::copy_list;
+use cc_program::num::{List, Name, NoMemory};
 use cc_tree::{At, Init, Item, Unit};
+use cc_typed_bodies::lex::Word;
+use cc_typed_bodies::objects_crate::{declared_name, is_given, storage_in};
 use std::alloc::Global;
 
 /// Puts the name that a declarator declares behind others.

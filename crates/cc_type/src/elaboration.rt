@@ -7,12 +7,12 @@ ghost use Rattle.cc_type.specs.Units.{unit_of};
 use crate::defined::defined_names;
 use crate::fault::TypeFault;
 use crate::units::items;
-use cc_num::Target;
 use cc_numbering::unit_left;
+use cc_program::num::Target;
 use cc_scopes::{State, Stop};
-use cc_syntax::Roles;
 use cc_tree::Unit;
-use cc_unit::TypedUnit;
+use cc_typed_bodies::syntax::Roles;
+use cc_typed_bodies::unit::TypedUnit;
 use std::alloc::Global;
 
 /// Why a unit has no types by which a construct in it has none.

@@ -3,7 +3,7 @@
 ghost use Rattle.std.specs.Prelude.{◌≡◌};
 ghost use Rattle.cc_type.specs.declared.fault.TypeFault.TheVariants.{NoMemory as NoRoom};
 
-use cc_num::NoMemory;
+use cc_program::num::NoMemory;
 
 /// Why a translation unit has no types.
 #[derive(Clone, Copy, Debug)]

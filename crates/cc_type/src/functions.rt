@@ -7,18 +7,20 @@ ghost use Rattle.cc_scopes.specs.View.{state_of};
 ghost use Rattle.cc_type.specs.Functions.{function_defined, function_body_found, function_entered as function_entered_of, judged_function as judged_function_of, named_function as named_function_of, function_found};
 
 use crate::signature::{asked_by, definition_judged, entry_at, locals_of, marks_of, signature_of};
-use cc_linkage::{DeclaredAs, declare_linked};
-use cc_num::{Boxed, List, Name, NoMemory, Target};
 use cc_program::copy_list;
+use cc_program::num::{Boxed, List, Name, NoMemory, Target};
 use cc_scopes::{Scope, State, Stop, placed};
-use cc_specifiers::{Allowed, Derivation, Entity, Parameter, Setting, Specified, Where, entry_by};
-use cc_syntax::{CType, Entry, Func, Roles, Sig, Stmt};
 use cc_terms::{declr, specified};
 use cc_tree::{At, Attr, Declr, Line, Spec};
+use cc_typed_bodies::linkage::{DeclaredAs, declare_linked};
+use cc_typed_bodies::specifiers::{
+    Allowed, Derivation, Entity, Parameter, Setting, Specified, Where, entry_by,
+};
+use cc_typed_bodies::syntax::{CType, Entry, Func, Roles, Sig, Stmt};
+use cc_typed_bodies::typed_statements::Jumps;
+use cc_typed_bodies::unit::UnitKind;
 use cc_typed_bodies::{Function, lines};
-use cc_typed_statements::Jumps;
 use cc_typed_terms::derived_type;
-use cc_unit::UnitKind;
 use std::alloc::Global;
 
 /// How many parameters there are.

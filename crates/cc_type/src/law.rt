@@ -1,14 +1,14 @@
 //! What holds of the typed unit and of the fault of every tree.
 
 ghost use Rattle.std.specs.Prelude.{◌≡◌, ◌≢◌, ◌⊎◌};
-ghost use Rattle.cc_num.specs.declared.target.Target.{Target};
+ghost use Rattle.cc_program.specs.CcNum.declared.target.Target.{Target};
 ghost use Rattle.cc_program.specs.declared.program.Roles.{Roles};
 ghost use Rattle.cc_scopes.specs.declared.verdict.Fault.{Fault};
 ghost use Rattle.cc_tree.specs.declared.unit.Unit.{Unit as UnitTree};
 ghost use Rattle.cc_type.specs.Typed.{IsTyped, IsBroken, Refuses};
 ghost use Rattle.cc_type.specs.declared.fault.TypeFault.{TypeFault};
 ghost use Rattle.cc_type.specs.declared.fault.TypeFault.TheVariants.{NoMemory};
-ghost use Rattle.cc_unit.specs.declared.unit.TypedUnit.{TypedUnit};
+ghost use Rattle.cc_typed_bodies.specs.CcUnit.declared.unit.TypedUnit.{TypedUnit};
 
 /// A tree has one typed unit, or else it breaks a rule and one fault tells which.
 pub fn units_have_types_or_a_fault()

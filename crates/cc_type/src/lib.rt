@@ -9,6 +9,7 @@ mod law;
 mod signature;
 mod units;
 
+pub use cc_typed_bodies::{lex, unit};
 pub use elaboration::elaborate;
 pub use fault::TypeFault;
 pub use law::units_have_types_or_a_fault;

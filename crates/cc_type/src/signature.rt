@@ -2,24 +2,24 @@
 
 ghost use Rattle.std.specs.Prelude.{◌≡◌, IfOk};
 ghost use Rattle.std.specs.Option.{option_copied};
-ghost use Rattle.cc_operands.specs.Verdicts.{Judges};
+ghost use Rattle.cc_typed_bodies.specs.CcOperands.Verdicts.{Judges};
 ghost use Rattle.cc_scopes.specs.Outcomes.{Gives};
 ghost use Rattle.cc_scopes.specs.State.{State as Known};
 ghost use Rattle.cc_scopes.specs.View.{state_of};
 ghost use Rattle.cc_type.specs.Functions.{parameters_of as parameters_of_derivation, parameters_in as parameters_in_derivations, locals_of as locals_of_parameters, local_of as local_of_parameter, asked_by as asked_by_storage, signature_of as signature_of_type, definition_judged as definition_judged_of, definition_marks, entry_of as entry_of_declared, entry_at as entry_at_of};
 
-use cc_lex::Word;
-use cc_linkage::DeclaredAs;
-use cc_num::{List, Name, NoMemory, at};
-use cc_objects::function_judged;
-use cc_operands::{Breach, Rule};
+use cc_program::num::{List, Name, NoMemory, at};
 use cc_scopes::{Declared, Scope, State, Stop};
-use cc_specifiers::{Attribute, Derivation, Entity, Parameter, attributes};
-use cc_syntax::{CType, Entry, Roles, Shape, Sig};
 use cc_tree::{At, Attr};
 use cc_typed_bodies::joined;
+use cc_typed_bodies::lex::Word;
+use cc_typed_bodies::linkage::DeclaredAs;
+use cc_typed_bodies::objects_crate::function_judged;
+use cc_typed_bodies::operands::{Breach, Rule};
+use cc_typed_bodies::specifiers::{Attribute, Derivation, Entity, Parameter, attributes};
+use cc_typed_bodies::syntax::{CType, Entry, Roles, Shape, Sig};
+use cc_typed_bodies::unit::UnitKind;
 use cc_typed_terms::{is_intrinsic, located};
-use cc_unit::UnitKind;
 use std::alloc::Global;
 
 /// The parameters of a function, with their scope.

@@ -7,12 +7,12 @@ ghost use Rattle.cc_scopes.specs.View.{state_of};
 ghost use Rattle.cc_type.specs.Units.{item_found, items_found};
 
 use crate::functions::function;
-use cc_num::{List, Name, Target};
+use cc_program::num::{List, Name, Target};
 use cc_scopes::{State, Stop};
-use cc_specifiers::Where;
-use cc_syntax::Roles;
 use cc_tree::{At, Item};
 use cc_typed_bodies::declaration;
+use cc_typed_bodies::specifiers::Where;
+use cc_typed_bodies::syntax::Roles;
 use std::alloc::Global;
 
 /// A declaration or a function definition.

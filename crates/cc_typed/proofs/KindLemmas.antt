@@ -1,7 +1,7 @@
 -- The type of a function, as far as a loop over its parameters has come.
 use Rattle.std.proofs.Common.{◌≡◌, ◌<◌, ◌≤◌, ◌&&◌, ℕ, Bool, true, false, List, map, take, take_all, length, get_or, ap, sym, ◌∙◌, Option}
 use Rattle.std.specs.List.{list_all}
-use Rattle.cc_num.specs.declared.target.Target.{Target}
+use Rattle.cc_program.specs.CcNum.declared.target.Target.{Target}
 use Rattle.cc_program.specs.declared.types.CType.{CType}
 use Rattle.cc_program.specs.declared.types.Sig.{Sig, out-Sig, fold_out-Sig}
 use Rattle.cc_program.specs.declared.types.Structure.{Structure}

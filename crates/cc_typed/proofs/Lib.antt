@@ -4,3 +4,4 @@ pub mod KindLemmas
 pub mod CallLemmas
 pub mod CastLemmas
 pub mod SwitchLemmas
+pub mod CcSyntax

@@ -20,7 +20,7 @@ use crate::parts::{
 use crate::values::{
     PlaceType, ValueType, is_void, object_place, pointer_to, result_value, scalar_value,
 };
-use cc_num::{IntType, List, Name, at};
+use cc_program::num::{IntType, List, Name, at};
 use cc_syntax::{CType, Device, Expr, Intr, Object, Place, Program, Shape};
 
 /// A function's surroundings: the program, and the function's locals.

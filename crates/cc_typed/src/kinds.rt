@@ -9,7 +9,7 @@ ghost use Rattle.cc_syntax.specs.Sizes.{AreSized};
 ghost use Rattle.cc_typed.specs.View.{kind_view};
 
 use crate::operators::has_members;
-use cc_num::{Target, at};
+use cc_program::num::{Target, at};
 use cc_syntax::{CType, Program, Shape, Sig, Structure, layout_of};
 
 /// The kind of a type, with the bytes of a complete object type.

@@ -10,6 +10,7 @@ mod registers;
 mod same;
 mod values;
 
+pub use cc_syntax as syntax;
 pub use expressions::{Scope, is_assignable_some, is_unqualified, static_type};
 pub use kinds::{Kind, is_object_type, is_plain_scalar, is_result, kind_in, kind_of};
 pub use operators::{function_type, is_promoted, is_shift};

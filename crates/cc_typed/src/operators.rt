@@ -2,14 +2,14 @@
 
 ghost use Rattle.std.specs.Prelude.{◌≡◌, option_map, slice_get};
 ghost use Rattle.std.specs.Option.{option_copied};
-ghost use Rattle.cc_num.specs.Results.{is_shift as is_shift_of};
+ghost use Rattle.cc_program.specs.CcNum.Results.{is_shift as is_shift_of};
 ghost use Rattle.cc_syntax.specs.Operators.{is_promoted as is_promoted_of, is_comparison as is_comparison_of, is_additive as is_additive_of, difference_type as difference_type_of, constant_type as constant_type_of, function_type as function_type_of, is_of as is_of_of, is_promoted_value as is_promoted_value_of, is_integer as is_integer_of, unary_result as unary_result_of, unary_type as unary_type_of, second_fits as second_fits_of, binary_result as binary_result_of, binary_type as binary_type_of, conversion_type as conversion_type_of, points_to_object as points_to_object_of, moved_type as moved_type_of, has_difference as has_difference_of, gap_type as gap_type_of, comparison_type as comparison_type_of, logical_type as logical_type_of, common_type as common_type_of, choice_type as choice_type_of, assignment_type as assignment_type_of, changes_by as changes_by_of, change_type as change_type_of, after_type as after_type_of, subscript_type as subscript_type_of};
 ghost use Rattle.cc_syntax.specs.Types.{is_complete as is_complete_of, has_members as has_members_of};
 ghost use Rattle.cc_typed.specs.View.{value_view, place_view};
 
 use crate::same::{alike, same_int, same_sig};
 use crate::values::{PlaceType, ValueType, is_void};
-use cc_num::{BinOp, IntType, Target, UnOp, at, promote, usual};
+use cc_program::num::{BinOp, IntType, Target, UnOp, at, promote, usual};
 use cc_syntax::{CType, Func, Shape, Structure};
 
 /// Whether the integer promotions leave a type as it is (C99 6.3.1.1, 2).

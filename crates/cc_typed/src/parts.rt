@@ -7,7 +7,7 @@ ghost use Rattle.cc_syntax.specs.Values.{read_from, written_to, address_of, poin
 ghost use Rattle.cc_typed.specs.View.{value_view, place_view};
 
 use crate::values::{PlaceType, ValueType};
-use cc_num::{BinOp, IntType, UnOp};
+use cc_program::num::{BinOp, IntType, UnOp};
 use cc_syntax::Program;
 
 /// A place that is read.

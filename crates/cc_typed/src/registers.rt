@@ -7,7 +7,7 @@ ghost use Rattle.cc_program.specs.declared.stmt.Case.{out-Case};
 ghost use Rattle.cc_syntax.specs.Registers.{is_address_taken as is_address_taken_of, place_use, is_taken_in_optional as is_taken_in_optional_of, is_taken_in as is_taken_in_of, is_addressed as is_addressed_of, may_be_register as may_be_register_of, is_register as is_register_of};
 
 use crate::values::scalar_value;
-use cc_num::{Boxed, List, Name, at};
+use cc_program::num::{Boxed, List, Name, at};
 use cc_syntax::{CType, Case, Expr, Func, Place, Stmt};
 
 #[tactic(auto, unfolding(cc_syntax::specs::Registers::place_use))]

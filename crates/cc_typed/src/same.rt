@@ -5,7 +5,7 @@ ghost use Rattle.cc_program.specs.declared.types.Sig.{out-Sig};
 ghost use Rattle.cc_syntax.specs.Pairs.{all_pairs};
 ghost use Rattle.cc_syntax.specs.SameTypes.{same_flag as same_flag_of, same_int as same_int_of, same_type as same_type_of, same_shape as same_shape_of, same_sig as same_sig_of, comparison_of, alike as alike_of};
 
-use cc_num::IntType;
+use cc_program::num::IntType;
 use cc_syntax::{CType, Shape, Sig};
 
 /// Whether two integer types are the same one.

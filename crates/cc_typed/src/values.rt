@@ -7,7 +7,7 @@ ghost use Rattle.std.specs.Prelude.{slice_get};
 ghost use Rattle.std.specs.Option.{option_copied};
 
 use crate::same::{alike, same_int, same_sig};
-use cc_num::{IntType, Name, at};
+use cc_program::num::{IntType, Name, at};
 use cc_syntax::{CType, Shape, Sig, Structure};
 
 /// The type of a value, which has no qualifiers of its own.

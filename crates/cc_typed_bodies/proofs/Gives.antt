@@ -2,11 +2,11 @@
 use Rattle.std.proofs.Common.{◌≡◌, ◌∙◌, ℕ, Bool, List, Option, Result, Ok, ap, sym, subst}
 use Rattle.cc_initialisers.specs.Initialisers.{Step, Give}
 use Rattle.cc_linkage.specs.declared.linkage.DeclaredAs.{DeclaredAs}
-use Rattle.cc_num.specs.declared.target.Target.{Target}
+use Rattle.cc_program.specs.CcNum.declared.target.Target.{Target}
 use Rattle.cc_objects.specs.Linked.{object_declared}
 use Rattle.cc_objects.specs.Types.{type_given, composite}
-use Rattle.cc_operands.specs.Operands.{Operand}
-use Rattle.cc_operands.specs.Verdicts.{Judged}
+use Rattle.cc_terms.specs.CcOperands.Operands.{Operand}
+use Rattle.cc_terms.specs.CcOperands.Verdicts.{Judged}
 use Rattle.cc_typed_terms.specs.Values.{value_found}
 use Rattle.cc_program.specs.declared.expr.Expr.{Expr}
 use Rattle.cc_program.specs.declared.program.Roles.{Roles}
@@ -15,7 +15,7 @@ use Rattle.cc_scopes.specs.Outcomes.{Gives}
 use Rattle.cc_scopes.specs.State.{State, Name}
 use Rattle.cc_scopes.specs.Verdicts.{Found, whole, and_then}
 use Rattle.cc_scopes.specs.declared.verdict.Stop.{Stop}
-use Rattle.cc_syntax.specs.Values.{ValueType}
+use Rattle.cc_terms.specs.CcSyntax.Values.{ValueType}
 use Rattle.cc_terms.specs.Terms.{here}
 use Rattle.cc_tree.specs.declared.at.At.{At}
 use Rattle.cc_tree.specs.declared.tree.Tree.{Tree}

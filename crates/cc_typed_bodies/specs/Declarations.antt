@@ -3,8 +3,8 @@
 use Rattle.std.specs.Prelude.{ℕ, true, false, is_some, List, [], ◌∷◌, ◌++◌, map, Option, Some, None, Ok}
 use Rattle.cc_typed_terms.specs.Declarators.{derived_type}
 use Rattle.cc_typed_terms.specs.Located.{located}
-use Rattle.cc_num.specs.declared.target.Target.{Target}
-use Rattle.cc_operands.specs.Qualified.{is_function_type}
+use Rattle.cc_program.specs.CcNum.declared.target.Target.{Target}
+use Rattle.cc_terms.specs.CcOperands.Qualified.{is_function_type}
 use Rattle.cc_program.specs.declared.expr.Expr.{Expr}
 use Rattle.cc_program.specs.declared.program.Roles.{Roles}
 use Rattle.cc_program.specs.declared.types.CType.{CType}
@@ -15,12 +15,12 @@ use Rattle.cc_objects.specs.declared.category.Category.{Category}
 use Rattle.cc_objects.specs.declared.category.Category.TheVariants as declares
 use Rattle.cc_scopes.specs.State.{State, Name}
 use Rattle.cc_scopes.specs.Verdicts.{Found, whole, and_then}
-use Rattle.cc_specifiers.specs.Attributes.{attributes, entry_by}
-use Rattle.cc_specifiers.specs.declared.attribute.Attribute.{Attribute}
-use Rattle.cc_specifiers.specs.declared.attribute.Entity.{Entity}
-use Rattle.cc_specifiers.specs.declared.derivation.Allowed.{Allowed}
-use Rattle.cc_specifiers.specs.declared.specifier.Specified.{Specified}
-use Rattle.cc_specifiers.specs.declared.storage.Where.{Where}
+use Rattle.cc_terms.specs.CcSpecifiers.Attributes.{attributes, entry_by}
+use Rattle.cc_terms.specs.CcSpecifiers.declared.attribute.Attribute.{Attribute}
+use Rattle.cc_terms.specs.CcSpecifiers.declared.attribute.Entity.{Entity}
+use Rattle.cc_terms.specs.CcSpecifiers.declared.derivation.Allowed.{Allowed}
+use Rattle.cc_terms.specs.CcSpecifiers.declared.specifier.Specified.{Specified}
+use Rattle.cc_terms.specs.CcSpecifiers.declared.storage.Where.{Where}
 use Rattle.cc_terms.specs.Declarators.{declarator}
 use Rattle.cc_terms.specs.InTurn.{in_turn}
 use Rattle.cc_terms.specs.Specifiers.{specified_found}

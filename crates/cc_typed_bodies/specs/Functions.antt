@@ -3,8 +3,8 @@ use Rattle.std.specs.Prelude.{ℕ, List, [], Option, Some, None, Ok, if◌then�
 use Rattle.cc_initialisers.specs.Initialisers.{here as given_here, refused_by}
 use Rattle.cc_linkage.specs.Linkage.{declared}
 use Rattle.cc_linkage.specs.declared.linkage.DeclaredAs.{DeclaredAs}
-use Rattle.cc_num.specs.declared.target.Target.{Target}
-use Rattle.cc_operands.specs.declared.rule.Rule.TheVariants as rule
+use Rattle.cc_program.specs.CcNum.declared.target.Target.{Target}
+use Rattle.cc_terms.specs.CcOperands.declared.rule.Rule.TheVariants as rule
 use Rattle.cc_typed_terms.specs.Primary.{is_intrinsic}
 use Rattle.cc_program.specs.declared.expr.Expr.{Expr}
 use Rattle.cc_program.specs.declared.func.Entry.{Entry}
@@ -15,10 +15,10 @@ use Rattle.cc_scopes.specs.Definitions.{with_entry}
 use Rattle.cc_scopes.specs.State.{State, Name, bind, change_name}
 use Rattle.cc_scopes.specs.Verdicts.{Found, whole, and_then}
 use Rattle.cc_scopes.specs.declared.designated.Designated.TheVariants as means
-use Rattle.cc_unit.specs.declared.unit.UnitKind.TheVariants as kind
-use Rattle.cc_specifiers.specs.Attributes.{entry_by}
-use Rattle.cc_specifiers.specs.Modes.{modes_judged}
-use Rattle.cc_specifiers.specs.declared.attribute.Attribute.{Attribute}
+use Rattle.cc_terms.specs.CcUnit.declared.unit.UnitKind.TheVariants as kind
+use Rattle.cc_terms.specs.CcSpecifiers.Attributes.{entry_by}
+use Rattle.cc_terms.specs.CcSpecifiers.Modes.{modes_judged}
+use Rattle.cc_terms.specs.CcSpecifiers.declared.attribute.Attribute.{Attribute}
 use Rattle.cc_tree.specs.declared.at.At.{At}
 use Rattle.cc_tree.specs.declared.unit.Given.{Given}
 use Rattle.cc_typed_bodies.specs.Plans.{steps_done}

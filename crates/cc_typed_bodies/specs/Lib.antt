@@ -5,3 +5,17 @@ pub mod Meanings
 pub mod Objects
 pub mod Parts
 pub mod Plans
+pub mod CcDesignators
+pub mod CcInitial
+pub mod CcInitialisers
+pub mod CcLex
+pub mod CcLinkage
+pub mod CcObjects
+pub mod CcOperands
+pub mod CcScopes
+pub mod CcSpecifiers
+pub mod CcSyntax
+pub mod CcTerms
+pub mod CcTypedStatements
+pub mod CcTypedTerms
+pub mod CcUnit

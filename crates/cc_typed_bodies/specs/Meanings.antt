@@ -1,7 +1,7 @@
 -- What a line of a function's body means (C99 6.8): a statement, or a declaration in a block.
 use Rattle.std.specs.Prelude.{Bool, true, false, List, [], ◌∷◌, ◌++◌, Option, Some, None, Ok, if◌then◌else◌}
 use Rattle.std.specs.List.{list_any}
-use Rattle.cc_num.specs.declared.int_type.IntType.{IntType}
+use Rattle.cc_program.specs.CcNum.declared.int_type.IntType.{IntType}
 use Rattle.cc_objects.specs.Categories.{is_given}
 use Rattle.cc_program.specs.declared.stmt.Stmt.{Stmt, Empty, Block}
 use Rattle.cc_scopes.specs.State.{State, empty, entered, left}

@@ -5,10 +5,10 @@ use Rattle.cc_initialisers.specs.Initialisers.{here as given_here, initialised}
 use Rattle.cc_initialisers.specs.Scalars.{scalars_from}
 use Rattle.cc_linkage.specs.declared.linkage.DeclaredAs.{DeclaredAs}
 use Rattle.cc_linkage.specs.declared.linkage.DeclaredAs.TheVariants.{AsStatic, AsObject, AsExtern}
-use Rattle.cc_num.specs.declared.target.Target.{Target}
-use Rattle.cc_operands.specs.Operands.{Operand}
-use Rattle.cc_operands.specs.Qualified.{without_const}
-use Rattle.cc_operands.specs.Verdicts.{Judged}
+use Rattle.cc_program.specs.CcNum.declared.target.Target.{Target}
+use Rattle.cc_terms.specs.CcOperands.Operands.{Operand}
+use Rattle.cc_terms.specs.CcOperands.Qualified.{without_const}
+use Rattle.cc_terms.specs.CcOperands.Verdicts.{Judged}
 use Rattle.cc_typed_terms.specs.Primary.{leaves_or_none}
 use Rattle.cc_program.specs.declared.expr.Expr.{Expr}
 use Rattle.cc_program.specs.declared.expr.Place.{Place, Local, Static}
@@ -21,8 +21,8 @@ use Rattle.cc_objects.specs.Values.{leaf_given, expr_given, no_leaf, no_expr, as
 use Rattle.cc_scopes.specs.Definitions.{tentative_at, defined_at, with_values}
 use Rattle.cc_scopes.specs.State.{State, Name, change_name, with_unfinished}
 use Rattle.cc_scopes.specs.Verdicts.{Found, whole, and_then}
-use Rattle.cc_unit.specs.declared.unit.UnitKind.TheVariants as kind
-use Rattle.cc_syntax.specs.Values.{ValueType}
+use Rattle.cc_terms.specs.CcUnit.declared.unit.UnitKind.TheVariants as kind
+use Rattle.cc_terms.specs.CcSyntax.Values.{ValueType}
 use Rattle.cc_tree.specs.declared.at.At.{At}
 use Rattle.cc_tree.specs.declared.unit.Given.{Given}
 use Rattle.cc_typed_bodies.specs.Plans.{steps_done}

@@ -1,8 +1,8 @@
 -- The expressions and declarations that stand in statements, and the statements that have no other in them (C99 6.8.2,
 -- 6.8.3, 6.8.6.4).
 use Rattle.std.specs.Prelude.{List, map, Option, Some, None, Ok}
-use Rattle.cc_num.specs.declared.target.Target.{Target}
-use Rattle.cc_operands.specs.Operands.{Operand}
+use Rattle.cc_program.specs.CcNum.declared.target.Target.{Target}
+use Rattle.cc_terms.specs.CcOperands.Operands.{Operand}
 use Rattle.cc_typed_terms.specs.Values.{value_found}
 use Rattle.cc_program.specs.declared.expr.Expr.{Expr}
 use Rattle.cc_program.specs.declared.program.Roles.{Roles}
@@ -10,7 +10,7 @@ use Rattle.cc_program.specs.declared.stmt.Stmt.{Stmt, Do, Empty}
 use Rattle.cc_program.specs.declared.types.CType.{CType}
 use Rattle.cc_scopes.specs.State.{State, Name}
 use Rattle.cc_scopes.specs.Verdicts.{Found, Meaning, whole, and_then, maybe_found}
-use Rattle.cc_specifiers.specs.declared.storage.Where.TheVariants as stands
+use Rattle.cc_terms.specs.CcSpecifiers.declared.storage.Where.TheVariants as stands
 use Rattle.cc_terms.specs.Terms.{here}
 use Rattle.cc_tree.specs.declared.at.At.{At}
 use Rattle.cc_tree.specs.declared.tree.Tree.{Tree}

@@ -1,15 +1,15 @@
 -- The steps of an initialiser, done from left to right up to the first fault (C99 6.7.8).
 use Rattle.std.specs.Prelude.{Bool, List, [], ◌++◌, Option, Some, None, option_to_list, Ok, Err}
 use Rattle.cc_initialisers.specs.Initialisers.{Step, Give, Character, Zero, Visit, Break}
-use Rattle.cc_num.specs.declared.int_type.IntType.TheVariants as int
-use Rattle.cc_num.specs.declared.target.Target.{Target}
-use Rattle.cc_operands.specs.Operands.{Operand, integer, character_value}
-use Rattle.cc_operands.specs.Verdicts.{Judged}
+use Rattle.cc_program.specs.CcNum.declared.int_type.IntType.TheVariants as int
+use Rattle.cc_program.specs.CcNum.declared.target.Target.{Target}
+use Rattle.cc_terms.specs.CcOperands.Operands.{Operand, integer, character_value}
+use Rattle.cc_terms.specs.CcOperands.Verdicts.{Judged}
 use Rattle.cc_typed_terms.specs.Values.{value}
 use Rattle.cc_program.specs.declared.program.Roles.{Roles}
 use Rattle.cc_scopes.specs.State.{State}
 use Rattle.cc_scopes.specs.Verdicts.{Found, whole, and_then}
-use Rattle.cc_syntax.specs.Values.{ValueType}
+use Rattle.cc_terms.specs.CcSyntax.Values.{ValueType}
 use Rattle.cc_terms.specs.InTurn.{in_turn}
 use Rattle.cc_terms.specs.Terms.{here}
 

@@ -2,18 +2,18 @@
 
 ghost use Rattle.std.specs.Prelude.{◌≡◌};
 ghost use Rattle.std.specs.Option.{option_copied};
-ghost use Rattle.cc_operands.specs.Qualified.{without_const as without_const_of};
+ghost use Rattle.cc_terms.specs.CcOperands.Qualified.{without_const as without_const_of};
 ghost use Rattle.cc_scopes.specs.Outcomes.{Gives};
 ghost use Rattle.cc_scopes.specs.View.{state_of};
 ghost use Rattle.cc_typed_bodies.specs.Objects.{exprs_found, automatic_given as automatic_given_of, automatic_left as automatic_left_of};
 
 use crate::plans::exprs;
 use cc_initialisers::{initialised, scalar_places};
-use cc_num::{List, Name, Target};
 use cc_objects::{assignments, completed, declare_automatic, set_incomplete, type_given};
-use cc_operands::without_const;
+use cc_program::num::{List, Name, Target};
 use cc_scopes::{State, Stop, placed};
-use cc_syntax::{CType, Expr, Place, Roles};
+use cc_terms::operands::without_const;
+use cc_terms::syntax::{CType, Expr, Place, Roles};
 use cc_tree::{At, Given};
 use std::alloc::Global;
 

@@ -10,10 +10,10 @@ ghost use Rattle.cc_typed_bodies.specs.Declarations.{declaration as declaration_
 use crate::declaration;
 use crate::expressions::maybe_effect;
 use crate::function::Function;
-use cc_num::{Boxed, List, NoMemory};
+use cc_program::num::{Boxed, List, NoMemory};
 use cc_scopes::{State, Stop};
-use cc_specifiers::Where;
-use cc_syntax::{Expr, Stmt};
+use cc_terms::specifiers_crate::Where;
+use cc_terms::syntax::{Expr, Stmt};
 use cc_tree::{At, Decl, First, Tree};
 use cc_typed_statements::joined;
 use std::alloc::Global;

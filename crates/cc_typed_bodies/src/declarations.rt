@@ -12,14 +12,14 @@ use crate::automatic::automatic_left;
 use crate::functions::{function_left, typedef_left};
 use crate::linked::linked_left;
 use crate::statics::static_left;
-use cc_num::{List, Name, NoMemory, Target};
 use cc_objects::{
     Category, alias, category_of, declare_in_front, is_function_type, name_judged, setting_of,
 };
 use cc_program::copy_list;
+use cc_program::num::{List, Name, NoMemory, Target};
 use cc_scopes::{State, Stop, placed};
-use cc_specifiers::{Allowed, Attribute, Specified, Where, attributes, entry_by};
-use cc_syntax::{CType, Expr, Roles};
+use cc_terms::specifiers_crate::{Allowed, Attribute, Specified, Where, attributes, entry_by};
+use cc_terms::syntax::{CType, Expr, Roles};
 use cc_terms::{declr, specified};
 use cc_tree::{At, Decl, Given, Init};
 use cc_typed_terms::{derived_type, located};

@@ -1,17 +1,17 @@
 //! The expressions that stand in statements.
 
 ghost use Rattle.std.specs.Prelude.{option_map};
-ghost use Rattle.cc_operands.specs.View.{operand_view};
+ghost use Rattle.cc_terms.specs.CcOperands.View.{operand_view};
 ghost use Rattle.cc_scopes.specs.Outcomes.{Gives};
 ghost use Rattle.cc_scopes.specs.Verdicts.{maybe_found};
 ghost use Rattle.cc_scopes.specs.View.{state_of};
 ghost use Rattle.cc_typed_bodies.specs.Parts.{value_here as value_here_of, effect_found};
 
 use crate::function::Function;
-use cc_num::Boxed;
-use cc_operands::Operand;
+use cc_program::num::Boxed;
 use cc_scopes::{State, Stop, placed};
-use cc_syntax::Expr;
+use cc_terms::operands::Operand;
+use cc_terms::syntax::Expr;
 use cc_terms::value;
 use cc_tree::{At, Tree};
 use cc_typed_statements::effect;

@@ -1,5 +1,5 @@
-use cc_num::{Name, Target};
-use cc_syntax::{CType, Roles};
+use cc_program::num::{Name, Target};
+use cc_terms::syntax::{CType, Roles};
 
 /// What is the same in all of a function's body.
 #[derive(Clone, Copy)]

@@ -21,5 +21,9 @@ mod statics;
 mod switched;
 
 pub use blocks::lines;
+pub use cc_linkage as linkage;
+pub use cc_objects as objects_crate;
+pub use cc_terms::{lex, operands, specifiers_crate as specifiers, syntax, unit};
+pub use cc_typed_statements as typed_statements;
 pub use declarations::{declaration, joined};
 pub use function::Function;

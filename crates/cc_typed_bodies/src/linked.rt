@@ -8,10 +8,10 @@ ghost use Rattle.cc_typed_bodies.specs.Objects.{linked_defined as linked_defined
 
 use crate::statics::first_values;
 use cc_linkage::DeclaredAs;
-use cc_num::{List, Name, Target, at};
 use cc_objects::{composite, declare_object, type_agrees, type_given};
+use cc_program::num::{List, Name, Target, at};
 use cc_scopes::{State, Stop, UnitKind, placed};
-use cc_syntax::{CType, Expr, Roles};
+use cc_terms::syntax::{CType, Expr, Roles};
 use cc_tree::{At, Given};
 use cc_typed_terms::leaves_or_none;
 use std::alloc::Global;

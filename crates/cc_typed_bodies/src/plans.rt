@@ -2,10 +2,10 @@
 
 ghost use Rattle.std.specs.Prelude.{◌≡◌, ◌++◌, option_to_list, IfOk, OnOk, map};
 ghost use Rattle.cc_initialisers.specs.View.{step_view};
-ghost use Rattle.cc_num.specs.declared.int_type.IntType.TheVariants as int;
+ghost use Rattle.cc_program.specs.CcNum.declared.int_type.IntType.TheVariants as int;
 ghost use Rattle.cc_objects.specs.Values.{leaf_given as leaf_given_of, expr_given as expr_given_of, no_leaf as no_leaf_of, no_expr as no_expr_of};
-ghost use Rattle.cc_operands.specs.Operands.{integer as integer_of, character_value as character_value_of};
-ghost use Rattle.cc_operands.specs.View.{operand_view, type_view};
+ghost use Rattle.cc_terms.specs.CcOperands.Operands.{integer as integer_of, character_value as character_value_of};
+ghost use Rattle.cc_terms.specs.CcOperands.View.{operand_view, type_view};
 ghost use Rattle.cc_program.specs.declared.expr.Expr.{Expr as OfExpr};
 ghost use Rattle.cc_program.specs.declared.value.Leaf.{Leaf as OfLeaf};
 ghost use Rattle.cc_scopes.specs.Outcomes.{Gives};
@@ -14,11 +14,11 @@ ghost use Rattle.cc_scopes.specs.View.{state_of};
 ghost use Rattle.cc_typed_bodies.specs.Plans.{as_given, step_found, steps_done};
 
 use cc_initialisers::Step;
-use cc_num::{IntType, NoMemory, Target};
 use cc_objects::{expr_given, leaf_given, no_expr, no_leaf};
-use cc_operands::{Breach, Operand, OperandType, character_value, integer};
+use cc_program::num::{IntType, NoMemory, Target};
 use cc_scopes::{State, Stop, placed};
-use cc_syntax::{Expr, Leaf, Roles};
+use cc_terms::operands::{Breach, Operand, OperandType, character_value, integer};
+use cc_terms::syntax::{Expr, Leaf, Roles};
 use cc_terms::value;
 use std::alloc::Global;
 

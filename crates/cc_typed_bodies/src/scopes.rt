@@ -4,7 +4,7 @@ ghost use Rattle.std.specs.Prelude.{◌≡◌, OnOk};
 ghost use Rattle.cc_scopes.specs.State.{empty, entered, left};
 ghost use Rattle.cc_scopes.specs.View.{state_of};
 
-use cc_num::NoMemory;
+use cc_program::num::NoMemory;
 use cc_scopes::{Scope, State};
 use std::alloc::Global;
 

@@ -6,9 +6,9 @@ ghost use Rattle.cc_typed_bodies.specs.Parts.{expression_found, return_found};
 
 use crate::expressions::{effect_here, maybe_value};
 use crate::function::Function;
-use cc_num::{Boxed, List};
+use cc_program::num::{Boxed, List};
 use cc_scopes::{State, Stop, placed};
-use cc_syntax::Stmt;
+use cc_terms::syntax::Stmt;
 use cc_tree::{At, Tree};
 use cc_typed_statements::{one, returned};
 use std::alloc::Global;

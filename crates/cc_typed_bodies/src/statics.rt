@@ -9,10 +9,10 @@ ghost use Rattle.cc_typed_bodies.specs.Objects.{leaves_found, static_given as st
 
 use crate::plans::leaves;
 use cc_initialisers::initialised;
-use cc_num::{List, Name, Target};
 use cc_objects::{completed, declare_static, set_incomplete, type_given};
+use cc_program::num::{List, Name, Target};
 use cc_scopes::{State, Stop, placed};
-use cc_syntax::{CType, Expr, Leaf, Place, Roles};
+use cc_terms::syntax::{CType, Expr, Leaf, Place, Roles};
 use cc_tree::{At, Given};
 use cc_typed_terms::leaves_or_none;
 use std::alloc::Global;

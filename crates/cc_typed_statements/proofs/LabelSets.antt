@@ -8,7 +8,7 @@ use Rattle.std.specs.Ordering.{int_eq}
 use Rattle.std.proofs.lemmas.List.Folds.{list_any-append}
 use Rattle.cc_program.specs.declared.stmt.Case.{Case, out-Case, out-roll-Case}
 use Rattle.cc_program.specs.declared.stmt.Stmt.{Stmt}
-use Rattle.cc_syntax.specs.Statements.{same_label}
+use Rattle.cc_operands.specs.CcSyntax.Statements.{same_label}
 use Rattle.cc_typed_statements.specs.declared.cases.Cases.{Cases}
 use Rattle.cc_typed_statements.specs.Labels.{no_case, at_last, with_label, new_case, labelled, with_statements, is_empty, behind, has_label}
 use Rattle.cc_typed_statements.specs.LabelSets.{GoesWith}

@@ -7,7 +7,7 @@ use Rattle.cc_program.specs.declared.expr.Expr.{Expr, Seq}
 use Rattle.cc_program.specs.declared.stmt.Case.{Case}
 use Rattle.cc_program.specs.declared.stmt.Stmt.{Stmt, out-Stmt}
 use Rattle.cc_program.specs.declared.stmt.Stmt.TheOpen as is
-use Rattle.cc_syntax.specs.Values.{is_scalar}
+use Rattle.cc_operands.specs.CcSyntax.Values.{is_scalar}
 
 abbrev pub condition : Operand → Judged Expr
 condition x = with_value x (must (is_scalar x.type) rule.NoScalar (Ok x.value))

@@ -1,13 +1,13 @@
 -- Jumps: what `break`, `continue` and `return` may do where a statement stands (C99 6.8.6).
 use Rattle.std.specs.Prelude.{true, false, List, [], ◌∷◌, Option, Some, None, Ok, Err, if◌then◌else◌}
-use Rattle.cc_num.specs.declared.target.Target.{Target}
+use Rattle.cc_program.specs.CcNum.declared.target.Target.{Target}
 use Rattle.cc_operands.specs.Assignments.{assigned}
 use Rattle.cc_operands.specs.Operands.{Operand}
 use Rattle.cc_operands.specs.Verdicts.{Judged, must, judge_then}
 use Rattle.cc_operands.specs.declared.rule.Rule.TheVariants as rule
 use Rattle.cc_program.specs.declared.stmt.Stmt.{Stmt, Break, Continue, Return}
 use Rattle.cc_program.specs.declared.types.CType.{CType}
-use Rattle.cc_syntax.specs.Values.{ValueType, is_void, scalar_value}
+use Rattle.cc_operands.specs.CcSyntax.Values.{ValueType, is_void, scalar_value}
 use Rattle.cc_typed_statements.specs.declared.jumps.Jumps.{Jumps}
 
 abbrev pub no_jumps : Jumps

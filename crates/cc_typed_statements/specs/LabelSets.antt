@@ -2,7 +2,7 @@
 use Rattle.std.specs.Prelude.{◌≡◌, ℤ, true, false, List, Option}
 use Rattle.std.specs.List.{list_any}
 use Rattle.cc_program.specs.declared.stmt.Case.{Case}
-use Rattle.cc_syntax.specs.Statements.{same_label}
+use Rattle.cc_operands.specs.CcSyntax.Statements.{same_label}
 use Rattle.cc_typed_statements.specs.declared.cases.Cases.{Cases}
 use Rattle.cc_typed_statements.specs.Labels.{has_label, is_empty}
 

@@ -1,16 +1,16 @@
 -- The labels of a `switch` (C99 6.8.1, 6.8.4.2): its cases up to a place of its body.
 use Rattle.std.specs.Prelude.{ℤ, Bool, true, false, not, ◌&&◌, ◌||◌, List, [], ◌∷◌, ◌++◌, Option, Some, None, Ok, Err, if◌then◌else◌}
 use Rattle.std.specs.List.{list_any}
-use Rattle.cc_num.specs.declared.int_type.IntType.{IntType}
-use Rattle.cc_num.specs.declared.target.Target.{Target}
-use Rattle.cc_num.specs.Integers.{converted}
+use Rattle.cc_program.specs.CcNum.declared.int_type.IntType.{IntType}
+use Rattle.cc_program.specs.CcNum.declared.target.Target.{Target}
+use Rattle.cc_program.specs.CcNum.Integers.{converted}
 use Rattle.cc_operands.specs.Operands.{Operand, constancy}
 use Rattle.cc_operands.specs.Verdicts.{Judged, must, judge_then}
 use Rattle.cc_operands.specs.declared.rule.Rule.TheVariants as rule
 use Rattle.cc_program.specs.declared.stmt.Case.{Case, out-Case, roll-Case}
 use Rattle.cc_program.specs.declared.stmt.Stmt.{Stmt}
-use Rattle.cc_syntax.specs.Folding.{Constant, NoConstant, Value, Traps}
-use Rattle.cc_syntax.specs.Statements.{same_label}
+use Rattle.cc_operands.specs.CcSyntax.Folding.{Constant, NoConstant, Value, Traps}
+use Rattle.cc_operands.specs.CcSyntax.Statements.{same_label}
 use Rattle.cc_typed_statements.specs.declared.cases.Cases.{Cases}
 
 abbrev pub no_case : Cases

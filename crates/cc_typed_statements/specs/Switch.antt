@@ -1,16 +1,16 @@
 -- A `switch` (C99 6.8.4.2): of an integer, over a block in which a label comes first.
 use Rattle.std.specs.Prelude.{List, [], ◌∷◌, not, Option, Some, None, Ok, Err}
-use Rattle.cc_num.specs.declared.int_type.IntType.{IntType}
-use Rattle.cc_num.specs.declared.int_type.IntType.TheVariants as int
-use Rattle.cc_num.specs.declared.target.Target.{Target}
-use Rattle.cc_num.specs.Promotions.{promoted}
+use Rattle.cc_program.specs.CcNum.declared.int_type.IntType.{IntType}
+use Rattle.cc_program.specs.CcNum.declared.int_type.IntType.TheVariants as int
+use Rattle.cc_program.specs.CcNum.declared.target.Target.{Target}
+use Rattle.cc_program.specs.CcNum.Promotions.{promoted}
 use Rattle.cc_operands.specs.Operands.{Operand, converted_to, with_value}
 use Rattle.cc_operands.specs.Verdicts.{Judged, must, judge_then}
 use Rattle.cc_operands.specs.declared.rule.Rule.TheVariants as rule
 use Rattle.cc_program.specs.declared.stmt.Case.{Case}
 use Rattle.cc_program.specs.declared.stmt.Stmt.{Stmt, Switch}
-use Rattle.cc_syntax.specs.Operators.{is_integer}
-use Rattle.cc_syntax.specs.Values.{ValueType, Integer}
+use Rattle.cc_operands.specs.CcSyntax.Operators.{is_integer}
+use Rattle.cc_operands.specs.CcSyntax.Values.{ValueType, Integer}
 use Rattle.cc_typed_statements.specs.declared.cases.Cases.{Cases}
 
 -- the type in which the operand is compared with the labels

@@ -3,8 +3,8 @@
 ghost use Rattle.std.specs.Prelude.{◌≡◌, IfOk};
 ghost use Rattle.cc_typed_statements.specs.Labels.{no_case, at_last, with_label as with_label_of, new_case as new_case_of, cases_with as cases_with_of, labelled as labelled_of, with_statements as with_statements_of, behind as behind_of, behind_empty as behind_empty_of};
 
-use cc_num::{List, NoMemory};
-use cc_syntax::{Case, Stmt};
+use cc_operands::syntax::{Case, Stmt};
+use cc_program::num::{List, NoMemory};
 use std::alloc::Global;
 
 /// The cases of a `switch`, up to a place of its body.

@@ -5,9 +5,9 @@ ghost use Rattle.cc_typed_statements.specs.Conditions.{condition as condition_of
 ghost use Rattle.cc_operands.specs.Verdicts.{Judges};
 ghost use Rattle.cc_operands.specs.View.{operand_view};
 
-use cc_num::{Boxed, List, NoMemory};
+use cc_operands::syntax::{Expr, Stmt};
 use cc_operands::{Breach, Operand, Rule};
-use cc_syntax::{Expr, Stmt};
+use cc_program::num::{Boxed, List, NoMemory};
 use std::alloc::Global;
 
 /// A condition, which is scalar (C99 6.8.4.1, 1; 6.8.5, 2).

@@ -4,13 +4,13 @@ ghost use Rattle.std.specs.Prelude.{◌≡◌, IfOk, option_map};
 ghost use Rattle.cc_typed_statements.specs.Jumps.{no_jumps, in_loop, in_switch, break_of, continue_of, returned_by as returned_by_of, returned as returned_of};
 ghost use Rattle.cc_operands.specs.Verdicts.{Judges};
 ghost use Rattle.cc_operands.specs.View.{operand_view, type_view};
-ghost use Rattle.cc_syntax.specs.Values.{scalar_value as scalar_value_of};
+ghost use Rattle.cc_operands.specs.CcSyntax.Values.{scalar_value as scalar_value_of};
 
 use crate::statements::sole_statement;
-use cc_num::{List, NoMemory, Target};
+use cc_operands::syntax::{CType, Stmt};
+use cc_operands::typed_crate::{is_void, scalar_value};
 use cc_operands::{Breach, Operand, OperandType, Rule, assigned, owned};
-use cc_syntax::{CType, Stmt};
-use cc_typed::{is_void, scalar_value};
+use cc_program::num::{List, NoMemory, Target};
 use std::alloc::Global;
 
 /// Whether `break` and `continue` may stand at a place.

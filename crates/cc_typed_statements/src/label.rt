@@ -6,8 +6,8 @@ ghost use Rattle.cc_operands.specs.Verdicts.{Judges};
 ghost use Rattle.cc_operands.specs.View.{constant_view, operand_view};
 
 use crate::switch_cases::SwitchCases;
-use cc_num::{IntType, Target, convert};
 use cc_operands::{Breach, Constant, Operand, Rule};
+use cc_program::num::{IntType, Target, convert};
 
 /// A label that stands in no case yet.
 fn once(cases: &SwitchCases, label: Option<i128>) -> Result<Option<i128>, Rule>

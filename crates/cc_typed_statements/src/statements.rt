@@ -6,9 +6,9 @@ ghost use Rattle.cc_operands.specs.View.{operand_view};
 ghost use Rattle.cc_typed_statements.specs.Statements.{if_of, while_of, do_of, for_of};
 
 use crate::conditions::{condition, maybe_condition};
-use cc_num::{Boxed, List, NoMemory};
+use cc_operands::syntax::{Expr, Stmt};
 use cc_operands::{Breach, Operand};
-use cc_syntax::{Expr, Stmt};
+use cc_program::num::{Boxed, List, NoMemory};
 use std::alloc::Global;
 
 /// A statement alone.

@@ -8,10 +8,10 @@ ghost use Rattle.cc_operands.specs.View.{operand_view, type_view};
 
 use crate::statements::sole_statement;
 use crate::switch_cases::SwitchCases;
-use cc_num::{IntType, List, NoMemory, Target, promote};
+use cc_operands::syntax::{Case, Stmt};
+use cc_operands::typed_crate::same_int;
 use cc_operands::{Breach, Operand, OperandType, Rule, cast_to};
-use cc_syntax::{Case, Stmt};
-use cc_typed::same_int;
+use cc_program::num::{IntType, List, NoMemory, Target, promote};
 use std::alloc::Global;
 
 /// The type in which the operand of a `switch` is compared with the labels.

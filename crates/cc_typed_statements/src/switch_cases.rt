@@ -6,9 +6,9 @@ ghost use Rattle.std.specs.List.{list_any};
 ghost use Rattle.cc_typed_statements.specs.Labels.{no_case, has_label, labelled as labelled_of, behind as behind_of, behind_empty as behind_empty_of, cases_behind};
 
 use crate::cases::Cases;
-use cc_num::{List, NoMemory};
 use cc_operands::Rule;
-use cc_syntax::Stmt;
+use cc_operands::syntax::Stmt;
+use cc_program::num::{List, NoMemory};
 use indexmap::IndexSet;
 use std::alloc::Global;
 use std::marker::Model;

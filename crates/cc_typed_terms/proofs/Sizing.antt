@@ -1,19 +1,19 @@
 -- A size that no object has is held by no size_t.
 use Rattle.std.proofs.Common.{◌≡◌, ◌∙◌, ℕ, pos, ◌*◌, ◌-◌, ◌^◌, int_le, Bool, true, false, ◌&&◌, Option, Some, None, Result, Ok, Err, nat_le, if◌then◌else◌, refl, sym, ap, subst, ⊎_elim, arith}
 use Rattle.cc_designators.specs.Casts.{size_value}
-use Rattle.cc_num.proofs.Conversions.{int_bytes_is}
-use Rattle.cc_num.specs.Integers.{is_value_of}
-use Rattle.cc_num.specs.declared.int_type.IntType.TheVariants as int
-use Rattle.cc_num.specs.declared.target.Target.{Target}
-use Rattle.cc_operands.specs.Operands.{Operand, integer, size_type}
-use Rattle.cc_operands.specs.Verdicts.{Judged, Judges, must}
-use Rattle.cc_operands.specs.declared.rule.Rule.TheVariants as rule
-use Rattle.cc_operands.specs.declared.verdict.Breach.{Breach}
+use Rattle.cc_program.proofs.CcNum.Conversions.{int_bytes_is}
+use Rattle.cc_program.specs.CcNum.Integers.{is_value_of}
+use Rattle.cc_program.specs.CcNum.declared.int_type.IntType.TheVariants as int
+use Rattle.cc_program.specs.CcNum.declared.target.Target.{Target}
+use Rattle.cc_scopes.specs.CcOperands.Operands.{Operand, integer, size_type}
+use Rattle.cc_scopes.specs.CcOperands.Verdicts.{Judged, Judges, must}
+use Rattle.cc_scopes.specs.CcOperands.declared.rule.Rule.TheVariants as rule
+use Rattle.cc_scopes.specs.CcOperands.declared.verdict.Breach.{Breach}
 use Rattle.cc_program.specs.declared.types.CType.{CType}
 use Rattle.cc_scopes.specs.State.{State, structures_of, layouts_of}
 use Rattle.cc_specifiers.specs.Objects.{object_size, size_of}
-use Rattle.cc_syntax.specs.Kinds.{is_small}
-use Rattle.cc_syntax.specs.Types.{is_complete}
+use Rattle.cc_scopes.specs.CcSyntax.Kinds.{is_small}
+use Rattle.cc_scopes.specs.CcSyntax.Types.{is_complete}
 use Rattle.cc_typed_terms.specs.Sizes.{size_of_type}
 
 -- by what an object of the type takes

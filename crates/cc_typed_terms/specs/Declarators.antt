@@ -1,5 +1,5 @@
 -- Declarators (C99 6.7.5).
-use Rattle.cc_num.specs.declared.target.Target.{Target}
+use Rattle.cc_program.specs.CcNum.declared.target.Target.{Target}
 use Rattle.cc_program.specs.declared.types.CType.{CType}
 use Rattle.cc_scopes.specs.State.{State, Scope, structures_of, layouts_of}
 use Rattle.cc_scopes.specs.Verdicts.{Found}

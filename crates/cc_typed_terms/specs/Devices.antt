@@ -3,9 +3,9 @@ use Rattle.std.specs.Prelude.{ℕ, ℤ, pos, negsuc, Bool, true, false, List, le
 use Rattle.cc_designators.specs.Casts.{fits_pointer, no_device}
 use Rattle.cc_designators.specs.Designators.{TypedExpr, IsPlace, IsAddress}
 use Rattle.cc_designators.specs.Postfix.{indirection}
-use Rattle.cc_num.specs.declared.int_type.IntType.{IntType}
-use Rattle.cc_num.specs.declared.target.Target.{Target}
-use Rattle.cc_operands.specs.declared.rule.Rule.TheVariants as rule
+use Rattle.cc_program.specs.CcNum.declared.int_type.IntType.{IntType}
+use Rattle.cc_program.specs.CcNum.declared.target.Target.{Target}
+use Rattle.cc_scopes.specs.CcOperands.declared.rule.Rule.TheVariants as rule
 use Rattle.cc_program.specs.declared.expr.Place.{Device as DeviceAt}
 use Rattle.cc_program.specs.declared.object.Device.{Device}
 use Rattle.cc_program.specs.declared.types.CType.{CType}
@@ -15,11 +15,11 @@ use Rattle.cc_program.specs.declared.types.Sig.{Sig}
 use Rattle.cc_scopes.specs.State.{State, with_declared}
 use Rattle.cc_scopes.specs.Verdicts.{Found, whole, and_then}
 use Rattle.cc_scopes.specs.declared.unit.Declared.{Declared}
-use Rattle.cc_unit.specs.declared.unit.Linkage.TheVariants as linkage
-use Rattle.cc_unit.specs.declared.unit.UnitKind.{UnitKind}
-use Rattle.cc_unit.specs.declared.unit.UnitKind.TheVariants as kind
-use Rattle.cc_syntax.specs.Sound.{is_same_device}
-use Rattle.cc_syntax.specs.Values.{DevicePlace}
+use Rattle.cc_scopes.specs.CcUnit.declared.unit.Linkage.TheVariants as linkage
+use Rattle.cc_scopes.specs.CcUnit.declared.unit.UnitKind.{UnitKind}
+use Rattle.cc_scopes.specs.CcUnit.declared.unit.UnitKind.TheVariants as kind
+use Rattle.cc_scopes.specs.CcSyntax.Sound.{is_same_device}
+use Rattle.cc_scopes.specs.CcSyntax.Values.{DevicePlace}
 use Rattle.cc_typed_terms.specs.Values.{valued}
 
 abbrev pub as_number : ℤ → ℕ

@@ -10,3 +10,10 @@ pub mod Sizes
 pub mod Specifiers
 pub mod Values
 pub mod View
+pub mod CcDesignators
+pub mod CcLex
+pub mod CcOperands
+pub mod CcScopes
+pub mod CcSpecifiers
+pub mod CcSyntax
+pub mod CcUnit

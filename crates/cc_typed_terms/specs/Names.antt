@@ -1,7 +1,7 @@
 -- Names that are declared (C99 6.2.1, 6.2.3).
 use Rattle.std.specs.Prelude.{not, is_some, Ok, Err, if◌then◌else◌}
-use Rattle.cc_operands.specs.Verdicts.{Judged, must}
-use Rattle.cc_operands.specs.declared.rule.Rule.TheVariants as rule
+use Rattle.cc_scopes.specs.CcOperands.Verdicts.{Judged, must}
+use Rattle.cc_scopes.specs.CcOperands.declared.rule.Rule.TheVariants as rule
 use Rattle.cc_typed_terms.specs.Primary.{is_intrinsic}
 use Rattle.cc_program.specs.declared.program.Roles.{Roles}
 use Rattle.cc_scopes.specs.State.{State, Name, named_here}

@@ -2,16 +2,16 @@
 use Rattle.std.specs.Prelude.{Bool, true, false, List, Option, Some, None, Err}
 use Rattle.cc_designators.specs.Designators.{TypedExpr, IsPlace, IsIntrinsic}
 use Rattle.cc_designators.specs.Postfix.{element}
-use Rattle.cc_lex.specs.declared.token.Mark.{Mark}
-use Rattle.cc_lex.specs.declared.token.Mark.TheVariants as m
-use Rattle.cc_num.specs.declared.target.Target.{Target}
-use Rattle.cc_operands.specs.Arithmetic.{binary_of}
-use Rattle.cc_operands.specs.Operands.{Operand}
-use Rattle.cc_operands.specs.Unary.{unary_of}
-use Rattle.cc_operands.specs.Verdicts.{Judged}
-use Rattle.cc_operands.specs.declared.operator.Operator.{Operator}
-use Rattle.cc_operands.specs.declared.operator.UnaryOperator.{UnaryOperator}
-use Rattle.cc_operands.specs.declared.rule.Rule.TheVariants as rule
+use Rattle.cc_scopes.specs.CcLex.declared.token.Mark.{Mark}
+use Rattle.cc_scopes.specs.CcLex.declared.token.Mark.TheVariants as m
+use Rattle.cc_program.specs.CcNum.declared.target.Target.{Target}
+use Rattle.cc_scopes.specs.CcOperands.Arithmetic.{binary_of}
+use Rattle.cc_scopes.specs.CcOperands.Operands.{Operand}
+use Rattle.cc_scopes.specs.CcOperands.Unary.{unary_of}
+use Rattle.cc_scopes.specs.CcOperands.Verdicts.{Judged}
+use Rattle.cc_scopes.specs.CcOperands.declared.operator.Operator.{Operator}
+use Rattle.cc_scopes.specs.CcOperands.declared.operator.UnaryOperator.{UnaryOperator}
+use Rattle.cc_scopes.specs.CcOperands.declared.rule.Rule.TheVariants as rule
 use Rattle.cc_program.specs.declared.expr.Intr.{Intr}
 use Rattle.cc_program.specs.declared.types.Structure.{Structure}
 use Rattle.cc_typed_terms.specs.declared.prefix.Prefix.{Prefix}

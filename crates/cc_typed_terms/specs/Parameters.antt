@@ -1,7 +1,7 @@
 -- Parameters (C99 6.7.5.3), once their types are known.
 use Rattle.std.specs.Prelude.{ℕ, Bool, Option, Some, None, Ok}
-use Rattle.cc_operands.specs.Verdicts.{must}
-use Rattle.cc_operands.specs.declared.rule.Rule.TheVariants as rule
+use Rattle.cc_scopes.specs.CcOperands.Verdicts.{must}
+use Rattle.cc_scopes.specs.CcOperands.declared.rule.Rule.TheVariants as rule
 use Rattle.cc_program.specs.declared.program.Roles.{Roles}
 use Rattle.cc_program.specs.declared.types.CType.{CType}
 use Rattle.cc_scopes.specs.State.{State, Name, bind}

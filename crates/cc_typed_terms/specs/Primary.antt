@@ -2,9 +2,9 @@
 use Rattle.std.specs.Prelude.{ℕ, ◌+◌, pos, Bool, true, false, List, [], ◌∷◌, ◌++◌, map, length, Option, Some, None, is_some, slice_get, Ok, Err, if◌then◌else◌}
 use Rattle.std.specs.List.{list_all}
 use Rattle.std.specs.Str.{bytes_eq}
-use Rattle.cc_lex.specs.declared.token.Suffix.{Suffix}
-use Rattle.cc_num.specs.declared.int_type.IntType.TheVariants as int
-use Rattle.cc_num.specs.declared.target.Target.{Target}
+use Rattle.cc_scopes.specs.CcLex.declared.token.Suffix.{Suffix}
+use Rattle.cc_program.specs.CcNum.declared.int_type.IntType.TheVariants as int
+use Rattle.cc_program.specs.CcNum.declared.target.Target.{Target}
 use Rattle.cc_program.specs.declared.expr.Intr.{Intr}
 use Rattle.cc_program.specs.declared.expr.Intr.TheVariants as intr
 use Rattle.cc_program.specs.declared.expr.Place.{Local, Static}
@@ -16,22 +16,22 @@ use Rattle.cc_program.specs.declared.types.Shape.TheOpen as shape
 use Rattle.cc_program.specs.declared.types.Sig.{Sig}
 use Rattle.cc_program.specs.declared.value.Leaf.{Leaf}
 use Rattle.cc_program.specs.declared.value.Leaf.TheVariants as leaf
-use Rattle.cc_syntax.specs.Initial.{is_zero}
-use Rattle.cc_syntax.specs.Values.{DevicePlace, object_place}
+use Rattle.cc_scopes.specs.CcSyntax.Initial.{is_zero}
+use Rattle.cc_scopes.specs.CcSyntax.Values.{DevicePlace, object_place}
 use Rattle.cc_specifiers.specs.Bounds.{is_bound}
-use Rattle.cc_operands.specs.Qualified.{plain}
+use Rattle.cc_scopes.specs.CcOperands.Qualified.{plain}
 use Rattle.cc_designators.specs.Designators.{TypedExpr, IsPlace, IsValue, IsFunction, IsIntrinsic}
-use Rattle.cc_operands.specs.Operands.{integer, character_value, number_type}
+use Rattle.cc_scopes.specs.CcOperands.Operands.{integer, character_value, number_type}
 use Rattle.cc_scopes.specs.State.{State, Name, designated, with_declared}
-use Rattle.cc_operands.specs.Verdicts.{Judged}
+use Rattle.cc_scopes.specs.CcOperands.Verdicts.{Judged}
 use Rattle.cc_scopes.specs.Verdicts.{Found, whole}
-use Rattle.cc_operands.specs.declared.rule.Rule.TheVariants as rule
+use Rattle.cc_scopes.specs.CcOperands.declared.rule.Rule.TheVariants as rule
 use Rattle.cc_scopes.specs.declared.designated.Designated.{Designated}
 use Rattle.cc_scopes.specs.declared.designated.Designated.TheVariants as means
 use Rattle.cc_scopes.specs.declared.unit.Declared.{Declared}
-use Rattle.cc_unit.specs.declared.unit.Linkage.TheVariants as linkage
-use Rattle.cc_unit.specs.declared.unit.UnitKind.{UnitKind}
-use Rattle.cc_unit.specs.declared.unit.UnitKind.TheVariants as kind
+use Rattle.cc_scopes.specs.CcUnit.declared.unit.Linkage.TheVariants as linkage
+use Rattle.cc_scopes.specs.CcUnit.declared.unit.UnitKind.{UnitKind}
+use Rattle.cc_scopes.specs.CcUnit.declared.unit.UnitKind.TheVariants as kind
 
 -- ---- names (6.5.1, 2)
 

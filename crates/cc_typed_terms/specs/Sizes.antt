@@ -2,17 +2,17 @@
 use Rattle.std.specs.Prelude.{Err, if◌then◌else◌}
 use Rattle.cc_designators.specs.Casts.{size_value}
 use Rattle.cc_designators.specs.Designators.{TypedExpr, IsPlace, IsValue, IsFunction, IsIntrinsic, IsAddress}
-use Rattle.cc_num.specs.Integers.{bytes_of}
-use Rattle.cc_num.specs.declared.target.Target.{Target}
-use Rattle.cc_operands.specs.Operands.{Operand}
-use Rattle.cc_operands.specs.Qualified.{type_of_value}
-use Rattle.cc_operands.specs.Verdicts.{Judged, must}
-use Rattle.cc_operands.specs.declared.rule.Rule.TheVariants as rule
+use Rattle.cc_program.specs.CcNum.Integers.{bytes_of}
+use Rattle.cc_program.specs.CcNum.declared.target.Target.{Target}
+use Rattle.cc_scopes.specs.CcOperands.Operands.{Operand}
+use Rattle.cc_scopes.specs.CcOperands.Qualified.{type_of_value}
+use Rattle.cc_scopes.specs.CcOperands.Verdicts.{Judged, must}
+use Rattle.cc_scopes.specs.CcOperands.declared.rule.Rule.TheVariants as rule
 use Rattle.cc_program.specs.declared.types.CType.{CType}
 use Rattle.cc_scopes.specs.State.{State, structures_of, layouts_of, is_unfinished}
 use Rattle.cc_specifiers.specs.Objects.{size_of}
-use Rattle.cc_syntax.specs.Types.{is_complete}
-use Rattle.cc_syntax.specs.Values.{PlaceType, DevicePlace, ObjectPlace, FunctionPlace}
+use Rattle.cc_scopes.specs.CcSyntax.Types.{is_complete}
+use Rattle.cc_scopes.specs.CcSyntax.Values.{PlaceType, DevicePlace, ObjectPlace, FunctionPlace}
 
 module _ (target : Target) (s : State) where
   abbrev pub size_of_type : CType → Judged Operand

@@ -1,7 +1,7 @@
 -- Specifiers (C99 6.7.2), by what names and tags designate.
 use Rattle.std.specs.Prelude.{ℕ, List, [], ◌∷◌, Option, Some, None, Ok, Err}
-use Rattle.cc_operands.specs.Verdicts.{Judged, judge_then}
-use Rattle.cc_operands.specs.declared.rule.Rule.TheVariants as rule
+use Rattle.cc_scopes.specs.CcOperands.Verdicts.{Judged, judge_then}
+use Rattle.cc_scopes.specs.CcOperands.declared.rule.Rule.TheVariants as rule
 use Rattle.cc_program.specs.declared.types.CType.{CType}
 use Rattle.cc_scopes.specs.State.{State, Name, tagged}
 use Rattle.cc_scopes.specs.Structures.{structure_named, enumeration_named}

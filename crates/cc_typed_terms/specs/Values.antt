@@ -2,14 +2,14 @@
 use Rattle.std.specs.Prelude.{ℕ, ℤ, pos, Ok, Err, if◌then◌else◌}
 use Rattle.std.specs.Ordering.{int_eq}
 use Rattle.cc_designators.specs.Designators.{TypedExpr, IsPlace, IsValue, IsFunction, IsIntrinsic, IsAddress, value_at, null}
-use Rattle.cc_operands.specs.Operands.{Operand, operand}
-use Rattle.cc_operands.specs.Verdicts.{Judged}
-use Rattle.cc_operands.specs.declared.rule.Rule.TheVariants as rule
+use Rattle.cc_scopes.specs.CcOperands.Operands.{Operand, operand}
+use Rattle.cc_scopes.specs.CcOperands.Verdicts.{Judged}
+use Rattle.cc_scopes.specs.CcOperands.declared.rule.Rule.TheVariants as rule
 use Rattle.cc_program.specs.declared.expr.Expr.{FuncAddr}
 use Rattle.cc_program.specs.declared.types.CType.{CType}
 use Rattle.cc_scopes.specs.State.{State}
 use Rattle.cc_scopes.specs.Verdicts.{Found, Meaning, whole, and_then, part}
-use Rattle.cc_syntax.specs.Values.{ToFunction}
+use Rattle.cc_scopes.specs.CcSyntax.Values.{ToFunction}
 use Rattle.cc_tree.specs.declared.at.At.{At}
 
 -- an integer constant that is cast to a pointer type, elsewhere than behind `*`: a null (6.3.2.3, 3)

@@ -10,10 +10,10 @@ ghost use Rattle.cc_typed_terms.specs.Declarators.{derived_type as derived_type_
 ghost use Rattle.cc_typed_terms.specs.Located.{located as located_of};
 
 use crate::places::located;
-use cc_num::{List, Name, NoMemory, Target};
+use cc_program::num::{List, Name, NoMemory, Target};
+use cc_scopes::syntax::CType;
 use cc_scopes::{Scope, State, Stop};
 use cc_specifiers::{Allowed, Declarator, suffix_found, type_found};
-use cc_syntax::CType;
 use std::alloc::Global;
 
 /// What a declarator declares.

@@ -8,7 +8,7 @@ ghost use Rattle.cc_scopes.specs.Outcomes.{Gives};
 ghost use Rattle.cc_scopes.specs.State.{State as Known};
 ghost use Rattle.cc_scopes.specs.Verdicts.{whole, and_then};
 ghost use Rattle.cc_scopes.specs.View.{state_of};
-ghost use Rattle.cc_syntax.specs.Sound.{is_same_device as is_same_device_of, is_numbered as is_numbered_of};
+ghost use Rattle.cc_scopes.specs.CcSyntax.Sound.{is_same_device as is_same_device_of, is_numbered as is_numbered_of};
 ghost use Rattle.cc_typed_terms.specs.Devices.{device_of, declared_device as declared_device_of, device_place, with_device, names_device as names_device_of, number_of as number_of_device, device_found, register_found, address_found, starred as starred_of};
 ghost use Rattle.cc_typed_terms.specs.Values.{valued as valued_of};
 
@@ -16,11 +16,11 @@ use crate::values::value_of;
 use cc_designators::{
     DesignatedType, TypedExpr, fits_pointer, indirection, no_device, placed as place_of,
 };
-use cc_num::{IntType, Target};
-use cc_operands::{Breach, Rule};
+use cc_program::num::{IntType, Target};
+use cc_scopes::operands::{Breach, Rule};
+use cc_scopes::syntax::{CType, Device, Place, Shape};
+use cc_scopes::typed::{same_flag, same_int};
 use cc_scopes::{Declared, Linkage, State, Stop, UnitKind, placed};
-use cc_syntax::{CType, Device, Place, Shape};
-use cc_typed::{same_flag, same_int};
 use std::alloc::Global;
 
 fn is_numbered(device: &Device) -> bool

@@ -17,6 +17,10 @@ mod sizes;
 mod specifiers;
 mod values;
 
+pub use cc_designators as designators;
+pub use cc_scopes as scopes;
+pub use cc_scopes::{lex, operands, syntax, typed, unit_crate as unit};
+pub use cc_specifiers as specifiers_crate;
 pub use declarators::{
     ScopedDeclarator, copied, declarator_of, derived_type, is_next_to_name, suffix,
 };

@@ -1,7 +1,7 @@
 //! Members of structures (C99 6.7.2.1).
 
 ghost use Rattle.std.specs.Prelude.{[], ◌∷◌, ◌++◌, Some as SomeOf, Ok as OkOf};
-ghost use Rattle.cc_operands.specs.Verdicts.{Judges};
+ghost use Rattle.cc_scopes.specs.CcOperands.Verdicts.{Judges};
 ghost use Rattle.cc_scopes.specs.Outcomes.{Gives};
 ghost use Rattle.cc_scopes.specs.State.{State as Known};
 ghost use Rattle.cc_scopes.specs.View.{state_of};
@@ -11,11 +11,11 @@ ghost use Rattle.cc_typed_terms.specs.Located.{located as located_of};
 ghost use Rattle.cc_typed_terms.specs.Members.{member_judged as member_judged_of};
 
 use crate::places::located;
-use cc_num::{List, Name, Target};
-use cc_operands::{Breach, Rule};
+use cc_program::num::{List, Name, Target};
+use cc_scopes::operands::{Breach, Rule};
+use cc_scopes::syntax::CType;
 use cc_scopes::{State, Stop, is_member_name};
 use cc_specifiers::{Attribute, Entity, attributes, is_object};
-use cc_syntax::CType;
 use cc_tree::{At, Attr};
 use std::alloc::Global;
 

@@ -1,13 +1,13 @@
 //! Names that are declared (C99 6.2.1, 6.2.3).
 
-ghost use Rattle.cc_operands.specs.Verdicts.{Judges};
+ghost use Rattle.cc_scopes.specs.CcOperands.Verdicts.{Judges};
 ghost use Rattle.cc_scopes.specs.View.{state_of};
 ghost use Rattle.cc_typed_terms.specs.Names.{new_name as new_name_of};
 
 use crate::is_intrinsic;
-use cc_operands::{Breach, Rule};
 use cc_scopes::State;
-use cc_syntax::Roles;
+use cc_scopes::operands::{Breach, Rule};
+use cc_scopes::syntax::Roles;
 
 /// A name that is declared has no other meaning in its scope, and is no intrinsic's.
 pub fn new_name(roles: &Roles, x: &[u8], state: &State) -> Result<(), Breach>

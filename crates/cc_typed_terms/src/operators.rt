@@ -4,10 +4,10 @@ ghost use Rattle.cc_designators.specs.Assignments.{assign_of, stepped_before as 
 ghost use Rattle.cc_designators.specs.Calls.{called as called_of, intrinsic as intrinsic_of};
 ghost use Rattle.cc_designators.specs.Postfix.{address as address_of};
 ghost use Rattle.cc_designators.specs.View.{expr_view};
-ghost use Rattle.cc_operands.specs.Choices.{choose_of, comma_of};
-ghost use Rattle.cc_operands.specs.Operators.{operator_of as operator_of_of, unary_operator_of as unary_operator_of_of};
-ghost use Rattle.cc_operands.specs.Verdicts.{Judges};
-ghost use Rattle.cc_operands.specs.View.{operand_view};
+ghost use Rattle.cc_scopes.specs.CcOperands.Choices.{choose_of, comma_of};
+ghost use Rattle.cc_scopes.specs.CcOperands.Operators.{operator_of as operator_of_of, unary_operator_of as unary_operator_of_of};
+ghost use Rattle.cc_scopes.specs.CcOperands.Verdicts.{Judges};
+ghost use Rattle.cc_scopes.specs.CcOperands.View.{operand_view};
 ghost use Rattle.cc_typed_terms.specs.Operators.{binary_by, unary_by, element_in as element_in_of, is_minus as is_minus_of};
 ghost use Rattle.cc_typed_terms.specs.Values.{found_value};
 ghost use Rattle.std.specs.Prelude.{map};
@@ -17,12 +17,12 @@ use cc_designators::{
     TypedExpr, address, assign_to, called, change_of, element, intrinsic, stepped_after,
     stepped_before, valued,
 };
-use cc_lex::Mark;
-use cc_num::{List, Target};
-use cc_operands::{
+use cc_program::num::{List, Target};
+use cc_scopes::lex::Mark;
+use cc_scopes::operands::{
     Breach, Operand, Rule, assigns_by, binary, chosen, comma, operator_of, unary, unary_operator_of,
 };
-use cc_syntax::{Intr, Structure};
+use cc_scopes::syntax::{Intr, Structure};
 use std::alloc::Global;
 
 /// `a, b`.

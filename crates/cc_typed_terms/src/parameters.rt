@@ -7,11 +7,11 @@ ghost use Rattle.cc_scopes.specs.State.{empty};
 ghost use Rattle.cc_typed_terms.specs.Parameters.{parameter_bound as parameter_bound_of};
 
 use crate::names::new_name;
-use cc_num::List;
-use cc_operands::{Breach, Rule};
+use cc_program::num::List;
+use cc_scopes::operands::{Breach, Rule};
+use cc_scopes::syntax::Roles;
 use cc_scopes::{Designated, Scope, State, Stop, placed};
 use cc_specifiers::Parameter;
-use cc_syntax::Roles;
 use std::alloc::Global;
 
 /// No parameters, in a scope of their own.

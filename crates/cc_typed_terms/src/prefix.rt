@@ -3,7 +3,7 @@
 ghost use Rattle.std.specs.Prelude.{◌≡◌};
 ghost use Rattle.cc_typed_terms.specs.Operators.{prefix_of as prefix_of_mark, is_minus as is_minus_of};
 
-use cc_lex::Mark;
+use cc_scopes::lex::Mark;
 
 /// A prefix operator, by what it takes its operand as.
 #[derive(Clone, Copy)]

@@ -6,22 +6,22 @@ ghost use Rattle.std.specs.Option.{option_copied};
 ghost use Rattle.std.specs.Str.{bytes_eq};
 ghost use Rattle.cc_designators.specs.Designators.{IsPlace};
 ghost use Rattle.cc_designators.specs.View.{expr_view};
-ghost use Rattle.cc_operands.specs.Verdicts.{Judges};
+ghost use Rattle.cc_scopes.specs.CcOperands.Verdicts.{Judges};
 ghost use Rattle.cc_program.specs.declared.types.Shape.{out-Shape};
 ghost use Rattle.cc_scopes.specs.Outcomes.{Gives};
 ghost use Rattle.cc_scopes.specs.View.{state_of};
-ghost use Rattle.cc_syntax.specs.Initial.{is_zero as is_zero_of};
-ghost use Rattle.cc_syntax.specs.Values.{object_place as object_place_of};
+ghost use Rattle.cc_scopes.specs.CcSyntax.Initial.{is_zero as is_zero_of};
+ghost use Rattle.cc_scopes.specs.CcSyntax.Values.{object_place as object_place_of};
 ghost use Rattle.cc_typed_terms.specs.Primary.{intrinsic_named as intrinsic_named_of, is_intrinsic as is_intrinsic_of, function_by as function_by_of, linked_by as linked_by_of, linked as linked_of, designates as designates_of, named as named_of, number as number_of_spec, character as character_of, chars_type, char_leaf as char_leaf_of, leaves_or_none as leaves_or_none_of, string_found};
 ghost use Rattle.cc_program.specs.declared.value.Leaf.TheVariants as leaf;
 
 use cc_designators::{DesignatedType, TypedExpr, owned_place, placed as place_of, valued};
-use cc_lex::Suffix;
-use cc_num::{Boxed, IntType, List, Name, NoMemory, Target, at};
-use cc_operands::{Breach, Rule, character_value, integer, number_type};
+use cc_program::num::{Boxed, IntType, List, Name, NoMemory, Target, at};
+use cc_scopes::lex::Suffix;
+use cc_scopes::operands::{Breach, Rule, character_value, integer, number_type};
+use cc_scopes::syntax::{CType, Intr, Leaf, Place, Roles, Shape};
+use cc_scopes::typed::object_place;
 use cc_scopes::{Declared, Designated, Linkage, State, Stop, UnitKind, placed};
-use cc_syntax::{CType, Intr, Leaf, Place, Roles, Shape};
-use cc_typed::object_place;
 use std::alloc::Global;
 
 fn same(name: &[u8], other: &[u8]) -> bool
@@ -153,7 +153,7 @@ fn is_zero(leaf: &Leaf) -> bool
 {
     match leaf {
         Leaf::Int(n) => *n == 0,
-        Leaf::Place(cc_syntax::Address::Null) => true,
+        Leaf::Place(cc_scopes::syntax::Address::Null) => true,
         Leaf::Place(_) => false,
     }
 }

@@ -1,18 +1,18 @@
 //! sizeof (C99 6.5.3.4).
 
 ghost use Rattle.cc_designators.specs.View.{designated_view, expr_view};
-ghost use Rattle.cc_operands.specs.Verdicts.{Judges};
-ghost use Rattle.cc_operands.specs.View.{operand_view};
+ghost use Rattle.cc_scopes.specs.CcOperands.Verdicts.{Judges};
+ghost use Rattle.cc_scopes.specs.CcOperands.View.{operand_view};
 ghost use Rattle.cc_scopes.specs.View.{state_of};
 ghost use Rattle.cc_typed_terms.specs.Sizes.{size_of_type as size_of_type_of, size_of_place as size_of_place_of, sizeof_judged};
 ghost use Rattle.cc_typed_terms.specs.Values.{found_value};
 
 use cc_designators::{DesignatedType, TypedExpr, size_value, valued};
-use cc_num::Target;
-use cc_operands::{Breach, Operand, Rule, type_of_value};
+use cc_program::num::Target;
 use cc_scopes::State;
+use cc_scopes::operands::{Breach, Operand, Rule, type_of_value};
+use cc_scopes::syntax::CType;
 use cc_specifiers::object_size;
-use cc_syntax::CType;
 use std::alloc::Global;
 
 /// The size of a type: none that an object may not have is one that size_t holds.

@@ -2,13 +2,13 @@
 
 ghost use Rattle.std.specs.Prelude.{◌≡◌};
 ghost use Rattle.std.specs.Option.{option_copied};
-ghost use Rattle.cc_operands.specs.Verdicts.{Judges};
+ghost use Rattle.cc_scopes.specs.CcOperands.Verdicts.{Judges};
 ghost use Rattle.cc_scopes.specs.Outcomes.{Gives};
 ghost use Rattle.cc_scopes.specs.View.{state_of};
 ghost use Rattle.cc_typed_terms.specs.Specifiers.{begin as begin_of, type_named as type_named_of, marked as marked_of, structure_tag, enumeration_tag};
 
-use cc_num::Name;
-use cc_operands::{Breach, Rule};
+use cc_program::num::Name;
+use cc_scopes::operands::{Breach, Rule};
 use cc_scopes::{Designated, State, Stop, enumeration_named, placed, structure_named};
 use cc_specifiers::{Specifier, attributes_in};
 use cc_tree::{At, Attr, Spec};

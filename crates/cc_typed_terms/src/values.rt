@@ -2,18 +2,18 @@
 
 ghost use Rattle.std.specs.Prelude.{◌≡◌};
 ghost use Rattle.cc_designators.specs.View.{expr_view};
-ghost use Rattle.cc_operands.specs.Verdicts.{Judges};
-ghost use Rattle.cc_operands.specs.View.{operand_view};
+ghost use Rattle.cc_scopes.specs.CcOperands.Verdicts.{Judges};
+ghost use Rattle.cc_scopes.specs.CcOperands.View.{operand_view};
 ghost use Rattle.cc_scopes.specs.Outcomes.{Gives};
 ghost use Rattle.cc_scopes.specs.State.{State as Known};
 ghost use Rattle.cc_typed_terms.specs.Operators.{intrinsic_in as intrinsic_in_of};
 ghost use Rattle.cc_typed_terms.specs.Values.{valued as valued_of, designating as designating_of, found_value, null_judged};
 
 use cc_designators::{TypedExpr, null, value_at, valued};
-use cc_num::Boxed;
-use cc_operands::{Breach, Operand, OperandType, Rule, typed};
+use cc_program::num::Boxed;
+use cc_scopes::operands::{Breach, Operand, OperandType, Rule, typed};
+use cc_scopes::syntax::{CType, Expr, Intr};
 use cc_scopes::{Stop, placed};
-use cc_syntax::{CType, Expr, Intr};
 use std::alloc::Global;
 
 /// What an integer constant that is cast to a pointer type is elsewhere than behind `*`: a null.

@@ -6,7 +6,7 @@ ghost use Rattle.cc_unit.specs.Renumbered.{object_by as object_by_of, func_by as
 
 use crate::ids::{Id, Ids};
 use crate::types::renumber_boxed_type;
-use cc_num::{Boxed, List, NoMemory, at};
+use cc_program::num::{Boxed, List, NoMemory, at};
 use cc_program::{Expr, Place};
 use std::alloc::Global;
 

@@ -1,4 +1,4 @@
-use cc_num::List;
+use cc_program::num::List;
 
 /// What a name of one source is in the program, by its id there.
 #[derive(Clone, Copy)]

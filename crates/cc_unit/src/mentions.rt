@@ -6,7 +6,7 @@ ghost use Rattle.cc_unit.specs.Mentioned.{in_root, in_address, in_leaf, in_func,
 
 use crate::spoken::put_stmts;
 use crate::unit::{UnitKind, UnitName};
-use cc_num::{Boxed, NoMemory};
+use cc_program::num::{Boxed, NoMemory};
 use cc_program::{Address, Func, Leaf, Root};
 use std::alloc::Global;
 

@@ -3,7 +3,7 @@
 ghost use Rattle.std.specs.Prelude.{◌≡◌, ◌++◌, OnOk, map};
 ghost use Rattle.cc_unit.specs.Mentioned.{all_of, in_expr, in_place, in_maybe, in_stmt, in_case};
 
-use cc_num::{Boxed, NoMemory};
+use cc_program::num::{Boxed, NoMemory};
 use cc_program::{Case, Expr, Place, Stmt};
 
 #[cycle(expressions)]

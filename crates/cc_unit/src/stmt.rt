@@ -5,7 +5,7 @@ ghost use Rattle.cc_unit.specs.Renumbered.{expr_renumbered, stmt_renumbered, cas
 
 use crate::expr::renumber_boxed;
 use crate::ids::Ids;
-use cc_num::{Boxed, List, NoMemory};
+use cc_program::num::{Boxed, List, NoMemory};
 use cc_program::{Case, Expr, Stmt, copy_list};
 use std::alloc::Global;
 

@@ -3,7 +3,7 @@
 ghost use Rattle.std.specs.Prelude.{◌≡◌, IfOk, slice_get, map};
 ghost use Rattle.cc_unit.specs.Renumbered.{structure_by, type_renumbered, shape_renumbered, sig_renumbered};
 
-use cc_num::{Boxed, List, NoMemory, at};
+use cc_program::num::{Boxed, List, NoMemory, at};
 use cc_program::{CType, Shape, Sig};
 use std::alloc::Global;
 

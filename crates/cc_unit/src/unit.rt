@@ -1,4 +1,4 @@
-use cc_num::{Boxed, List, Name};
+use cc_program::num::{Boxed, List, Name};
 use cc_program::{CType, Device, Entry, Func, Leaf};
 
 /// The part of a program that one source gives. A static object, a device or a function is named by its position

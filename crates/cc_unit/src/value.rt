@@ -5,7 +5,7 @@ ghost use Rattle.cc_unit.specs.Renumbered.{root_renumbered, address_renumbered, 
 
 use crate::expr::{func_at, object_at};
 use crate::ids::Ids;
-use cc_num::NoMemory;
+use cc_program::num::NoMemory;
 use cc_program::{Address, Leaf, Root, copy_list};
 use std::alloc::Global;
 

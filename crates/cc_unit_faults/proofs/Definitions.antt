@@ -1,37 +1,37 @@
 -- The law of function definitions.
 use Rattle.std.proofs.Common.{ℕ, false, List, [], ◌∷◌, map, Option, Some, None, refl}
-use Rattle.cc_typed_terms.specs.Declarators.{derived_type}
-use Rattle.cc_typed_terms.specs.Located.{located}
-use Rattle.cc_typed_terms.specs.Specifiers.{begin}
+use Rattle.cc_type.specs.CcTypedTerms.Declarators.{derived_type}
+use Rattle.cc_type.specs.CcTypedTerms.Located.{located}
+use Rattle.cc_type.specs.CcTypedTerms.Specifiers.{begin}
 use Rattle.cc_first_faults.proofs.Declarators.{attributes-told, derivations-told}
 use Rattle.cc_first_faults.proofs.Lawful.{own-whole}
 use Rattle.cc_first_faults.specs.Constructs.{Specifiers, Declaring}
 use Rattle.cc_first_faults.specs.Parts.{attribute_parts, derivation_parts}
-use Rattle.cc_num.specs.declared.target.Target.{Target}
+use Rattle.cc_program.specs.CcNum.declared.target.Target.{Target}
 use Rattle.cc_program.specs.declared.program.Roles.{Roles}
 use Rattle.cc_program.specs.declared.types.CType.{CType}
 use Rattle.cc_program.specs.declared.types.Sig.{out-Sig}
-use Rattle.cc_scopes.specs.State.{State, Name, Scope}
-use Rattle.cc_scopes.specs.Verdicts.{whole}
-use Rattle.cc_specifiers.specs.Attributes.{attributes, entry_by}
-use Rattle.cc_specifiers.specs.Derivations.{in_definition}
-use Rattle.cc_specifiers.specs.Storage.{setting}
-use Rattle.cc_specifiers.specs.declared.attribute.Attribute.{Attribute}
-use Rattle.cc_specifiers.specs.declared.attribute.Entity.TheVariants as entity
-use Rattle.cc_specifiers.specs.declared.derivation.Derivation.{Derivation}
-use Rattle.cc_specifiers.specs.declared.specifier.Specified.{Specified}
-use Rattle.cc_specifiers.specs.declared.storage.Where.TheVariants as stands
-use Rattle.cc_terms.specs.Specifiers.{specified_found}
-use Rattle.cc_terms.specs.Terms.{declr_of, spec_here}
+use Rattle.cc_type.specs.CcScopes.State.{State, Name, Scope}
+use Rattle.cc_type.specs.CcScopes.Verdicts.{whole}
+use Rattle.cc_type.specs.CcSpecifiers.Attributes.{attributes, entry_by}
+use Rattle.cc_type.specs.CcSpecifiers.Derivations.{in_definition}
+use Rattle.cc_type.specs.CcSpecifiers.Storage.{setting}
+use Rattle.cc_type.specs.CcSpecifiers.declared.attribute.Attribute.{Attribute}
+use Rattle.cc_type.specs.CcSpecifiers.declared.attribute.Entity.TheVariants as entity
+use Rattle.cc_type.specs.CcSpecifiers.declared.derivation.Derivation.{Derivation}
+use Rattle.cc_type.specs.CcSpecifiers.declared.specifier.Specified.{Specified}
+use Rattle.cc_type.specs.CcSpecifiers.declared.storage.Where.TheVariants as stands
+use Rattle.cc_type.specs.CcTerms.Specifiers.{specified_found}
+use Rattle.cc_type.specs.CcTerms.Terms.{declr_of, spec_here}
 use Rattle.cc_tree.specs.declared.at.At.{At}
 use Rattle.cc_tree.specs.declared.tree.Attr.{Attr}
 use Rattle.cc_tree.specs.declared.tree.Declr.{Declr}
 use Rattle.cc_tree.specs.declared.tree.Spec.{Spec}
 use Rattle.cc_tree.specs.declared.unit.Line.{Line}
 use Rattle.cc_type.specs.Functions.{definition_judged, definition_marks, signature_of, asked_by, named_function}
-use Rattle.cc_typed_bodies.specs.Lines.{line_here}
-use Rattle.cc_typed_bodies.specs.Meanings.{lines_found}
-use Rattle.cc_typed_statements.specs.Jumps.{no_jumps}
+use Rattle.cc_type.specs.CcTypedBodies.Lines.{line_here}
+use Rattle.cc_type.specs.CcTypedBodies.Meanings.{lines_found}
+use Rattle.cc_type.specs.CcTypedStatements.Jumps.{no_jumps}
 use Rattle.cc_unit_faults.specs.Constructs.{Within, Definition, DefinitionNamed}
 use Rattle.cc_unit_faults.specs.Parts.{within_unit, line_parts, in_body, named_parts}
 use Rattle.cc_unit_faults.proofs.Laws.{Law, Told, first, single, followed, last}

@@ -2,12 +2,12 @@
 use Rattle.std.proofs.Common.{◌≡◌, ℕ, List, [], ◌∷◌, ◌++◌, map}
 use Rattle.cc_first_faults.proofs.Lawful.{Own, IsFirst, Lawful, IsLawful, first-of, of-one, of-then, of-last, of-turn, of-list}
 use Rattle.cc_first_faults.specs.FirstFaults.{forget, after, parts_in_turn}
-use Rattle.cc_num.specs.declared.target.Target.{Target}
+use Rattle.cc_program.specs.CcNum.declared.target.Target.{Target}
 use Rattle.cc_program.proofs.Each.{Each}
 use Rattle.cc_program.specs.declared.program.Roles.{Roles}
-use Rattle.cc_scopes.specs.State.{State, Name}
-use Rattle.cc_scopes.specs.Verdicts.{Found, and_then}
-use Rattle.cc_terms.specs.InTurn.{in_turn}
+use Rattle.cc_type.specs.CcScopes.State.{State, Name}
+use Rattle.cc_type.specs.CcScopes.Verdicts.{Found, and_then}
+use Rattle.cc_type.specs.CcTerms.InTurn.{in_turn}
 use Rattle.cc_unit_faults.specs.Behind.{behind}
 use Rattle.cc_unit_faults.specs.Constructs.{Construct, place}
 use Rattle.cc_unit_faults.specs.Parts.{parts}

@@ -6,11 +6,11 @@ use Rattle.cc_first_faults.specs.Behind.{behind as behind_inner}
 use Rattle.cc_first_faults.specs.Constructs.{Construct as Inner, place as inner_place}
 use Rattle.cc_first_faults.specs.FirstFaults.{forget, BreakNone, IsCarried, Itself, InPart}
 use Rattle.cc_first_faults.specs.Parts.{parts as inner_parts}
-use Rattle.cc_num.specs.declared.target.Target.{Target}
+use Rattle.cc_program.specs.CcNum.declared.target.Target.{Target}
 use Rattle.cc_program.specs.declared.program.Roles.{Roles}
-use Rattle.cc_scopes.specs.State.{State, Name}
-use Rattle.cc_scopes.specs.Verdicts.{Found}
-use Rattle.cc_scopes.specs.declared.verdict.Fault.{Fault}
+use Rattle.cc_type.specs.CcScopes.State.{State, Name}
+use Rattle.cc_type.specs.CcScopes.Verdicts.{Found}
+use Rattle.cc_type.specs.CcScopes.declared.verdict.Fault.{Fault}
 use Rattle.cc_unit_faults.specs.Behind.{behind}
 use Rattle.cc_unit_faults.specs.Constructs.{Construct, Within, place}
 use Rattle.cc_unit_faults.specs.Parts.{parts, within_unit}

@@ -2,29 +2,29 @@
 use Rattle.std.proofs.Common.{◌≡◌, ◌∙◌, ℕ, ℤ, Bool, true, false, List, [], ◌∷◌, ◌++◌, map, Option, Some, None, option_map, refl, ap, sym, subst, if◌then◌else◌}
 use Rattle.cc_first_faults.proofs.Induction.{plain}
 use Rattle.cc_first_faults.proofs.Lawful.{own-whole, same-state}
-use Rattle.cc_num.specs.declared.int_type.IntType.{IntType}
-use Rattle.cc_num.specs.declared.target.Target.{Target}
-use Rattle.cc_operands.specs.Verdicts.{Judged}
+use Rattle.cc_program.specs.CcNum.declared.int_type.IntType.{IntType}
+use Rattle.cc_program.specs.CcNum.declared.target.Target.{Target}
+use Rattle.cc_type.specs.CcOperands.Verdicts.{Judged}
 use Rattle.cc_program.proofs.Each.{Each, each_of}
 use Rattle.cc_program.specs.declared.program.Roles.{Roles}
 use Rattle.cc_program.specs.declared.stmt.Stmt.{Stmt}
 use Rattle.cc_program.specs.declared.types.CType.{CType}
-use Rattle.cc_scopes.specs.State.{State, Name, empty, entered}
-use Rattle.cc_scopes.specs.Verdicts.{maybe_found}
+use Rattle.cc_type.specs.CcScopes.State.{State, Name, empty, entered}
+use Rattle.cc_type.specs.CcScopes.Verdicts.{maybe_found}
 use Rattle.cc_tree.specs.declared.at.At.{At}
 use Rattle.cc_tree.specs.declared.tree.Tree.{Tree}
 use Rattle.cc_tree.specs.declared.unit.First.{First as FirstPart}
 use Rattle.cc_tree.specs.declared.unit.Line.{Line, ind-Line, out-Line, roll-Line, out-roll-Line, map-Line, fold_out-Line}
 use Rattle.cc_tree.specs.declared.unit.Line.TheOpen as one_line
-use Rattle.cc_typed_bodies.specs.Lines.{misplaced, label_found, misplaced_case, case_found, if_found, while_found, do_found, switch_found, for_found, inside, line_by, switched_by, item_by, line_step, line_of, line_here}
-use Rattle.cc_typed_bodies.specs.Meanings.{LineMeaning, scoped, line_found, lines_found, block_found, body_inside, body_found, maybe_body, item_found, items_found, cases_inside, not_switched, switch_body, counts, unlabelled}
-use Rattle.cc_typed_bodies.specs.Parts.{value_here, effect_found, expression_found, first_found}
-use Rattle.cc_typed_statements.specs.Jumps.{in_loop, in_switch, break_of, continue_of}
-use Rattle.cc_typed_statements.specs.Labels.{no_case, case_label, default_label, cases_behind, label_done}
-use Rattle.cc_typed_statements.specs.Statements.{if_of, while_of, do_of, for_of}
-use Rattle.cc_typed_statements.specs.Switch.{switch_type, switch_of}
-use Rattle.cc_typed_statements.specs.declared.cases.Cases.{Cases}
-use Rattle.cc_typed_statements.specs.declared.jumps.Jumps.{Jumps}
+use Rattle.cc_type.specs.CcTypedBodies.Lines.{misplaced, label_found, misplaced_case, case_found, if_found, while_found, do_found, switch_found, for_found, inside, line_by, switched_by, item_by, line_step, line_of, line_here}
+use Rattle.cc_type.specs.CcTypedBodies.Meanings.{LineMeaning, scoped, line_found, lines_found, block_found, body_inside, body_found, maybe_body, item_found, items_found, cases_inside, not_switched, switch_body, counts, unlabelled}
+use Rattle.cc_type.specs.CcTypedBodies.Parts.{value_here, effect_found, expression_found, first_found}
+use Rattle.cc_type.specs.CcTypedStatements.Jumps.{in_loop, in_switch, break_of, continue_of}
+use Rattle.cc_type.specs.CcTypedStatements.Labels.{no_case, case_label, default_label, cases_behind, label_done}
+use Rattle.cc_type.specs.CcTypedStatements.Statements.{if_of, while_of, do_of, for_of}
+use Rattle.cc_type.specs.CcTypedStatements.Switch.{switch_type, switch_of}
+use Rattle.cc_type.specs.CcTypedStatements.declared.cases.Cases.{Cases}
+use Rattle.cc_type.specs.CcTypedStatements.declared.jumps.Jumps.{Jumps}
 use Rattle.cc_unit_faults.specs.Constructs.{Statement, SwitchBody, Labelled}
 use Rattle.cc_unit_faults.specs.Parts.{value_if_any, effect_if_any, first_parts, body_part, else_part, line_parts, inside_parts, statement_parts, switch_parts, labelled_parts}
 use Rattle.cc_unit_faults.proofs.Laws.{First, Law, Told, first, single, followed, last, turns}

@@ -3,23 +3,23 @@ use Rattle.std.proofs.Common.{ℕ, List, [], ◌∷◌, Option, Some, None, Ok, 
 use Rattle.cc_first_faults.proofs.Lawful.{Own, own-whole}
 use Rattle.cc_first_faults.specs.Constructs.{ValueOf, Declaration}
 use Rattle.cc_first_faults.specs.FirstFaults.{forget}
-use Rattle.cc_num.specs.declared.target.Target.{Target}
-use Rattle.cc_operands.specs.Operands.{Operand}
+use Rattle.cc_program.specs.CcNum.declared.target.Target.{Target}
+use Rattle.cc_type.specs.CcOperands.Operands.{Operand}
 use Rattle.cc_program.specs.declared.program.Roles.{Roles}
 use Rattle.cc_program.specs.declared.types.CType.{CType}
-use Rattle.cc_scopes.specs.State.{State, Name, empty, entered}
-use Rattle.cc_scopes.specs.Verdicts.{Found, whole, and_then, maybe_found}
-use Rattle.cc_specifiers.specs.declared.storage.Where.TheVariants as stands
+use Rattle.cc_type.specs.CcScopes.State.{State, Name, empty, entered}
+use Rattle.cc_type.specs.CcScopes.Verdicts.{Found, whole, and_then, maybe_found}
+use Rattle.cc_type.specs.CcSpecifiers.declared.storage.Where.TheVariants as stands
 use Rattle.cc_tree.specs.declared.at.At.{At}
 use Rattle.cc_tree.specs.declared.tree.Tree.{Tree}
 use Rattle.cc_tree.specs.declared.unit.Decl.{Decl}
 use Rattle.cc_tree.specs.declared.unit.First.{First as FirstPart}
 use Rattle.cc_tree.specs.declared.unit.First.TheVariants as first_part
-use Rattle.cc_typed_bodies.specs.Meanings.{scoped}
-use Rattle.cc_typed_bodies.specs.Parts.{value_here, effect_found, expression_found, return_found, declared_found, first_found}
-use Rattle.cc_typed_bodies.specs.Declarations.{declaration}
-use Rattle.cc_typed_statements.specs.Conditions.{effect}
-use Rattle.cc_typed_statements.specs.Jumps.{returned}
+use Rattle.cc_type.specs.CcTypedBodies.Meanings.{scoped}
+use Rattle.cc_type.specs.CcTypedBodies.Parts.{value_here, effect_found, expression_found, return_found, declared_found, first_found}
+use Rattle.cc_type.specs.CcTypedBodies.Declarations.{declaration}
+use Rattle.cc_type.specs.CcTypedStatements.Conditions.{effect}
+use Rattle.cc_type.specs.CcTypedStatements.Jumps.{returned}
 use Rattle.cc_unit_faults.specs.Constructs.{Construct, Within, EffectOf}
 use Rattle.cc_unit_faults.specs.Parts.{value_part, value_if_any, effect_if_any, first_parts}
 use Rattle.cc_unit_faults.proofs.Laws.{Law, Told, first, single, followed, last}

@@ -1,18 +1,18 @@
 -- The law of all constructs of a unit, and what it says of the whole.
 use Rattle.std.proofs.Common.{◌≡◌, List, Result, Ok, Err, refl, ap}
-use Rattle.cc_typed_terms.specs.Specifiers.{begin}
+use Rattle.cc_type.specs.CcTypedTerms.Specifiers.{begin}
 use Rattle.cc_first_faults.proofs.Declarations.{law as inner-law}
 use Rattle.cc_first_faults.proofs.Lawful.{own-whole, same-state, first-of, alone, within}
 use Rattle.cc_first_faults.specs.Behind.{behind as behind_inner}
 use Rattle.cc_first_faults.specs.Constructs.{Declaration, place as inner_place}
 use Rattle.cc_first_faults.specs.FirstFaults.{forget, BreaksNone, Whole}
 use Rattle.cc_first_faults.specs.Parts.{parts as inner_parts}
-use Rattle.cc_num.specs.declared.target.Target.{Target}
+use Rattle.cc_program.specs.CcNum.declared.target.Target.{Target}
 use Rattle.cc_program.specs.declared.program.Roles.{Roles}
-use Rattle.cc_scopes.specs.State.{State, Name, at_first}
-use Rattle.cc_scopes.specs.Verdicts.{Found, Checked, checked}
-use Rattle.cc_scopes.specs.declared.verdict.Fault.{Fault}
-use Rattle.cc_specifiers.specs.declared.storage.Where.TheVariants as stands
+use Rattle.cc_type.specs.CcScopes.State.{State, Name, at_first}
+use Rattle.cc_type.specs.CcScopes.Verdicts.{Found, Checked, checked}
+use Rattle.cc_type.specs.CcScopes.declared.verdict.Fault.{Fault}
+use Rattle.cc_type.specs.CcSpecifiers.declared.storage.Where.TheVariants as stands
 use Rattle.cc_tree.specs.declared.at.At.{At}
 use Rattle.cc_tree.specs.declared.unit.Item.{Item}
 use Rattle.cc_tree.specs.declared.unit.Item.TheVariants as item
@@ -21,9 +21,9 @@ use Rattle.cc_type.specs.Defined.{defined_names}
 use Rattle.cc_type.specs.Functions.{definition_judged}
 use Rattle.cc_type.specs.Typed.{IsTyped, IsBroken}
 use Rattle.cc_type.specs.Units.{item_found, item_next, items_found, unit_found, unit_of}
-use Rattle.cc_typed_bodies.specs.Declarations.{declaration}
-use Rattle.cc_numbering.specs.Units.{unit_left}
-use Rattle.cc_unit.specs.declared.unit.TypedUnit.{TypedUnit}
+use Rattle.cc_type.specs.CcTypedBodies.Declarations.{declaration}
+use Rattle.cc_type.specs.CcNumbering.Units.{unit_left}
+use Rattle.cc_type.specs.CcUnit.declared.unit.TypedUnit.{TypedUnit}
 use Rattle.cc_unit_faults.specs.Behind.{behind}
 use Rattle.cc_unit_faults.specs.Constructs.{Construct, Within, EffectOf, Statement, SwitchBody, Labelled, Definition, DefinitionNamed, WholeUnit, item_construct, place}
 use Rattle.cc_unit_faults.specs.FirstFault.{IsFirstFault, BreaksNoRule}

@@ -2,15 +2,15 @@
 use Rattle.std.specs.Prelude.{List, Result}
 use Rattle.cc_first_faults.specs.Behind.{behind as behind_inner}
 use Rattle.cc_first_faults.specs.FirstFaults.{forget}
-use Rattle.cc_num.specs.declared.target.Target.{Target}
+use Rattle.cc_program.specs.CcNum.declared.target.Target.{Target}
 use Rattle.cc_program.specs.declared.program.Roles.{Roles}
-use Rattle.cc_scopes.specs.State.{State, Name}
-use Rattle.cc_scopes.specs.Verdicts.{whole}
-use Rattle.cc_scopes.specs.declared.verdict.Fault.{Fault}
+use Rattle.cc_type.specs.CcScopes.State.{State, Name}
+use Rattle.cc_type.specs.CcScopes.Verdicts.{whole}
+use Rattle.cc_type.specs.CcScopes.declared.verdict.Fault.{Fault}
 use Rattle.cc_type.specs.Functions.{definition_judged, function_found}
 use Rattle.cc_type.specs.Units.{items_found}
-use Rattle.cc_typed_bodies.specs.Lines.{line_of}
-use Rattle.cc_typed_bodies.specs.Parts.{effect_found}
+use Rattle.cc_type.specs.CcTypedBodies.Lines.{line_of}
+use Rattle.cc_type.specs.CcTypedBodies.Parts.{effect_found}
 use Rattle.cc_unit_faults.specs.Constructs.{Construct, Within, EffectOf, Statement, SwitchBody, Labelled, Definition, DefinitionNamed, WholeUnit}
 
 module _ (target : Target) (roles : Roles) (defined : List Name) where

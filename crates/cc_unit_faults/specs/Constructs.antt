@@ -1,13 +1,13 @@
 -- The constructs of a translation unit (C99 6.8, 6.9), each with what has been found in front of it, and where each begins.
 use Rattle.std.specs.Prelude.{ℕ, List}
-use Rattle.cc_typed_terms.specs.Specifiers.{begin}
+use Rattle.cc_type.specs.CcTypedTerms.Specifiers.{begin}
 use Rattle.cc_first_faults.specs.Constructs.{Construct as Inner, Declaration, place as inner_place}
-use Rattle.cc_linkage.specs.declared.linkage.DeclaredAs.{DeclaredAs}
-use Rattle.cc_num.specs.declared.int_type.IntType.{IntType}
+use Rattle.cc_type.specs.CcLinkage.declared.linkage.DeclaredAs.{DeclaredAs}
+use Rattle.cc_program.specs.CcNum.declared.int_type.IntType.{IntType}
 use Rattle.cc_program.specs.declared.types.CType.{CType}
-use Rattle.cc_scopes.specs.State.{Name, Scope}
-use Rattle.cc_specifiers.specs.declared.derivation.Derivation.{Derivation}
-use Rattle.cc_specifiers.specs.declared.storage.Where.TheVariants as stands
+use Rattle.cc_type.specs.CcScopes.State.{Name, Scope}
+use Rattle.cc_type.specs.CcSpecifiers.declared.derivation.Derivation.{Derivation}
+use Rattle.cc_type.specs.CcSpecifiers.declared.storage.Where.TheVariants as stands
 use Rattle.cc_tree.specs.declared.at.At.{At}
 use Rattle.cc_tree.specs.declared.tree.Attr.{Attr}
 use Rattle.cc_tree.specs.declared.tree.Declr.{Declr}
@@ -16,8 +16,8 @@ use Rattle.cc_tree.specs.declared.tree.Tree.{Tree}
 use Rattle.cc_tree.specs.declared.unit.Item.{Item}
 use Rattle.cc_tree.specs.declared.unit.Item.TheVariants as item
 use Rattle.cc_tree.specs.declared.unit.Line.{Line}
-use Rattle.cc_typed_statements.specs.declared.cases.Cases.{Cases}
-use Rattle.cc_typed_statements.specs.declared.jumps.Jumps.{Jumps}
+use Rattle.cc_type.specs.CcTypedStatements.declared.cases.Cases.{Cases}
+use Rattle.cc_type.specs.CcTypedStatements.declared.jumps.Jumps.{Jumps}
 
 pub data Construct : Type 0 where
   -- a declaration, and what stands in one

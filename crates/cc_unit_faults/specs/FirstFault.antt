@@ -1,9 +1,9 @@
 -- Which fault a unit carries: that of the first construct in it that breaks a rule.
 use Rattle.cc_first_faults.specs.FirstFaults.{BreaksNone, IsCarried, IsWithin}
-use Rattle.cc_num.specs.declared.target.Target.{Target}
+use Rattle.cc_program.specs.CcNum.declared.target.Target.{Target}
 use Rattle.cc_program.specs.declared.program.Roles.{Roles}
-use Rattle.cc_scopes.specs.State.{State, at_first}
-use Rattle.cc_scopes.specs.declared.verdict.Fault.{Fault}
+use Rattle.cc_type.specs.CcScopes.State.{State, at_first}
+use Rattle.cc_type.specs.CcScopes.declared.verdict.Fault.{Fault}
 use Rattle.cc_tree.specs.declared.unit.Unit.{Unit as UnitTree}
 use Rattle.cc_type.specs.Defined.{defined_names}
 use Rattle.cc_unit_faults.specs.Behind.{behind}

@@ -1,31 +1,31 @@
 -- The parts of a construct of a unit in the order in which they are read, each with what is known in front of it (C99 6.8,
 -- 6.9).
 use Rattle.std.specs.Prelude.{ℕ, false, List, [], ◌∷◌, ◌++◌, map, Option, Some, None, if◌then◌else◌}
-use Rattle.cc_typed_terms.specs.Declarators.{derived_type}
+use Rattle.cc_type.specs.CcTypedTerms.Declarators.{derived_type}
 use Rattle.cc_first_faults.specs.Constructs.{Construct as Inner, ValueOf, Specifiers, Declaring, Declaration}
 use Rattle.cc_first_faults.specs.FirstFaults.{after, parts_in_turn}
 use Rattle.cc_first_faults.specs.Parts.{parts as inner_parts, attribute_parts, derivation_parts}
-use Rattle.cc_linkage.specs.Linkage.{declared}
-use Rattle.cc_linkage.specs.declared.linkage.DeclaredAs.{DeclaredAs}
-use Rattle.cc_num.specs.declared.int_type.IntType.{IntType}
-use Rattle.cc_num.specs.declared.target.Target.{Target}
-use Rattle.cc_operands.specs.Operands.{Operand}
+use Rattle.cc_type.specs.CcLinkage.Linkage.{declared}
+use Rattle.cc_type.specs.CcLinkage.declared.linkage.DeclaredAs.{DeclaredAs}
+use Rattle.cc_program.specs.CcNum.declared.int_type.IntType.{IntType}
+use Rattle.cc_program.specs.CcNum.declared.target.Target.{Target}
+use Rattle.cc_type.specs.CcOperands.Operands.{Operand}
 use Rattle.cc_program.specs.declared.func.Entry.{Entry}
 use Rattle.cc_program.specs.declared.program.Roles.{Roles}
 use Rattle.cc_program.specs.declared.types.CType.{CType}
 use Rattle.cc_program.specs.declared.types.Sig.{out-Sig}
-use Rattle.cc_scopes.specs.State.{State, Name, Scope, empty, entered, with_locals}
-use Rattle.cc_scopes.specs.Verdicts.{whole, maybe_found, checked}
-use Rattle.cc_specifiers.specs.Attributes.{entry_by}
-use Rattle.cc_specifiers.specs.Derivations.{in_definition}
-use Rattle.cc_specifiers.specs.Storage.{setting}
-use Rattle.cc_specifiers.specs.declared.attribute.Entity.TheVariants as entity
-use Rattle.cc_specifiers.specs.declared.derivation.Derivation.{Derivation}
-use Rattle.cc_specifiers.specs.declared.derivation.Parameter.{Parameter}
-use Rattle.cc_specifiers.specs.declared.specifier.Specified.{Specified}
-use Rattle.cc_specifiers.specs.declared.storage.Where.TheVariants as stands
-use Rattle.cc_terms.specs.Specifiers.{specified_found}
-use Rattle.cc_terms.specs.Terms.{declr_of, spec_here}
+use Rattle.cc_type.specs.CcScopes.State.{State, Name, Scope, empty, entered, with_locals}
+use Rattle.cc_type.specs.CcScopes.Verdicts.{whole, maybe_found, checked}
+use Rattle.cc_type.specs.CcSpecifiers.Attributes.{entry_by}
+use Rattle.cc_type.specs.CcSpecifiers.Derivations.{in_definition}
+use Rattle.cc_type.specs.CcSpecifiers.Storage.{setting}
+use Rattle.cc_type.specs.CcSpecifiers.declared.attribute.Entity.TheVariants as entity
+use Rattle.cc_type.specs.CcSpecifiers.declared.derivation.Derivation.{Derivation}
+use Rattle.cc_type.specs.CcSpecifiers.declared.derivation.Parameter.{Parameter}
+use Rattle.cc_type.specs.CcSpecifiers.declared.specifier.Specified.{Specified}
+use Rattle.cc_type.specs.CcSpecifiers.declared.storage.Where.TheVariants as stands
+use Rattle.cc_type.specs.CcTerms.Specifiers.{specified_found}
+use Rattle.cc_type.specs.CcTerms.Terms.{declr_of, spec_here}
 use Rattle.cc_tree.specs.declared.at.At.{At}
 use Rattle.cc_tree.specs.declared.tree.Attr.{Attr}
 use Rattle.cc_tree.specs.declared.tree.Declr.{Declr}
@@ -37,15 +37,15 @@ use Rattle.cc_tree.specs.declared.unit.Line.{Line, out-Line}
 use Rattle.cc_tree.specs.declared.unit.Line.TheOpen as one_line
 use Rattle.cc_type.specs.Functions.{definition_judged, definition_marks, entered_function, locals_of, signature_of, asked_by}
 use Rattle.cc_type.specs.Units.{item_next}
-use Rattle.cc_typed_bodies.specs.Lines.{line_here}
-use Rattle.cc_typed_bodies.specs.Meanings.{opens_scope, line_found, body_found, item_found}
-use Rattle.cc_typed_bodies.specs.Parts.{value_here, effect_found, first_found}
-use Rattle.cc_typed_statements.specs.Jumps.{no_jumps, in_loop, in_switch}
-use Rattle.cc_typed_statements.specs.Labels.{no_case, case_label, default_label, cases_behind}
-use Rattle.cc_typed_statements.specs.Switch.{switch_type}
-use Rattle.cc_typed_statements.specs.declared.cases.Cases.{Cases}
-use Rattle.cc_typed_statements.specs.declared.jumps.Jumps.{Jumps}
-use Rattle.cc_unit.specs.declared.unit.UnitKind.TheVariants as kind
+use Rattle.cc_type.specs.CcTypedBodies.Lines.{line_here}
+use Rattle.cc_type.specs.CcTypedBodies.Meanings.{opens_scope, line_found, body_found, item_found}
+use Rattle.cc_type.specs.CcTypedBodies.Parts.{value_here, effect_found, first_found}
+use Rattle.cc_type.specs.CcTypedStatements.Jumps.{no_jumps, in_loop, in_switch}
+use Rattle.cc_type.specs.CcTypedStatements.Labels.{no_case, case_label, default_label, cases_behind}
+use Rattle.cc_type.specs.CcTypedStatements.Switch.{switch_type}
+use Rattle.cc_type.specs.CcTypedStatements.declared.cases.Cases.{Cases}
+use Rattle.cc_type.specs.CcTypedStatements.declared.jumps.Jumps.{Jumps}
+use Rattle.cc_type.specs.CcUnit.declared.unit.UnitKind.TheVariants as kind
 use Rattle.cc_unit_faults.specs.Constructs.{Construct, Within, EffectOf, Statement, SwitchBody, Labelled, Definition, DefinitionNamed, WholeUnit, item_construct}
 
 abbrev pub Parts : Type 0

@@ -1,14 +1,14 @@
 //! The law of the first fault, for translation units.
 
 ghost use Rattle.std.specs.Prelude.{◌≡◌, ℕ};
-ghost use Rattle.cc_num.specs.declared.target.Target.{Target};
-ghost use Rattle.cc_operands.specs.RuleNumbers.{number_of};
+ghost use Rattle.cc_program.specs.CcNum.declared.target.Target.{Target};
+ghost use Rattle.cc_type.specs.CcOperands.RuleNumbers.{number_of};
 ghost use Rattle.cc_program.specs.declared.program.Roles.{Roles};
-ghost use Rattle.cc_scopes.specs.declared.verdict.Fault.{Fault};
+ghost use Rattle.cc_type.specs.CcScopes.declared.verdict.Fault.{Fault};
 ghost use Rattle.cc_tree.specs.declared.unit.Unit.{Unit as UnitTree};
 ghost use Rattle.cc_type.specs.Typed.{IsTyped, Refuses};
 ghost use Rattle.cc_type.specs.declared.fault.TypeFault.TheVariants as told;
-ghost use Rattle.cc_unit.specs.declared.unit.TypedUnit.{TypedUnit};
+ghost use Rattle.cc_type.specs.CcUnit.declared.unit.TypedUnit.{TypedUnit};
 ghost use Rattle.cc_unit_faults.specs.FirstFault.{IsFirstFault, BreaksNoRule};
 
 /// A refusal names the rule and the place of the first fault: of a construct that breaks the rule, begins at the place, and

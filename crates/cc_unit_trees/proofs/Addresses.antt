@@ -23,12 +23,12 @@ use Rattle.cc_program.specs.declared.value.Part.{Part}
 use Rattle.cc_program.specs.declared.value.Part.TheVariants as part
 use Rattle.cc_program.specs.declared.value.Root.{Root}
 use Rattle.cc_program.specs.declared.value.Root.TheVariants as root
-use Rattle.cc_syntax.specs.Expressions.{of_one}
-use Rattle.cc_syntax.specs.Initial.{bound_of, step_into, place_at, leads_to_element, names_element, names_whole, names}
-use Rattle.cc_syntax.specs.Programs.{is_address}
-use Rattle.cc_syntax.specs.Lists.{is_count}
-use Rattle.cc_syntax.specs.Operators.{function_type}
-use Rattle.cc_syntax.specs.Values.{ValueType, PlaceType, object_place, pointer_to, element_of, address_of, is_assignable_some}
+use Rattle.cc_typed.specs.CcSyntax.Expressions.{of_one}
+use Rattle.cc_typed.specs.CcSyntax.Initial.{bound_of, step_into, place_at, leads_to_element, names_element, names_whole, names}
+use Rattle.cc_typed.specs.CcSyntax.Programs.{is_address}
+use Rattle.cc_typed.specs.CcSyntax.Lists.{is_count}
+use Rattle.cc_typed.specs.CcSyntax.Operators.{function_type}
+use Rattle.cc_typed.specs.CcSyntax.Values.{ValueType, PlaceType, object_place, pointer_to, element_of, address_of, is_assignable_some}
 use Rattle.cc_tree.specs.declared.tree.Tree as tree
 use Rattle.cc_tree.specs.declared.tree.Tree.{Tree}
 use Rattle.cc_tree.specs.Terms.{ANumber}

@@ -1,6 +1,6 @@
 -- Blocks, lists of statements and labels, over what their statements are read as.
 use Rattle.std.proofs.Common.{◌≡◌, ℕ, ◌+◌, ℤ, List, [], ◌∷◌, ◌++◌, map, length, Option, Some, None, refl, sym, subst, append_assoc, append-nil}
-use Rattle.cc_num.specs.declared.int_type.IntType.{IntType}
+use Rattle.cc_program.specs.CcNum.declared.int_type.IntType.{IntType}
 use Rattle.cc_lex.specs.declared.token.Mark.TheVariants as m
 use Rattle.cc_bodies.specs.Stmts.{StmtText, all_lines, opened, ended, label_lines}
 use Rattle.cc_expression_trees.proofs.Integers.{constant-read}

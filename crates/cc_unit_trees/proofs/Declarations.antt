@@ -1,8 +1,8 @@
 -- A declaration of one thing behind any specifiers, with a value or without, is read over what its type is read as.
 use Rattle.std.proofs.Common.{◌≡◌, ℕ, ◌+◌, Bool, true, false, List, [], ◌∷◌, ◌++◌, length, Option, Some, None, refl, ap, sym, ◌∙◌, subst, true≢false}
 use Rattle.std.specs.List.{list_all}
-use Rattle.cc_num.specs.declared.int_type.IntType.{IntType}
-use Rattle.cc_words.specs.declared.word.Word.TheVariants as w
+use Rattle.cc_program.specs.CcNum.declared.int_type.IntType.{IntType}
+use Rattle.cc_program.specs.CcWords.declared.word.Word.TheVariants as w
 use Rattle.cc_lex.specs.declared.token.Kind.TheVariants as kind
 use Rattle.cc_lex.specs.declared.token.Mark.TheVariants as m
 use Rattle.cc_bodies.specs.Stmts.{ended}
@@ -17,7 +17,7 @@ use Rattle.cc_program.specs.declared.types.CType.{CType}
 use Rattle.cc_program.specs.declared.types.Shape.{roll-Shape, out-Shape, out-roll-Shape}
 use Rattle.cc_program.specs.declared.types.Shape.TheOpen as shape
 use Rattle.cc_program.specs.declared.types.Structure.{Structure}
-use Rattle.cc_syntax.specs.SameTypes.{is_void_shape}
+use Rattle.cc_typed.specs.CcSyntax.SameTypes.{is_void_shape}
 use Rattle.cc_tree.specs.declared.at.At.{At}
 use Rattle.cc_tree.specs.declared.tree.Declr.{Declr}
 use Rattle.cc_tree.specs.declared.tree.Spec as spec

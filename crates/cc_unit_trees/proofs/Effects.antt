@@ -25,15 +25,15 @@ use Rattle.cc_program.specs.declared.func.Func.{Func}
 use Rattle.cc_program.specs.declared.program.Program.{Program}
 use Rattle.cc_program.specs.declared.types.CType.{CType}
 use Rattle.cc_program.specs.declared.types.Sig.{out-Sig}
-use Rattle.cc_syntax.specs.Effects.{no_one, is_soft, effects_of, place_effects_of}
-use Rattle.cc_syntax.specs.Expressions.{of_one, of_two}
-use Rattle.cc_syntax.specs.Programs.{expr_step, type_of, place_type}
-use Rattle.cc_syntax.specs.Folding.{is_folded, is_folded_place}
-use Rattle.cc_syntax.specs.Forms.{CallForm, form_at, form_of}
-use Rattle.cc_syntax.specs.Normal.{is_operand, is_optional_operand, is_register_place, is_other_place, is_callee, is_call, is_place_read, is_assignment, is_expression_statement}
-use Rattle.cc_syntax.specs.Operators.{function_type, call_type, intrinsic_type}
-use Rattle.cc_syntax.specs.Pairs.{all_pairs}
-use Rattle.cc_syntax.specs.Values.{ValueType, NoValue, Integer, ToObject, ToFunction, PlaceType, written_to, is_assignable_some, scalar_value, are_assignable}
+use Rattle.cc_typed.specs.CcSyntax.Effects.{no_one, is_soft, effects_of, place_effects_of}
+use Rattle.cc_typed.specs.CcSyntax.Expressions.{of_one, of_two}
+use Rattle.cc_typed.specs.CcSyntax.Programs.{expr_step, type_of, place_type}
+use Rattle.cc_typed.specs.CcSyntax.Folding.{is_folded, is_folded_place}
+use Rattle.cc_typed.specs.CcSyntax.Forms.{CallForm, form_at, form_of}
+use Rattle.cc_typed.specs.CcSyntax.Normal.{is_operand, is_optional_operand, is_register_place, is_other_place, is_callee, is_call, is_place_read, is_assignment, is_expression_statement}
+use Rattle.cc_typed.specs.CcSyntax.Operators.{function_type, call_type, intrinsic_type}
+use Rattle.cc_typed.specs.CcSyntax.Pairs.{all_pairs}
+use Rattle.cc_typed.specs.CcSyntax.Values.{ValueType, NoValue, Integer, ToObject, ToFunction, PlaceType, written_to, is_assignable_some, scalar_value, are_assignable}
 use Rattle.cc_tree.specs.declared.at.At.{At}
 use Rattle.cc_tree.specs.declared.tree.Tree as tree
 use Rattle.cc_tree.specs.declared.tree.Tree.{Tree}

@@ -9,9 +9,9 @@ use Rattle.cc_program.specs.declared.types.Shape.{Shape, roll-Shape, out-Shape, 
 use Rattle.cc_program.specs.declared.types.Shape.TheOpen as shape
 use Rattle.cc_program.specs.declared.types.Sig.{Sig, roll-Sig}
 use Rattle.cc_program.proofs.TypeInduction.{with_shape, TypeParts, SigParts, by_type}
-use Rattle.cc_syntax.specs.Expressions.{of_one}
-use Rattle.cc_syntax.specs.SameTypes.{Comparison, compare_shape, compare_type, compare_sig, comparison_of, shape_comparison, same_sig, alike, is_void_shape, is_int_shape, is_pointer_shape, is_array_shape, is_struct_shape, is_func_shape}
-use Rattle.cc_syntax.specs.Values.{ToObject, PlaceType, DevicePlace, ObjectPlace, FunctionPlace, pointer_shape, pointer_to, element_shape, element_of, address_of, implies, is_assignable, is_assignable_some}
+use Rattle.cc_typed.specs.CcSyntax.Expressions.{of_one}
+use Rattle.cc_typed.specs.CcSyntax.SameTypes.{Comparison, compare_shape, compare_type, compare_sig, comparison_of, shape_comparison, same_sig, alike, is_void_shape, is_int_shape, is_pointer_shape, is_array_shape, is_struct_shape, is_func_shape}
+use Rattle.cc_typed.specs.CcSyntax.Values.{ToObject, PlaceType, DevicePlace, ObjectPlace, FunctionPlace, pointer_shape, pointer_to, element_shape, element_of, address_of, implies, is_assignable, is_assignable_some}
 
 -- ---- a comparison, opened at a level
 

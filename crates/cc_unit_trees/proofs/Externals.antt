@@ -2,7 +2,7 @@
 use Rattle.std.proofs.Common.{◌≡◌, ℕ, true, false, not, List, ◌++◌, map, Option, Some, None, refl, sym, subst, slice_get}
 use Rattle.std.specs.List.{filter}
 use Rattle.std.specs.Option.{is_none}
-use Rattle.cc_words.specs.Names.{is_name}
+use Rattle.cc_program.specs.CcWords.Names.{is_name}
 use Rattle.cc_bodies.specs.Stmts.{intrinsic_name}
 use Rattle.cc_unit_trees.specs.Externals.{External, AnIntrinsic, ATag, AStructure, ADevice, APrototype, AnObject, AValue, AFunction, intrinsics_used, announced, is_given, externals, external_text}
 use Rattle.cc_unit_trees.proofs.Lists.{each-from}
@@ -27,7 +27,7 @@ use Rattle.cc_program.specs.declared.types.Sig.{out-Sig}
 use Rattle.cc_program.specs.declared.types.Structure.{Structure}
 use Rattle.cc_program.proofs.Each.{Each, each_of}
 use Rattle.cc_unit_trees.proofs.Lines.{body-reads}
-use Rattle.cc_syntax.specs.Normal.{IsNormal, has_name}
+use Rattle.cc_typed.specs.CcSyntax.Normal.{IsNormal, has_name}
 use Rattle.cc_unit_trees.specs.Programs.{ShowsExternal}
 use Rattle.cc_unit_trees.proofs.Each.{each-append, each-mapped, each-passing, each-announced}
 

@@ -2,7 +2,7 @@
 use Rattle.std.proofs.Common.{◌≡◌, ℕ, zero, suc, true, List, [], ◌∷◌, ◌++◌, map, Option, Some, None, ap, sym, ◌∙◌, subst, slice_get}
 use Rattle.std.specs.List.{list_all}
 use Rattle.std.proofs.lemmas.List.Folds.{list_all-append}
-use Rattle.cc_words.specs.Names.{is_name, are_distinct}
+use Rattle.cc_program.specs.CcWords.Names.{is_name, are_distinct}
 use Rattle.cc_lex.proofs.Booleans.{and-true}
 use Rattle.cc_bodies.specs.Stmts.{intrinsic_name}
 use Rattle.cc_expression_trees.specs.Names.{HasNames}
@@ -14,9 +14,9 @@ use Rattle.cc_program.specs.declared.object.Object.{Object}
 use Rattle.cc_program.specs.declared.program.Program.{Program}
 use Rattle.cc_program.specs.declared.program.Roles.{Roles}
 use Rattle.cc_program.specs.declared.types.Structure.{Structure}
-use Rattle.cc_syntax.specs.Names.{are_names, with_name, device_names, intrinsic_names, file_names, tags, local_names}
-use Rattle.cc_syntax.specs.Sound.{IsFunc, IsSound}
-use Rattle.cc_syntax.specs.Types.{Named}
+use Rattle.cc_typed.specs.CcSyntax.Names.{are_names, with_name, device_names, intrinsic_names, file_names, tags, local_names}
+use Rattle.cc_typed.specs.CcSyntax.Sound.{IsFunc, IsSound}
+use Rattle.cc_typed.specs.CcSyntax.Types.{Named}
 use Rattle.cc_unit_trees.proofs.Structures.{structure-at}
 
 abbrev pub AreNames : List (List ℕ) → Type 0

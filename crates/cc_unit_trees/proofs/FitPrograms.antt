@@ -1,14 +1,14 @@
 -- Numbers of devices, objects and functions of a normal program.
 use Rattle.std.proofs.Common.{◌≡◌, ◌≤◌, ◌-◌, ◌^◌, ◌*◌, ℕ, ◌||◌, eqb, ltb, Bool, true, false, Some, subst, arith, slice_get, IsTrue, ◌⊎◌, inl, inr, if◌then◌else◌}
 use Rattle.std.proofs.lemmas.Bool.Decides.{nat_tests}
-use Rattle.cc_num.specs.declared.target.Target.{Target}
+use Rattle.cc_program.specs.CcNum.declared.target.Target.{Target}
 use Rattle.cc_program.specs.declared.func.Func.{Func}
 use Rattle.cc_program.specs.declared.object.Device.{Device}
 use Rattle.cc_program.specs.declared.object.Object.{Object}
 use Rattle.cc_program.specs.declared.program.Program.{Program}
-use Rattle.cc_syntax.specs.Programs.{IsInitial}
-use Rattle.cc_syntax.specs.Normal.{IsNormal, is_normal_body}
-use Rattle.cc_syntax.specs.Sound.{is_numbered, is_device, is_object, IsFunc}
+use Rattle.cc_typed.specs.CcSyntax.Programs.{IsInitial}
+use Rattle.cc_typed.specs.CcSyntax.Normal.{IsNormal, is_normal_body}
+use Rattle.cc_typed.specs.CcSyntax.Sound.{is_numbered, is_device, is_object, IsFunc}
 use Rattle.cc_unit_trees.proofs.Lists.{all-at, All-at}
 
 two_or_four : (n : ℕ) → IsTrue (eqb n 2 || eqb n 4) → (n ≡ 2) ⊎ (n ≡ 4)

@@ -1,8 +1,8 @@
 -- A declaration of one thing is read, over what its type is read as.
 use Rattle.std.proofs.Common.{◌≡◌, ℕ, ◌+◌, Bool, true, false, List, [], ◌∷◌, ◌++◌, length, Option, Some, None, refl, sym, ◌∙◌, subst, append_assoc, append-nil, true≢false}
 use Rattle.std.specs.List.{list_all}
-use Rattle.cc_words.specs.declared.word.Word.{Word}
-use Rattle.cc_words.specs.declared.word.Word.TheVariants as w
+use Rattle.cc_program.specs.CcWords.declared.word.Word.{Word}
+use Rattle.cc_program.specs.CcWords.declared.word.Word.TheVariants as w
 use Rattle.cc_lex.specs.declared.token.Mark.TheVariants as m
 use Rattle.cc_bodies.specs.Stmts.{ended}
 use Rattle.cc_pieces.specs.Declarators.{Declarator, declarator}
@@ -14,7 +14,7 @@ use Rattle.cc_program.specs.declared.types.CType.{CType}
 use Rattle.cc_program.specs.declared.types.Structure.{Structure}
 use Rattle.cc_unit_trees.specs.ReadStatements.{ReadsLines}
 use Rattle.cc_unit_trees.proofs.Blocks.{ReadsBody}
-use Rattle.cc_syntax.specs.Types.{Named}
+use Rattle.cc_typed.specs.CcSyntax.Types.{Named}
 use Rattle.cc_tree.specs.declared.at.At.{At}
 use Rattle.cc_tree.specs.declared.tree.Declr as declr
 use Rattle.cc_tree.specs.declared.unit.Init.{Init}

@@ -2,8 +2,8 @@
 use Rattle.std.proofs.Common.{◌≡◌, ◌≤◌, ◌-◌, ◌^◌, ℕ, zero, suc, Bool, true, false, List, [], ◌∷◌, map, take, drop, length, Option, Some, None, refl, sym, subst, slice_get}
 use Rattle.std.specs.List.{list_all}
 use Rattle.std.specs.Option.{is_some}
-use Rattle.cc_words.specs.Names.{is_name}
-use Rattle.cc_words.specs.declared.word.Word.{Word}
+use Rattle.cc_program.specs.CcWords.Names.{is_name}
+use Rattle.cc_program.specs.CcWords.declared.word.Word.{Word}
 use Rattle.cc_lex.specs.declared.token.Mark.TheVariants as m
 use Rattle.cc_lex.proofs.Booleans.{and-true}
 use Rattle.cc_bodies.specs.Stmts.{ended, opened, closed, stmts, stmt, intrinsic_name}
@@ -21,10 +21,10 @@ use Rattle.cc_program.specs.declared.types.CType.{CType}
 use Rattle.cc_program.specs.declared.types.Sig.{out-Sig}
 use Rattle.cc_program.specs.declared.types.Structure.{Structure}
 use Rattle.cc_unit_trees.proofs.StatementFitting.{body-fits}
-use Rattle.cc_syntax.specs.Programs.{kind_in}
-use Rattle.cc_syntax.specs.Normal.{is_normal_body}
-use Rattle.cc_syntax.specs.Sound.{is_local, IsFunc}
-use Rattle.cc_syntax.specs.Types.{Named}
+use Rattle.cc_typed.specs.CcSyntax.Programs.{kind_in}
+use Rattle.cc_typed.specs.CcSyntax.Normal.{is_normal_body}
+use Rattle.cc_typed.specs.CcSyntax.Sound.{is_local, IsFunc}
+use Rattle.cc_typed.specs.CcSyntax.Types.{Named}
 use Rattle.cc_tree.specs.Tokens.{Name}
 use Rattle.cc_expression_trees.specs.Soft.{IsSoft}
 use Rattle.cc_expression_trees.proofs.Declarators.{FitsDeclarator, type-fits, name-fits}

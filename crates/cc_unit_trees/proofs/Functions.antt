@@ -20,7 +20,7 @@ use Rattle.cc_program.specs.declared.types.Structure.{Structure}
 use Rattle.cc_unit_trees.specs.Lines.{ShowsStmts}
 use Rattle.cc_unit_trees.specs.ReadStatements.{ReadsLines}
 use Rattle.cc_unit_trees.proofs.Blocks.{ReadsBody}
-use Rattle.cc_syntax.specs.Types.{Named}
+use Rattle.cc_typed.specs.CcSyntax.Types.{Named}
 use Rattle.cc_tree.specs.declared.at.At.{At}
 use Rattle.cc_tree.specs.declared.unit.Item.TheVariants as item
 use Rattle.cc_tree.specs.Sentences.{AFunc}

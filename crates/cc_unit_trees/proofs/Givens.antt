@@ -4,9 +4,9 @@
 use Rattle.std.proofs.Common.{arith, ◌≡◌, ◌<◌, ◌≤◌, ◌+◌, ℕ, zero, suc, ℤ, true, nat_lt, List, [], ◌∷◌, ◌++◌, map, replicate, take, length, Option, Some, None, slice_get, refl, ap, sym, ◌∙◌, subst, append_assoc, append-nil, true≢false}
 use Rattle.std.proofs.lemmas.Option.{slice_get_within, get_or_from_slice_get}
 use Rattle.std.specs.List.{All}
-use Rattle.cc_num.specs.declared.int_type.IntType.{IntType}
-use Rattle.cc_num.specs.Integers.{is_value_of}
-use Rattle.cc_num.proofs.ResultLaws.{value_from_test}
+use Rattle.cc_program.specs.CcNum.declared.int_type.IntType.{IntType}
+use Rattle.cc_program.specs.CcNum.Integers.{is_value_of}
+use Rattle.cc_program.proofs.CcNum.ResultLaws.{value_from_test}
 use Rattle.cc_lex.specs.declared.token.Kind.TheVariants as kind
 use Rattle.cc_lex.specs.declared.token.Mark.TheVariants as m
 use Rattle.cc_expression_trees.proofs.Integers.{constant-read}
@@ -27,12 +27,12 @@ use Rattle.cc_program.specs.declared.types.Structure.{Structure}
 use Rattle.cc_program.specs.declared.value.Address.{Address}
 use Rattle.cc_program.specs.declared.value.Leaf.{Leaf}
 use Rattle.cc_program.specs.declared.value.Leaf.TheVariants as leaf
-use Rattle.cc_syntax.specs.Initial.{OfInteger, OfPointer, OfArray, OfStructure, NoElement, Element, NoMember, Member}
-use Rattle.cc_syntax.specs.Programs.{AreLeaves, AreElements, AreMembers, is_address}
-use Rattle.cc_syntax.specs.Sound.{IsSound}
-use Rattle.cc_syntax.specs.Types.{Named, has_members, is_complete}
-use Rattle.cc_syntax.specs.Values.{pointer_to}
-use Rattle.cc_syntax.proofs.Prefixes.{get_taken}
+use Rattle.cc_typed.specs.CcSyntax.Initial.{OfInteger, OfPointer, OfArray, OfStructure, NoElement, Element, NoMember, Member}
+use Rattle.cc_typed.specs.CcSyntax.Programs.{AreLeaves, AreElements, AreMembers, is_address}
+use Rattle.cc_typed.specs.CcSyntax.Sound.{IsSound}
+use Rattle.cc_typed.specs.CcSyntax.Types.{Named, has_members, is_complete}
+use Rattle.cc_typed.specs.CcSyntax.Values.{pointer_to}
+use Rattle.cc_typed.proofs.CcSyntax.Prefixes.{get_taken}
 use Rattle.cc_tree.specs.declared.at.At.{At}
 use Rattle.cc_tree.specs.declared.unit.Given as given
 use Rattle.cc_tree.specs.declared.unit.Given.{Given}

@@ -1,10 +1,10 @@
 -- The pieces of items part from one another.
 use Rattle.std.proofs.Common.{◌≡◌, ℕ, Bool, true, false, ◌&&◌, List, [], ◌∷◌, map, Option, Some, None, slice_get, codes, refl, ◌∙◌}
 use Rattle.std.specs.List.{list_all}
-use Rattle.cc_num.specs.declared.int_type.IntType.TheVariants as int
-use Rattle.cc_words.specs.Names.{is_name}
-use Rattle.cc_words.specs.Words.{word_of}
-use Rattle.cc_words.specs.declared.word.Word.TheVariants as w
+use Rattle.cc_program.specs.CcNum.declared.int_type.IntType.TheVariants as int
+use Rattle.cc_program.specs.CcWords.Names.{is_name}
+use Rattle.cc_program.specs.CcWords.Words.{word_of}
+use Rattle.cc_program.specs.CcWords.declared.word.Word.TheVariants as w
 use Rattle.cc_lex.specs.declared.token.Mark.TheVariants as m
 use Rattle.cc_lex.proofs.Booleans.{and-true, both-true}
 use Rattle.cc_bodies.specs.Stmts.{ended, intrinsic_name}
@@ -26,9 +26,9 @@ use Rattle.cc_program.specs.declared.object.Object.{Object}
 use Rattle.cc_program.specs.declared.program.Program.{Program}
 use Rattle.cc_program.specs.declared.types.CType.{CType}
 use Rattle.cc_program.specs.declared.types.Sig.{Sig, out-Sig, fold_out-Sig}
-use Rattle.cc_syntax.specs.Kinds.{Kind, kind_of, is_sig, shape_kind, type_kind, is_signature, is_plain_scalar, is_result, extent_in}
-use Rattle.cc_syntax.specs.Programs.{kind_in}
-use Rattle.cc_syntax.specs.Sound.{is_object, IsFunc, IsSound}
+use Rattle.cc_typed.specs.CcSyntax.Kinds.{Kind, kind_of, is_sig, shape_kind, type_kind, is_signature, is_plain_scalar, is_result, extent_in}
+use Rattle.cc_typed.specs.CcSyntax.Programs.{kind_in}
+use Rattle.cc_typed.specs.CcSyntax.Sound.{is_object, IsFunc, IsSound}
 use Rattle.cc_tree.specs.Tokens.{Name}
 use Rattle.cc_expression_trees.specs.Soft.{IsSoft}
 use Rattle.cc_expression_trees.proofs.Bases.{int-fits}

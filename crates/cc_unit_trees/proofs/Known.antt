@@ -4,7 +4,7 @@ use Rattle.std.proofs.Common.{arith, ◌≡◌, ◌≤◌, ◌-◌, ◌^◌, ℕ
 use Rattle.std.proofs.lemmas.Bool.Decides.{nat_tests}
 use Rattle.std.specs.List.{list_all}
 use Rattle.std.specs.Option.{is_some}
-use Rattle.cc_num.specs.declared.target.Target.{Target}
+use Rattle.cc_program.specs.CcNum.declared.target.Target.{Target}
 use Rattle.cc_lex.proofs.Booleans.{and-true}
 use Rattle.cc_bodies.specs.Names.{member_name, member_shape as name_shape, member_at as name_at, local_name}
 use Rattle.cc_program.specs.Qualifiers.{is_const, is_volatile}
@@ -16,15 +16,15 @@ use Rattle.cc_program.specs.declared.types.Shape.TheOpen as shape
 use Rattle.cc_program.specs.declared.types.Sig.{Sig}
 use Rattle.cc_program.specs.declared.types.Structure.{Structure}
 use Rattle.cc_program.specs.declared.value.Part.TheVariants as part
-use Rattle.cc_syntax.specs.Initial.{bound_shape, bound_of, is_below, step_into}
-use Rattle.cc_syntax.specs.Kinds.{Kind, kind_of, shape_kind, qualified_kind, is_object_type, extent_with}
-use Rattle.cc_syntax.specs.Names.{are_names, local_names}
-use Rattle.cc_syntax.specs.Sound.{have_ids, is_member, is_structure, are_structures, is_object, IsSound}
-use Rattle.cc_syntax.specs.Types.{Named, has_members, complete_shape, is_complete, IsInOrder}
-use Rattle.cc_syntax.specs.Values.{PlaceType, DevicePlace, ObjectPlace, FunctionPlace, element_shape, element_of, member_at, member_in, member_shape}
-use Rattle.cc_syntax.proofs.KindRolls.{kind-opens, parts_kind}
-use Rattle.cc_syntax.proofs.StructureLemmas.{structures_sized, object_complete}
-use Rattle.cc_syntax.proofs.TypeLayouts.{parts_complete, complete-opens}
+use Rattle.cc_typed.specs.CcSyntax.Initial.{bound_shape, bound_of, is_below, step_into}
+use Rattle.cc_typed.specs.CcSyntax.Kinds.{Kind, kind_of, shape_kind, qualified_kind, is_object_type, extent_with}
+use Rattle.cc_typed.specs.CcSyntax.Names.{are_names, local_names}
+use Rattle.cc_typed.specs.CcSyntax.Sound.{have_ids, is_member, is_structure, are_structures, is_object, IsSound}
+use Rattle.cc_typed.specs.CcSyntax.Types.{Named, has_members, complete_shape, is_complete, IsInOrder}
+use Rattle.cc_typed.specs.CcSyntax.Values.{PlaceType, DevicePlace, ObjectPlace, FunctionPlace, element_shape, element_of, member_at, member_in, member_shape}
+use Rattle.cc_typed.proofs.CcSyntax.KindRolls.{kind-opens, parts_kind}
+use Rattle.cc_typed.proofs.CcSyntax.StructureLemmas.{structures_sized, object_complete}
+use Rattle.cc_typed.proofs.CcSyntax.TypeLayouts.{parts_complete, complete-opens}
 use Rattle.cc_expression_trees.proofs.Levels.{elements}
 
 -- ---- lists

@@ -2,9 +2,9 @@
 use Rattle.std.proofs.Common.{◌≡◌, ℕ, ◌+◌, Bool, true, ◌&&◌, ℤ, List, [], ◌∷◌, ◌++◌, map, length, Option, Some, None, refl, ap, sym, ◌∙◌, subst, append_assoc, append-nil, lit≤}
 use Rattle.std.specs.List.{list_all, flat_map}
 use Rattle.std.specs.Option.{is_some}
-use Rattle.cc_num.specs.declared.int_type.IntType.{IntType}
-use Rattle.cc_num.specs.declared.target.Target.{Target}
-use Rattle.cc_words.specs.declared.word.Word.TheVariants as w
+use Rattle.cc_program.specs.CcNum.declared.int_type.IntType.{IntType}
+use Rattle.cc_program.specs.CcNum.declared.target.Target.{Target}
+use Rattle.cc_program.specs.CcWords.declared.word.Word.TheVariants as w
 use Rattle.cc_lex.specs.declared.token.Mark.TheVariants as m
 use Rattle.cc_lex.proofs.Booleans.{and-true}
 use Rattle.cc_bodies.specs.Spots.{Whole, Operand}
@@ -24,13 +24,13 @@ use Rattle.cc_program.specs.declared.stmt.Stmt.TheOpen as is
 use Rattle.cc_program.specs.declared.types.Sig.{out-Sig}
 use Rattle.cc_program.proofs.Each.{Each}
 use Rattle.cc_program.proofs.StmtInduction.{StmtParts, CaseParts, by_stmts}
-use Rattle.cc_syntax.specs.Effects.{Effects, PlaceEffects, no_one, effect_step, place_effect_step, effects_of, place_effects_of}
-use Rattle.cc_syntax.specs.Programs.{type_of, sound_step, is_sound_stmt}
-use Rattle.cc_syntax.specs.Folding.{is_folded}
-use Rattle.cc_syntax.specs.Forms.{form_at, form_of}
-use Rattle.cc_syntax.specs.Normal.{is_one, is_operand, normal_step, is_normal_stmt}
-use Rattle.cc_syntax.specs.Statements.{SoundWhere, Labelled as SoundCase, labels_fit, is_condition, sound_case}
-use Rattle.cc_syntax.specs.Values.{ValueType, is_assignable_some, scalar_value}
+use Rattle.cc_typed.specs.CcSyntax.Effects.{Effects, PlaceEffects, no_one, effect_step, place_effect_step, effects_of, place_effects_of}
+use Rattle.cc_typed.specs.CcSyntax.Programs.{type_of, sound_step, is_sound_stmt}
+use Rattle.cc_typed.specs.CcSyntax.Folding.{is_folded}
+use Rattle.cc_typed.specs.CcSyntax.Forms.{form_at, form_of}
+use Rattle.cc_typed.specs.CcSyntax.Normal.{is_one, is_operand, normal_step, is_normal_stmt}
+use Rattle.cc_typed.specs.CcSyntax.Statements.{SoundWhere, Labelled as SoundCase, labels_fit, is_condition, sound_case}
+use Rattle.cc_typed.specs.CcSyntax.Values.{ValueType, is_assignable_some, scalar_value}
 use Rattle.cc_tree.specs.declared.unit.Line as line
 use Rattle.cc_tree.specs.declared.unit.Line.{Line}
 use Rattle.cc_tree.specs.Statements.{AnExprStatement, AnIf, AnIfElse, AWhile, ASwitch, ABreak, AContinue, AReturn, NoExpr, AnExpr, IsLines, AStatement}

@@ -2,8 +2,8 @@
 use Rattle.std.proofs.Common.{arith, ◌≡◌, ◌+◌, ◌||◌, ℕ, suc, true, ltb, List, [], ◌∷◌, ◌++◌, take, length, length-append, Option, Some, None, slice_get, refl, ap, sym, subst, append_assoc, append-nil, true≢false}
 use Rattle.std.specs.List.{list_all}
 use Rattle.std.specs.Option.{is_some}
-use Rattle.cc_words.specs.Names.{is_name}
-use Rattle.cc_words.specs.declared.word.Word.TheVariants as w
+use Rattle.cc_program.specs.CcWords.Names.{is_name}
+use Rattle.cc_program.specs.CcWords.declared.word.Word.TheVariants as w
 use Rattle.cc_lex.specs.declared.token.Kind.TheVariants as kind
 use Rattle.cc_lex.specs.declared.token.Mark.TheVariants as m
 use Rattle.cc_lex.proofs.Booleans.{and-true}
@@ -18,10 +18,10 @@ use Rattle.cc_print.specs.Units.{each, tag_line, member_line, structure_of, stru
 use Rattle.cc_program.specs.declared.program.Program.{Program}
 use Rattle.cc_program.specs.declared.types.CType.{CType}
 use Rattle.cc_program.specs.declared.types.Structure.{Structure}
-use Rattle.cc_syntax.specs.Kinds.{kind_of, extent_with}
-use Rattle.cc_syntax.specs.Sound.{is_member, IsSound}
-use Rattle.cc_syntax.specs.Types.{Named, has_members}
-use Rattle.cc_syntax.proofs.Prefixes.{get_taken}
+use Rattle.cc_typed.specs.CcSyntax.Kinds.{kind_of, extent_with}
+use Rattle.cc_typed.specs.CcSyntax.Sound.{is_member, IsSound}
+use Rattle.cc_typed.specs.CcSyntax.Types.{Named, has_members}
+use Rattle.cc_typed.proofs.CcSyntax.Prefixes.{get_taken}
 use Rattle.cc_tree.specs.declared.at.At.{At}
 use Rattle.cc_tree.specs.declared.tree.MemberDecl.{MemberDecl}
 use Rattle.cc_tree.specs.declared.tree.Spec as spec

@@ -18,7 +18,7 @@ use Rattle.cc_tree.specs.declared.unit.Item.{Item}
 use Rattle.cc_tree.specs.declared.unit.Item.TheVariants as item
 use Rattle.cc_expression_trees.specs.Types.{Core}
 use Rattle.cc_expression_trees.proofs.Insides.{core_name, core-named}
-use Rattle.cc_words.specs.declared.word.Word.{Word}
+use Rattle.cc_program.specs.CcWords.declared.word.Word.{Word}
 use Rattle.cc_unit_trees.specs.Names.{tag_at, declared, name_in}
 use Rattle.cc_unit_trees.specs.Programs.{ShowsExternal, ShowsExternals, NoExternal, MoreExternals}
 

@@ -14,7 +14,7 @@ use Rattle.cc_print.specs.Printed.{printed, text}
 use Rattle.cc_print.specs.Units.{each}
 use Rattle.cc_program.specs.declared.program.Program.{Program}
 use Rattle.cc_program.proofs.Each.{Each}
-use Rattle.cc_syntax.specs.Normal.{IsNormal}
+use Rattle.cc_typed.specs.CcSyntax.Normal.{IsNormal}
 use Rattle.cc_tree.specs.declared.at.At.{At}
 use Rattle.cc_tree.specs.declared.unit.Item.{Item}
 use Rattle.cc_tree.specs.declared.unit.Unit.{Unit as UnitTree}

@@ -8,11 +8,11 @@ use Rattle.cc_program.specs.declared.program.Program.{Program}
 use Rattle.cc_program.specs.declared.types.CType.{CType}
 use Rattle.cc_program.specs.declared.types.Shape.{out-Shape}
 use Rattle.cc_program.specs.declared.types.Shape.TheOpen as shape
-use Rattle.cc_syntax.specs.Kinds.{Kind, IsVoid, qualified_kind, shape_kind, is_result, is_object_type, extent_in}
-use Rattle.cc_syntax.specs.Programs.{kind_in}
-use Rattle.cc_syntax.specs.Sound.{is_local}
-use Rattle.cc_syntax.specs.Types.{Named}
-use Rattle.cc_syntax.proofs.KindRolls.{kind-opens, parts_kind}
+use Rattle.cc_typed.specs.CcSyntax.Kinds.{Kind, IsVoid, qualified_kind, shape_kind, is_result, is_object_type, extent_in}
+use Rattle.cc_typed.specs.CcSyntax.Programs.{kind_in}
+use Rattle.cc_typed.specs.CcSyntax.Sound.{is_local}
+use Rattle.cc_typed.specs.CcSyntax.Types.{Named}
+use Rattle.cc_typed.proofs.CcSyntax.KindRolls.{kind-opens, parts_kind}
 use Rattle.cc_expression_trees.proofs.Declarators.{type-reads}
 use Rattle.cc_expression_trees.proofs.TypeNames.{there}
 use Rattle.cc_expression_trees.proofs.Parameters.{Reads}

@@ -5,11 +5,11 @@ use Rattle.std.proofs.lemmas.Bool.Decides.{nat_tests, Decides-int_eq}
 use Rattle.std.proofs.lemmas.Int.{ints}
 use Rattle.std.proofs.Math.Seq.{take-length}
 use Rattle.std.specs.List.{All, list_all}
-use Rattle.cc_num.specs.declared.int_type.IntType.{IntType}
-use Rattle.cc_num.specs.declared.int_type.IntType.TheVariants as int
-use Rattle.cc_num.specs.declared.target.Target.{Target}
-use Rattle.cc_num.specs.Integers.{is_signed, bits_of, least_of_bits, most_of_bits, is_value_of}
-use Rattle.cc_num.proofs.ResultLaws.{is_value_from}
+use Rattle.cc_program.specs.CcNum.declared.int_type.IntType.{IntType}
+use Rattle.cc_program.specs.CcNum.declared.int_type.IntType.TheVariants as int
+use Rattle.cc_program.specs.CcNum.declared.target.Target.{Target}
+use Rattle.cc_program.specs.CcNum.Integers.{is_signed, bits_of, least_of_bits, most_of_bits, is_value_of}
+use Rattle.cc_program.proofs.CcNum.ResultLaws.{is_value_from}
 use Rattle.cc_lex.proofs.Booleans.{and-true, both-true}
 use Rattle.cc_pieces.specs.Constants.{constant}
 use Rattle.cc_pieces.specs.Pieces.{Pieces, flat}
@@ -27,12 +27,12 @@ use Rattle.cc_program.specs.declared.value.Address.TheVariants as address
 use Rattle.cc_program.specs.declared.value.Leaf.{Leaf}
 use Rattle.cc_program.specs.declared.value.Leaf.TheVariants as leaf
 use Rattle.cc_program.proofs.TypeInduction.{with_shape, TypeParts, SigParts, by_type}
-use Rattle.cc_syntax.specs.Initial.{OfInteger, OfPointer, OfArray, OfStructure, NoElement, Element, NoMember, Member, is_zero}
-use Rattle.cc_syntax.specs.Programs.{IsInitial, AreLeaves, AreElements, AreMembers}
-use Rattle.cc_syntax.specs.Sound.{is_object, IsSound}
-use Rattle.cc_syntax.specs.Types.{Named, has_members, is_complete}
-use Rattle.cc_syntax.proofs.Parts.{all_at}
-use Rattle.cc_syntax.proofs.Prefixes.{get_taken}
+use Rattle.cc_typed.specs.CcSyntax.Initial.{OfInteger, OfPointer, OfArray, OfStructure, NoElement, Element, NoMember, Member, is_zero}
+use Rattle.cc_typed.specs.CcSyntax.Programs.{IsInitial, AreLeaves, AreElements, AreMembers}
+use Rattle.cc_typed.specs.CcSyntax.Sound.{is_object, IsSound}
+use Rattle.cc_typed.specs.CcSyntax.Types.{Named, has_members, is_complete}
+use Rattle.cc_typed.proofs.CcSyntax.Parts.{all_at}
+use Rattle.cc_typed.proofs.CcSyntax.Prefixes.{get_taken}
 use Rattle.cc_tree.specs.declared.unit.Given.{Given}
 use Rattle.cc_expression_trees.specs.Soft.{IsSoft}
 use Rattle.cc_unit_trees.specs.ValueNames.{HasUnitNames}

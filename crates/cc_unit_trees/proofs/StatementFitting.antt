@@ -1,13 +1,13 @@
 -- The pieces of statements in normal form part from one another, by induction over statements.
 use Rattle.std.proofs.Common.{◌≡◌, ◌≤◌, ◌-◌, ◌^◌, ℕ, zero, suc, ◌+◌, Bool, true, false, ◌&&◌, ◌||◌, ℤ, List, [], ◌∷◌, ◌++◌, map, Option, Some, None, refl, ap, sym, ◌∙◌, subst, slice_get}
 use Rattle.std.specs.List.{list_all, flat_map}
-use Rattle.cc_num.specs.declared.int_type.IntType.{IntType}
-use Rattle.cc_num.specs.declared.target.Target.{Target}
-use Rattle.cc_num.specs.Integers.{is_value_of}
-use Rattle.cc_num.proofs.ResultLaws.{value_from_test}
-use Rattle.cc_words.specs.Names.{is_name}
-use Rattle.cc_words.specs.declared.word.Word.{Word}
-use Rattle.cc_words.specs.declared.word.Word.TheVariants as w
+use Rattle.cc_program.specs.CcNum.declared.int_type.IntType.{IntType}
+use Rattle.cc_program.specs.CcNum.declared.target.Target.{Target}
+use Rattle.cc_program.specs.CcNum.Integers.{is_value_of}
+use Rattle.cc_program.proofs.CcNum.ResultLaws.{value_from_test}
+use Rattle.cc_program.specs.CcWords.Names.{is_name}
+use Rattle.cc_program.specs.CcWords.declared.word.Word.{Word}
+use Rattle.cc_program.specs.CcWords.declared.word.Word.TheVariants as w
 use Rattle.cc_lex.specs.declared.token.Mark.TheVariants as m
 use Rattle.cc_lex.proofs.Booleans.{and-true}
 use Rattle.cc_bodies.specs.Exprs.{expr}
@@ -33,12 +33,12 @@ use Rattle.cc_program.specs.declared.stmt.Stmt.{Stmt, roll-Stmt, map-Stmt}
 use Rattle.cc_program.specs.declared.stmt.Stmt.TheOpen as is
 use Rattle.cc_program.proofs.Each.{Each}
 use Rattle.cc_program.proofs.StmtInduction.{StmtParts, CaseParts, by_stmts}
-use Rattle.cc_syntax.specs.Effects.{no_one, place_effects_of}
-use Rattle.cc_syntax.specs.Programs.{type_of, place_type, is_sound_stmt}
-use Rattle.cc_syntax.specs.Forms.{form_at, form_of, CallForm}
-use Rattle.cc_syntax.specs.Normal.{is_one, is_operand, is_optional_operand, is_callee, is_call, is_place_read, is_other_place, is_expression_statement, is_normal_stmt}
-use Rattle.cc_syntax.specs.Statements.{labels_fit, label_fits, is_condition}
-use Rattle.cc_syntax.specs.Values.{ValueType, NoValue, Integer, ToObject, ToFunction, scalar_value}
+use Rattle.cc_typed.specs.CcSyntax.Effects.{no_one, place_effects_of}
+use Rattle.cc_typed.specs.CcSyntax.Programs.{type_of, place_type, is_sound_stmt}
+use Rattle.cc_typed.specs.CcSyntax.Forms.{form_at, form_of, CallForm}
+use Rattle.cc_typed.specs.CcSyntax.Normal.{is_one, is_operand, is_optional_operand, is_callee, is_call, is_place_read, is_other_place, is_expression_statement, is_normal_stmt}
+use Rattle.cc_typed.specs.CcSyntax.Statements.{labels_fit, label_fits, is_condition}
+use Rattle.cc_typed.specs.CcSyntax.Values.{ValueType, NoValue, Integer, ToObject, ToFunction, scalar_value}
 use Rattle.cc_expression_trees.specs.Soft.{IsSoft}
 use Rattle.cc_expression_trees.proofs.TypeFitting.{open-apart, close-apart, name-apart}
 use Rattle.cc_unit_trees.proofs.Effects.{IsTyped, TypedEach, operand-of, register-soft, other-place, args-typed, at-type, at-text, one-some, call-types, intrinsic-operand, rolled, assign-types, sides}

@@ -1,13 +1,13 @@
 -- The members of each structure have types over the structures before it, and what such a type may name is there.
 use Rattle.std.proofs.Common.{◌≡◌, ℕ, zero, suc, ◌&&◌, ◌||◌, ltb, true, List, [], ◌∷◌, ◌++◌, length, take, Option, Some, None, refl, sym, subst, append_assoc, append-nil, slice_get}
 use Rattle.std.specs.List.{list_all}
-use Rattle.cc_num.specs.declared.target.Target.{Target}
+use Rattle.cc_program.specs.CcNum.declared.target.Target.{Target}
 use Rattle.cc_lex.proofs.Booleans.{and-true}
 use Rattle.cc_program.specs.declared.program.Program.{Program}
 use Rattle.cc_program.specs.declared.types.Structure.{Structure}
-use Rattle.cc_syntax.specs.Names.{are_names, local_names}
-use Rattle.cc_syntax.specs.Sound.{is_structure, is_member, have_ids, are_structures, IsSound}
-use Rattle.cc_syntax.specs.Types.{has_members}
+use Rattle.cc_typed.specs.CcSyntax.Names.{are_names, local_names}
+use Rattle.cc_typed.specs.CcSyntax.Sound.{is_structure, is_member, have_ids, are_structures, IsSound}
+use Rattle.cc_typed.specs.CcSyntax.Types.{has_members}
 use Rattle.cc_expression_trees.proofs.TypeNames.{there-by}
 use Rattle.cc_unit_trees.proofs.Lists.{taken-at}
 

@@ -10,7 +10,7 @@ use Rattle.cc_program.specs.declared.expr.Intr.TheVariants as intr
 use Rattle.cc_program.specs.declared.object.Device.{Device}
 use Rattle.cc_program.specs.declared.program.Program.{Program}
 use Rattle.cc_program.specs.declared.types.Structure.{Structure}
-use Rattle.cc_syntax.specs.Normal.{has_name}
+use Rattle.cc_typed.specs.CcSyntax.Normal.{has_name}
 use Rattle.cc_unit_trees.specs.Externals.{External, AnIntrinsic, ATag, AStructure, ADevice, APrototype, AnObject, AValue, AFunction, intrinsics_used, in_front_if, announced, is_given, externals, external_text}
 use Rattle.cc_unit_trees.proofs.EachExternal.{each-append, each-map, each-filter}
 

@@ -2,7 +2,7 @@
 use Rattle.std.proofs.Common.{arith, ◌≡◌, ◌≤◌, ◌-◌, ◌^◌, ℕ, Bool, true, false, List, [], ◌∷◌, ◌++◌, length, Some, slice_get, nat_eq, refl, sym, subst, lit≤, true≢false}
 use Rattle.std.proofs.lemmas.Bool.Decides.{nat_tests}
 use Rattle.std.specs.List.{list_all}
-use Rattle.cc_words.specs.Names.{is_identifier, is_letter, is_letter_or_digit}
+use Rattle.cc_program.specs.CcWords.Names.{is_identifier, is_letter, is_letter_or_digit}
 use Rattle.cc_lex.specs.Bytes.{begins_with}
 use Rattle.cc_lex.specs.declared.token.Kind.TheVariants as kind
 use Rattle.cc_lex.specs.declared.token.Mark.{Mark}
@@ -21,10 +21,10 @@ use Rattle.cc_program.specs.declared.value.Part.{Part}
 use Rattle.cc_program.specs.declared.value.Part.TheVariants as part
 use Rattle.cc_program.specs.declared.value.Root.{Root}
 use Rattle.cc_program.specs.declared.value.Root.TheVariants as root
-use Rattle.cc_syntax.specs.Initial.{step_into, place_at}
-use Rattle.cc_syntax.specs.Programs.{is_address}
-use Rattle.cc_syntax.specs.Sound.{are_structures, is_object}
-use Rattle.cc_syntax.specs.Values.{PlaceType, object_place, pointer_to}
+use Rattle.cc_typed.specs.CcSyntax.Initial.{step_into, place_at}
+use Rattle.cc_typed.specs.CcSyntax.Programs.{is_address}
+use Rattle.cc_typed.specs.CcSyntax.Sound.{are_structures, is_object}
+use Rattle.cc_typed.specs.CcSyntax.Values.{PlaceType, object_place, pointer_to}
 use Rattle.cc_expression_trees.specs.Soft.{IsSoft}
 use Rattle.cc_expression_trees.proofs.TypeFitting.{name-apart, bracket-apart, unbracket-apart, number-fits}
 use Rattle.cc_unit_trees.specs.ValueNames.{HasUnitNames}

@@ -12,7 +12,7 @@ use Rattle.cc_program.specs.declared.object.Device.{Device}
 use Rattle.cc_program.specs.declared.object.Object.{Object}
 use Rattle.cc_program.specs.declared.program.Program.{Program}
 use Rattle.cc_program.specs.declared.types.Structure.{Structure}
-use Rattle.cc_syntax.specs.Normal.{has_name}
+use Rattle.cc_typed.specs.CcSyntax.Normal.{has_name}
 
 pub data External : Type 0 where
   -- the prototype of an intrinsic

@@ -1,6 +1,6 @@
 -- Which statements of a tree show statements in normal form, whatever their offsets (C99 6.8).
 use Rattle.std.specs.Prelude.{◌≡◌, ℕ, ℤ, List, [], ◌∷◌, ◌++◌, Option, Some, None}
-use Rattle.cc_num.specs.declared.int_type.IntType.{IntType}
+use Rattle.cc_program.specs.CcNum.declared.int_type.IntType.{IntType}
 use Rattle.cc_bodies.specs.Stmts.{label_type}
 use Rattle.cc_expression_trees.specs.Constants.{ShowsInteger}
 use Rattle.cc_expression_trees.specs.Exprs.{ShowsExpr, ShowsValue}
@@ -11,7 +11,7 @@ use Rattle.cc_program.specs.declared.stmt.Case.{Case, out-Case}
 use Rattle.cc_program.specs.declared.stmt.Stmt.{Stmt, out-Stmt}
 use Rattle.cc_program.specs.declared.stmt.Stmt.TheOpen as is
 use Rattle.cc_program.specs.declared.types.Sig.{out-Sig}
-use Rattle.cc_syntax.specs.Programs.{type_of}
+use Rattle.cc_typed.specs.CcSyntax.Programs.{type_of}
 use Rattle.cc_tree.specs.declared.at.At.{At}
 use Rattle.cc_tree.specs.declared.tree.Tree.{Tree}
 use Rattle.cc_tree.specs.declared.unit.Line as line

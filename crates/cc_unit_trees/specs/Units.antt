@@ -1,13 +1,13 @@
 -- Which declarations and definitions of a tree show those of a program, whatever their offsets (C99 6.7, 6.9.1).
 use Rattle.std.specs.Prelude.{ℕ, List, [], ◌∷◌, ◌++◌, map, take, drop, Option, Some, None}
-use Rattle.cc_words.specs.declared.word.Word.{Word}
+use Rattle.cc_program.specs.CcWords.declared.word.Word.{Word}
 use Rattle.cc_program.specs.declared.func.Func.{Func}
 use Rattle.cc_program.specs.declared.program.Program.{Program}
 use Rattle.cc_program.specs.declared.types.CType.{CType}
 use Rattle.cc_program.specs.declared.types.Sig.{out-Sig}
 use Rattle.cc_program.specs.declared.types.Structure.{Structure}
 use Rattle.cc_unit_trees.specs.Lines.{ShowsStmts}
-use Rattle.cc_syntax.specs.Types.{Named}
+use Rattle.cc_typed.specs.CcSyntax.Types.{Named}
 use Rattle.cc_tree.specs.declared.at.At.{At}
 use Rattle.cc_tree.specs.declared.tree.Declr.{Declr}
 use Rattle.cc_tree.specs.declared.tree.Spec.{Spec}

@@ -1,12 +1,12 @@
 -- The names that the text of a program's declarations has: each may name something.
 use Rattle.std.specs.Prelude.{◌≡◌, ℕ, true, List, Some, slice_get}
-use Rattle.cc_words.specs.Names.{is_name}
+use Rattle.cc_program.specs.CcWords.Names.{is_name}
 use Rattle.cc_program.specs.declared.func.Func.{Func}
 use Rattle.cc_program.specs.declared.object.Device.{Device}
 use Rattle.cc_program.specs.declared.object.Object.{Object}
 use Rattle.cc_program.specs.declared.program.Program.{Program}
 use Rattle.cc_program.specs.declared.types.Structure.{Structure}
-use Rattle.cc_syntax.specs.Types.{Named}
+use Rattle.cc_typed.specs.CcSyntax.Types.{Named}
 
 pub record HasUnitNames (p : Program) : Type 0 where
   pub objects : (i : ℕ) (o : Object) → slice_get p.objects i ≡ Some o → is_name o.name ≡ true

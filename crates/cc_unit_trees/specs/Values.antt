@@ -3,7 +3,7 @@
 -- braces.
 use Rattle.std.specs.Prelude.{◌≡◌, ℕ, ℤ, true, false, ◌⊎◌, List, [], ◌∷◌, ◌++◌, map, replicate, Some, slice_get}
 use Rattle.std.specs.List.{list_all}
-use Rattle.cc_num.specs.declared.int_type.IntType.{IntType}
+use Rattle.cc_program.specs.CcNum.declared.int_type.IntType.{IntType}
 use Rattle.cc_lex.specs.declared.token.Mark.TheVariants as m
 use Rattle.cc_bodies.specs.Names.{member_name}
 use Rattle.cc_expression_trees.specs.Constants.{ShowsInteger, IsZero}
@@ -21,9 +21,9 @@ use Rattle.cc_program.specs.declared.value.Leaf.TheVariants as leaf
 use Rattle.cc_program.specs.declared.value.Part.{Part}
 use Rattle.cc_program.specs.declared.value.Part.TheVariants as part
 use Rattle.cc_program.specs.declared.value.Root.TheVariants as root
-use Rattle.cc_syntax.specs.Expressions.{of_one}
-use Rattle.cc_syntax.specs.Initial.{bound_of, step_into, leads_to_element, is_zero}
-use Rattle.cc_syntax.specs.Values.{PlaceType, object_place, pointer_to, element_of, address_of, is_assignable_some}
+use Rattle.cc_typed.specs.CcSyntax.Expressions.{of_one}
+use Rattle.cc_typed.specs.CcSyntax.Initial.{bound_of, step_into, leads_to_element, is_zero}
+use Rattle.cc_typed.specs.CcSyntax.Values.{PlaceType, object_place, pointer_to, element_of, address_of, is_assignable_some}
 use Rattle.cc_tree.specs.declared.at.At.{At}
 use Rattle.cc_tree.specs.declared.tree.Tree as tree
 use Rattle.cc_tree.specs.declared.tree.Tree.{Tree}

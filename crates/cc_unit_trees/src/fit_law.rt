@@ -10,11 +10,11 @@ ghost use Rattle.cc_program.specs.declared.object.Device.{Device};
 ghost use Rattle.cc_program.specs.declared.object.Object.{Object};
 ghost use Rattle.cc_program.specs.declared.program.Program.{Program};
 ghost use Rattle.cc_program.specs.declared.types.Structure.{Structure};
-ghost use Rattle.cc_syntax.specs.Programs.{IsInitial};
-ghost use Rattle.cc_syntax.specs.Normal.{IsNormal, is_normal_body};
-ghost use Rattle.cc_syntax.specs.Sound.{is_member, is_object, IsFunc};
-ghost use Rattle.cc_syntax.specs.Types.{has_members};
-ghost use Rattle.cc_words.specs.Names.{is_name};
+ghost use Rattle.cc_typed.specs.CcSyntax.Programs.{IsInitial};
+ghost use Rattle.cc_typed.specs.CcSyntax.Normal.{IsNormal, is_normal_body};
+ghost use Rattle.cc_typed.specs.CcSyntax.Sound.{is_member, is_object, IsFunc};
+ghost use Rattle.cc_typed.specs.CcSyntax.Types.{has_members};
+ghost use Rattle.cc_program.specs.CcWords.Names.{is_name};
 
 /// What the laws of trees ask of a program, which each program in normal form has. The call does nothing.
 pub fn normal_programs_fit()

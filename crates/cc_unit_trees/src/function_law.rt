@@ -14,11 +14,11 @@ ghost use Rattle.cc_program.specs.declared.object.Device.{Device};
 ghost use Rattle.cc_program.specs.declared.object.Object.{Object};
 ghost use Rattle.cc_program.specs.declared.program.Program.{Program};
 ghost use Rattle.cc_program.specs.declared.types.Structure.{Structure};
-ghost use Rattle.cc_syntax.specs.Normal.{is_normal_body};
-ghost use Rattle.cc_syntax.specs.Sound.{is_object, IsFunc};
+ghost use Rattle.cc_typed.specs.CcSyntax.Normal.{is_normal_body};
+ghost use Rattle.cc_typed.specs.CcSyntax.Sound.{is_object, IsFunc};
 ghost use Rattle.cc_expression_trees.specs.Types.{Plain};
-ghost use Rattle.cc_words.specs.Names.{is_name};
-ghost use Rattle.cc_words.specs.declared.word.Word.TheVariants as w;
+ghost use Rattle.cc_program.specs.CcWords.Names.{is_name};
+ghost use Rattle.cc_program.specs.CcWords.declared.word.Word.TheVariants as w;
 
 /// What holds of the text of static objects and functions, wherever it stands. The call does nothing.
 pub fn declarations_read_back()

@@ -14,9 +14,9 @@ ghost use Rattle.cc_program.specs.declared.object.Device.{Device};
 ghost use Rattle.cc_program.specs.declared.object.Object.{Object};
 ghost use Rattle.cc_program.specs.declared.program.Program.{Program};
 ghost use Rattle.cc_program.specs.declared.types.Structure.{Structure};
-ghost use Rattle.cc_syntax.specs.Sound.{is_object, IsFunc, IsSound};
+ghost use Rattle.cc_typed.specs.CcSyntax.Sound.{is_object, IsFunc, IsSound};
 ghost use Rattle.cc_unit_trees.specs.ValueNames.{HasUnitNames};
-ghost use Rattle.cc_words.specs.Names.{is_name};
+ghost use Rattle.cc_program.specs.CcWords.Names.{is_name};
 
 /// What holds of the text of the items of a unit, wherever they stand. The call does nothing.
 pub fn items_read_back()

@@ -15,12 +15,12 @@ ghost use Rattle.cc_program.specs.declared.program.Program.{Program};
 ghost use Rattle.cc_program.specs.declared.stmt.Stmt.{Stmt};
 ghost use Rattle.cc_unit_trees.specs.Lines.{ShowsStmts};
 ghost use Rattle.cc_unit_trees.specs.ReadStatements.{ReadsLines};
-ghost use Rattle.cc_syntax.specs.Normal.{is_normal_stmt};
-ghost use Rattle.cc_syntax.specs.Programs.{is_sound_stmt};
+ghost use Rattle.cc_typed.specs.CcSyntax.Normal.{is_normal_stmt};
+ghost use Rattle.cc_typed.specs.CcSyntax.Programs.{is_sound_stmt};
 ghost use Rattle.cc_tree.specs.declared.at.At.{At};
 ghost use Rattle.cc_tree.specs.declared.unit.Line.{Line};
 ghost use Rattle.cc_tree.specs.Statements.{IsLines};
-ghost use Rattle.cc_words.specs.Names.{is_name};
+ghost use Rattle.cc_program.specs.CcWords.Names.{is_name};
 
 /// What holds of the text of sound statements in normal form, wherever they stand. The call does nothing.
 pub fn statements_read_back()

@@ -6,7 +6,7 @@ ghost use Rattle.cc_lex.specs.declared.token.Token.{Token};
 ghost use Rattle.cc_lex.specs.Tokens.{Tokens};
 ghost use Rattle.cc_print.specs.Printed.{text};
 ghost use Rattle.cc_program.specs.declared.program.Program.{Program};
-ghost use Rattle.cc_syntax.specs.Normal.{IsNormal};
+ghost use Rattle.cc_typed.specs.CcSyntax.Normal.{IsNormal};
 ghost use Rattle.cc_tree.specs.declared.unit.Unit.{Unit as UnitTree};
 ghost use Rattle.cc_tree.specs.Outside.{first_outside};
 ghost use Rattle.cc_tree.specs.Sentences.{IsSentence};

@@ -6,7 +6,7 @@ ghost use Rattle.cc_expression_trees.specs.Parts.{Fits};
 ghost use Rattle.cc_print.specs.Values.{value};
 ghost use Rattle.cc_program.specs.declared.object.Object.{Object};
 ghost use Rattle.cc_program.specs.declared.program.Program.{Program};
-ghost use Rattle.cc_syntax.specs.Sound.{IsSound};
+ghost use Rattle.cc_typed.specs.CcSyntax.Sound.{IsSound};
 ghost use Rattle.cc_expression_trees.specs.Soft.{IsSoft};
 ghost use Rattle.cc_unit_trees.specs.ValueNames.{HasUnitNames};
 ghost use Rattle.cc_unit_trees.specs.ReadValues.{ReadsGiven};

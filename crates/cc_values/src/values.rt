@@ -2,14 +2,16 @@
 
 ghost use Rattle.std.specs.Prelude.{◌≡◌, IfOk, IsTrue, ◌+ℤ◌, pos, option_map, option_and_then, Some};
 ghost use Rattle.std.specs.Option.{option_copied};
-ghost use Rattle.cc_num.specs.Integers.{IsValueOf, is_value_of};
-ghost use Rattle.cc_num.specs.Promotions.{promoted};
-ghost use Rattle.cc_num.specs.Results.{is_shift as is_shift_of, one_if as one_if_of};
+ghost use Rattle.cc_program.specs.CcNum.Integers.{IsValueOf, is_value_of};
+ghost use Rattle.cc_program.specs.CcNum.Promotions.{promoted};
+ghost use Rattle.cc_program.specs.CcNum.Results.{is_shift as is_shift_of, one_if as one_if_of};
 ghost use Rattle.cc_syntax.specs.Operators.{is_promoted as is_promoted_of, difference_type as difference_type_of};
 ghost use Rattle.cc_program.specs.declared.value.Value.TheVariants.{Int, Place};
 ghost use Rattle.cc_values.specs.Values.{integer as integer_of, address_in as address_in_of, unary as unary_of, binary as binary_of, unary_result as unary_result_of, binary_result as binary_result_of, conversion as conversion_of, is_true as is_true_of, truth as truth_of, of_truth as of_truth_of, index_in as index_in_of, offset, moved_address as moved_address_of, movement as movement_of, element_at as element_at_of, same_part as same_part_of, same_path as same_path_of, same_object as same_object_of, same_address as same_address_of, same_array as same_array_of, in_one_array as in_one_array_of, difference as difference_of, gap as gap_of, compared as compared_of, comparison as comparison_of};
 
-use cc_num::{BinOp, IntType, List, NoMemory, Target, UnOp, apply, apply_one, convert, promote};
+use cc_program::num::{
+    BinOp, IntType, List, NoMemory, Target, UnOp, apply, apply_one, convert, promote,
+};
 use cc_program::{Address, Part, Root, Value, copy_list};
 use std::alloc::Global;
 

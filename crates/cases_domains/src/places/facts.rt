@@ -12,8 +12,8 @@ use crate::places::words::{numbers_of, set_of};
 use crate::places::written::{write_numbers, write_set};
 use cases_script::{Page, split};
 use cc_lattice::{Pair, Table};
-use cc_num::List;
 use cc_places::Addrs;
+use cc_program::num::List;
 use cc_sets::Vals;
 use std::alloc::Global;
 

@@ -15,8 +15,8 @@ use crate::places::lattices::joined;
 use crate::words::{small_target, type_of};
 use crate::written::one_in;
 use cc_lattice::IntDomain;
-use cc_num::List;
 use cc_places::Addrs;
+use cc_program::num::List;
 use cc_program::{Address, Part, Root};
 use std::alloc::Global;
 

@@ -1,7 +1,7 @@
 //! Programs that are put together statement by statement.
 
 use crate::flow::roles::roles;
-use cc_num::{Boxed, IntType, List, Target};
+use cc_program::num::{Boxed, IntType, List, Target};
 use cc_program::{CType, Case, Expr, Func, Intr, Place, Program, Shape, Sig, Stmt};
 use std::alloc::Global;
 

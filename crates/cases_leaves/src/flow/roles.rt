@@ -2,8 +2,8 @@
 
 ghost use Rattle.std.specs.Prelude.{◌≡◌, IfSome};
 
-use cc_num::{List, Name};
 use cc_program::Roles;
+use cc_program::num::{List, Name};
 use std::alloc::Global;
 
 /// A name.

@@ -1,13 +1,13 @@
 -- What holds of the constraints of a program as a system: those that facts may no longer meet are listed.
 use Rattle.std.proofs.Common.{◌≡◌, ◌⊎◌, ◌+◌, ◌*◌, ◌<◌, inl, inr, ℕ, [], ◌∷◌, length, All, Contains, Option, Some, None, slice_get, sym, subst}
-use Rattle.cc_flow.proofs.Paths.{all_counted}
-use Rattle.cc_lattice.specs.Systems.{IsRaised}
-use Rattle.cc_places.specs.declared.abs.Abs.{Abs}
-use Rattle.cc_places.specs.Abstract.{IsBelowAbs}
-use Rattle.cc_places.specs.laws.AbstractLaws.{abs_itself, abs_through}
+use Rattle.cc_rules_asked.proofs.CcFlow.Paths.{all_counted}
+use Rattle.cc_rules_asked.specs.CcLattice.Systems.{IsRaised}
+use Rattle.cc_rules_asked.specs.CcPlaces.declared.abs.Abs.{Abs}
+use Rattle.cc_rules_asked.specs.CcPlaces.Abstract.{IsBelowAbs}
+use Rattle.cc_rules_asked.specs.CcPlaces.laws.AbstractLaws.{abs_itself, abs_through}
 use Rattle.cc_program.specs.declared.program.Program.{Program}
-use Rattle.cc_rules.specs.Constraints.{Constraint, constraints}
-use Rattle.cc_rules.specs.Rules.{Asks}
+use Rattle.cc_rules_asked.specs.CcRules.Constraints.{Constraint, constraints}
+use Rattle.cc_rules_asked.specs.CcRules.Rules.{Asks}
 use Rattle.cc_rules_again.proofs.Alike.{same_for}
 use Rattle.cc_rules_again.proofs.Asking.{asked_raised}
 use Rattle.cc_rules_again.proofs.Counting.{IsCounted, again_counted}
@@ -17,20 +17,20 @@ use Rattle.cc_rules_again.proofs.Lists.{contained}
 use Rattle.cc_rules_again.specs.Again.{number_of, again_of}
 use Rattle.cc_rules_again.specs.Things.{Thing, thing_of, Raises, IsSame}
 use Rattle.cc_rules_grow.proofs.Elements.{Each, each_all, all_each}
-use Rattle.cc_rules_needs.proofs.ByParts.{slots_below}
-use Rattle.cc_rules_needs.proofs.Through.{has_more}
+use Rattle.cc_rules_asked.proofs.CcRulesNeeds.ByParts.{slots_below}
+use Rattle.cc_rules_asked.proofs.CcRulesNeeds.Through.{has_more}
 use Rattle.cc_rules_numbered.proofs.Places.{length-constraints}
 use Rattle.cc_rules_reads.proofs.Asked.{asked_same}
 use Rattle.cc_rules_system.specs.laws.Kept.{kept_held}
 use Rattle.cc_rules_system.specs.laws.Numbers.{numbered, numbered_there}
 use Rattle.cc_rules_system.specs.System.{Fits, AsksAt, again_at}
-use Rattle.cc_state_facts.specs.declared.facts.Facts.{Facts}
-use Rattle.cc_state_facts.specs.laws.OrderLaws.{facts_same}
-use Rattle.cc_state_facts.specs.Orders.{AreAlike, IsBelow}
-use Rattle.cc_state_operators.specs.Domains.{Domain}
+use Rattle.cc_rules_asked.specs.CcStateFacts.declared.facts.Facts.{Facts}
+use Rattle.cc_rules_asked.specs.CcStateFacts.laws.OrderLaws.{facts_same}
+use Rattle.cc_rules_asked.specs.CcStateFacts.Orders.{AreAlike, IsBelow}
+use Rattle.cc_rules_asked.specs.CcStateOperators.Domains.{Domain}
 use Rattle.cc_state_shape.proofs.Alike.{facts_alike}
-use Rattle.cc_rules_needs.specs.declared.needs.Part.{Part}
-use Rattle.cc_rules_needs.specs.Needs.{Needs, IsBelowPart, Has}
+use Rattle.cc_rules_asked.specs.CcRulesNeeds.declared.needs.Part.{Part}
+use Rattle.cc_rules_asked.specs.CcRulesNeeds.Needs.{Needs, IsBelowPart, Has}
 
 -- ---- facts that fit are of one kind, and what is listed are numbers of constraints
 

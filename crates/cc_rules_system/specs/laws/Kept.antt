@@ -4,7 +4,7 @@ use Rattle.cc_rules_again.proofs.Kept.{kept, point_place, whole_place, result_pl
 use Rattle.cc_rules_again.proofs.Picked.{mixed, picked}
 use Rattle.cc_rules_again.specs.Things.{Thing}
 use Rattle.cc_rules_grow.proofs.Elements.{Each, each_all, all_each}
-use Rattle.cc_state_facts.specs.declared.facts.Facts.{Facts}
+use Rattle.cc_rules_asked.specs.CcStateFacts.declared.facts.Facts.{Facts}
 use Rattle.cc_state_limits.specs.Held.{IsHeldSet, IsHeldKnown, AreHeld}
 use Rattle.cc_state_room.specs.Small.{IsByte}
 

@@ -2,7 +2,7 @@
 use Rattle.std.proofs.Common.{arith, ◌≡◌, ◌<◌, ◌+◌, ◌*◌, ◌/◌, ◌%◌, ℕ, zero, suc, length, Contains, Some, slice_get, refl, sym, ap, ◌∙◌}
 use Rattle.std.proofs.lemmas.Option.{same_Some, slice_get_within, get_or_from_slice_get}
 use Rattle.cc_program.specs.declared.program.Program.{Program}
-use Rattle.cc_rules.specs.Constraints.{Rule, Start, Flow, Write, Touch, Call, Back, Return, Handler, Stability, Constraint, at_point, rules_at, constraints}
+use Rattle.cc_rules_asked.specs.CcRules.Constraints.{Rule, Start, Flow, Write, Touch, Call, Back, Return, Handler, Stability, Constraint, at_point, rules_at, constraints}
 use Rattle.cc_rules_again.specs.Again.{number_of}
 use Rattle.cc_rules_numbered.proofs.Places.{first_constraint, constraint_of}
 

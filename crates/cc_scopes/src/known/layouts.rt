@@ -1,12 +1,12 @@
 //! Sizes and alignments of types over the structures of a unit (C99 6.5.3.4, 6.7.2.1).
 
 ghost use Rattle.std.specs.Prelude.{◌≡◌, map, IfSome};
-ghost use Rattle.cc_syntax.specs.Layout.{scalar as scalar_of, structure as structure_of, nothing, type_layout};
+ghost use Rattle.cc_operands.specs.CcSyntax.Layout.{scalar as scalar_of, structure as structure_of, nothing, type_layout};
 ghost use Rattle.std.specs.Option.{option_copied, unwrap_or};
 ghost use Rattle.cc_scopes.specs.Layouts.{saturated};
 
-use cc_num::{Name, Target, at};
-use cc_syntax::{CType, Layout, Shape};
+use cc_operands::syntax::{CType, Layout, Shape};
+use cc_program::num::{Name, Target, at};
 
 /// Of a scalar of so many bytes.
 fn scalar(size: u8, target: &Target) -> Layout

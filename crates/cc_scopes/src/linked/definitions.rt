@@ -5,8 +5,8 @@ ghost use Rattle.cc_scopes.specs.Definitions.{first_or as first_or_of, tentative
 ghost use Rattle.cc_scopes.specs.State.{change_at};
 
 use crate::linked::Names;
-use cc_num::{List, NoMemory};
-use cc_syntax::{CType, Entry, Leaf};
+use cc_operands::syntax::{CType, Entry, Leaf};
+use cc_program::num::{List, NoMemory};
 use cc_unit::{UnitKind, both_entries};
 use std::alloc::Global;
 use std::mem::replace;

@@ -1,8 +1,8 @@
 -- What an expression means is what the step of its construct makes of its parts; and the constructs whose rules are not to be
 -- opened, from the lemmas on them.
 use Rattle.std.proofs.Common.{rules, Err, map}
-use Rattle.cc_designators.specs.View.{expr_view}
-use Rattle.cc_designators.specs.declared.designated.TypedExpr.{TypedExpr as CodeExpr}
+use Rattle.cc_typed_terms.specs.CcDesignators.View.{expr_view}
+use Rattle.cc_typed_terms.specs.CcDesignators.declared.designated.TypedExpr.{TypedExpr as CodeExpr}
 use Rattle.cc_scopes.specs.Outcomes.{Gives, stopped}
 use Rattle.cc_scopes.specs.View.{state_of}
 use Rattle.cc_terms.specs.Expressions.{tree_step}

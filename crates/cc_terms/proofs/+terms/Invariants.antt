@@ -1,5 +1,5 @@
 use Rattle.std.proofs.Common.{◌≡◌, ◌+◌, ◌*◌, map, max}
-use Rattle.cc_operands.specs.View.{operand_view}
+use Rattle.cc_typed_terms.specs.CcOperands.View.{operand_view}
 use Rattle.cc_scopes.specs.View.{state_of}
 use Rattle.cc_tree.specs.declared.tree.Tree.{size-Tree}
 use Rattle.cc_tree.specs.declared.tree.TypeName.{size-TypeName}

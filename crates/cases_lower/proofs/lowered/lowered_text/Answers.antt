@@ -1,7 +1,7 @@
 use Rattle.std.proofs.Common.{rules, length}
 use Rattle.cases_lower.proofs.lowered.lowered_text.Goals as goal
-use Rattle.cc_syntax.proofs.StructureLemmas.{structures_sized}
-use Rattle.cc_syntax.specs.Sound.{IsSound}
+use Rattle.cc_states.proofs.CcSyntax.StructureLemmas.{structures_sized}
+use Rattle.cc_states.specs.CcSyntax.Sound.{IsSound}
 
 pub lower-requires : goal.lower-requires
 lower-requires c =

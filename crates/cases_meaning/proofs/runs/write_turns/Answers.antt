@@ -1,5 +1,5 @@
 use Rattle.std.proofs.Common.{sym, subst, rules}
-use Rattle.cc_syntax.specs.Sound.{IsSound}
+use Rattle.cc_states.specs.CcSyntax.Sound.{IsSound}
 use Rattle.cases_meaning.proofs.runs.write_turns.Goals as goal
 
 pub loop-turns-init : goal.loop-turns-init

@@ -1,5 +1,5 @@
 use Rattle.std.proofs.Common.{◌-◌}
-use Rattle.cc_syntax.specs.Sound.{IsSound}
+use Rattle.cc_states.specs.CcSyntax.Sound.{IsSound}
 use Rattle.cases_meaning.proofs.runs.write_turns.Given as goal
 
 abbrev pub invariant-loop-turns : goal.invariant-loop-turns

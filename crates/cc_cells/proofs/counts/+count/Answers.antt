@@ -1,7 +1,7 @@
 use Rattle.std.proofs.Common.{arith, ◌≡◌, ◌+◌, sym, ap, ◌∙◌}
 use Rattle.cc_program.specs.declared.types.Structure.{Structure}
-use Rattle.cc_syntax.proofs.Measure.{arrays, in_members, arrays-Array, member_below, structure_below}
-use Rattle.cc_syntax.proofs.Shapes.{read_at}
+use Rattle.cc_typed.proofs.CcSyntax.Measure.{arrays, in_members, arrays-Array, member_below, structure_below}
+use Rattle.cc_typed.proofs.CcSyntax.Shapes.{read_at}
 use Rattle.cc_cells.specs.Counts.{counted}
 use Rattle.cc_cells.proofs.CountLemmas.{count-past}
 use Rattle.cc_cells.proofs.counts.+count.Goals as goal

@@ -1,5 +1,5 @@
 use Rattle.std.proofs.Common.{◌≡◌, ◌+◌, take}
-use Rattle.cc_syntax.proofs.Measure.{arrays, in_members, in_structures}
+use Rattle.cc_typed.proofs.CcSyntax.Measure.{arrays, in_members, in_structures}
 use Rattle.cc_cells.specs.Counts.{counted, member_count}
 use Rattle.cc_cells.proofs.counts.+count.Given as goal
 

@@ -3,7 +3,7 @@ use Rattle.cc_initialisers.specs.Contents.{contents_over, structure_inside, of_m
 use Rattle.cc_initialisers.specs.Scalars.{elements_from, scalars_from}
 use Rattle.cc_initialisers.specs.View.{part_view, members_view, content_view}
 use Rattle.cc_initialisers.proofs.Sizes.{nodes}
-use Rattle.cc_syntax.specs.Types.{Named}
+use Rattle.cc_operands.specs.CcSyntax.Types.{Named}
 use Rattle.cc_initialisers.proofs.scalars.+scalars.Given as goal
 
 abbrev pub decreases-put_scalars : goal.decreases-put_scalars

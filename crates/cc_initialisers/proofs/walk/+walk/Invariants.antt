@@ -5,7 +5,7 @@ use Rattle.cc_initialisers.specs.Initialisers.{behind, repeated, started, elided
 use Rattle.cc_initialisers.specs.View.{part_view, members_view, content_view, steps_of}
 use Rattle.cc_initialisers.proofs.Filling.{members_filled}
 use Rattle.cc_initialisers.proofs.Sizes.{nodes}
-use Rattle.cc_syntax.specs.Types.{Named}
+use Rattle.cc_operands.specs.CcSyntax.Types.{Named}
 use Rattle.cc_initialisers.proofs.walk.+walk.Given as goal
 
 abbrev pub decreases-braced : goal.decreases-braced

@@ -2,7 +2,7 @@ use Rattle.std.proofs.Common.{◌∷◌, [], ◌++◌, ◌∙◌, ap}
 use Rattle.cc_initialisers.specs.Initialisers.{char_or_zero}
 use Rattle.cc_initialisers.specs.View.{steps_of}
 use Rattle.cc_initialisers.proofs.Characters.{character-next}
-use Rattle.cc_typed.specs.View.{value_view}
+use Rattle.cc_operands.specs.CcTyped.View.{value_view}
 use Rattle.cc_initialisers.proofs.walk.chars_given.Goals as goal
 
 pub loop-i-preserved : goal.loop-i-preserved

@@ -2,7 +2,7 @@ use Rattle.std.proofs.Common.{◌≡◌, ◌++◌, ◌-◌}
 use Rattle.cc_initialisers.specs.Initialisers.{chars_given}
 use Rattle.cc_initialisers.specs.View.{steps_of}
 use Rattle.cc_initialisers.proofs.Characters.{chars_from}
-use Rattle.cc_typed.specs.View.{value_view}
+use Rattle.cc_operands.specs.CcTyped.View.{value_view}
 use Rattle.cc_initialisers.proofs.walk.chars_given.Given as goal
 
 abbrev pub invariant-loop-i : goal.invariant-loop-i

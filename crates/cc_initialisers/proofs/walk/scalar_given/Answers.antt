@@ -2,7 +2,7 @@ use Rattle.std.proofs.Common.{◌≡◌, ◌++◌, OnOk, List, subst}
 use Rattle.cc_initialisers.specs.Initialisers.{Step}
 use Rattle.cc_initialisers.specs.View.{steps_of}
 use Rattle.cc_initialisers.proofs.Started.{scalar-expression, scalar-list}
-use Rattle.cc_typed.specs.View.{value_view}
+use Rattle.cc_operands.specs.CcTyped.View.{value_view}
 use Rattle.cc_initialisers.proofs.walk.scalar_given.Goals as goal
 
 pub returns-in-One : goal.returns-in-One

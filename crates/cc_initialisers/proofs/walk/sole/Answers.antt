@@ -2,7 +2,7 @@ use Rattle.std.proofs.Common.{◌≡◌, ◌++◌, OnOk, List, subst}
 use Rattle.cc_initialisers.specs.Initialisers.{Step}
 use Rattle.cc_initialisers.specs.View.{steps_of}
 use Rattle.cc_initialisers.proofs.Started.{sole-given, sole-list}
-use Rattle.cc_typed.specs.View.{value_view}
+use Rattle.cc_operands.specs.CcTyped.View.{value_view}
 use Rattle.cc_initialisers.proofs.walk.sole.Goals as goal
 
 pub returns-in_ok-put_given-in-One : goal.returns-in_ok-put_given-in-One

@@ -5,7 +5,7 @@ use Rattle.cc_definitions.specs.Definitions.{thing_at}
 use Rattle.cc_definitions.specs.Handlers.{is_named_main}
 use Rattle.cc_link.specs.Linked.{structure_of, device_at, object_at, func_at, all_ids}
 use Rattle.cc_linked_names.specs.Given.{given_name, name_at, reserved_names, tags}
-use Rattle.cc_num.specs.declared.target.Target.{Target}
+use Rattle.cc_program.specs.CcNum.declared.target.Target.{Target}
 use Rattle.cc_program.specs.declared.func.Func.{Func}
 use Rattle.cc_program.specs.declared.object.Device.{Device}
 use Rattle.cc_program.specs.declared.object.Object.{Object}

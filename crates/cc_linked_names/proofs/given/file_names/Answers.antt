@@ -5,7 +5,7 @@ use Rattle.cc_definitions.specs.Definitions.{thing_at}
 use Rattle.cc_linked_names.proofs.Giving.{position_kept}
 use Rattle.cc_linked_names.specs.Given.{thing_wish}
 use Rattle.cc_names.specs.Names.{names_for}
-use Rattle.cc_syntax.specs.Names.{intrinsic_names}
+use Rattle.cc_typed.specs.CcSyntax.Names.{intrinsic_names}
 use Rattle.cc_things.specs.View.{thing_view}
 use Rattle.cc_linked_names.proofs.given.file_names.Goals as goal
 

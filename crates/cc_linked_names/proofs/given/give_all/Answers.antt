@@ -4,7 +4,7 @@ use Rattle.cc_definitions.specs.Definitions.{thing_at, named}
 use Rattle.cc_linked_names.specs.Given.{tags, file_names, thing_wish, locals_for, reserved_names}
 use Rattle.cc_names.specs.Names.{names_for}
 use Rattle.cc_structures.specs.View.{knowns_of}
-use Rattle.cc_syntax.specs.Names.{intrinsic_names}
+use Rattle.cc_typed.specs.CcSyntax.Names.{intrinsic_names}
 use Rattle.cc_things.specs.View.{thing_view}
 use Rattle.cc_linked_names.proofs.given.give_all.Goals as goal
 

@@ -7,7 +7,7 @@ use Rattle.cc_linked_names.specs.Given.{thing_wish}
 use Rattle.cc_names.specs.Holds.{Holds}
 use Rattle.cc_names.specs.Names.{names_for}
 use Rattle.cc_names.specs.View.{HaveSame, wishes_of}
-use Rattle.cc_syntax.specs.Names.{intrinsic_names}
+use Rattle.cc_typed.specs.CcSyntax.Names.{intrinsic_names}
 use Rattle.cc_things.specs.View.{thing_view}
 use Rattle.cc_linked_names.proofs.given.thing_names.Goals as goal
 

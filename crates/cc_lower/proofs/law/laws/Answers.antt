@@ -6,8 +6,8 @@ use Rattle.cc_lower_continues.specs.Continues.{flagged_program}
 use Rattle.cc_lower_normal.specs.Lowered.{lowered_but_for_names}
 use Rattle.cc_lower_normal.proofs.LoweredPrograms.{few_flags}
 use Rattle.cc_lower_statements.specs.Statements.{lower_program}
-use Rattle.cc_steps.proofs.RunLaws.{Follows-trans, Answers-trans}
-use Rattle.cc_syntax.proofs.NameRules.{sound-typed}
+use Rattle.cc_states.proofs.CcSteps.RunLaws.{Follows-trans, Answers-trans}
+use Rattle.cc_states.proofs.CcSyntax.NameRules.{sound-typed}
 
 pub returns-clause-follows : goal.returns-clause-follows
 unfolding lowered

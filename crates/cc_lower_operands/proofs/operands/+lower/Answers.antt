@@ -3,7 +3,7 @@ use Rattle.std.proofs.Common.{◌≡◌, ◌+◌, ◌-◌, List, [], ◌∷◌, 
 use Rattle.std.specs.Prelude.{option_map}
 use Rattle.std.proofs.lemmas.List.{append-nil}
 use Rattle.cc_program.specs.declared.expr.Expr.{Expr}
-use Rattle.cc_typed.specs.View.{value_view}
+use Rattle.cc_eval.specs.CcTyped.View.{value_view}
 use Rattle.cc_lower_accesses.specs.Assigned.{among}
 use Rattle.cc_lower_accesses.specs.Modes.{arguments_of}
 use Rattle.cc_lower_operands.specs.Made.{IsMade}

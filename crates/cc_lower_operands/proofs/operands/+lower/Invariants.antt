@@ -2,7 +2,7 @@ use Rattle.std.proofs.Common.{◌+◌, ◌*◌, ◌++◌, max, drop, List}
 use Rattle.cc_program.specs.declared.expr.Expr.{Expr, size-Expr}
 use Rattle.cc_program.specs.declared.expr.Place.{size-Place}
 use Rattle.cc_program.specs.declared.stmt.Stmt.{Stmt}
-use Rattle.cc_syntax.specs.Types.{Named}
+use Rattle.cc_eval.specs.CcSyntax.Types.{Named}
 use Rattle.cc_lower_accesses.specs.Assigned.{among}
 use Rattle.cc_lower_accesses.specs.Modes.{arguments_of}
 use Rattle.cc_lower_operands.specs.Made.{IsMade}

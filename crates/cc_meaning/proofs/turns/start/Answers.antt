@@ -1,4 +1,4 @@
-use Rattle.cc_steps.specs.View.{state_of}
+use Rattle.cc_states.specs.CcSteps.View.{state_of}
 use Rattle.cc_meaning.proofs.Kept.{is_first}
 use Rattle.cc_meaning.proofs.turns.start.Goals as goal
 

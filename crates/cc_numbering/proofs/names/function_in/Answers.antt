@@ -1,5 +1,5 @@
 use Rattle.std.proofs.Common.{◌≡◌, ◌∙◌, ap}
-use Rattle.cc_unit.specs.Renumbered.{sig_renumbered}
+use Rattle.cc_scopes.specs.CcUnit.Renumbered.{sig_renumbered}
 use Rattle.cc_numbering.specs.Structures.{all_named_in}
 use Rattle.cc_numbering.proofs.names.function_in.Goals as goal
 

@@ -1,5 +1,5 @@
 use Rattle.std.proofs.Common.{◌≡◌, ◌∙◌, ap}
-use Rattle.cc_unit.specs.Renumbered.{type_renumbered}
+use Rattle.cc_scopes.specs.CcUnit.Renumbered.{type_renumbered}
 use Rattle.cc_numbering.proofs.names.name_in.Goals as goal
 
 pub returns : goal.returns

@@ -1,6 +1,6 @@
 use Rattle.cc_objects.proofs.Leaves.{leaf-given}
-use Rattle.cc_operands.specs.View.{operand_view, type_view}
-use Rattle.cc_scopes.specs.View.{state_of}
+use Rattle.cc_typed_terms.specs.CcOperands.View.{operand_view, type_view}
+use Rattle.cc_typed_terms.specs.CcScopes.View.{state_of}
 use Rattle.cc_objects.proofs.values.leaf_given.Goals as goal
 
 pub returns : goal.returns

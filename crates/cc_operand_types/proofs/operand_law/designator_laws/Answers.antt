@@ -1,4 +1,4 @@
-use Rattle.cc_syntax.specs.Values.{ToFunction}
+use Rattle.cc_operands.specs.CcSyntax.Values.{ToFunction}
 use Rattle.cc_operand_types.proofs.Leaves.{local_typed, static_typed, device_typed, function_typed}
 use Rattle.cc_operand_types.proofs.Places.{value_typed, address_typed, element_of_typed, subscripted_typed, indirection_typed, dot_typed, arrow_typed}
 use Rattle.cc_operand_types.proofs.Standing.{object_type}

@@ -1,7 +1,7 @@
 use Rattle.std.proofs.Common.{length}
 use Rattle.cc_packing.proofs.ProgramTexts.{ends-by}
 use Rattle.cc_packing.proofs.program.texts_of_lowered.Goals as goal
-use Rattle.cc_syntax.proofs.StructureLemmas.{structures_sized}
+use Rattle.cc_states.proofs.CcSyntax.StructureLemmas.{structures_sized}
 
 pub lower-requires : goal.lower-requires
 lower-requires c = record { sized = structures_sized (length c.args.p.structures) c.args.p.target c.args.p.structures c.requires.sound.structures }

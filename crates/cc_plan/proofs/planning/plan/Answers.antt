@@ -2,7 +2,7 @@ use Rattle.std.proofs.Common.{◌∙◌, ◌≡◌, ◌≤◌, ◌*◌, ◌^◌,
 use Rattle.std.proofs.lemmas.List.{length-map}
 use Rattle.std.proofs.lemmas.Result.{IfOk-weaker}
 use Rattle.cc_cost_ranking.specs.declared.costs.Cost.{Cost}
-use Rattle.cc_flow.specs.declared.types.Flow.{Flow}
+use Rattle.cc_state_points.specs.CcFlow.declared.types.Flow.{Flow}
 use Rattle.cc_plan.proofs.Settled.{breach_is, plan_is, prices_are, small_counts}
 use Rattle.cc_plan.proofs.SlotLemmas.{ready}
 use Rattle.cc_plan.specs.Plans.{IsLegal, IsPlanOf, candidates_of}

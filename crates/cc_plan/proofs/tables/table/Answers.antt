@@ -2,7 +2,7 @@ use Rattle.std.proofs.Common.{◌∙◌, ◌≡◌, ◌≤◌, ◌^◌, ℕ, Lis
 use Rattle.std.proofs.lemmas.Result.{IfOk-weaker}
 use Rattle.std.specs.Prelude.{Vec}
 use Rattle.std.specs.declared.alloc.Global.{Global}
-use Rattle.cc_flow.specs.declared.types.Flow.{Flow}
+use Rattle.cc_state_points.specs.CcFlow.declared.types.Flow.{Flow}
 use Rattle.cc_plan.proofs.Settled.{costs_are, small_counts, table_is}
 use Rattle.cc_plan.proofs.SlotLemmas.{ready}
 use Rattle.cc_plan.specs.Plans.{IsTableOf}
@@ -11,7 +11,7 @@ use Rattle.cc_plan_costs.specs.Counts.{counts_of}
 use Rattle.cc_plan_table.specs.Table.{table_text}
 use Rattle.cc_rewrite_names.specs.NewNames.{word_names}
 use Rattle.cc_slots_types.specs.declared.slot.Slot.{Slot}
-use Rattle.cc_syntax.proofs.StructureLemmas.{sound_sizes}
+use Rattle.cc_state_points.proofs.CcSyntax.StructureLemmas.{sound_sizes}
 use Rattle.cc_plan.proofs.tables.table.Goals as goal
 
 pub slots-requires : goal.slots-requires

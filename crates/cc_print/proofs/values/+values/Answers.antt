@@ -1,8 +1,8 @@
 use Rattle.std.proofs.Common.{arith, ◌≡◌, ◌+◌, ◌-◌, sym, ap, ◌∙◌}
 use Rattle.cc_program.specs.declared.types.Structure.{Structure}
-use Rattle.cc_syntax.specs.Types.{Named}
-use Rattle.cc_syntax.proofs.Measure.{arrays, in_members, arrays-Array, member_below, structure_below}
-use Rattle.cc_syntax.proofs.Shapes.{read_at}
+use Rattle.cc_typed.specs.CcSyntax.Types.{Named}
+use Rattle.cc_typed.proofs.CcSyntax.Measure.{arrays, in_members, arrays-Array, member_below, structure_below}
+use Rattle.cc_typed.proofs.CcSyntax.Shapes.{read_at}
 use Rattle.cc_pieces.specs.View.{pieces_of}
 use Rattle.cc_print.specs.Values.{filled}
 use Rattle.cc_print.proofs.FillerLemmas.{filler-Int, filler-Pointer, filler-past, array_at, structure_at}

@@ -1,5 +1,5 @@
 use Rattle.std.proofs.Common.{◌≡◌, ◌≤◌, ◌+◌, ◌*◌, length, drop}
-use Rattle.cc_syntax.proofs.Measure.{arrays, in_members, in_structures}
+use Rattle.cc_typed.proofs.CcSyntax.Measure.{arrays, in_members, in_structures}
 use Rattle.cc_pieces.specs.View.{pieces_of}
 use Rattle.cc_print.specs.Values.{filled, filler, further_elements, elements, further_members, member_fillers, structure_fillers}
 use Rattle.cc_print.proofs.values.+values.Given as goal

@@ -2,7 +2,7 @@ use Rattle.std.proofs.Common.{[], ◌∷◌}
 use Rattle.cc_print.specs.Printed.{text}
 use Rattle.cc_program.specs.declared.program.Program.{Program}
 use Rattle.cc_read.specs.Texts.{Reads}
-use Rattle.cc_syntax.specs.Normal.{IsNormal}
+use Rattle.cc_type.specs.CcSyntax.Normal.{IsNormal}
 use Rattle.cc_printed_programs.proofs.LeftUnit.{unit-left}
 use Rattle.cc_printed_programs.proofs.Programs.{text-reads}
 use Rattle.cc_printed_programs.proofs.read_law.programs_read.Goals as goal

@@ -1,11 +1,11 @@
 use Rattle.std.proofs.Common.{Some, None, option_map, subst, ◌∙◌}
 use Rattle.cc_proof.proofs.broken.first_broken.Goals as goal
 use Rattle.cc_proof.proofs.Ready.{few_keys, few_locals, ready}
-use Rattle.cc_rules.specs.Broken.{FirstBroken}
+use Rattle.cc_rules_grow.specs.CcRules.Broken.{FirstBroken}
 use Rattle.cc_rules_constraints.specs.Broken.{broken_view}
 use Rattle.cc_rules_numbered.specs.Numbered.{constraint_view}
-use Rattle.cc_state_operators.specs.Domains.{domain}
-use Rattle.cc_syntax.proofs.NameRules.{sound-typed}
+use Rattle.cc_rules_grow.specs.CcStateOperators.Domains.{domain}
+use Rattle.cc_rules_grow.proofs.CcSyntax.NameRules.{sound-typed}
 
 pub points_of-requires : goal.points_of-requires
 points_of-requires g c = c.requires.limits.few_points

@@ -3,9 +3,9 @@ use Rattle.cc_proof_covers.proofs.Covered.{fits_lies}
 use Rattle.cc_proof_covers.proofs.Turns.{run_fits}
 use Rattle.cc_proof_covers.proofs.law.covers.Goals as goal
 use Rattle.cc_proof_covers.specs.Views.{view_of}
-use Rattle.cc_steps.specs.Runs.{run}
-use Rattle.cc_steps.specs.Turn.{start}
-use Rattle.cc_syntax.proofs.NameRules.{sound-typed}
+use Rattle.cc_flow_sound.specs.CcSteps.Runs.{run}
+use Rattle.cc_flow_sound.specs.CcSteps.Turn.{start}
+use Rattle.cc_flow_sound.proofs.CcSyntax.NameRules.{sound-typed}
 
 pub returns : goal.returns
 returns g = λ c. record {

@@ -3,7 +3,7 @@ use Rattle.std.proofs.Common.{◌≡◌, ℤ, List, Contains, Option, Some, ◌�
 use Rattle.std.specs.Prelude.{IfSome}
 use Rattle.cc_proof_rules.proofs.Covered.{solutions_cover}
 use Rattle.cc_proof_rules.proofs.law.solutions.Goals as goal
-use Rattle.cc_state_operators.specs.Domains.{domain}
+use Rattle.cc_state_values_sound.specs.CcStateOperators.Domains.{domain}
 use Rattle.cc_state_values_sound.proofs.Choices.{all_given}
 
 -- what each member has is among the listed ones

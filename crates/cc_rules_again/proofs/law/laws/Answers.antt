@@ -1,7 +1,7 @@
 -- The laws, of the domain.
 use Rattle.std.proofs.Common.{inl, inr, subst, ℕ, All, ◌+◌, ◌*◌, ◌<◌}
-use Rattle.cc_flow.proofs.Paths.{all_counted}
-use Rattle.cc_places.specs.laws.AbstractLaws.{abs_itself, abs_through}
+use Rattle.cc_rules_grow.proofs.CcFlow.Paths.{all_counted}
+use Rattle.cc_rules_grow.specs.CcPlaces.laws.AbstractLaws.{abs_itself, abs_through}
 use Rattle.cc_rules_again.proofs.Alike.{same_for}
 use Rattle.cc_rules_again.proofs.Asking.{asked_raised}
 use Rattle.cc_rules_again.proofs.Counting.{IsCounted, again_counted}
@@ -12,11 +12,11 @@ use Rattle.cc_rules_again.proofs.law.laws.Goals as goal
 use Rattle.cc_rules_again.specs.Again.{number_of, again_of}
 use Rattle.cc_rules_again.specs.Things.{Raises, thing_of}
 use Rattle.cc_rules_grow.proofs.Elements.{all_each}
-use Rattle.cc_rules_needs.proofs.ByParts.{slots_below}
-use Rattle.cc_rules_needs.proofs.Through.{has_more}
+use Rattle.cc_rules_grow.proofs.CcRulesNeeds.ByParts.{slots_below}
+use Rattle.cc_rules_grow.proofs.CcRulesNeeds.Through.{has_more}
 use Rattle.cc_rules_reads.proofs.Asked.{asked_same}
-use Rattle.cc_state_facts.specs.laws.OrderLaws.{facts_same}
-use Rattle.cc_state_operators.specs.Domains.{domain}
+use Rattle.cc_rules_grow.specs.CcStateFacts.laws.OrderLaws.{facts_same}
+use Rattle.cc_rules_grow.specs.CcStateOperators.Domains.{domain}
 
 pub returns : goal.returns
 returns g c =

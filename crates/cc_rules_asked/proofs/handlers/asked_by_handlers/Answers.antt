@@ -4,7 +4,7 @@ use Rattle.cc_rules.specs.Rules.{handlers}
 use Rattle.cc_rules_asked.specs.Handlers.{asked_of_all}
 use Rattle.cc_rules_asked.proofs.HandlerLemmas.{low_levels, handlers_as_asked}
 use Rattle.cc_rules_asked.proofs.handlers.asked_by_handlers.Goals as goal
-use Rattle.cc_state_operators.specs.Domains.{domain}
+use Rattle.cc_rules.specs.CcStateOperators.Domains.{domain}
 
 pub asked_if_on-requires : goal.asked_if_on-requires
 asked_if_on-requires g c = low_levels c.args.here.now c.args.handlers.now (handlers c.args.here.now.context.program.now) c.requires.handlers

@@ -1,6 +1,6 @@
 use Rattle.std.proofs.Common.{◌≡◌, ℕ, List, true, false, get_or, ap, sym, ◌∙◌}
-use Rattle.cc_state_facts.specs.Facts.{levels_of}
-use Rattle.cc_state_facts.specs.Levels.{may_enter}
+use Rattle.cc_rules.specs.CcStateFacts.Facts.{levels_of}
+use Rattle.cc_rules.specs.CcStateFacts.Levels.{may_enter}
 use Rattle.cc_rules_asked.specs.declared.handlers.Handler.{Handler}
 use Rattle.cc_rules_asked.specs.Handlers.{running_here}
 use Rattle.cc_rules_asked.proofs.HandlerLemmas.{one_entered, none_entered}

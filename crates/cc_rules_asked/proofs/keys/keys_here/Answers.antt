@@ -1,10 +1,10 @@
 use Rattle.std.proofs.Common.{◌≡◌, ◌<◌, ◌^◌, List, length, sym, subst, ◌∙◌}
 use Rattle.std.proofs.lemmas.Result.{IfOk-weaker}
-use Rattle.cc_state_facts.specs.declared.facts.Key.{Key}
-use Rattle.cc_state_keys.specs.Keys.{keys_of}
-use Rattle.cc_state_operators.specs.Domains.{domain}
-use Rattle.cc_state_reads.specs.Contexts.{AreNamedIn}
-use Rattle.cc_state_reads.specs.Named.{is_among}
+use Rattle.cc_rules.specs.CcStateFacts.declared.facts.Key.{Key}
+use Rattle.cc_rules.specs.CcStateKeys.Keys.{keys_of}
+use Rattle.cc_rules.specs.CcStateOperators.Domains.{domain}
+use Rattle.cc_rules.specs.CcStateReads.Contexts.{AreNamedIn}
+use Rattle.cc_rules.specs.CcStateReads.Named.{is_among}
 use Rattle.cc_rules_asked.specs.Asks.{AreNumbered}
 use Rattle.cc_rules_asked.proofs.Listed.{stand_kept}
 use Rattle.cc_rules_asked.proofs.ValuesHere.{keys_here}

@@ -5,10 +5,10 @@ use Rattle.cc_rules_asked.specs.declared.asked.Asked.TheVariants as asked
 use Rattle.cc_rules_asked.specs.Asks.{AsksHere}
 use Rattle.cc_rules_asked.proofs.ReturnLemmas.{none_returned, one_returned, pure_returned}
 use Rattle.cc_rules_asked.proofs.returns.asked_by_return.Goals as goal
-use Rattle.cc_rules_flows.specs.View.{act_view}
-use Rattle.cc_rules_needs.specs.declared.needs.Part.TheVariants.{Values}
-use Rattle.cc_rules_needs.specs.declared.needs.Slot.TheVariants.{Result}
-use Rattle.cc_state_operators.specs.Domains.{domain}
+use Rattle.cc_rules.specs.CcRulesFlows.View.{act_view}
+use Rattle.cc_rules.specs.CcRulesNeeds.declared.needs.Part.TheVariants.{Values}
+use Rattle.cc_rules.specs.CcRulesNeeds.declared.needs.Slot.TheVariants.{Result}
+use Rattle.cc_rules.specs.CcStateOperators.Domains.{domain}
 
 pub value_of-requires : goal.value_of-requires
 value_of-requires g c = record {

@@ -3,7 +3,7 @@ use Rattle.std.proofs.lemmas.Result.{IfOk-weaker}
 use Rattle.cc_rules_asked.specs.Unstable.{unstable_in}
 use Rattle.cc_rules_asked.proofs.StabilityLemmas.{stability_asked}
 use Rattle.cc_rules_asked.proofs.stability.asked_by_stability.Goals as goal
-use Rattle.cc_state_operators.specs.Domains.{domain}
+use Rattle.cc_rules.specs.CcStateOperators.Domains.{domain}
 
 pub asked_if_on-requires : goal.asked_if_on-requires
 asked_if_on-requires g c = record { few = c.requires.here.few; few_keys = c.requires.few }

@@ -1,7 +1,7 @@
 use Rattle.std.proofs.Common.{◌≡◌, ◌++◌}
 use Rattle.std.specs.List.{flat_map}
 use Rattle.cc_rules_asked.specs.Unstable.{parts_apart}
-use Rattle.cc_rules_needs.specs.Flowing.{numbers}
+use Rattle.cc_rules.specs.CcRulesNeeds.Flowing.{numbers}
 use Rattle.cc_rules_asked.proofs.stability.put_all_apart.Given as goal
 
 abbrev pub invariant-loop-register : goal.invariant-loop-register

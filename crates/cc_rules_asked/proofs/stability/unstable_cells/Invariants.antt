@@ -1,7 +1,7 @@
 use Rattle.std.proofs.Common.{◌≡◌}
 use Rattle.std.specs.List.{filter}
 use Rattle.cc_rules_asked.specs.Unstable.{is_unstable_by, key_at}
-use Rattle.cc_rules_needs.specs.Flowing.{numbers}
+use Rattle.cc_rules.specs.CcRulesNeeds.Flowing.{numbers}
 use Rattle.cc_rules_asked.proofs.stability.unstable_cells.Given as goal
 
 abbrev pub invariant-loop-cell : goal.invariant-loop-cell

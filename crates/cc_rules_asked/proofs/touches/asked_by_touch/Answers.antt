@@ -4,9 +4,9 @@ use Rattle.cc_rules.specs.Constraints.{Touch}
 use Rattle.cc_rules_asked.specs.Asks.{AsksHere, touched}
 use Rattle.cc_rules_asked.proofs.TouchLemmas.{none_touched, pure_touched}
 use Rattle.cc_rules_asked.proofs.touches.asked_by_touch.Goals as goal
-use Rattle.cc_rules_flows.specs.Acts.{Act}
-use Rattle.cc_rules_flows.specs.View.{act_view}
-use Rattle.cc_state_operators.specs.Domains.{domain}
+use Rattle.cc_rules.specs.CcRulesFlows.Acts.{Act}
+use Rattle.cc_rules.specs.CcRulesFlows.View.{act_view}
+use Rattle.cc_rules.specs.CcStateOperators.Domains.{domain}
 
 pub asked_of_access-requires : goal.asked_of_access-requires
 asked_of_access-requires g c = record {

@@ -3,8 +3,8 @@ use Rattle.std.proofs.lemmas.Result.{IfOk-weaker}
 use Rattle.cc_rules_asked.specs.Asks.{list_touched}
 use Rattle.cc_rules_asked.proofs.TouchLemmas.{touches_asked}
 use Rattle.cc_rules_asked.proofs.touches.asked_of_access.Goals as goal
-use Rattle.cc_state_facts.specs.Facts.{mark_of, levels_of}
-use Rattle.cc_state_operators.specs.Domains.{domain}
+use Rattle.cc_rules.specs.CcStateFacts.Facts.{mark_of, levels_of}
+use Rattle.cc_rules.specs.CcStateOperators.Domains.{domain}
 
 pub keys_here-requires : goal.keys_here-requires
 keys_here-requires g c = record { here = c.requires.here; pure = c.requires.pure; few = c.requires.few }

@@ -1,7 +1,7 @@
 use Rattle.std.proofs.Common.{◌≡◌, ◌++◌, map, take}
 use Rattle.cc_rules_asked.specs.declared.asked.Asked.TheVariants as asked
 use Rattle.cc_rules_asked.specs.Asks.{level_slot}
-use Rattle.cc_rules_needs.specs.declared.needs.Part.TheVariants.{LevelSet}
+use Rattle.cc_rules.specs.CcRulesNeeds.declared.needs.Part.TheVariants.{LevelSet}
 use Rattle.cc_rules_asked.proofs.touches.put_levels.Given as goal
 
 abbrev pub invariant-loop-key : goal.invariant-loop-key

@@ -4,9 +4,9 @@ use Rattle.cc_rules.specs.Constraints.{Write}
 use Rattle.cc_rules_asked.specs.Asks.{AsksHere}
 use Rattle.cc_rules_asked.proofs.WriteLemmas.{none_written, as_write, pure_written}
 use Rattle.cc_rules_asked.proofs.writes.asked_by_write.Goals as goal
-use Rattle.cc_rules_flows.specs.Acts.{Act, Writes}
-use Rattle.cc_rules_flows.specs.View.{act_view}
-use Rattle.cc_state_operators.specs.Domains.{domain}
+use Rattle.cc_rules.specs.CcRulesFlows.Acts.{Act, Writes}
+use Rattle.cc_rules.specs.CcRulesFlows.View.{act_view}
+use Rattle.cc_rules.specs.CcStateOperators.Domains.{domain}
 
 pub asked_of_write-requires : goal.asked_of_write-requires
 asked_of_write-requires g c =

@@ -3,10 +3,10 @@ use Rattle.std.proofs.lemmas.Result.{IfOk-weaker}
 use Rattle.cc_rules_asked.specs.declared.asked.Asked.TheVariants as asked
 use Rattle.cc_rules_asked.proofs.WriteLemmas.{one_written}
 use Rattle.cc_rules_asked.proofs.writes.asked_of_write.Goals as goal
-use Rattle.cc_rules_flows.specs.Acts.{Writes}
-use Rattle.cc_rules_needs.specs.declared.needs.Part.TheVariants.{Values}
-use Rattle.cc_rules_needs.specs.declared.needs.Slot.TheVariants.{Whole}
-use Rattle.cc_state_operators.specs.Domains.{domain}
+use Rattle.cc_rules.specs.CcRulesFlows.Acts.{Writes}
+use Rattle.cc_rules.specs.CcRulesNeeds.declared.needs.Part.TheVariants.{Values}
+use Rattle.cc_rules.specs.CcRulesNeeds.declared.needs.Slot.TheVariants.{Whole}
+use Rattle.cc_rules.specs.CcStateOperators.Domains.{domain}
 
 pub value_of-requires : goal.value_of-requires
 value_of-requires g c = record { sized = c.requires.here.sized; sets = c.requires.here.known; pure = c.requires.value }

@@ -4,7 +4,7 @@ use Rattle.cc_rules_calls.specs.Backs.{EachReturns}
 use Rattle.cc_rules_calls.specs.Here.{AreFunctionsIn}
 use Rattle.cc_rules_calls.proofs.CalledLemmas.{functions_there}
 use Rattle.cc_rules_calls.proofs.BackLemmas.{backs_asked}
-use Rattle.cc_state_operators.specs.Domains.{domain}
+use Rattle.cc_state_points.specs.CcStateOperators.Domains.{domain}
 use Rattle.cc_rules_calls.proofs.backs.asked_of_call.Goals as goal
 
 pub called_here-requires : goal.called_here-requires

@@ -4,7 +4,7 @@ use Rattle.std.proofs.lemmas.List.Elements.{All-nil, All-same}
 use Rattle.cc_rules_asked.specs.Asked.{all_needs}
 use Rattle.cc_rules_calls.specs.Backs.{EachReturns, IsBehind}
 use Rattle.cc_rules_calls.proofs.BackLemmas.{each_on, behind_on}
-use Rattle.cc_state_operators.specs.Domains.{domain}
+use Rattle.cc_state_points.specs.CcStateOperators.Domains.{domain}
 use Rattle.cc_rules_calls.proofs.backs.asked_of_functions.Goals as goal
 
 pub put_called_back-requires : goal.put_called_back-requires

@@ -1,6 +1,6 @@
 use Rattle.std.proofs.Common.{All, take}
 use Rattle.cc_rules_calls.specs.Backs.{EachReturns, IsBehind}
-use Rattle.cc_state_operators.specs.Domains.{domain}
+use Rattle.cc_state_points.specs.CcStateOperators.Domains.{domain}
 use Rattle.cc_rules_calls.proofs.backs.asked_of_functions.Given as goal
 
 abbrev pub invariant-loop-id : goal.invariant-loop-id

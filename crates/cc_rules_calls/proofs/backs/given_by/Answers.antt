@@ -1,7 +1,7 @@
 use Rattle.std.proofs.Common.{Some, refl, subst, sym}
 use Rattle.cc_rules_calls.specs.Backs.{IsGivenHere, MayGetHere}
 use Rattle.cc_rules_calls.proofs.backs.given_by.Goals as goal
-use Rattle.cc_state_operators.specs.Domains.{domain}
+use Rattle.cc_state_points.specs.CcStateOperators.Domains.{domain}
 
 pub result_of-requires : goal.result_of-requires
 result_of-requires g c =

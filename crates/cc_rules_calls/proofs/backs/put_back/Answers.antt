@@ -1,6 +1,6 @@
 use Rattle.std.proofs.Common.{sym}
 use Rattle.cc_rules_calls.proofs.BackLemmas.{none_asked}
-use Rattle.cc_state_operators.specs.Domains.{domain}
+use Rattle.cc_state_points.specs.CcStateOperators.Domains.{domain}
 use Rattle.cc_rules_calls.proofs.backs.put_back.Goals as goal
 
 pub put_exit-requires : goal.put_exit-requires

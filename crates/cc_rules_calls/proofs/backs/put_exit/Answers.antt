@@ -1,7 +1,7 @@
 use Rattle.std.proofs.Common.{◌++◌, length, refl, ap, ◌∙◌}
 use Rattle.cc_rules_calls.proofs.BackLemmas.{exit_asked, is_within}
 use Rattle.cc_rules_calls.specs.Backs.{points_behind}
-use Rattle.cc_state_operators.specs.Domains.{domain}
+use Rattle.cc_state_points.specs.CcStateOperators.Domains.{domain}
 use Rattle.cc_rules_calls.proofs.backs.put_exit.Goals as goal
 
 pub given_by-requires : goal.given_by-requires

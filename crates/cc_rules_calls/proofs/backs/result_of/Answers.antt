@@ -2,7 +2,7 @@ use Rattle.std.proofs.Common.{◌≡◌, Some, ap, sym, slice_get, ◌∙◌}
 use Rattle.std.proofs.lemmas.Result.{IfOk-weaker}
 use Rattle.cc_rules_calls.specs.Backs.{IsWithZero}
 use Rattle.cc_rules_calls.proofs.ResultLemmas.{gives_with_zero, gives_as_known}
-use Rattle.cc_state_operators.specs.Domains.{domain}
+use Rattle.cc_state_points.specs.CcStateOperators.Domains.{domain}
 use Rattle.cc_rules_calls.proofs.backs.result_of.Goals as goal
 
 pub with_zero-requires : goal.with_zero-requires

@@ -1,10 +1,10 @@
 use Rattle.std.proofs.Common.{pos, refl}
 use Rattle.std.proofs.lemmas.Result.{IfOk-weaker}
-use Rattle.cc_lattice.specs.Orders.{IsLeastUpperBound}
-use Rattle.cc_places.specs.declared.abs.Abs.TheVariants as abs
-use Rattle.cc_places.specs.Abstract.{AreOfOneKind, IsBelowAbs}
+use Rattle.cc_state_points.specs.CcLattice.Orders.{IsLeastUpperBound}
+use Rattle.cc_state_points.specs.CcPlaces.declared.abs.Abs.TheVariants as abs
+use Rattle.cc_state_points.specs.CcPlaces.Abstract.{AreOfOneKind, IsBelowAbs}
 use Rattle.cc_rules_calls.proofs.ResultLemmas.{is_with_zero}
-use Rattle.cc_state_operators.specs.Domains.{domain}
+use Rattle.cc_state_points.specs.CcStateOperators.Domains.{domain}
 use Rattle.cc_rules_calls.proofs.backs.with_zero.Goals as goal
 
 pub join-requires : goal.join-requires

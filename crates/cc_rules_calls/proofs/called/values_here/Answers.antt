@@ -1,8 +1,8 @@
 use Rattle.std.proofs.Common.{arith, sym, subst}
 use Rattle.std.proofs.lemmas.List.{take_all}
 use Rattle.std.specs.List.{AllZip}
-use Rattle.cc_state_operators.specs.Domains.{domain}
-use Rattle.cc_state_values.specs.Contexts.{IsPureIn, IsValIn}
+use Rattle.cc_state_points.specs.CcStateOperators.Domains.{domain}
+use Rattle.cc_state_points.specs.CcStateValues.Contexts.{IsPureIn, IsValIn}
 use Rattle.cc_rules_calls.proofs.Listed.{zip_on, all_at}
 use Rattle.cc_rules_calls.proofs.called.values_here.Goals as goal
 

@@ -1,7 +1,7 @@
 use Rattle.std.proofs.Common.{take}
 use Rattle.std.specs.List.{AllZip}
-use Rattle.cc_state_operators.specs.Domains.{domain}
-use Rattle.cc_state_values.specs.Contexts.{IsValIn}
+use Rattle.cc_state_points.specs.CcStateOperators.Domains.{domain}
+use Rattle.cc_state_points.specs.CcStateValues.Contexts.{IsValIn}
 use Rattle.cc_rules_calls.proofs.called.values_here.Given as goal
 
 abbrev pub invariant-loop-e : goal.invariant-loop-e

@@ -1,13 +1,13 @@
 use Rattle.std.proofs.Common.{true, [], sym, subst}
 use Rattle.std.proofs.lemmas.Result.{IfOk-weaker}
-use Rattle.cc_rules.specs.Constraints.{Call}
+use Rattle.cc_rules_asked.specs.CcRules.Constraints.{Call}
 use Rattle.cc_rules_asked.specs.Asks.{AsksHere, ArePureHere}
 use Rattle.cc_rules_calls.specs.Here.{MayCallHere}
 use Rattle.cc_rules_calls.proofs.CallActs.{as_call}
 use Rattle.cc_rules_calls.proofs.EntryLemmas.{no_call}
-use Rattle.cc_rules_flows.specs.Acts.{Act, Calls}
-use Rattle.cc_rules_flows.specs.View.{act_view}
-use Rattle.cc_state_operators.specs.Domains.{domain}
+use Rattle.cc_state_points.specs.CcRulesFlows.Acts.{Act, Calls}
+use Rattle.cc_state_points.specs.CcRulesFlows.View.{act_view}
+use Rattle.cc_state_points.specs.CcStateOperators.Domains.{domain}
 use Rattle.cc_rules_calls.proofs.entries.asked_by_call.Goals as goal
 
 pub asked_of_call-requires : goal.asked_of_call-requires

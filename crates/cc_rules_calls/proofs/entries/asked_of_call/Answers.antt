@@ -4,8 +4,8 @@ use Rattle.std.proofs.lemmas.Result.{IfOk-weaker}
 use Rattle.cc_rules_calls.specs.Here.{AreFunctionsIn, asked_of_all}
 use Rattle.cc_rules_calls.proofs.CalledLemmas.{functions_there}
 use Rattle.cc_rules_calls.proofs.EntryLemmas.{entries_asked}
-use Rattle.cc_state_operators.specs.Domains.{domain}
-use Rattle.cc_state_values.specs.Contexts.{IsValIn}
+use Rattle.cc_state_points.specs.CcStateOperators.Domains.{domain}
+use Rattle.cc_state_points.specs.CcStateValues.Contexts.{IsValIn}
 use Rattle.cc_rules_calls.proofs.entries.asked_of_call.Goals as goal
 
 pub called_here-requires : goal.called_here-requires

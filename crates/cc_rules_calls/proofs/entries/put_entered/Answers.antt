@@ -3,7 +3,7 @@ use Rattle.cc_rules_calls.specs.Called.{sets_of}
 use Rattle.cc_rules_calls.specs.Here.{fact_with}
 use Rattle.cc_rules_calls.proofs.Parameters.{joined_parts, same_point}
 use Rattle.cc_rules_calls.proofs.entries.put_entered.Goals as goal
-use Rattle.cc_state_facts.specs.declared.facts.Key.{Key}
+use Rattle.cc_state_points.specs.CcStateFacts.declared.facts.Key.{Key}
 
 pub put_parameters-requires : goal.put_parameters-requires
 put_parameters-requires g c = record {

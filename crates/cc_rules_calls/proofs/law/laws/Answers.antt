@@ -1,6 +1,6 @@
 use Rattle.cc_rules_calls.proofs.Premises.{calls_here, gets_here}
 use Rattle.cc_rules_calls.proofs.law.laws.Goals as goal
-use Rattle.cc_state_operators.specs.Domains.{domain}
+use Rattle.cc_state_points.specs.CcStateOperators.Domains.{domain}
 
 pub returns : goal.returns
 returns g c =

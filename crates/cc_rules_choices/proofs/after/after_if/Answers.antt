@@ -8,7 +8,7 @@ use Rattle.cc_rules_choices.specs.declared.choices.Choice.{Choice}
 use Rattle.cc_rules_flows.specs.Acts.{Act, Tests}
 use Rattle.cc_rules_flows.specs.Nexts.{behind_in, sides}
 use Rattle.cc_rules_tests.specs.declared.tested.Test.TheVariants as made
-use Rattle.cc_state_operators.specs.Domains.{domain}
+use Rattle.cc_rules_flows.specs.CcStateOperators.Domains.{domain}
 use Rattle.cc_rules_choices.proofs.after.after_if.Goals as goal
 
 pub sides-requires : goal.sides-requires

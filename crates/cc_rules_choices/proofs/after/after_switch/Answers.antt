@@ -6,7 +6,7 @@ use Rattle.cc_rules_choices.proofs.Labels.{switch_labels}
 use Rattle.cc_rules_choices.specs.Choices.{choices_of}
 use Rattle.cc_rules_flows.specs.Acts.{Act, Chooses}
 use Rattle.cc_rules_flows.specs.Nexts.{choices}
-use Rattle.cc_state_operators.specs.Domains.{domain}
+use Rattle.cc_rules_flows.specs.CcStateOperators.Domains.{domain}
 use Rattle.cc_rules_choices.proofs.after.after_switch.Goals as goal
 
 pub choices-requires : goal.choices-requires

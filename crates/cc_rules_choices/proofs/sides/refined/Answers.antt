@@ -3,13 +3,13 @@ use Rattle.std.proofs.Common.{◌≡◌, length, true≢false, refl, ap, sym, su
 use Rattle.cc_rules_choices.proofs.Assembled.{all_left, emptied, is_side, like, members}
 use Rattle.cc_rules_choices.proofs.Held.{all_held, all_numbered, all_registers, few_registers}
 use Rattle.cc_rules_choices.proofs.Kept.{all_keep}
-use Rattle.cc_rules_needs.specs.Flowing.{of_fact}
+use Rattle.cc_rules_flows.specs.CcRulesNeeds.Flowing.{of_fact}
 use Rattle.cc_rules_sides.specs.Refined.{AllKeepAddresses, AreHeld, AreLeft, AreRowsLeft, IsOneEmptied}
 use Rattle.cc_rules_tests.specs.Trials.{IsTrialOf}
-use Rattle.cc_state_facts.specs.declared.facts.PointFact.{PointFact}
-use Rattle.cc_state_keys.specs.Tracked.{registers}
-use Rattle.cc_state_operators.specs.Domains.{domain}
-use Rattle.cc_state_values.specs.declared.context.Context.{Context}
+use Rattle.cc_rules_flows.specs.CcStateFacts.declared.facts.PointFact.{PointFact}
+use Rattle.cc_rules_flows.specs.CcStateKeys.Tracked.{registers}
+use Rattle.cc_rules_flows.specs.CcStateOperators.Domains.{domain}
+use Rattle.cc_rules_flows.specs.CcStateValues.declared.context.Context.{Context}
 use Rattle.cc_rules_choices.proofs.sides.refined.Goals as goal
 
 pub left_locals-requires : goal.left_locals-requires

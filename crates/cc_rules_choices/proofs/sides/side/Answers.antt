@@ -3,9 +3,9 @@ use Rattle.std.proofs.Common.{refl, sym, subst}
 use Rattle.std.proofs.lemmas.Result.{IfOk-weaker}
 use Rattle.cc_rules_choices.proofs.Told.{barred, barred_worked, taken, taken_worked}
 use Rattle.cc_rules_tests.specs.Tested.{test_of}
-use Rattle.cc_state_operators.specs.Domains.{domain}
-use Rattle.cc_state_values.proofs.Same.{order_of}
-use Rattle.cc_state_values.specs.Contexts.{IsValIn}
+use Rattle.cc_rules_flows.specs.CcStateOperators.Domains.{domain}
+use Rattle.cc_rules_flows.proofs.CcStateValues.Same.{order_of}
+use Rattle.cc_rules_flows.specs.CcStateValues.Contexts.{IsValIn}
 use Rattle.cc_rules_choices.proofs.sides.side.Goals as goal
 
 pub passes-requires : goal.passes-requires

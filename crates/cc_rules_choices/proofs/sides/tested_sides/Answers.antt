@@ -3,7 +3,7 @@ use Rattle.std.proofs.Common.{◌≡◌, ◌+◌, ◌++◌, All, false, [], ◌�
 use Rattle.std.specs.List.{Contains}
 use Rattle.std.proofs.lemmas.List.{map-append, take_more}
 use Rattle.std.proofs.lemmas.List.Elements.{All-append, All-nil}
-use Rattle.cc_places.specs.laws.ListLaws.{all_taken, item_in, none_in, taken_cases}
+use Rattle.cc_rules_flows.specs.CcPlaces.laws.ListLaws.{all_taken, item_in, none_in, taken_cases}
 use Rattle.cc_rules_choices.specs.Choices.{choice_of, choices_of}
 use Rattle.cc_rules_choices.specs.declared.choices.Choice.{Choice}
 use Rattle.cc_rules_choices.specs.Sided.{AreWorkedHere, DoFlow, IsLike, fact_to}
@@ -11,8 +11,8 @@ use Rattle.cc_rules_choices.proofs.Told.{all_to, more_flow, none_flow}
 use Rattle.cc_rules_tests.proofs.Following.{itself_at}
 use Rattle.cc_rules_tests.specs.declared.tested.Test.TheVariants as made
 use Rattle.cc_rules_tests.specs.Tested.{test_of}
-use Rattle.cc_state_facts.specs.declared.facts.PointFact.{PointFact}
-use Rattle.cc_state_operators.specs.Domains.{domain}
+use Rattle.cc_rules_flows.specs.CcStateFacts.declared.facts.PointFact.{PointFact}
+use Rattle.cc_rules_flows.specs.CcStateOperators.Domains.{domain}
 use Rattle.cc_rules_choices.proofs.sides.tested_sides.Goals as goal
 
 abbrev nothing : Choice

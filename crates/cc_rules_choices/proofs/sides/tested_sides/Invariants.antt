@@ -5,8 +5,8 @@ use Rattle.cc_rules_choices.specs.declared.choices.Choice.{Choice}
 use Rattle.cc_rules_choices.specs.Sided.{AreWorkedHere, DoFlow, IsLike}
 use Rattle.cc_rules_tests.specs.Tested.{test_of}
 use Rattle.cc_rules_tests.specs.Trials.{IsTrialOf}
-use Rattle.cc_state_facts.specs.declared.facts.PointFact.{PointFact}
-use Rattle.cc_state_operators.specs.Domains.{domain}
+use Rattle.cc_rules_flows.specs.CcStateFacts.declared.facts.PointFact.{PointFact}
+use Rattle.cc_rules_flows.specs.CcStateOperators.Domains.{domain}
 use Rattle.cc_rules_choices.proofs.sides.tested_sides.Given as goal
 
 abbrev pub invariant-loop-choice : goal.invariant-loop-choice

@@ -3,7 +3,7 @@ use Rattle.cc_rules_constraints.proofs.asking.asked.Goals as goal
 use Rattle.cc_rules_constraints.proofs.Asks.{at_number}
 use Rattle.cc_rules_constraints.specs.Asking.{IsAskedBy}
 use Rattle.cc_rules_numbered.specs.Numbered.{constraint_view}
-use Rattle.cc_state_operators.specs.Domains.{domain}
+use Rattle.cc_rules_asked.specs.CcStateOperators.Domains.{domain}
 
 pub returns-clause-asks : goal.returns-clause-asks
 returns-clause-asks g c =

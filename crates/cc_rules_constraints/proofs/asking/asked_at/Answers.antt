@@ -1,18 +1,18 @@
 use Rattle.std.proofs.Common.{arith, ◌<◌, ◌≤◌, ◌^◌, length, ap, sym, subst, ◌∙◌}
 use Rattle.std.proofs.lemmas.Result.{IfOk-weaker}
-use Rattle.cc_flow.specs.declared.types.Flow.{Flow}
-use Rattle.cc_flow.specs.Points.{count_of}
-use Rattle.cc_rules.specs.Rules.{act_at}
+use Rattle.cc_rules_asked.specs.CcFlow.declared.types.Flow.{Flow}
+use Rattle.cc_rules_asked.specs.CcFlow.Points.{count_of}
+use Rattle.cc_rules_asked.specs.CcRules.Rules.{act_at}
 use Rattle.cc_rules_constraints.proofs.asking.asked_at.Goals as goal
 use Rattle.cc_rules_constraints.proofs.Asks.{in_point, point_here, reached, unreached}
 use Rattle.cc_rules_constraints.specs.Asking.{IsAskedHere}
-use Rattle.cc_rules_flows.specs.Nexts.{statement_of}
+use Rattle.cc_rules_asked.specs.CcRulesFlows.Nexts.{statement_of}
 use Rattle.cc_rules_functions.specs.Functions.{AreFunctionsOf}
 use Rattle.cc_rules_made.specs.Rules.{AreOf}
 use Rattle.cc_rules_numbered.specs.Numbered.{rule_view}
-use Rattle.cc_state.specs.Shape.{HaveShape}
-use Rattle.cc_state_operators.specs.Domains.{domain}
-use Rattle.cc_syntax.specs.Normal.{IsNormal}
+use Rattle.cc_rules_grow.specs.CcState.Shape.{HaveShape}
+use Rattle.cc_rules_asked.specs.CcStateOperators.Domains.{domain}
+use Rattle.cc_rules_asked.specs.CcSyntax.Normal.{IsNormal}
 
 pub here_at-requires : goal.here_at-requires
 here_at-requires g c = record {

@@ -1,6 +1,6 @@
 use Rattle.std.proofs.Common.{arith, length, ap, ◌∙◌}
 use Rattle.std.proofs.lemmas.Result.{IfOk-weaker}
-use Rattle.cc_rules.specs.Rules.{AreFirstSets, IsStarted}
+use Rattle.cc_rules_asked.specs.CcRules.Rules.{AreFirstSets, IsStarted}
 use Rattle.cc_rules_asked.specs.Asked.{all_needs}
 use Rattle.cc_rules_constraints.proofs.asking.asked_by.Goals as goal
 use Rattle.cc_rules_constraints.proofs.Asks.{by_firsts, by_start, by_point}
@@ -8,10 +8,10 @@ use Rattle.cc_rules_constraints.proofs.Results.{by_two}
 use Rattle.cc_rules_constraints.specs.Asking.{IsAskedAt}
 use Rattle.cc_rules_layout.specs.Raisable.{AreRaisable}
 use Rattle.cc_rules_numbered.specs.Numbered.{rule_view}
-use Rattle.cc_state_facts.specs.declared.facts.Facts.{Facts}
-use Rattle.cc_state_keys.specs.Keys.{keys_of}
-use Rattle.cc_state_operators.specs.Domains.{domain}
-use Rattle.cc_syntax.proofs.NameRules.{sound-typed}
+use Rattle.cc_rules_asked.specs.CcStateFacts.declared.facts.Facts.{Facts}
+use Rattle.cc_rules_asked.specs.CcStateKeys.Keys.{keys_of}
+use Rattle.cc_rules_asked.specs.CcStateOperators.Domains.{domain}
+use Rattle.cc_rules_asked.proofs.CcSyntax.NameRules.{sound-typed}
 
 pub asked_by_firsts-requires : goal.asked_by_firsts-requires
 asked_by_firsts-requires g c = record {

@@ -5,7 +5,7 @@ use Rattle.cc_rules_constraints.proofs.Breaks.{met, lacking}
 use Rattle.cc_rules_constraints.proofs.broken.broken_at.Goals as goal
 use Rattle.cc_rules_numbered.specs.Numbered.{constraint_view}
 use Rattle.cc_rules_lacking.specs.First.{LacksFirst}
-use Rattle.cc_state_operators.specs.Domains.{domain}
+use Rattle.cc_rules_asked.specs.CcStateOperators.Domains.{domain}
 
 pub returns-in-None : goal.returns-in-None
 returns-in-None g c k at =

@@ -2,7 +2,7 @@ use Rattle.std.proofs.Common.{arith, subst}
 use Rattle.cc_rules_constraints.proofs.Breaks.{none_met, met_on, first_in, all_met}
 use Rattle.cc_rules_constraints.proofs.broken.first_broken.Goals as goal
 use Rattle.cc_rules_constraints.specs.Broken.{IsBrokenAt}
-use Rattle.cc_state_operators.specs.Domains.{domain}
+use Rattle.cc_rules_asked.specs.CcStateOperators.Domains.{domain}
 
 pub constraint_count-count-requires : goal.constraint_count-count-requires
 constraint_count-count-requires g c = let e = c.point_count-points.ensures in let few = c.requires.few in omega (arith, e, few)

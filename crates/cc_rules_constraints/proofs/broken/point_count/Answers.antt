@@ -1,6 +1,6 @@
 use Rattle.std.proofs.Common.{arith, length, ap}
-use Rattle.cc_flow.proofs.Paths.{all_counted}
-use Rattle.cc_flow.specs.declared.types.Flow.{Flow}
+use Rattle.cc_rules_asked.proofs.CcFlow.Paths.{all_counted}
+use Rattle.cc_rules_asked.specs.CcFlow.declared.types.Flow.{Flow}
 use Rattle.cc_rules_constraints.proofs.broken.point_count.Goals as goal
 
 pub overflow_cast-result : goal.overflow_cast-result

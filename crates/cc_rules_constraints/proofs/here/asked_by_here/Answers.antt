@@ -1,18 +1,18 @@
 use Rattle.std.proofs.Common.{arith, sym, subst}
 use Rattle.std.specs.List.{AllZip}
 use Rattle.std.proofs.lemmas.Result.{IfOk-weaker}
-use Rattle.cc_registers.specs.Kept.{AreKept}
+use Rattle.cc_rules_asked.specs.CcRegisters.Kept.{AreKept}
 use Rattle.cc_rules_calls.specs.Backs.{gets, MayGetHere}
 use Rattle.cc_rules_calls.specs.Here.{MayCallHere}
 use Rattle.cc_rules_constraints.proofs.here.asked_by_here.Goals as goal
 use Rattle.cc_rules_constraints.specs.Asking.{IsAskedHere}
-use Rattle.cc_rules_flows.specs.Acts.{Act}
-use Rattle.cc_rules_flows.specs.View.{act_view}
+use Rattle.cc_rules_asked.specs.CcRulesFlows.Acts.{Act}
+use Rattle.cc_rules_asked.specs.CcRulesFlows.View.{act_view}
 use Rattle.cc_rules_numbered.specs.Numbered.{rule_view}
 use Rattle.cc_rules_onward.specs.Fits.{FitTests}
-use Rattle.cc_state_keys.proofs.Typed.{few-locals}
-use Rattle.cc_state_operators.specs.Domains.{domain}
-use Rattle.cc_syntax.proofs.NameRules.{sound-typed}
+use Rattle.cc_rules_asked.proofs.CcStateKeys.Typed.{few-locals}
+use Rattle.cc_rules_asked.specs.CcStateOperators.Domains.{domain}
+use Rattle.cc_rules_asked.proofs.CcSyntax.NameRules.{sound-typed}
 
 pub act_here-act-requires : goal.act_here-act-requires
 act_here-act-requires g c = record {

@@ -2,7 +2,7 @@ use Rattle.std.proofs.Common.{arith, ◌≡◌, [], List, All, length, slice_get
 use Rattle.std.specs.Prelude.{if◌then◌else◌}
 use Rattle.std.proofs.lemmas.List.{length-map}
 use Rattle.std.proofs.lemmas.Result.{IfOk-weaker}
-use Rattle.cc_rules.specs.Constraints.{Flow, Write, Touch, Call, Back, Return, Handler, Stability}
+use Rattle.cc_rules_asked.specs.CcRules.Constraints.{Flow, Write, Touch, Call, Back, Return, Handler, Stability}
 use Rattle.cc_rules_asked.specs.Asks.{AsksHere}
 use Rattle.cc_rules_asked.specs.declared.handlers.Handler.{Handler as HandlerOf}
 use Rattle.cc_rules_asked.specs.Handlers.{AreHandlersOf, asked_of_all}
@@ -13,16 +13,16 @@ use Rattle.cc_rules_choices.specs.Choices.{AreTestsWorkedHere}
 use Rattle.cc_rules_constraints.proofs.here.asked_here.Goals as goal
 use Rattle.cc_rules_constraints.proofs.HereAsks.{of_none, of_flows, of_write, of_touch, of_call, of_back, of_return, of_handlers, of_stability}
 use Rattle.cc_rules_constraints.proofs.Results.{by_two, by_three}
-use Rattle.cc_rules_flows.specs.Acts.{Act}
-use Rattle.cc_rules_flows.specs.View.{act_view}
+use Rattle.cc_rules_asked.specs.CcRulesFlows.Acts.{Act}
+use Rattle.cc_rules_asked.specs.CcRulesFlows.View.{act_view}
 use Rattle.cc_rules_functions.specs.declared.functions.Function.{Function}
 use Rattle.cc_rules_functions.specs.Functions.{AreFunctionsOf}
 use Rattle.cc_rules_nexts.specs.Told.{IsOnward}
-use Rattle.cc_state_facts.specs.declared.facts.Key.TheVariants as key
-use Rattle.cc_state_keys.proofs.FactCounts.{few_tracked}
-use Rattle.cc_state_keys.specs.Keys.{key_number}
-use Rattle.cc_state_keys.specs.Tracked.{tracked}
-use Rattle.cc_state_operators.specs.Domains.{domain}
+use Rattle.cc_rules_asked.specs.CcStateFacts.declared.facts.Key.TheVariants as key
+use Rattle.cc_rules_asked.proofs.CcStateKeys.FactCounts.{few_tracked}
+use Rattle.cc_rules_asked.specs.CcStateKeys.Keys.{key_number}
+use Rattle.cc_rules_asked.specs.CcStateKeys.Tracked.{tracked}
+use Rattle.cc_rules_asked.specs.CcStateOperators.Domains.{domain}
 
 pub asked_by_flows-requires : goal.asked_by_flows-requires
 asked_by_flows-requires g c = record { here = c.requires.is; may = c.requires.may; tests = c.requires.tests }

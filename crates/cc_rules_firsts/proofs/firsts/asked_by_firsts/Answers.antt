@@ -1,16 +1,16 @@
 use Rattle.std.proofs.Common.{arith, length, ap, sym, subst, ◌∙◌}
 use Rattle.std.proofs.lemmas.List.{length-map}
 use Rattle.std.proofs.lemmas.Result.{IfOk-weaker}
-use Rattle.cc_rules.specs.Rules.{AreFirstSets}
+use Rattle.cc_rules_asked.specs.CcRules.Rules.{AreFirstSets}
 use Rattle.cc_rules_asked.specs.Asked.{all_needs}
 use Rattle.cc_rules_firsts.proofs.Asking.{may_stand, as_asked}
 use Rattle.cc_rules_firsts.proofs.Listed.{raisable}
 use Rattle.cc_rules_firsts.proofs.firsts.asked_by_firsts.Goals as goal
 use Rattle.cc_rules_layout.specs.Raisable.{AreRaisable}
-use Rattle.cc_state_keys.specs.Keys.{keys_of}
-use Rattle.cc_state_operators.specs.Domains.{domain}
+use Rattle.cc_rules_asked.specs.CcStateKeys.Keys.{keys_of}
+use Rattle.cc_rules_asked.specs.CcStateOperators.Domains.{domain}
 use Rattle.cc_state_scalars.specs.Listed.{AreStaticKeys}
-use Rattle.cc_steps.specs.State.{first_values}
+use Rattle.cc_rules_asked.specs.CcSteps.State.{first_values}
 
 pub first_sets-requires : goal.first_sets-requires
 first_sets-requires g c =

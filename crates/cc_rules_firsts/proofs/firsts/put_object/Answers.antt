@@ -4,7 +4,7 @@ use Rattle.cc_rules_firsts.proofs.Among.{IsAmongFirst, none_among, among_split, 
 use Rattle.cc_rules_firsts.proofs.ByKey.{none_put, may_get, less_gets, same_put, then_put}
 use Rattle.cc_rules_firsts.proofs.firsts.put_object.Goals as goal
 use Rattle.cc_rules_firsts.specs.Firsts.{IsAmong, IsOwn}
-use Rattle.cc_state_facts.specs.declared.facts.Key.TheVariants as key
+use Rattle.cc_rules_asked.specs.CcStateFacts.declared.facts.Key.TheVariants as key
 
 pub put_scalar-requires : goal.put_scalar-requires
 put_scalar-requires g c =

@@ -3,8 +3,8 @@ use Rattle.std.proofs.lemmas.Option.{slice_get_within}
 use Rattle.std.proofs.lemmas.Result.{on_ok_weaker}
 use Rattle.cc_rules_firsts.proofs.ByKey.{none_put, not_own, put_own}
 use Rattle.cc_rules_firsts.proofs.firsts.put_value.Goals as goal
-use Rattle.cc_state.proofs.Numbered.{key_at}
-use Rattle.cc_state_keys.specs.Keys.{keys_of, key_number}
+use Rattle.cc_rules_grow.proofs.CcState.Numbered.{key_at}
+use Rattle.cc_rules_asked.specs.CcStateKeys.Keys.{keys_of, key_number}
 
 pub put_at-requires : goal.put_at-requires
 put_at-requires g c =

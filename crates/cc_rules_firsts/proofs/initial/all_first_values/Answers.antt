@@ -1,9 +1,9 @@
 use Rattle.std.proofs.Common.{◌≡◌, List, map, ap, ◌∙◌}
 use Rattle.std.proofs.lemmas.Result.{IfOk-weaker}
-use Rattle.cc_cells.specs.Scalars.{structure_zeros}
+use Rattle.cc_rules_asked.specs.CcCells.Scalars.{structure_zeros}
 use Rattle.cc_program.specs.declared.value.Value.{Value}
 use Rattle.cc_rules_firsts.proofs.initial.all_first_values.Goals as goal
-use Rattle.cc_steps.specs.Whole.{values_over}
+use Rattle.cc_rules_asked.specs.CcSteps.Whole.{values_over}
 
 pub returns : goal.returns
 returns c =

@@ -1,5 +1,5 @@
 use Rattle.std.proofs.Common.{◌≡◌, map, take}
-use Rattle.cc_steps.specs.Whole.{values_over}
+use Rattle.cc_rules_asked.specs.CcSteps.Whole.{values_over}
 use Rattle.cc_rules_firsts.proofs.initial.all_over.Given as goal
 
 abbrev pub invariant-loop-object : goal.invariant-loop-object

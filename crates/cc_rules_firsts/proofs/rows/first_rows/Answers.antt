@@ -2,7 +2,7 @@ use Rattle.std.proofs.Common.{arith, ◌*◌, ◌≤◌, length, sym, subst, ap,
 use Rattle.cc_rules_firsts.proofs.RowLemmas.{none_below, rows_on, all_rows, all_laid}
 use Rattle.cc_rules_firsts.proofs.rows.first_rows.Goals as goal
 use Rattle.cc_rules_firsts.specs.Rows.{IsRowFrom, IsRowSize}
-use Rattle.cc_state_operators.specs.Domains.{domain}
+use Rattle.cc_rules_asked.specs.CcStateOperators.Domains.{domain}
 
 pub sets_from-requires : goal.sets_from-requires
 sets_from-requires g c = record { values = c.requires; within = (let l = c.row_count-count.ensures.low c.loop-row.row c.loop-row-test.true in omega (arith, l)) }

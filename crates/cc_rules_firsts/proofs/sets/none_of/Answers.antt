@@ -1,5 +1,5 @@
 use Rattle.std.proofs.Common.{sym, subst}
-use Rattle.cc_places.specs.declared.abs.Abs.TheVariants as abs
+use Rattle.cc_rules_asked.specs.CcPlaces.declared.abs.Abs.TheVariants as abs
 use Rattle.cc_rules_firsts.proofs.Least.{no_number, no_address}
 use Rattle.cc_rules_firsts.proofs.sets.none_of.Goals as goal
 use Rattle.cc_rules_firsts.specs.Firsts.{IsNoneOf}

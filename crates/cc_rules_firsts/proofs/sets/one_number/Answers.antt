@@ -1,5 +1,5 @@
 use Rattle.std.proofs.Common.{sym, subst}
-use Rattle.cc_lattice.specs.Domains.{IsIntValue}
+use Rattle.cc_rules_asked.specs.CcLattice.Domains.{IsIntValue}
 use Rattle.cc_rules_firsts.proofs.Least.{exact, number_least}
 use Rattle.cc_rules_firsts.proofs.sets.one_number.Goals as goal
 

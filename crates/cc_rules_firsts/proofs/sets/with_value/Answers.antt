@@ -1,6 +1,6 @@
 use Rattle.std.proofs.lemmas.Result.{IfOk-weaker}
-use Rattle.cc_lattice.specs.Orders.{IsLeastUpperBound}
-use Rattle.cc_places.specs.Abstract.{AreOfOneKind, IsBelowAbs}
+use Rattle.cc_rules_asked.specs.CcLattice.Orders.{IsLeastUpperBound}
+use Rattle.cc_rules_asked.specs.CcPlaces.Abstract.{AreOfOneKind, IsBelowAbs}
 use Rattle.cc_rules_firsts.proofs.Least.{kind_fits, value_joined}
 use Rattle.cc_rules_firsts.proofs.sets.with_value.Goals as goal
 

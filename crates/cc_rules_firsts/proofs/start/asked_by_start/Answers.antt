@@ -3,9 +3,9 @@ use Rattle.std.proofs.lemmas.Result.{IfOk-weaker}
 use Rattle.cc_rules_firsts.proofs.Starts.{started, not_started, raisable, none_raisable}
 use Rattle.cc_rules_firsts.proofs.start.asked_by_start.Goals as goal
 use Rattle.cc_rules_firsts.specs.Starts.{IsFirstFact}
-use Rattle.cc_state.specs.Shape.{AreRows}
-use Rattle.cc_state_operators.specs.Domains.{domain}
-use Rattle.cc_steps.specs.State.{first_values}
+use Rattle.cc_rules_grow.specs.CcState.Shape.{AreRows}
+use Rattle.cc_rules_asked.specs.CcStateOperators.Domains.{domain}
+use Rattle.cc_rules_asked.specs.CcSteps.State.{first_values}
 
 pub register_count-requires : goal.register_count-requires
 register_count-requires g c = c.requires.main.few

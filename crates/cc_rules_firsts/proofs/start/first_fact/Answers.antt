@@ -3,9 +3,9 @@ use Rattle.cc_program.specs.declared.value.Value.{Value}
 use Rattle.cc_rules_firsts.proofs.Starts.{have_firsts}
 use Rattle.cc_rules_firsts.proofs.start.first_fact.Goals as goal
 use Rattle.cc_rules_firsts.specs.Rows.{HaveFirsts, AreFirstRows}
-use Rattle.cc_state.specs.Shape.{AreRows}
-use Rattle.cc_state_operators.specs.Domains.{domain}
-use Rattle.cc_steps.specs.State.{first_values}
+use Rattle.cc_rules_grow.specs.CcState.Shape.{AreRows}
+use Rattle.cc_rules_asked.specs.CcStateOperators.Domains.{domain}
+use Rattle.cc_rules_asked.specs.CcSteps.State.{first_values}
 
 pub first_rows-requires : goal.first_rows-requires
 first_rows-requires g c =

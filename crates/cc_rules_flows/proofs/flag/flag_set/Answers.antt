@@ -1,6 +1,6 @@
 use Rattle.std.proofs.Common.{pos, true, refl}
 use Rattle.std.proofs.lemmas.Result.{IfOk-weaker}
-use Rattle.cc_state_operators.specs.Domains.{domain}
+use Rattle.cc_state_reads.specs.CcStateOperators.Domains.{domain}
 use Rattle.cc_rules_flows.proofs.FlagLemmas.{as_told, both}
 use Rattle.cc_rules_flows.proofs.flag.flag_set.Goals as goal
 

@@ -3,7 +3,7 @@ use Rattle.cc_rules_flows.specs.Known.{is_of_other_cell}
 use Rattle.cc_rules_flows.proofs.KnownLemmas.{cell_told, cell_there, row_there}
 use Rattle.cc_rules_flows.proofs.ShapeLemmas.{cell_kept}
 use Rattle.cc_rules_flows.proofs.known.put_cell.Goals as goal
-use Rattle.cc_state_facts.specs.Facts.{row_length}
+use Rattle.cc_state_reads.specs.CcStateFacts.Facts.{row_length}
 
 pub with_set-requires : goal.with_set-requires
 with_set-requires g c = let h = cell_there c.args.fact.now.rows c.row_of.result.now c.args.cell c.row_of.ensures c.requires in omega (arith, h)

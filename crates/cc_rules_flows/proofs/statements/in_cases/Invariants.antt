@@ -1,5 +1,5 @@
 use Rattle.std.proofs.Common.{◌≡◌, slice_get, drop}
-use Rattle.cc_control.specs.Control.{bodies}
+use Rattle.cc_flow_sound.specs.CcControl.Control.{bodies}
 use Rattle.cc_rules_flows.proofs.statements.in_cases.Given as goal
 
 abbrev pub invariant-loop-case : goal.invariant-loop-case

@@ -1,6 +1,6 @@
 use Rattle.std.proofs.Common.{take, length, subst, arith}
 use Rattle.std.proofs.lemmas.List.{take_all}
-use Rattle.cc_places.specs.laws.AbstractLaws.{abs_itself, abs_through}
+use Rattle.cc_state_reads.specs.CcPlaces.laws.AbstractLaws.{abs_itself, abs_through}
 use Rattle.cc_rules_flows.proofs.JoinLemmas.{AreKnownTo, facts_to, item_in, known_next, like_next, all_together, as_those}
 use Rattle.cc_rules_flows.proofs.together.joined.Goals as goal
 

@@ -1,5 +1,5 @@
 use Rattle.std.proofs.Common.{◌<◌, ◌≤◌, length, refl, sym, subst, ◌∙◌}
-use Rattle.cc_flow.specs.declared.types.Flow.{Flow}
+use Rattle.cc_rules_flows.specs.CcFlow.declared.types.Flow.{Flow}
 use Rattle.cc_rules_functions.specs.Ends.{end_at}
 use Rattle.cc_rules_functions.proofs.Ends.{some, few}
 use Rattle.cc_rules_functions.proofs.Gets.{function_by}

@@ -2,7 +2,7 @@ use Rattle.std.proofs.Common.{arith, ◌<◌, ◌^◌, length, ap, sym, subst}
 use Rattle.cc_program.specs.declared.func.Func.{Func}
 use Rattle.cc_rules_functions.proofs.Gets.{stands, none_made, first_on, all_made}
 use Rattle.cc_rules_functions.proofs.functions.functions_of.Goals as goal
-use Rattle.cc_state_keys.proofs.Grown.{get_same}
+use Rattle.cc_rules_flows.proofs.CcStateKeys.Grown.{get_same}
 
 pub function_of-requires : goal.function_of-requires
 function_of-requires c = record {

@@ -1,11 +1,11 @@
 -- The law, by the laws of the domain.
-use Rattle.cc_state_operators.specs.Domains.{domain}
+use Rattle.cc_rules.specs.CcStateOperators.Domains.{domain}
 use Rattle.cc_rules_grow.proofs.Asked.{asked_had}
 use Rattle.cc_rules_grow.proofs.Kept.{kept_given, abs_itself, abs_through}
 use Rattle.cc_rules_grow.proofs.law.laws.Goals as goal
-use Rattle.cc_rules_needs.proofs.Through.{facts_itself}
-use Rattle.cc_state_values.proofs.Same.{order_of}
-use Rattle.cc_state_values_grow.proofs.Images.{order_given}
+use Rattle.cc_rules.proofs.CcRulesNeeds.Through.{facts_itself}
+use Rattle.cc_rules.proofs.CcStateValues.Same.{order_of}
+use Rattle.cc_state_points.proofs.CcStateValuesGrow.Images.{order_given}
 
 pub returns : goal.returns
 returns g c =

@@ -1,7 +1,7 @@
-use Rattle.cc_rules_flows.specs.View.{act_view}
+use Rattle.cc_state_points.specs.CcRulesFlows.View.{act_view}
 use Rattle.cc_rules_here.proofs.ActLemmas.{pure_here, may_here}
 use Rattle.cc_rules_here.proofs.Marked.{marks_there, marks_kept}
-use Rattle.cc_state_operators.specs.Domains.{domain}
+use Rattle.cc_state_points.specs.CcStateOperators.Domains.{domain}
 use Rattle.cc_rules_here.proofs.acts.act_here.Goals as goal
 
 pub marks_at-kept-requires : goal.marks_at-kept-requires

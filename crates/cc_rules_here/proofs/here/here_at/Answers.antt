@@ -1,8 +1,8 @@
 use Rattle.std.proofs.Common.{◌≡◌, true, List, Some, is_some, slice_get, sym, subst}
-use Rattle.cc_flow.specs.declared.types.Point.{Point}
+use Rattle.cc_state_points.specs.CcFlow.declared.types.Point.{Point}
 use Rattle.cc_rules_here.proofs.HereLemmas.{function_there}
 use Rattle.cc_rules_here.proofs.Owned.{point_there}
-use Rattle.cc_state_operators.specs.Domains.{domain}
+use Rattle.cc_state_points.specs.CcStateOperators.Domains.{domain}
 use Rattle.cc_rules_here.proofs.here.here_at.Goals as goal
 
 pub point_at-point-requires : goal.point_at-point-requires

@@ -1,6 +1,6 @@
 use Rattle.std.proofs.Common.{refl}
 use Rattle.cc_rules_here.proofs.HereLemmas.{is_here}
-use Rattle.cc_state_operators.specs.Domains.{domain}
+use Rattle.cc_state_points.specs.CcStateOperators.Domains.{domain}
 use Rattle.cc_rules_here.proofs.here.here_by.Goals as goal
 
 pub returns : goal.returns

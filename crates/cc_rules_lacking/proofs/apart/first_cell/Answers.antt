@@ -2,10 +2,10 @@ use Rattle.std.proofs.Common.{arith, true, sym, subst}
 use Rattle.cc_rules_lacking.proofs.Firsts.{none_yet, all_on, all_to, first_at, apart_from, apart_lacks, row_is}
 use Rattle.cc_rules_lacking.proofs.apart.first_cell.Goals as goal
 use Rattle.cc_rules_lacking.specs.First.{IsFirst}
-use Rattle.cc_rules_needs.specs.declared.needs.Part.TheVariants.{Mark}
-use Rattle.cc_rules_needs.specs.declared.needs.Slot.TheVariants.{Apart}
-use Rattle.cc_rules_needs.specs.Needs.{HasAll}
-use Rattle.cc_state_facts.specs.Facts.{has_pair}
+use Rattle.cc_rules_asked.specs.CcRulesNeeds.declared.needs.Part.TheVariants.{Mark}
+use Rattle.cc_rules_asked.specs.CcRulesNeeds.declared.needs.Slot.TheVariants.{Apart}
+use Rattle.cc_rules_asked.specs.CcRulesNeeds.Needs.{HasAll}
+use Rattle.cc_rules_asked.specs.CcStateFacts.Facts.{has_pair}
 
 pub loop-cell-init : goal.loop-cell-init
 loop-cell-init g c = none_yet g.I.Lattice.IsBelow c.args.facts.now (apart_from g.I.Lattice.IsBelow c.args.facts.now c.args.point (has_pair c.args.flow.now) c.args.register)

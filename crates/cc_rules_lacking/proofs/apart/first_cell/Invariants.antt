@@ -1,8 +1,8 @@
-use Rattle.cc_rules_needs.specs.Flowing.{numbers}
-use Rattle.cc_rules_needs.specs.Needs.{HasAll}
+use Rattle.cc_rules_asked.specs.CcRulesNeeds.Flowing.{numbers}
+use Rattle.cc_rules_asked.specs.CcRulesNeeds.Needs.{HasAll}
 use Rattle.cc_rules_lacking.proofs.Firsts.{apart_from}
 use Rattle.cc_rules_lacking.proofs.apart.first_cell.Given as goal
-use Rattle.cc_state_facts.specs.Facts.{has_pair}
+use Rattle.cc_rules_asked.specs.CcStateFacts.Facts.{has_pair}
 use Rattle.std.specs.List.{flat_map}
 
 abbrev pub invariant-loop-cell : goal.invariant-loop-cell

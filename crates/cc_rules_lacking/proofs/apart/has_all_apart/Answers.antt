@@ -2,7 +2,7 @@ use Rattle.std.proofs.Common.{ap, sym, ◌∙◌}
 use Rattle.std.specs.List.{list_all}
 use Rattle.cc_rules_lacking.proofs.Firsts.{apart_there}
 use Rattle.cc_rules_lacking.proofs.apart.has_all_apart.Goals as goal
-use Rattle.cc_state_facts.specs.Orders.{is_same}
+use Rattle.cc_rules_asked.specs.CcStateFacts.Orders.{is_same}
 
 pub returns-in-Some : goal.returns-in-Some
 returns-in-Some g c all =

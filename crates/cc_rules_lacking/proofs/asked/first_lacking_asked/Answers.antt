@@ -3,7 +3,7 @@ use Rattle.cc_rules_asked.specs.Asked.{all_needs, needs_of}
 use Rattle.cc_rules_lacking.proofs.Firsts.{asked_on, asked_first}
 use Rattle.cc_rules_lacking.proofs.asked.first_lacking_asked.Goals as goal
 use Rattle.cc_rules_lacking.specs.First.{LacksFirst}
-use Rattle.cc_rules_needs.specs.Needs.{HasAll}
+use Rattle.cc_rules_asked.specs.CcRulesNeeds.Needs.{HasAll}
 
 pub loop-one-preserved : goal.loop-one-preserved
 loop-one-preserved g c p e =

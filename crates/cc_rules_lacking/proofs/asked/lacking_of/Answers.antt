@@ -3,7 +3,7 @@ use Rattle.std.proofs.lemmas.Result.{IfOk-weaker}
 use Rattle.cc_rules_asked.specs.Asked.{needs_of}
 use Rattle.cc_rules_lacking.proofs.asked.lacking_of.Goals as goal
 use Rattle.cc_rules_lacking.specs.First.{LacksFirst}
-use Rattle.cc_rules_needs.specs.Flowing.{needs_at, of_fact}
+use Rattle.cc_rules_asked.specs.CcRulesNeeds.Flowing.{needs_at, of_fact}
 
 pub returns-in-Part : goal.returns-in-Part
 returns-in-Part g c =

@@ -2,7 +2,7 @@ use Rattle.std.proofs.Common.{◌∷◌, [], refl, sym, subst, true≢false}
 use Rattle.cc_rules_lacking.proofs.Firsts.{one_has, one_lacks}
 use Rattle.cc_rules_lacking.proofs.asked.lacking_part.Goals as goal
 use Rattle.cc_rules_lacking.specs.First.{IsFirst}
-use Rattle.cc_rules_needs.specs.Needs.{HasAll}
+use Rattle.cc_rules_asked.specs.CcRulesNeeds.Needs.{HasAll}
 
 pub returns-then-has : goal.returns-then-has
 returns-then-has g c =

@@ -4,10 +4,10 @@ use Rattle.std.proofs.lemmas.Result.{IfOk-weaker}
 use Rattle.cc_rules_lacking.proofs.Firsts.{behind, first_before, one_has, one_lacks}
 use Rattle.cc_rules_lacking.proofs.points.lacking_at.Goals as goal
 use Rattle.cc_rules_lacking.specs.First.{LacksFirst}
-use Rattle.cc_rules_needs.specs.Flowing.{of_fact, each_pair, need_apart, need_cell, need_local, numbers}
-use Rattle.cc_rules_needs.specs.declared.needs.Part.TheVariants.{Flags}
-use Rattle.cc_rules_needs.specs.declared.needs.Slot.TheVariants.{Flag}
-use Rattle.cc_state_facts.specs.Facts.{has_pair}
+use Rattle.cc_rules_asked.specs.CcRulesNeeds.Flowing.{of_fact, each_pair, need_apart, need_cell, need_local, numbers}
+use Rattle.cc_rules_asked.specs.CcRulesNeeds.declared.needs.Part.TheVariants.{Flags}
+use Rattle.cc_rules_asked.specs.CcRulesNeeds.declared.needs.Slot.TheVariants.{Flag}
+use Rattle.cc_rules_asked.specs.CcStateFacts.Facts.{has_pair}
 
 pub returns-then-has_flag : goal.returns-then-has_flag
 returns-then-has_flag g c =

@@ -4,8 +4,8 @@ use Rattle.std.proofs.lemmas.Result.{IfOk-weaker}
 use Rattle.cc_rules_lacking.proofs.Firsts.{behind}
 use Rattle.cc_rules_lacking.proofs.points.lacking_of_sets.Goals as goal
 use Rattle.cc_rules_lacking.specs.First.{LacksFirst}
-use Rattle.cc_rules_needs.specs.Flowing.{of_fact, each_pair, need_apart, need_cell, need_local, numbers}
-use Rattle.cc_state_facts.specs.Facts.{has_pair}
+use Rattle.cc_rules_asked.specs.CcRulesNeeds.Flowing.{of_fact, each_pair, need_apart, need_cell, need_local, numbers}
+use Rattle.cc_rules_asked.specs.CcStateFacts.Facts.{has_pair}
 
 pub returns-in-None : goal.returns-in-None
 returns-in-None g c =

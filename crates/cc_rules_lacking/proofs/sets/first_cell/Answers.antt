@@ -2,8 +2,8 @@ use Rattle.std.proofs.Common.{arith, refl, sym, true≢false}
 use Rattle.std.proofs.lemmas.List.Elements.{All-nil}
 use Rattle.cc_rules_lacking.proofs.Firsts.{needs_on, need_first, needs_to}
 use Rattle.cc_rules_lacking.proofs.sets.first_cell.Goals as goal
-use Rattle.cc_rules_needs.specs.Flowing.{of_fact, need_cell}
-use Rattle.cc_rules_needs.specs.Needs.{Has}
+use Rattle.cc_rules_asked.specs.CcRulesNeeds.Flowing.{of_fact, need_cell}
+use Rattle.cc_rules_asked.specs.CcRulesNeeds.Needs.{Has}
 
 pub loop-cell-init : goal.loop-cell-init
 loop-cell-init g c = All-nil (Has g.I.Lattice.IsBelow c.args.facts.now)

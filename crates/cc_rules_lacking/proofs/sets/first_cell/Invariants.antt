@@ -1,6 +1,6 @@
 use Rattle.std.proofs.Common.{map}
-use Rattle.cc_rules_needs.specs.Flowing.{of_fact, need_cell, numbers}
-use Rattle.cc_rules_needs.specs.Needs.{HasAll}
+use Rattle.cc_rules_asked.specs.CcRulesNeeds.Flowing.{of_fact, need_cell, numbers}
+use Rattle.cc_rules_asked.specs.CcRulesNeeds.Needs.{HasAll}
 use Rattle.cc_rules_lacking.proofs.sets.first_cell.Given as goal
 
 abbrev pub invariant-loop-cell : goal.invariant-loop-cell

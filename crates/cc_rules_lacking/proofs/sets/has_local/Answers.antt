@@ -1,9 +1,9 @@
 use Rattle.std.proofs.Common.{subst}
 use Rattle.std.specs.Option.{option_copied}
 use Rattle.std.specs.Prelude.{◌↔◌, IsTrue}
-use Rattle.cc_rules_needs.specs.Needs.{AreValuesBelow}
+use Rattle.cc_rules_asked.specs.CcRulesNeeds.Needs.{AreValuesBelow}
 use Rattle.cc_rules_lacking.proofs.sets.has_local.Goals as goal
-use Rattle.cc_state_facts.specs.Facts.{local_of}
+use Rattle.cc_rules_asked.specs.CcStateFacts.Facts.{local_of}
 
 pub returns : goal.returns
 returns g c =

@@ -1,6 +1,6 @@
 use Rattle.std.proofs.Common.{◌<◌, ◌^◌, List, length, sym, subst, ◌∙◌}
 use Rattle.cc_rules_made.proofs.cells.keys_of_cells.Goals as goal
-use Rattle.cc_state_facts.specs.declared.facts.Key.{Key}
+use Rattle.cc_rules_asked.specs.CcStateFacts.declared.facts.Key.{Key}
 
 pub numbers_of-requires : goal.numbers_of-requires
 numbers_of-requires c = record {

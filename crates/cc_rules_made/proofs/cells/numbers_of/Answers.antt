@@ -1,8 +1,8 @@
 use Rattle.std.proofs.Common.{◌++◌, ◌∷◌, [], ℕ, map, take, ap, sym, ◌∙◌}
 use Rattle.cc_rules_made.proofs.cells.numbers_of.Goals as goal
-use Rattle.cc_state_facts.specs.declared.facts.Key.TheVariants as key
-use Rattle.cc_state_keys.specs.Keys.{key_number}
-use Rattle.cc_steps.proofs.StartLemmas.{map-more}
+use Rattle.cc_rules_asked.specs.CcStateFacts.declared.facts.Key.TheVariants as key
+use Rattle.cc_rules_asked.specs.CcStateKeys.Keys.{key_number}
+use Rattle.cc_rules_asked.proofs.CcSteps.StartLemmas.{map-more}
 
 pub loop-object-preserved : goal.loop-object-preserved
 loop-object-preserved c =

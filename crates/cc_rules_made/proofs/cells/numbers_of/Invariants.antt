@@ -1,6 +1,6 @@
 use Rattle.std.proofs.Common.{◌≡◌, map, take}
-use Rattle.cc_state_facts.specs.declared.facts.Key.TheVariants as key
-use Rattle.cc_state_keys.specs.Keys.{key_number}
+use Rattle.cc_rules_asked.specs.CcStateFacts.declared.facts.Key.TheVariants as key
+use Rattle.cc_rules_asked.specs.CcStateKeys.Keys.{key_number}
 use Rattle.cc_rules_made.proofs.cells.numbers_of.Given as goal
 
 abbrev pub invariant-loop-object : goal.invariant-loop-object

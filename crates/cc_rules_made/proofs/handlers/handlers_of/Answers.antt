@@ -1,5 +1,5 @@
 use Rattle.std.proofs.Common.{take, refl}
-use Rattle.cc_rules.specs.Rules.{handlers_from}
+use Rattle.cc_rules_asked.specs.CcRules.Rules.{handlers_from}
 use Rattle.cc_rules_functions.proofs.Gets.{stands}
 use Rattle.cc_rules_made.proofs.HandlersMade.{next_handlers, all_handlers}
 use Rattle.cc_rules_made.proofs.handlers.handlers_of.Goals as goal

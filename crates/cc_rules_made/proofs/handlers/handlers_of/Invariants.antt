@@ -1,6 +1,6 @@
 use Rattle.std.proofs.Common.{take}
 use Rattle.std.specs.List.{AllZip}
-use Rattle.cc_rules.specs.Rules.{handlers_from}
+use Rattle.cc_rules_asked.specs.CcRules.Rules.{handlers_from}
 use Rattle.cc_rules_asked.specs.Handlers.{IsHandlerOf}
 use Rattle.cc_rules_made.proofs.handlers.handlers_of.Given as goal
 

@@ -1,7 +1,7 @@
 use Rattle.std.proofs.Common.{arith, List, sym, subst, take_all}
 use Rattle.std.specs.List.{AllZip}
 use Rattle.cc_program.specs.declared.func.Func.{Func}
-use Rattle.cc_registers.specs.Kept.{AreKept}
+use Rattle.cc_rules_asked.specs.CcRegisters.Kept.{AreKept}
 use Rattle.cc_rules_made.proofs.HandlersMade.{zip_on}
 use Rattle.cc_rules_made.proofs.marks.marks_of.Goals as goal
 

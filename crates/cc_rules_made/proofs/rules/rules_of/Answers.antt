@@ -1,13 +1,13 @@
 use Rattle.std.proofs.Common.{arith, List, length, map, refl, ap, sym, subst, ◌∙◌}
 use Rattle.std.specs.List.{AllZip}
 use Rattle.cc_program.specs.declared.func.Func.{Func}
-use Rattle.cc_registers.specs.Kept.{AreKept}
+use Rattle.cc_rules_asked.specs.CcRegisters.Kept.{AreKept}
 use Rattle.cc_rules_asked.specs.Handlers.{AreHandlersOf}
 use Rattle.cc_rules_functions.specs.Functions.{AreFunctionsOf}
 use Rattle.cc_rules_made.proofs.rules.rules_of.Goals as goal
-use Rattle.cc_state_facts.specs.declared.facts.Key.TheVariants as key
-use Rattle.cc_state_keys.proofs.Typed.{few-funcs, few-locals}
-use Rattle.cc_state_keys.specs.Keys.{key_number}
+use Rattle.cc_rules_asked.specs.CcStateFacts.declared.facts.Key.TheVariants as key
+use Rattle.cc_rules_asked.proofs.CcStateKeys.Typed.{few-funcs, few-locals}
+use Rattle.cc_rules_asked.specs.CcStateKeys.Keys.{key_number}
 
 pub functions_of-requires : goal.functions_of-requires
 functions_of-requires c = record {

@@ -4,7 +4,7 @@ use Rattle.std.proofs.lemmas.List.Elements.{All-nil, All-same, Contains-get_or}
 use Rattle.cc_rules_asked.specs.Asked.{all_needs}
 use Rattle.cc_rules_nexts.specs.Told.{ComeToEachHere, IsOnward}
 use Rattle.cc_rules_nexts.proofs.NextLemmas.{each_on}
-use Rattle.cc_state_operators.specs.Domains.{domain}
+use Rattle.cc_rules_asked.specs.CcStateOperators.Domains.{domain}
 use Rattle.cc_rules_nexts.proofs.nexts.asked_of_nexts.Goals as goal
 
 pub put_next-requires : goal.put_next-requires

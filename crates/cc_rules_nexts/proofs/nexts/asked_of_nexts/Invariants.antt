@@ -1,10 +1,10 @@
 use Rattle.std.proofs.Common.{ℕ, List, All, Contains, take}
-use Rattle.cc_rules_flows.specs.Here.{KeepsShapeHere}
-use Rattle.cc_rules_flows.specs.Known.{AreTold}
-use Rattle.cc_rules_needs.specs.Flowing.{Flowing}
+use Rattle.cc_rules_asked.specs.CcRulesFlows.Here.{KeepsShapeHere}
+use Rattle.cc_rules_asked.specs.CcRulesFlows.Known.{AreTold}
+use Rattle.cc_rules_asked.specs.CcRulesNeeds.Flowing.{Flowing}
 use Rattle.cc_rules_nexts.specs.Told.{ComeToEachHere, IsOnward}
-use Rattle.cc_state_facts.specs.declared.facts.PointFact.{PointFact}
-use Rattle.cc_state_operators.specs.Domains.{domain}
+use Rattle.cc_rules_asked.specs.CcStateFacts.declared.facts.PointFact.{PointFact}
+use Rattle.cc_rules_asked.specs.CcStateOperators.Domains.{domain}
 use Rattle.cc_rules_nexts.proofs.nexts.asked_of_nexts.Given as goal
 
 abbrev pub invariant-loop-next : goal.invariant-loop-next

@@ -1,11 +1,11 @@
 use Rattle.std.proofs.Common.{◌∷◌, [], ◌++◌, length, refl, ap, subst}
 use Rattle.std.proofs.lemmas.List.Elements.{All-push, All-same}
 use Rattle.cc_rules_asked.specs.declared.asked.Asked.TheVariants as asked
-use Rattle.cc_rules_flows.specs.Joins.{flows_to, IsTogether}
+use Rattle.cc_rules_asked.specs.CcRulesFlows.Joins.{flows_to, IsTogether}
 use Rattle.cc_rules_nexts.specs.Told.{IsOnward}
 use Rattle.cc_rules_nexts.proofs.NextLemmas.{some_asked, none_asked}
 use Rattle.cc_rules_nexts.proofs.Onward.{joined_kept}
-use Rattle.cc_state_operators.specs.Domains.{domain}
+use Rattle.cc_rules_asked.specs.CcStateOperators.Domains.{domain}
 use Rattle.cc_rules_nexts.proofs.nexts.put_next.Goals as goal
 
 pub joined-requires : goal.joined-requires

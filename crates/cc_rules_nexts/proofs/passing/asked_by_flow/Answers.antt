@@ -1,10 +1,10 @@
 use Rattle.std.proofs.Common.{◌≡◌, map, length, refl, ap}
 use Rattle.std.proofs.lemmas.Result.{IfOk-weaker}
-use Rattle.cc_places.specs.laws.AbstractLaws.{abs_itself}
-use Rattle.cc_rules_flows.specs.View.{act_view}
+use Rattle.cc_rules_asked.specs.CcPlaces.laws.AbstractLaws.{abs_itself}
+use Rattle.cc_rules_asked.specs.CcRulesFlows.View.{act_view}
 use Rattle.cc_rules_nexts.specs.Told.{point_told}
 use Rattle.cc_rules_nexts.proofs.PassingLemmas.{kind_of, passing_asked, passing_onward}
-use Rattle.cc_state_operators.specs.Domains.{domain}
+use Rattle.cc_rules_asked.specs.CcStateOperators.Domains.{domain}
 use Rattle.cc_rules_nexts.proofs.passing.asked_by_flow.Goals as goal
 
 pub after-requires : goal.after-requires

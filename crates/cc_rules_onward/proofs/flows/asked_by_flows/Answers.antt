@@ -1,7 +1,7 @@
-use Rattle.cc_rules_flows.specs.View.{act_view}
+use Rattle.cc_state_points.specs.CcRulesFlows.View.{act_view}
 use Rattle.cc_rules_onward.proofs.Untested.{none_worked, tests_none}
 use Rattle.cc_rules_onward.proofs.flows.asked_by_flows.Goals as goal
-use Rattle.cc_state_operators.specs.Domains.{domain}
+use Rattle.cc_state_points.specs.CcStateOperators.Domains.{domain}
 
 pub asked_by_if-requires : goal.asked_by_if-requires
 asked_by_if-requires g c = let fits = rw c.in-Tests.is at c.requires.tests in record { here = c.requires.here; may = fits.0; fits = fits.1 }

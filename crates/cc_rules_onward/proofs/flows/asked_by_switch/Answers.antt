@@ -1,14 +1,14 @@
 use Rattle.std.proofs.Common.{ℕ, List, All, sym, subst}
 use Rattle.std.proofs.lemmas.Result.{IfOk-weaker}
-use Rattle.cc_rules.specs.Constraints.{Flow}
+use Rattle.cc_rules_asked.specs.CcRules.Constraints.{Flow}
 use Rattle.cc_rules_asked.specs.Asks.{AsksHere}
-use Rattle.cc_rules_flows.specs.Acts.{Act, Chooses}
-use Rattle.cc_rules_flows.specs.Here.{FlowsHere, KeepsShapeHere}
-use Rattle.cc_rules_flows.specs.Joins.{AreAlikeAt}
-use Rattle.cc_rules_flows.specs.Known.{AreTold}
-use Rattle.cc_rules_needs.specs.Flowing.{Flowing}
-use Rattle.cc_state_facts.specs.declared.facts.PointFact.{PointFact}
-use Rattle.cc_state_operators.specs.Domains.{domain}
+use Rattle.cc_state_points.specs.CcRulesFlows.Acts.{Act, Chooses}
+use Rattle.cc_state_points.specs.CcRulesFlows.Here.{FlowsHere, KeepsShapeHere}
+use Rattle.cc_state_points.specs.CcRulesFlows.Joins.{AreAlikeAt}
+use Rattle.cc_state_points.specs.CcRulesFlows.Known.{AreTold}
+use Rattle.cc_state_points.specs.CcRulesNeeds.Flowing.{Flowing}
+use Rattle.cc_state_points.specs.CcStateFacts.declared.facts.PointFact.{PointFact}
+use Rattle.cc_state_points.specs.CcStateOperators.Domains.{domain}
 use Rattle.cc_rules_nexts.specs.Told.{IsOnward}
 use Rattle.cc_rules_onward.proofs.Untested.{always}
 use Rattle.cc_rules_onward.proofs.flows.asked_by_switch.Goals as goal

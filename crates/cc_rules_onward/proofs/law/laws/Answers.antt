@@ -1,5 +1,5 @@
 use Rattle.cc_rules_onward.proofs.FitLemmas.{fit_tests}
-use Rattle.cc_state_operators.specs.Domains.{domain}
+use Rattle.cc_state_points.specs.CcStateOperators.Domains.{domain}
 use Rattle.cc_rules_onward.proofs.law.laws.Goals as goal
 
 pub returns : goal.returns

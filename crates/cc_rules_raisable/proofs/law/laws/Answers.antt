@@ -2,7 +2,7 @@
 use Rattle.cc_rules_raisable.proofs.Parts.{write_raisable, touch_raisable, return_raisable, stability_raisable}
 use Rattle.cc_rules_raisable.proofs.Raisable.{handlers_raisable, entries_raisable, behind_raisable, onward_raisable}
 use Rattle.cc_rules_raisable.proofs.law.laws.Goals as goal
-use Rattle.cc_state_operators.specs.Domains.{domain}
+use Rattle.cc_rules_asked.specs.CcStateOperators.Domains.{domain}
 
 pub returns : goal.returns
 returns g c =

@@ -2,8 +2,8 @@
 use Rattle.std.proofs.Common.{◌/◌, ◌%◌, List, Option, slice_get, true≢false, sym, ap, ◌∙◌}
 use Rattle.std.specs.Prelude.{is_some, option_and_then}
 use Rattle.cc_rules_raised.proofs.changed.row_of.Goals as goal
-use Rattle.cc_state_facts.specs.declared.facts.Row.{Row}
-use Rattle.cc_state_facts.specs.Facts.{row_length}
+use Rattle.cc_rules_asked.specs.CcStateFacts.declared.facts.Row.{Row}
+use Rattle.cc_rules_asked.specs.CcStateFacts.Facts.{row_length}
 
 pub unreachable-requires : goal.unreachable-requires
 unreachable-requires g c =

@@ -2,9 +2,9 @@
 use Rattle.std.proofs.Common.{◌/◌, ◌<◌, length, slice_set, sym, ap, subst, ◌∙◌}
 use Rattle.cc_rules_raised.proofs.Change.{with_rows, cell_bounds}
 use Rattle.cc_rules_raised.proofs.changed.with_cell.Goals as goal
-use Rattle.cc_state_facts.specs.declared.facts.PointFact.{PointFact}
-use Rattle.cc_state_facts.specs.declared.facts.Row.{Row}
-use Rattle.cc_state_facts.specs.Facts.{row_length}
+use Rattle.cc_rules_asked.specs.CcStateFacts.declared.facts.PointFact.{PointFact}
+use Rattle.cc_rules_asked.specs.CcStateFacts.declared.facts.Row.{Row}
+use Rattle.cc_rules_asked.specs.CcStateFacts.Facts.{row_length}
 
 pub changed_row-requires : goal.changed_row-requires
 changed_row-requires g c = (cell_bounds c.args.fact.now c.args.cell c.row_of.result.now c.row_of.ensures c.requires).1

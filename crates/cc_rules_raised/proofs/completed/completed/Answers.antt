@@ -3,14 +3,14 @@ use Rattle.std.proofs.Common.{arith, ◌≡◌, ℕ, ◌≤◌, Bool, List, ◌+
 use Rattle.std.specs.List.{AllZip}
 use Rattle.std.proofs.lemmas.List.{take_all}
 use Rattle.std.proofs.lemmas.Option.{same_Some}
-use Rattle.cc_places.specs.declared.abs.Abs.{Abs}
+use Rattle.cc_rules_asked.specs.CcPlaces.declared.abs.Abs.{Abs}
 use Rattle.cc_program.specs.declared.func.Func.{Func}
 use Rattle.cc_rules_raised.proofs.Completing.{completed_by}
 use Rattle.cc_rules_raised.proofs.KindsAt.{function_there}
 use Rattle.cc_rules_raised.proofs.completed.completed.Goals as goal
-use Rattle.cc_state_facts.specs.declared.facts.PointFact.{PointFact}
-use Rattle.cc_state_keys.specs.Tracked.{registers}
-use Rattle.cc_state_operators.specs.Domains.{domain}
+use Rattle.cc_rules_asked.specs.CcStateFacts.declared.facts.PointFact.{PointFact}
+use Rattle.cc_rules_asked.specs.CcStateKeys.Tracked.{registers}
+use Rattle.cc_rules_asked.specs.CcStateOperators.Domains.{domain}
 use Rattle.cc_state_shape.specs.Empty.{IsNone}
 
 pub slice_bounds-put_nones-count : goal.slice_bounds-put_nones-count

@@ -2,13 +2,13 @@
 use Rattle.std.proofs.Common.{◌≡◌, ℕ, ◌<◌, ◌^◌, length, ap, map, sym, subst, ◌∙◌}
 use Rattle.std.proofs.lemmas.Option.{none-some, same_Some}
 use Rattle.std.proofs.lemmas.Result.{IfOk-weaker}
-use Rattle.cc_flow.specs.declared.types.Point.{Point}
+use Rattle.cc_rules_asked.specs.CcFlow.declared.types.Point.{Point}
 use Rattle.cc_program.specs.declared.func.Func.{Func}
-use Rattle.cc_rules_flows.specs.Nexts.{IsPoint}
+use Rattle.cc_rules_asked.specs.CcRulesFlows.Nexts.{IsPoint}
 use Rattle.cc_rules_raised.proofs.KindsAt.{few_locals_at, function_there}
 use Rattle.cc_rules_raised.proofs.completed.declared_kinds.Goals as goal
 use Rattle.cc_rules_raised.specs.OfAddresses.{local_addresses}
-use Rattle.cc_state_keys.specs.Tracked.{registers}
+use Rattle.cc_rules_asked.specs.CcStateKeys.Tracked.{registers}
 
 pub unreachable-requires : goal.unreachable-requires
 unreachable-requires c = let w = c.requires.there in none-some w.1 (c.in-None.ensures ∙ function_there c.args.p.now c.args.flow.now c.args.point w.0 w.1 w.2 c.requires.flow w.3)

@@ -1,16 +1,16 @@
 -- Where the point is reached its sets are of the kinds of the function's registers, and else their declared types tell the kinds.
 use Rattle.std.proofs.Common.{◌≡◌, ℕ, map, ap, sym, subst, ◌∙◌}
 use Rattle.std.proofs.lemmas.Result.{IfOk-weaker}
-use Rattle.cc_flow.specs.declared.types.Point.{Point}
+use Rattle.cc_rules_asked.specs.CcFlow.declared.types.Point.{Point}
 use Rattle.cc_program.specs.declared.func.Func.{Func}
-use Rattle.cc_rules_flows.specs.Nexts.{IsPoint}
+use Rattle.cc_rules_asked.specs.CcRulesFlows.Nexts.{IsPoint}
 use Rattle.cc_rules_raised.proofs.Change.{known_shaped}
 use Rattle.cc_rules_raised.proofs.KindsAt.{kinds_of_fact, kinds_of_function}
 use Rattle.cc_rules_raised.proofs.completed.kinds_at.Goals as goal
 use Rattle.cc_rules_raised.specs.Completed.{AreKinds, AreKindsAt}
 use Rattle.cc_rules_raised.specs.OfAddresses.{is_set_of_addresses, local_addresses}
-use Rattle.cc_state_keys.specs.Tracked.{registers}
-use Rattle.cc_state_operators.specs.Domains.{domain}
+use Rattle.cc_rules_asked.specs.CcStateKeys.Tracked.{registers}
+use Rattle.cc_rules_asked.specs.CcStateOperators.Domains.{domain}
 
 pub returns-in-Some : goal.returns-in-Some
 returns-in-Some g c =

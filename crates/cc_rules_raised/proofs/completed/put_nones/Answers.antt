@@ -2,7 +2,7 @@
 use Rattle.std.proofs.Common.{arith, true, false, List, [], ◌∷◌, ◌++◌, append_assoc, append-nil, sym, ap, subst, ◌∙◌}
 use Rattle.std.specs.List.{AllZip}
 use Rattle.std.proofs.lemmas.List.{take_all}
-use Rattle.cc_places.specs.declared.abs.Abs.{Abs}
+use Rattle.cc_rules_asked.specs.CcPlaces.declared.abs.Abs.{Abs}
 use Rattle.cc_rules_raised.proofs.completed.put_nones.Goals as goal
 use Rattle.cc_state_shape.proofs.Lowering.{zip_more}
 use Rattle.cc_state_shape.specs.Empty.{IsNone}

@@ -8,7 +8,7 @@ use Rattle.cc_rules_raised.proofs.Outcomes.{IsProgress, laws_of, no_progress, pr
 use Rattle.cc_rules_raised.proofs.raise.raise_all.Goals as goal
 use Rattle.cc_rules_raised.proofs.raise.raise_all.Goals.{then-risen, else-risen}
 use Rattle.cc_rules_layout.specs.Raisable.{IsRaisable}
-use Rattle.cc_state_operators.specs.Domains.{domain}
+use Rattle.cc_rules_asked.specs.CcStateOperators.Domains.{domain}
 
 pub loop-one-init : goal.loop-one-init
 loop-one-init g c =

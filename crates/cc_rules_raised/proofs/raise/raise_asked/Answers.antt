@@ -1,8 +1,8 @@
 -- The order by slots, in which facts were raised, is that part by part, since the facts are of one kind and well formed.
-use Rattle.cc_places.specs.laws.AbstractLaws.{abs_itself, abs_through}
-use Rattle.cc_rules_needs.proofs.ByParts.{slots_below, parts_below}
+use Rattle.cc_rules_asked.specs.CcPlaces.laws.AbstractLaws.{abs_itself, abs_through}
+use Rattle.cc_rules_asked.proofs.CcRulesNeeds.ByParts.{slots_below, parts_below}
 use Rattle.cc_rules_raised.proofs.raise.raise_asked.Goals as goal
-use Rattle.cc_state_operators.specs.Domains.{domain}
+use Rattle.cc_rules_asked.specs.CcStateOperators.Domains.{domain}
 use Rattle.cc_state_shape.proofs.Alike.{facts_alike, well_formed}
 
 pub returns : goal.returns

@@ -1,12 +1,12 @@
 -- What flows to the point serves what is needed of it: as it is where it tells of all registers, or once it is completed.
 use Rattle.std.proofs.Common.{◌≡◌, length, ap, sym, ◌∙◌}
-use Rattle.cc_rules_needs.specs.Flowing.{of_fact, needs_at}
+use Rattle.cc_rules_asked.specs.CcRulesNeeds.Flowing.{of_fact, needs_at}
 use Rattle.cc_rules_raised.proofs.Completing.{complete_itself}
 use Rattle.cc_rules_raised.proofs.Outcomes.{laws_of, flow_serves, flow_there, flow_alike, point_outcome}
 use Rattle.cc_rules_raised.proofs.Stepping.{step_itself}
 use Rattle.cc_rules_raised.proofs.raise.raise_flow.Goals as goal
-use Rattle.cc_state_keys.specs.Tracked.{registers, tracked}
-use Rattle.cc_state_operators.specs.Domains.{domain}
+use Rattle.cc_rules_asked.specs.CcStateKeys.Tracked.{registers, tracked}
+use Rattle.cc_rules_asked.specs.CcStateOperators.Domains.{domain}
 
 pub raise_held_point-requires : goal.raise_held_point-requires
 raise_held_point-requires g c =

@@ -8,7 +8,7 @@ use Rattle.cc_rules_raised.proofs.SlotSteps.{may_rise}
 use Rattle.cc_rules_raised.proofs.raise.raise_one.Goals as goal
 use Rattle.cc_rules_layout.specs.Raisable.{IsRaisable}
 use Rattle.cc_rules_raised.specs.Steps.{IsFitFor}
-use Rattle.cc_state_operators.specs.Domains.{domain}
+use Rattle.cc_rules_asked.specs.CcStateOperators.Domains.{domain}
 
 pub raise_slot-requires : goal.raise_slot-requires
 raise_slot-requires g c =

@@ -1,18 +1,18 @@
 -- What flows to the point is what is known there, without the pair.
 use Rattle.std.proofs.Common.{◌≡◌, true, false, true≢false, refl, sym, subst, ◌∙◌}
 use Rattle.std.proofs.lemmas.Result.{IfOk-weaker}
-use Rattle.cc_rules_needs.specs.declared.needs.Part.TheVariants.{Mark}
-use Rattle.cc_rules_needs.specs.declared.needs.Slot.TheVariants.{Apart}
-use Rattle.cc_rules_needs.specs.Needs.{Has}
-use Rattle.cc_rules_needs.specs.Points.{ArePointsAlike, HasFlow, IsRaisedAt}
+use Rattle.cc_rules_asked.specs.CcRulesNeeds.declared.needs.Part.TheVariants.{Mark}
+use Rattle.cc_rules_asked.specs.CcRulesNeeds.declared.needs.Slot.TheVariants.{Apart}
+use Rattle.cc_rules_asked.specs.CcRulesNeeds.Needs.{Has}
+use Rattle.cc_rules_asked.specs.CcRulesNeeds.Points.{ArePointsAlike, HasFlow, IsRaisedAt}
 use Rattle.cc_rules_raised.proofs.Change.{gives_apart}
 use Rattle.cc_rules_raised.proofs.Told.{if_some, some_there, told_rose, told_had}
 use Rattle.cc_rules_raised.proofs.slots.raise_apart.Goals as goal
 use Rattle.cc_rules_raised.specs.Completed.{fact_apart}
 use Rattle.cc_rules_raised.specs.Slots.{IsRisenBy}
-use Rattle.cc_state_facts.specs.declared.facts.PointFact.{PointFact}
-use Rattle.cc_state_facts.specs.Facts.{fact_at}
-use Rattle.cc_state_operators.specs.Domains.{domain}
+use Rattle.cc_rules_asked.specs.CcStateFacts.declared.facts.PointFact.{PointFact}
+use Rattle.cc_rules_asked.specs.CcStateFacts.Facts.{fact_at}
+use Rattle.cc_rules_asked.specs.CcStateOperators.Domains.{domain}
 
 pub told_apart-requires : goal.told_apart-requires
 told_apart-requires g c = c.requires.reached

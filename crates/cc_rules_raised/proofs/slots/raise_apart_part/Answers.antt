@@ -1,8 +1,8 @@
 -- A pair gets marks alone.
 use Rattle.std.proofs.Common.{true, true≢false, refl, ap, sym, subst, ◌∙◌}
-use Rattle.cc_rules_needs.specs.declared.needs.Part.{Part}
-use Rattle.cc_rules_needs.specs.declared.needs.Part.TheVariants.{Mark}
-use Rattle.cc_rules_needs.specs.declared.needs.Slot.TheVariants.{Apart}
+use Rattle.cc_rules_asked.specs.CcRulesNeeds.declared.needs.Part.{Part}
+use Rattle.cc_rules_asked.specs.CcRulesNeeds.declared.needs.Part.TheVariants.{Mark}
+use Rattle.cc_rules_asked.specs.CcRulesNeeds.declared.needs.Slot.TheVariants.{Apart}
 use Rattle.cc_rules_raised.proofs.SlotParts.{IsSlotOutcome, has_no_mark, marks_alone}
 use Rattle.cc_rules_raised.proofs.slots.raise_apart_part.Goals as goal
 use Rattle.cc_rules_raised.specs.Slots.{MayRise}

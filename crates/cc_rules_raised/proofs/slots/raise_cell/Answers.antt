@@ -1,19 +1,19 @@
 -- What flows to the point is what is known there, with another set of the cell.
 use Rattle.std.proofs.Common.{◌≡◌, true, false, true≢false, Some, sym, subst, ◌∙◌}
 use Rattle.std.proofs.lemmas.Result.{IfOk-weaker}
-use Rattle.cc_places.specs.Abstract.{AreOfOneKind}
-use Rattle.cc_rules_needs.specs.declared.needs.Part.TheVariants.{Values}
-use Rattle.cc_rules_needs.specs.declared.needs.Slot.TheVariants.{CellAt}
-use Rattle.cc_rules_needs.specs.Needs.{Has}
-use Rattle.cc_rules_needs.specs.Points.{ArePointsAlike, HasFlow, IsRaisedAt}
+use Rattle.cc_rules_asked.specs.CcPlaces.Abstract.{AreOfOneKind}
+use Rattle.cc_rules_asked.specs.CcRulesNeeds.declared.needs.Part.TheVariants.{Values}
+use Rattle.cc_rules_asked.specs.CcRulesNeeds.declared.needs.Slot.TheVariants.{CellAt}
+use Rattle.cc_rules_asked.specs.CcRulesNeeds.Needs.{Has}
+use Rattle.cc_rules_asked.specs.CcRulesNeeds.Points.{ArePointsAlike, HasFlow, IsRaisedAt}
 use Rattle.cc_rules_raised.proofs.Change.{gives_cell}
 use Rattle.cc_rules_raised.proofs.Told.{if_some, cell_known, told_rose, told_had}
 use Rattle.cc_rules_raised.proofs.slots.raise_cell.Goals as goal
 use Rattle.cc_rules_raised.specs.Completed.{fact_with_cell}
 use Rattle.cc_rules_raised.specs.Slots.{IsRisenBy}
-use Rattle.cc_state_facts.specs.declared.facts.PointFact.{PointFact}
-use Rattle.cc_state_facts.specs.Facts.{fact_at, cell_at}
-use Rattle.cc_state_operators.specs.Domains.{domain}
+use Rattle.cc_rules_asked.specs.CcStateFacts.declared.facts.PointFact.{PointFact}
+use Rattle.cc_rules_asked.specs.CcStateFacts.Facts.{fact_at, cell_at}
+use Rattle.cc_rules_asked.specs.CcStateOperators.Domains.{domain}
 
 pub has_cell-requires : goal.has_cell-requires
 has_cell-requires g c = if_some (cell_at c.args.facts.now c.args.n c.args.j) (λ held. AreOfOneKind c.args.set.now held) c.requires.kind

@@ -1,8 +1,8 @@
 -- A cell gets values alone; where none are needed nothing rises.
 use Rattle.std.proofs.Common.{true≢false, Some, refl, ap, sym, subst, ◌∙◌}
-use Rattle.cc_rules_needs.specs.declared.needs.Part.{Part}
-use Rattle.cc_rules_needs.specs.declared.needs.Part.TheVariants.{Values}
-use Rattle.cc_rules_needs.specs.declared.needs.Slot.TheVariants.{CellAt}
+use Rattle.cc_rules_asked.specs.CcRulesNeeds.declared.needs.Part.{Part}
+use Rattle.cc_rules_asked.specs.CcRulesNeeds.declared.needs.Part.TheVariants.{Values}
+use Rattle.cc_rules_asked.specs.CcRulesNeeds.declared.needs.Slot.TheVariants.{CellAt}
 use Rattle.cc_rules_raised.proofs.SlotParts.{IsSlotOutcome, has_none, values_alone}
 use Rattle.cc_rules_raised.proofs.slots.raise_cell_part.Goals as goal
 use Rattle.cc_rules_raised.specs.Slots.{MayRise}

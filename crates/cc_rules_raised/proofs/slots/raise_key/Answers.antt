@@ -1,8 +1,8 @@
 -- What is put is the part that was copied; the slot's set is such as a memory holds, and nothing else is another.
 use Rattle.std.proofs.Common.{◌≡◌, subst, sym}
-use Rattle.cc_rules_needs.specs.declared.needs.Part.{Part}
-use Rattle.cc_rules_needs.specs.Needs.{Has}
-use Rattle.cc_rules_needs.specs.Raised.{MayGet, IsPut}
+use Rattle.cc_rules_asked.specs.CcRulesNeeds.declared.needs.Part.{Part}
+use Rattle.cc_rules_asked.specs.CcRulesNeeds.Needs.{Has}
+use Rattle.cc_rules_asked.specs.CcRulesNeeds.Raised.{MayGet, IsPut}
 use Rattle.cc_rules_raised.proofs.Memory.{key_held}
 use Rattle.cc_rules_raised.proofs.slots.raise_key.Goals as goal
 use Rattle.cc_state_limits.specs.Held.{AreHeld}

@@ -1,10 +1,10 @@
 -- Each slot has its way.
 use Rattle.std.proofs.Common.{◌≡◌, true, sym, subst}
 use Rattle.std.proofs.lemmas.Result.{IfOk-weaker}
-use Rattle.cc_rules_needs.specs.declared.needs.Slot.{Slot}
-use Rattle.cc_rules_needs.specs.declared.needs.Slot.TheVariants.{CellAt, Apart}
-use Rattle.cc_rules_needs.specs.Needs.{Has}
-use Rattle.cc_rules_needs.specs.Raised.{IsPut}
+use Rattle.cc_rules_asked.specs.CcRulesNeeds.declared.needs.Slot.{Slot}
+use Rattle.cc_rules_asked.specs.CcRulesNeeds.declared.needs.Slot.TheVariants.{CellAt, Apart}
+use Rattle.cc_rules_asked.specs.CcRulesNeeds.Needs.{Has}
+use Rattle.cc_rules_asked.specs.CcRulesNeeds.Raised.{IsPut}
 use Rattle.cc_rules_raised.proofs.SlotParts.{IsSlotOutcome}
 use Rattle.cc_rules_raised.proofs.Told.{other_may, other_risen}
 use Rattle.cc_rules_raised.proofs.slots.raise_slot.Goals as goal

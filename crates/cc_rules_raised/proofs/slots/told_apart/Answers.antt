@@ -5,8 +5,8 @@ use Rattle.std.proofs.lemmas.Option.{same_Some}
 use Rattle.std.proofs.lemmas.Result.{IfOk-weaker}
 use Rattle.cc_rules_raised.proofs.slots.told_apart.Goals as goal
 use Rattle.cc_rules_raised.specs.Completed.{fact_apart}
-use Rattle.cc_state_facts.specs.declared.facts.PointFact.{PointFact}
-use Rattle.cc_state_facts.specs.Facts.{fact_at}
+use Rattle.cc_rules_asked.specs.CcStateFacts.declared.facts.PointFact.{PointFact}
+use Rattle.cc_rules_asked.specs.CcStateFacts.Facts.{fact_at}
 
 pub unreachable-requires : goal.unreachable-requires
 unreachable-requires g c = true≢false (sym c.requires ∙ ap is_some (sym c.in-None.ensures))

@@ -3,12 +3,12 @@ use Rattle.std.proofs.Common.{◌≡◌, Option, Some, ap, ◌∙◌}
 use Rattle.std.specs.Prelude.{is_some, option_and_then}
 use Rattle.std.proofs.lemmas.Option.{same_Some}
 use Rattle.std.proofs.lemmas.Result.{IfOk-weaker}
-use Rattle.cc_places.specs.declared.abs.Abs.{Abs}
+use Rattle.cc_rules_asked.specs.CcPlaces.declared.abs.Abs.{Abs}
 use Rattle.cc_rules_raised.proofs.SlotParts.{cell_reached}
 use Rattle.cc_rules_raised.proofs.slots.told_cell.Goals as goal
 use Rattle.cc_rules_raised.specs.Completed.{fact_with_cell}
-use Rattle.cc_state_facts.specs.declared.facts.PointFact.{PointFact}
-use Rattle.cc_state_facts.specs.Facts.{fact_at, cell_of}
+use Rattle.cc_rules_asked.specs.CcStateFacts.declared.facts.PointFact.{PointFact}
+use Rattle.cc_rules_asked.specs.CcStateFacts.Facts.{fact_at, cell_of}
 
 pub unreachable-requires : goal.unreachable-requires
 unreachable-requires g c = cell_reached c.args.facts.now c.args.n c.args.j c.in-None.ensures c.requires

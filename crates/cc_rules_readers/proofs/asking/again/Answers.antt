@@ -1,5 +1,5 @@
 use Rattle.std.proofs.Common.{◌++◌, ℕ, List, slice_get, sym, ap, ◌∙◌}
-use Rattle.cc_flow.specs.Points.{flow_of}
+use Rattle.cc_rules_asked.specs.CcFlow.Points.{flow_of}
 use Rattle.cc_rules_again.specs.Again.{whole_readers, again_at}
 use Rattle.cc_rules_again.specs.Named.{EachKey}
 use Rattle.cc_rules_numbered.specs.Numbered.{rule_view}

@@ -1,6 +1,6 @@
 use Rattle.std.proofs.Common.{◌++◌, slice_get, sym, ap, ◌∙◌}
 use Rattle.std.proofs.lemmas.Result.{on_ok_weaker}
-use Rattle.cc_flow.specs.Points.{flow_of}
+use Rattle.cc_rules_asked.specs.CcFlow.Points.{flow_of}
 use Rattle.cc_rules_again.specs.Again.{whole_readers, again_at}
 use Rattle.cc_rules_again.specs.Named.{EachKey}
 use Rattle.cc_rules_numbered.specs.declared.constraints.Rule.{Rule}

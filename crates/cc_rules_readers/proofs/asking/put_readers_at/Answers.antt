@@ -1,8 +1,8 @@
 use Rattle.std.proofs.Common.{◌≡◌, ◌++◌, List, Option, None, Some, append-nil, slice_get, sym, subst, ap, ◌∙◌}
 use Rattle.std.proofs.lemmas.Option.{same_Some}
-use Rattle.cc_flow.specs.declared.types.Flow.{Flow}
-use Rattle.cc_flow.specs.declared.types.Point.{Point}
-use Rattle.cc_flow.specs.Points.{flow_of}
+use Rattle.cc_rules_asked.specs.CcFlow.declared.types.Flow.{Flow}
+use Rattle.cc_rules_asked.specs.CcFlow.declared.types.Point.{Point}
+use Rattle.cc_rules_asked.specs.CcFlow.Points.{flow_of}
 use Rattle.cc_rules_again.specs.Again.{again_at}
 use Rattle.cc_rules_numbered.specs.Numbered.{rule_view}
 use Rattle.cc_rules_readers.specs.declared.deeds.Deed.{Deed}

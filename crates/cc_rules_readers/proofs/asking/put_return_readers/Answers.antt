@@ -1,6 +1,6 @@
 use Rattle.std.proofs.Common.{◌++◌, [], map, cond, append-nil, sym, ap, ◌∙◌}
 use Rattle.std.proofs.lemmas.Result.{on_ok_weaker}
-use Rattle.cc_rules.specs.Constraints.{Back}
+use Rattle.cc_rules_asked.specs.CcRules.Constraints.{Back}
 use Rattle.cc_rules_again.specs.Again.{number_at}
 use Rattle.cc_rules_readers.specs.Points.{points_that, may_call_in}
 use Rattle.cc_rules_readers.proofs.asking.put_return_readers.Goals as goal

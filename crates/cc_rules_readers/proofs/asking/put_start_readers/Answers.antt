@@ -2,9 +2,9 @@ use Rattle.std.proofs.Common.{◌≡◌, ◌++◌, [], cond, append-nil, slice_g
 use Rattle.std.specs.Prelude.{◌==◌}
 use Rattle.std.proofs.lemmas.Option.{unwrap_or-slice_get}
 use Rattle.std.proofs.lemmas.Result.{on_ok_weaker}
-use Rattle.cc_flow.specs.declared.types.Flow.{Flow}
-use Rattle.cc_flow.specs.Points.{flow_of}
-use Rattle.cc_flow_sound.specs.Moves.{entry}
+use Rattle.cc_rules_asked.specs.CcFlow.declared.types.Flow.{Flow}
+use Rattle.cc_rules_asked.specs.CcFlow.Points.{flow_of}
+use Rattle.cc_rules_asked.specs.CcFlowSound.Moves.{entry}
 use Rattle.cc_rules_again.proofs.Lists.{is_equal}
 use Rattle.cc_rules_again.specs.Again.{entry_readers}
 use Rattle.cc_rules_readers.proofs.Numbers.{are_equal, not_passed}

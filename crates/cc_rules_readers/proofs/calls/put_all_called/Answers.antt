@@ -2,7 +2,7 @@ use Rattle.std.proofs.Common.{arith, ◌≡◌, ◌<◌, ◌++◌, ℕ, List, ap
 use Rattle.std.specs.List.{flat_map}
 use Rattle.cc_rules_again.specs.Again.{call_readers}
 use Rattle.cc_rules_asked.proofs.StabilityLemmas.{put_on}
-use Rattle.cc_rules_needs.specs.Flowing.{numbers}
+use Rattle.cc_rules_asked.specs.CcRulesNeeds.Flowing.{numbers}
 use Rattle.cc_rules_readers.proofs.Rules.{is_there}
 use Rattle.cc_rules_readers.proofs.calls.put_all_called.Goals as goal
 

@@ -1,6 +1,6 @@
 use Rattle.std.proofs.Common.{◌≡◌, ◌++◌, take}
 use Rattle.std.specs.List.{flat_map}
-use Rattle.cc_rules.specs.Rules.{handlers}
+use Rattle.cc_rules_asked.specs.CcRules.Rules.{handlers}
 use Rattle.cc_rules_again.specs.Again.{entry_readers}
 use Rattle.cc_rules_readers.proofs.calls.put_handler_readers.Given as goal
 

@@ -1,8 +1,8 @@
 use Rattle.std.proofs.Common.{List, ap, subst, ◌∙◌, take_all, arith}
 use Rattle.std.specs.List.{AllZip}
-use Rattle.cc_flow.specs.declared.types.Flow.{Flow}
-use Rattle.cc_flow.specs.declared.types.Point.{Point}
-use Rattle.cc_flow.specs.Points.{flow_of}
+use Rattle.cc_rules_asked.specs.CcFlow.declared.types.Flow.{Flow}
+use Rattle.cc_rules_asked.specs.CcFlow.declared.types.Point.{Point}
+use Rattle.cc_rules_asked.specs.CcFlow.Points.{flow_of}
 use Rattle.cc_rules_functions.proofs.Gets.{stands}
 use Rattle.cc_rules_made.proofs.HandlersMade.{zip_on}
 use Rattle.cc_rules_readers.specs.View.{IsDeedAt}

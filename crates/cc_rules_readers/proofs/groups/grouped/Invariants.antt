@@ -1,6 +1,6 @@
 use Rattle.std.proofs.Common.{◌≡◌, ℕ, slice_get}
 use Rattle.std.specs.List.{filter}
-use Rattle.cc_rules_needs.specs.Flowing.{numbers}
+use Rattle.cc_rules_asked.specs.CcRulesNeeds.Flowing.{numbers}
 use Rattle.cc_rules_readers.specs.Points.{on, group_of, is_that, list_at}
 use Rattle.cc_rules_readers.proofs.groups.grouped.Given as goal
 

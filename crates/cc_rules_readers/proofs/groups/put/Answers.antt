@@ -2,7 +2,7 @@ use Rattle.std.proofs.Common.{ℕ, ◌++◌, Option, Some, append-nil, ap, sym, 
 use Rattle.std.proofs.lemmas.Result.{on_ok_weaker}
 use Rattle.cc_rules_readers.specs.Points.{is_that, list_at}
 use Rattle.cc_rules_readers.proofs.groups.put.Goals as goal
-use Rattle.cc_state_keys.specs.Lists.{only_if}
+use Rattle.cc_rules_asked.specs.CcStateKeys.Lists.{only_if}
 
 pub returns-in-None : goal.returns-in-None
 returns-in-None c b =

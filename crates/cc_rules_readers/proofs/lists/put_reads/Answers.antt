@@ -1,5 +1,5 @@
 use Rattle.std.proofs.Common.{ℕ, Bool, ◌++◌, ◌∷◌, [], slice_get, ap, sym, ◌∙◌}
-use Rattle.cc_rules.specs.Constraints.{Flow}
+use Rattle.cc_rules_asked.specs.CcRules.Constraints.{Flow}
 use Rattle.cc_rules_again.specs.Again.{number_at}
 use Rattle.cc_rules_readers.specs.Points.{on, reads_in}
 use Rattle.cc_rules_readers.proofs.Numbers.{put_kept, put_left}

@@ -1,6 +1,6 @@
 use Rattle.std.proofs.Common.{◌≡◌, ◌++◌, map, take, slice_get}
 use Rattle.std.specs.List.{filter}
-use Rattle.cc_rules.specs.Constraints.{Flow}
+use Rattle.cc_rules_asked.specs.CcRules.Constraints.{Flow}
 use Rattle.cc_rules_again.specs.Again.{number_at}
 use Rattle.cc_rules_readers.specs.Points.{on, reads_in}
 use Rattle.cc_rules_readers.proofs.lists.put_reads.Given as goal

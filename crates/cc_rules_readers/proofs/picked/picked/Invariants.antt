@@ -1,6 +1,6 @@
 use Rattle.std.proofs.Common.{◌≡◌, slice_get}
 use Rattle.std.specs.List.{filter}
-use Rattle.cc_rules_needs.specs.Flowing.{numbers}
+use Rattle.cc_rules_asked.specs.CcRulesNeeds.Flowing.{numbers}
 use Rattle.cc_rules_readers.specs.Points.{on, passes_in}
 use Rattle.cc_rules_readers.proofs.picked.picked.Given as goal
 

@@ -1,6 +1,6 @@
 use Rattle.std.proofs.Common.{◌≡◌, ◌++◌, true, false, List, [], map, cond, append-nil, slice_get, sym, ap, ◌∙◌}
 use Rattle.std.proofs.lemmas.Result.{on_ok_weaker}
-use Rattle.cc_rules.specs.Constraints.{Back}
+use Rattle.cc_rules_asked.specs.CcRules.Constraints.{Back}
 use Rattle.cc_rules_again.specs.Again.{number_at}
 use Rattle.cc_rules_functions.specs.declared.functions.Function.{Function}
 use Rattle.cc_rules_readers.specs.Points.{points_that, may_call_in, ends_at}

@@ -1,6 +1,6 @@
 use Rattle.std.proofs.Common.{◌≤◌, ◌++◌, ℕ, List, map, All, sym, subst, ap, ◌∙◌}
 use Rattle.std.proofs.lemmas.Result.{on_ok_weaker}
-use Rattle.cc_rules.specs.Constraints.{Back}
+use Rattle.cc_rules_asked.specs.CcRules.Constraints.{Back}
 use Rattle.cc_rules_again.specs.Again.{number_at}
 use Rattle.cc_rules_readers.specs.Points.{group_at, merged}
 use Rattle.cc_rules_readers.proofs.Candidates.{small_callers, small_pointer_calls, callers_merged}

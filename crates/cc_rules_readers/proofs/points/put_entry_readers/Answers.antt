@@ -1,10 +1,10 @@
 use Rattle.std.proofs.Common.{◌++◌, ℕ, refl, sym, ap, ◌∙◌}
 use Rattle.std.proofs.lemmas.Result.{on_ok_weaker}
-use Rattle.cc_flow_sound.specs.Moves.{entry}
+use Rattle.cc_rules_asked.specs.CcFlowSound.Moves.{entry}
 use Rattle.cc_rules_again.specs.Again.{point_readers, reach_readers, entry_readers}
 use Rattle.cc_rules_readers.proofs.Doing.{reached_are}
 use Rattle.cc_rules_readers.proofs.points.put_entry_readers.Goals as goal
-use Rattle.cc_state_keys.proofs.Grown.{grown}
+use Rattle.cc_rules_asked.proofs.CcStateKeys.Grown.{grown}
 
 pub put_reach_readers-requires : goal.put_reach_readers-requires
 put_reach_readers-requires c = c.requires.index.lists

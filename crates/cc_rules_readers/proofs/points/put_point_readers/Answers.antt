@@ -6,7 +6,7 @@ use Rattle.cc_rules_readers.specs.declared.deeds.Deed.{Deed}
 use Rattle.cc_rules_readers.specs.Points.{own_numbers}
 use Rattle.cc_rules_readers.proofs.Exits.{no_readers, its_readers}
 use Rattle.cc_rules_readers.proofs.points.put_point_readers.Goals as goal
-use Rattle.cc_state_keys.proofs.Grown.{grown}
+use Rattle.cc_rules_asked.proofs.CcStateKeys.Grown.{grown}
 
 pub returns-in-None : goal.returns-in-None
 returns-in-None c =

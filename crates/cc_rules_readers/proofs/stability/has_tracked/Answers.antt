@@ -4,7 +4,7 @@ use Rattle.cc_rules_readers.specs.Points.{concern_any}
 use Rattle.cc_rules_readers.specs.View.{named_view}
 use Rattle.cc_rules_readers.proofs.Unstable.{any_on, any_here, any_none}
 use Rattle.cc_rules_readers.proofs.stability.has_tracked.Goals as goal
-use Rattle.cc_state_facts.specs.declared.facts.Key.TheVariants as key
+use Rattle.cc_rules_asked.specs.CcStateFacts.declared.facts.Key.TheVariants as key
 
 pub loop-object-preserved : goal.loop-object-preserved
 loop-object-preserved c =

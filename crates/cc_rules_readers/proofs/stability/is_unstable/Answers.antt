@@ -6,8 +6,8 @@ use Rattle.cc_rules_asked.specs.Unstable.{key_at}
 use Rattle.cc_rules_readers.specs.View.{named_view}
 use Rattle.cc_rules_readers.proofs.Unstable.{any_on, any_here, any_none, unstable_cell}
 use Rattle.cc_rules_readers.proofs.stability.is_unstable.Goals as goal
-use Rattle.cc_state_facts.specs.declared.facts.Key.TheVariants as key
-use Rattle.cc_state_keys.specs.Keys.{key_number}
+use Rattle.cc_rules_asked.specs.CcStateFacts.declared.facts.Key.TheVariants as key
+use Rattle.cc_rules_asked.specs.CcStateKeys.Keys.{key_number}
 
 pub loop-cell-init : goal.loop-cell-init
 loop-cell-init g c =

@@ -1,6 +1,6 @@
 use Rattle.std.proofs.Common.{◌≤◌, ◌++◌, ℕ, List, map, length, All, sym, subst, ap, ◌∙◌}
 use Rattle.std.proofs.lemmas.Result.{on_ok_weaker}
-use Rattle.cc_rules.specs.Constraints.{Stability}
+use Rattle.cc_rules_asked.specs.CcRules.Constraints.{Stability}
 use Rattle.cc_rules_again.specs.Again.{number_at}
 use Rattle.cc_rules_readers.specs.declared.deeds.Deed.{Deed}
 use Rattle.cc_rules_readers.specs.declared.picked.Test.TheVariants as test

@@ -1,6 +1,6 @@
 use Rattle.std.proofs.Common.{◌≡◌, map}
 use Rattle.cc_rules_again.specs.Again.{is_unstable}
-use Rattle.cc_rules_needs.specs.Flowing.{numbers}
+use Rattle.cc_rules_asked.specs.CcRulesNeeds.Flowing.{numbers}
 use Rattle.cc_rules_readers.specs.View.{named_view}
 use Rattle.cc_rules_readers.proofs.stability.unstable_functions.Given as goal
 

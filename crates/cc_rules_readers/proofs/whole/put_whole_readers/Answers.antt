@@ -1,13 +1,13 @@
 use Rattle.std.proofs.Common.{◌≤◌, ◌++◌, ℕ, List, map, All, refl, sym, subst, ap, ◌∙◌}
 use Rattle.std.proofs.lemmas.Result.{on_ok_weaker}
-use Rattle.cc_rules.specs.Constraints.{Flow, Stability}
+use Rattle.cc_rules_asked.specs.CcRules.Constraints.{Flow, Stability}
 use Rattle.cc_rules_again.specs.Again.{number_at, at_each, read, through_pointers, is_unstable, whole_readers}
 use Rattle.cc_rules_again.specs.Named as is
 use Rattle.cc_rules_readers.specs.View.{named_view}
 use Rattle.cc_rules_readers.proofs.Candidates.{small_pointer_reads}
 use Rattle.cc_rules_readers.proofs.Unstable.{pointer_reads, named_reads}
 use Rattle.cc_rules_readers.proofs.whole.put_whole_readers.Goals as goal
-use Rattle.cc_state_keys.proofs.Grown.{grown_thrice}
+use Rattle.cc_rules_asked.proofs.CcStateKeys.Grown.{grown_thrice}
 
 pub put_named_reads-requires : goal.put_named_reads-requires
 put_named_reads-requires g c = c.requires.index.lists

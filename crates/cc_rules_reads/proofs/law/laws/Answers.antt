@@ -1,7 +1,7 @@
 -- The law, of the domain.
 use Rattle.cc_rules_reads.proofs.Asked.{asked_same}
 use Rattle.cc_rules_reads.proofs.law.laws.Goals as goal
-use Rattle.cc_state_operators.specs.Domains.{domain}
+use Rattle.cc_rules.specs.CcStateOperators.Domains.{domain}
 
 pub returns : goal.returns
 returns g c =

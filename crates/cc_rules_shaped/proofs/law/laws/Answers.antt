@@ -7,12 +7,12 @@ use Rattle.cc_rules_shaped.proofs.Raising.{raised_shaped}
 use Rattle.cc_rules_shaped.proofs.Laid.{point_shaped}
 use Rattle.cc_rules_shaped.proofs.Rules.{touch_fit, handler_fit, unstable_cells_fit}
 use Rattle.cc_rules_shaped.proofs.law.laws.Goals as goal
-use Rattle.cc_state_operators.specs.Domains.{domain}
-use Rattle.cc_state_values.proofs.Same.{order_of}
+use Rattle.cc_rules_grow.specs.CcStateOperators.Domains.{domain}
+use Rattle.cc_rules_grow.proofs.CcStateValues.Same.{order_of}
 use Rattle.cc_state_values_fit.proofs.Sets.{IsTyping}
-use Rattle.cc_state_values_grow.proofs.Growing.{value_more}
-use Rattle.cc_state_values_grow.proofs.Images.{order_given}
-use Rattle.cc_state_values_grow.proofs.Leading.{leads_somewhere}
+use Rattle.cc_state_values_fit.proofs.CcStateValuesGrow.Growing.{value_more}
+use Rattle.cc_state_values_fit.proofs.CcStateValuesGrow.Images.{order_given}
+use Rattle.cc_state_values_fit.proofs.CcStateValuesGrow.Leading.{leads_somewhere}
 
 pub returns : goal.returns
 returns g c =

@@ -3,8 +3,8 @@ use Rattle.std.proofs.Common.{arith, get_or}
 use Rattle.std.proofs.lemmas.Option.{slice_get-get_or}
 use Rattle.cc_rules_sides.proofs.CellLemmas.{all_on, none_left, one_on}
 use Rattle.cc_rules_tests.proofs.Following.{itself_at}
-use Rattle.cc_state_operators.specs.Domains.{domain}
-use Rattle.cc_state_values.proofs.Same.{order_of}
+use Rattle.cc_rules_flows.specs.CcStateOperators.Domains.{domain}
+use Rattle.cc_rules_flows.proofs.CcStateValues.Same.{order_of}
 use Rattle.cc_rules_sides.proofs.cells.left_cell.Goals as goal
 
 pub loop-number-init : goal.loop-number-init

@@ -1,7 +1,7 @@
 use Rattle.std.proofs.Common.{take}
 use Rattle.cc_rules_sides.specs.Refined.{IsCellLeft, equal_from}
 use Rattle.cc_rules_tests.specs.Trials.{IsTrialOf}
-use Rattle.cc_state_operators.specs.Domains.{domain}
+use Rattle.cc_rules_flows.specs.CcStateOperators.Domains.{domain}
 use Rattle.cc_rules_sides.proofs.cells.left_cell.Given as goal
 
 abbrev pub invariant-loop-number : goal.invariant-loop-number

@@ -3,7 +3,7 @@ use Rattle.std.proofs.Common.{◌≡◌, ◌+◌, ◌*◌, Some, [], slice_get, 
 use Rattle.std.proofs.lemmas.Option.{slice_get-get_or}
 use Rattle.cc_rules_sides.specs.Refined.{AreCellsLeft, IsCellLeft, equal_from}
 use Rattle.cc_rules_sides.proofs.RowLemmas.{all_cells, more_cells, no_cells}
-use Rattle.cc_state_operators.specs.Domains.{domain}
+use Rattle.cc_rules_flows.specs.CcStateOperators.Domains.{domain}
 use Rattle.cc_rules_sides.proofs.cells.left_cells.Goals as goal
 
 pub loop-at-init : goal.loop-at-init

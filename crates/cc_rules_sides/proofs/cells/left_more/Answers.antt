@@ -1,8 +1,8 @@
 -- By one register more where it equals the cell.
 use Rattle.std.proofs.Common.{refl, sym, subst}
 use Rattle.cc_rules_sides.specs.Refined.{IsLeftMore}
-use Rattle.cc_state_operators.specs.Domains.{domain}
-use Rattle.cc_state_values.proofs.Fits.{both_ok}
+use Rattle.cc_rules_flows.specs.CcStateOperators.Domains.{domain}
+use Rattle.cc_rules_flows.proofs.CcStateValues.Fits.{both_ok}
 use Rattle.cc_rules_sides.proofs.cells.left_more.Goals as goal
 
 pub left_alike-requires : goal.left_alike-requires

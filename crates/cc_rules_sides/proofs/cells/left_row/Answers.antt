@@ -3,8 +3,8 @@ use Rattle.std.proofs.Common.{◌≡◌, false, ap, sym, subst, ◌∙◌}
 use Rattle.std.proofs.lemmas.Result.{IfOk-weaker}
 use Rattle.cc_rules_sides.specs.Refined.{AreCellsLeft, IsNumbered, has_pairs_in}
 use Rattle.cc_rules_sides.proofs.RowLemmas.{none_in_row, same_cells}
-use Rattle.cc_state_facts.specs.declared.facts.Row.{Row}
-use Rattle.cc_state_operators.specs.Domains.{domain}
+use Rattle.cc_rules_flows.specs.CcStateFacts.declared.facts.Row.{Row}
+use Rattle.cc_rules_flows.specs.CcStateOperators.Domains.{domain}
 use Rattle.cc_rules_sides.proofs.cells.left_row.Goals as goal
 
 pub returns-then-not-has_pairs_in : goal.returns-then-not-has_pairs_in

@@ -2,7 +2,7 @@
 use Rattle.std.proofs.Common.{◌≡◌, ◌+◌, ◌≤◌, Some, [], length, slice_get, take, arith, ap, sym, subst, ◌∙◌}
 use Rattle.std.proofs.lemmas.Option.{slice_get-get_or}
 use Rattle.cc_rules_sides.specs.Refined.{AreRowsLeft}
-use Rattle.cc_state_operators.specs.Domains.{domain}
+use Rattle.cc_rules_flows.specs.CcStateOperators.Domains.{domain}
 use Rattle.cc_rules_sides.proofs.RowLemmas.{all_rows, more_rows, no_rows}
 use Rattle.cc_rules_sides.proofs.cells.left_rows.Goals as goal
 

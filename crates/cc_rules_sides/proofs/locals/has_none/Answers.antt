@@ -1,7 +1,7 @@
 -- Where it has not one.
 use Rattle.cc_rules_sides.specs.Refined.{HasNumber}
 use Rattle.cc_rules_sides.proofs.Emptied.{none_told}
-use Rattle.cc_state_operators.specs.Domains.{domain}
+use Rattle.cc_rules_flows.specs.CcStateOperators.Domains.{domain}
 use Rattle.cc_rules_sides.proofs.locals.has_none.Goals as goal
 
 pub returns : goal.returns

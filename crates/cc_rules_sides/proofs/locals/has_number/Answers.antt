@@ -2,7 +2,7 @@
 use Rattle.std.proofs.Common.{◌↔◌, IsTrue, is_some, ap, sym, subst, ◌∙◌}
 use Rattle.cc_rules_sides.specs.Refined.{HasNumber}
 use Rattle.cc_rules_sides.proofs.Emptied.{some_ends}
-use Rattle.cc_state_operators.specs.Domains.{domain}
+use Rattle.cc_rules_flows.specs.CcStateOperators.Domains.{domain}
 use Rattle.cc_rules_sides.proofs.locals.has_number.Goals as goal
 
 pub returns : goal.returns

@@ -1,6 +1,6 @@
 -- A set of integers by those that it has; addresses stay.
 use Rattle.cc_rules_sides.proofs.Emptied.{emptied_ints, stay}
-use Rattle.cc_state_operators.specs.Domains.{domain}
+use Rattle.cc_rules_flows.specs.CcStateOperators.Domains.{domain}
 use Rattle.cc_rules_sides.proofs.locals.is_emptied.Goals as goal
 
 pub returns-in-Addrs : goal.returns-in-Addrs

@@ -1,10 +1,10 @@
 -- The first set that is emptied.
 use Rattle.std.proofs.Common.{◌≡◌, ◌<◌, ℕ, Some, true, false, length, slice_get, arith, below_more, refl, ap, sym, ◌∙◌}
 use Rattle.std.proofs.lemmas.Option.{same_Some, slice_get-get_or, slice_get_within}
-use Rattle.cc_places.specs.declared.abs.Abs.{Abs}
+use Rattle.cc_rules_flows.specs.CcPlaces.declared.abs.Abs.{Abs}
 use Rattle.cc_rules_sides.specs.Refined.{IsEmptied}
 use Rattle.cc_rules_sides.proofs.Emptied.{not_emptied}
-use Rattle.cc_state_operators.specs.Domains.{domain}
+use Rattle.cc_rules_flows.specs.CcStateOperators.Domains.{domain}
 use Rattle.cc_rules_sides.proofs.locals.is_one_emptied.Goals as goal
 
 pub loop-number-init : goal.loop-number-init

@@ -1,7 +1,7 @@
 use Rattle.std.proofs.Common.{◌≡◌, ◌<◌, ℕ, Some, slice_get}
-use Rattle.cc_places.specs.declared.abs.Abs.{Abs}
+use Rattle.cc_rules_flows.specs.CcPlaces.declared.abs.Abs.{Abs}
 use Rattle.cc_rules_sides.specs.Refined.{IsEmptied}
-use Rattle.cc_state_operators.specs.Domains.{domain}
+use Rattle.cc_rules_flows.specs.CcStateOperators.Domains.{domain}
 use Rattle.cc_rules_sides.proofs.locals.is_one_emptied.Given as goal
 
 abbrev pub invariant-loop-number : goal.invariant-loop-number

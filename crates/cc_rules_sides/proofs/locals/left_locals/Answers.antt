@@ -1,11 +1,11 @@
 -- One register after the other.
 use Rattle.std.proofs.Common.{◌≡◌, ◌+◌, ◌<◌, Some, [], length, get_or, slice_get, take, arith, ap, sym, subst, ◌∙◌}
 use Rattle.std.proofs.lemmas.Option.{slice_get-get_or}
-use Rattle.cc_places.specs.laws.ListLaws.{all_taken}
+use Rattle.cc_rules_flows.specs.CcPlaces.laws.ListLaws.{all_taken}
 use Rattle.cc_rules_sides.specs.Refined.{AreLeft}
 use Rattle.cc_rules_sides.proofs.LocalLemmas.{none_left, one_more}
 use Rattle.cc_rules_tests.proofs.Following.{itself_at}
-use Rattle.cc_state_operators.specs.Domains.{domain}
+use Rattle.cc_rules_flows.specs.CcStateOperators.Domains.{domain}
 use Rattle.cc_rules_sides.proofs.locals.left_locals.Goals as goal
 
 pub loop-number-init : goal.loop-number-init

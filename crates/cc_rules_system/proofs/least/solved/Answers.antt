@@ -1,18 +1,18 @@
 -- The program of the system is the one that was given.
 use Rattle.std.proofs.Common.{length, sym, subst}
 use Rattle.std.proofs.lemmas.Result.{IfOk-weaker}
-use Rattle.cc_lattice.specs.Systems.{MeetsAll}
+use Rattle.cc_rules_asked.specs.CcLattice.Systems.{MeetsAll}
 use Rattle.cc_program.specs.declared.program.Program.{Program}
-use Rattle.cc_rules.specs.Constraints.{constraints}
-use Rattle.cc_rules.specs.Rules.{IsSolution}
+use Rattle.cc_rules_asked.specs.CcRules.Constraints.{constraints}
+use Rattle.cc_rules_asked.specs.CcRules.Rules.{IsSolution}
 use Rattle.cc_rules_system.proofs.Solutions.{solution_of, meets_of}
 use Rattle.cc_rules_system.proofs.least.solved.Goals as goal
 use Rattle.cc_rules_system.specs.System.{Fits, AsksAt}
-use Rattle.cc_state.specs.Shape.{HaveShape}
-use Rattle.cc_state_facts.specs.declared.facts.Facts.{Facts}
-use Rattle.cc_state_facts.specs.Orders.{IsBelow}
+use Rattle.cc_rules_grow.specs.CcState.Shape.{HaveShape}
+use Rattle.cc_rules_asked.specs.CcStateFacts.declared.facts.Facts.{Facts}
+use Rattle.cc_rules_asked.specs.CcStateFacts.Orders.{IsBelow}
 use Rattle.cc_state_limits.specs.Held.{AreHeld}
-use Rattle.cc_state_operators.specs.Domains.{domain}
+use Rattle.cc_rules_asked.specs.CcStateOperators.Domains.{domain}
 
 pub returns : goal.returns
 returns g c =

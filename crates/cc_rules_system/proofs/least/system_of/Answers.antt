@@ -1,11 +1,11 @@
 -- What is made of the program is ready.
 use Rattle.std.proofs.Common.{arith, ◌≤◌, sym, subst}
-use Rattle.cc_flow.specs.Points.{count_of}
+use Rattle.cc_rules_asked.specs.CcFlow.Points.{count_of}
 use Rattle.cc_program.specs.declared.program.Program.{Program}
 use Rattle.cc_rules_system.proofs.Solutions.{made_own, ready_by}
 use Rattle.cc_rules_system.proofs.least.system_of.Goals as goal
-use Rattle.cc_state_operators.specs.Domains.{domain}
-use Rattle.cc_syntax.proofs.NameRules.{sound-typed}
+use Rattle.cc_rules_asked.specs.CcStateOperators.Domains.{domain}
+use Rattle.cc_rules_asked.proofs.CcSyntax.NameRules.{sound-typed}
 
 pub rules_of-requires : goal.rules_of-requires
 rules_of-requires g c =

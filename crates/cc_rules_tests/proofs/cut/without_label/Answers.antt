@@ -1,7 +1,7 @@
 -- By the set of the label alone.
 use Rattle.std.proofs.Common.{refl}
-use Rattle.cc_num.specs.declared.op.BinOp.TheVariants as op
-use Rattle.cc_state_operators.specs.Domains.{domain}
+use Rattle.cc_program.specs.CcNum.declared.op.BinOp.TheVariants as op
+use Rattle.cc_rules_flows.specs.CcStateOperators.Domains.{domain}
 use Rattle.cc_rules_tests.proofs.Least.{number_read}
 use Rattle.cc_rules_tests.proofs.Least.{hull_one}
 use Rattle.cc_rules_tests.proofs.cut.without_label.Goals as goal

@@ -1,10 +1,10 @@
 -- The first with which it does not pass.
 use Rattle.std.proofs.Common.{◌≡◌, true, false, ⊎_elim, refl, sym, subst, arith}
 use Rattle.std.specs.List.{Contains}
-use Rattle.cc_places.specs.laws.ListLaws.{all_taken, item_in, none_in, taken_cases}
+use Rattle.cc_rules_flows.specs.CcPlaces.laws.ListLaws.{all_taken, item_in, none_in, taken_cases}
 use Rattle.cc_rules_tests.specs.Passing.{MayPassIn}
 use Rattle.cc_rules_tests.specs.Tested.{test_of}
-use Rattle.cc_state_operators.specs.Domains.{domain}
+use Rattle.cc_rules_flows.specs.CcStateOperators.Domains.{domain}
 use Rattle.cc_rules_tests.proofs.members.all_pass.Goals as goal
 
 pub loop-y-init : goal.loop-y-init

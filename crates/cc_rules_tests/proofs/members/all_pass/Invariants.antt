@@ -1,9 +1,9 @@
 use Rattle.std.proofs.Common.{take}
 use Rattle.std.specs.List.{Contains}
-use Rattle.cc_places.specs.declared.abs.Abs.{Abs}
+use Rattle.cc_rules_flows.specs.CcPlaces.declared.abs.Abs.{Abs}
 use Rattle.cc_rules_tests.specs.Passing.{MayPassIn}
 use Rattle.cc_rules_tests.specs.Tested.{test_of}
-use Rattle.cc_state_operators.specs.Domains.{domain}
+use Rattle.cc_rules_flows.specs.CcStateOperators.Domains.{domain}
 use Rattle.cc_rules_tests.proofs.members.all_pass.Given as goal
 
 abbrev pub invariant-loop-y : goal.invariant-loop-y

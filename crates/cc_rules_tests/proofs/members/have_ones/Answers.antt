@@ -1,12 +1,12 @@
 -- One number after the other.
 use Rattle.std.proofs.Common.{pos, get_or, arith, ⊎_elim, sym, subst}
 use Rattle.std.specs.List.{Contains}
-use Rattle.cc_lattice.specs.Domains.{IsIntValue}
-use Rattle.cc_places.specs.laws.ListLaws.{all_taken, item_in, none_in, taken_cases}
+use Rattle.cc_rules_flows.specs.CcLattice.Domains.{IsIntValue}
+use Rattle.cc_rules_flows.specs.CcPlaces.laws.ListLaws.{all_taken, item_in, none_in, taken_cases}
 use Rattle.cc_rules_tests.specs.Trials.{HasOne}
 use Rattle.cc_rules_tests.proofs.Following.{int_same, itself_at}
 use Rattle.cc_rules_tests.proofs.Least.{hull_one, number_read}
-use Rattle.cc_state_operators.specs.Domains.{domain}
+use Rattle.cc_rules_flows.specs.CcStateOperators.Domains.{domain}
 use Rattle.cc_rules_tests.proofs.members.have_ones.Goals as goal
 
 pub loop-m-init : goal.loop-m-init

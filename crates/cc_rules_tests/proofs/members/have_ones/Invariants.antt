@@ -1,7 +1,7 @@
 use Rattle.std.proofs.Common.{ℤ, take}
 use Rattle.std.specs.List.{Contains}
 use Rattle.cc_rules_tests.specs.Trials.{HasOne}
-use Rattle.cc_state_operators.specs.Domains.{domain}
+use Rattle.cc_rules_flows.specs.CcStateOperators.Domains.{domain}
 use Rattle.cc_rules_tests.proofs.members.have_ones.Given as goal
 
 abbrev pub invariant-loop-m : goal.invariant-loop-m

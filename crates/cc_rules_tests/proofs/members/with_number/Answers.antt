@@ -4,7 +4,7 @@ use Rattle.std.proofs.lemmas.Result.{IfOk-weaker}
 use Rattle.cc_rules_tests.specs.Tested.{test_of}
 use Rattle.cc_rules_tests.proofs.Least.{number_read, order_of}
 use Rattle.cc_rules_tests.proofs.Staying.{more_goes, more_stays}
-use Rattle.cc_state_operators.specs.Domains.{domain}
+use Rattle.cc_rules_flows.specs.CcStateOperators.Domains.{domain}
 use Rattle.cc_rules_tests.proofs.members.with_number.Goals as goal
 
 pub passes-requires : goal.passes-requires

@@ -1,8 +1,8 @@
 -- By the ends of the set.
 use Rattle.std.proofs.Common.{sym, ◌∙◌, subst}
 use Rattle.std.specs.Option.{IfSome}
-use Rattle.cc_lattice.specs.Domains.{AreEnds}
-use Rattle.cc_state_operators.specs.Domains.{domain}
+use Rattle.cc_rules_flows.specs.CcLattice.Domains.{AreEnds}
+use Rattle.cc_rules_flows.specs.CcStateOperators.Domains.{domain}
 use Rattle.cc_rules_tests.proofs.Operands.{both_ends, first_end}
 use Rattle.cc_rules_tests.proofs.operand.are_values.Goals as goal
 

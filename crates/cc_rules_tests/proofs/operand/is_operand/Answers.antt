@@ -1,6 +1,6 @@
 -- An expression that is no conversion reads the register, or the conversion's operand does.
 use Rattle.std.proofs.Common.{◌≡◌, true, ap, sym, ◌∙◌}
-use Rattle.cc_state_operators.specs.Domains.{domain}
+use Rattle.cc_rules_flows.specs.CcStateOperators.Domains.{domain}
 use Rattle.cc_rules_tests.specs.Forms.{converted_view}
 use Rattle.cc_rules_tests.proofs.Operands.{converted, not_converted}
 use Rattle.cc_rules_tests.proofs.operand.is_operand.Goals as goal

@@ -2,7 +2,7 @@
 use Rattle.std.proofs.Common.{◌↔◌, ℤ, ◌≤ℤ◌, ap, sym, subst, ◌∙◌}
 use Rattle.std.specs.List.{Contains}
 use Rattle.std.specs.Option.{IfSome, option_copied}
-use Rattle.cc_lattice.specs.Domains.{AreEnds}
+use Rattle.cc_rules_flows.specs.CcLattice.Domains.{AreEnds}
 use Rattle.cc_rules_tests.proofs.PassingValues.{by_members, by_range_read}
 use Rattle.cc_rules_tests.proofs.passing.has_other_number.Goals as goal
 

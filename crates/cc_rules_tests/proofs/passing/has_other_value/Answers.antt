@@ -1,5 +1,5 @@
 -- By the kind of the set.
-use Rattle.cc_state_operators.specs.Domains.{domain}
+use Rattle.cc_rules_flows.specs.CcStateOperators.Domains.{domain}
 use Rattle.cc_rules_tests.proofs.PassingValues.{addresses_told, other_told}
 use Rattle.cc_rules_tests.proofs.passing.has_other_value.Goals as goal
 

@@ -1,7 +1,7 @@
 -- The first that is of the register at the numbers.
 use Rattle.std.proofs.Common.{◌≡◌, Some, None, true, ⊎_elim, arith, sym, subst}
 use Rattle.std.specs.List.{Contains}
-use Rattle.cc_places.specs.laws.ListLaws.{all_taken, item_in, none_in, taken_cases}
+use Rattle.cc_rules_flows.specs.CcPlaces.laws.ListLaws.{all_taken, item_in, none_in, taken_cases}
 use Rattle.cc_rules_tests.specs.Trials.{IsTriedAt}
 use Rattle.cc_rules_tests.proofs.tried.tried_at.Goals as goal
 

@@ -1,7 +1,7 @@
 use Rattle.std.proofs.Common.{arith, ◌≡◌, ◌∙◌, ◌<◌, sym, ap}
-use Rattle.cc_steps.specs.Runs.{run}
-use Rattle.cc_steps.specs.Turn.{turn}
-use Rattle.cc_steps.specs.declared.event.Took.TheVariants.{Ended}
+use Rattle.cc_states.specs.CcSteps.Runs.{run}
+use Rattle.cc_states.specs.CcSteps.Turn.{turn}
+use Rattle.cc_states.specs.CcSteps.declared.event.Took.TheVariants.{Ended}
 use Rattle.cc_meaning.specs.View.{state_of}
 use Rattle.cc_run.specs.Driven.{arrivals_for}
 use Rattle.cc_run.proofs.DriveLemmas.{ahead_next, arrives, one_made, ended_made, is_over}

@@ -1,5 +1,5 @@
 use Rattle.std.proofs.Common.{◌≡◌, ◌+◌, ◌-◌, ◌<◌, ◌^◌}
-use Rattle.cc_steps.specs.Runs.{run}
+use Rattle.cc_states.specs.CcSteps.Runs.{run}
 use Rattle.cc_meaning.specs.View.{state_of}
 use Rattle.cc_run.specs.Driven.{arrivals_for}
 use Rattle.cc_run.proofs.DriveLemmas.{Ahead, GivesWhole}

@@ -1,6 +1,6 @@
 use Rattle.std.proofs.Common.{◌≡◌, ◌++◌, option_map, length}
-use Rattle.cc_typed.specs.View.{place_view}
-use Rattle.cc_steps.specs.Rows.{steps}
+use Rattle.cc_states.specs.CcTyped.View.{place_view}
+use Rattle.cc_states.specs.CcSteps.Rows.{steps}
 use Rattle.cc_run.specs.Trace.{steps_text}
 use Rattle.cc_run.proofs.trace.put_steps.Given as goal
 

@@ -1,5 +1,5 @@
 use Rattle.std.proofs.Common.{◌≡◌, take}
-use Rattle.cc_steps.specs.Rows.{rows_of}
+use Rattle.cc_states.specs.CcSteps.Rows.{rows_of}
 use Rattle.cc_run.specs.Trace.{rows_text}
 use Rattle.cc_run.proofs.trace.trace_text.Given as goal
 

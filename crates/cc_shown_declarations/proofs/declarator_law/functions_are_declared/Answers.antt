@@ -1,9 +1,9 @@
 use Rattle.std.proofs.Common.{length}
 use Rattle.cc_program.specs.declared.program.Program.{Program}
 use Rattle.cc_program.specs.declared.types.Sig.{out-Sig}
-use Rattle.cc_syntax.specs.Sizes.{AreSized}
-use Rattle.cc_syntax.specs.Sound.{IsSound}
-use Rattle.cc_syntax.proofs.StructureLemmas.{structures_sized}
+use Rattle.cc_type.specs.CcSyntax.Sizes.{AreSized}
+use Rattle.cc_type.specs.CcSyntax.Sound.{IsSound}
+use Rattle.cc_type.proofs.CcSyntax.StructureLemmas.{structures_sized}
 use Rattle.cc_shown_declarations.proofs.Forms.{function-form, object-form}
 use Rattle.cc_shown_declarations.proofs.Functions.{are-scalars, is-declared}
 use Rattle.cc_shown_declarations.proofs.declarator_law.functions_are_declared.Goals as goal

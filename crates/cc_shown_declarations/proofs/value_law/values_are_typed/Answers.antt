@@ -1,28 +1,28 @@
 use Rattle.std.proofs.Common.{◌≡◌, ◌≤◌, ℕ, Bool, true, false, List, [], map, length, Some, None, Ok, refl, ap, sym, ◌∙◌, subst, slice_get, arith}
 use Rattle.std.proofs.lemmas.List.{take_all, append-nil}
-use Rattle.cc_initialisers.specs.Contents.{contents_over, structure_inside}
-use Rattle.cc_initialisers.specs.Initialisers.{initialised, here as given_here}
-use Rattle.cc_objects.specs.Values.{leaf_given, no_leaf}
+use Rattle.cc_type.specs.CcInitialisers.Contents.{contents_over, structure_inside}
+use Rattle.cc_type.specs.CcInitialisers.Initialisers.{initialised, here as given_here}
+use Rattle.cc_type.specs.CcObjects.Values.{leaf_given, no_leaf}
 use Rattle.cc_program.specs.declared.func.Func.{Func}
 use Rattle.cc_program.specs.declared.object.Object.{Object}
 use Rattle.cc_program.specs.declared.program.Program.{Program}
 use Rattle.cc_program.specs.declared.types.CType.{CType}
 use Rattle.cc_program.specs.declared.types.Sig.{roll-Sig}
-use Rattle.cc_operands.specs.Qualified.{plain}
+use Rattle.cc_type.specs.CcOperands.Qualified.{plain}
 use Rattle.cc_program.specs.declared.types.Shape.{Void}
 use Rattle.cc_program.specs.declared.value.Leaf.{Leaf}
-use Rattle.cc_scopes.specs.State.{State, structures_of}
-use Rattle.cc_typed_terms.specs.Primary.{leaves_or_none}
+use Rattle.cc_type.specs.CcScopes.State.{State, structures_of}
+use Rattle.cc_type.specs.CcTypedTerms.Primary.{leaves_or_none}
 use Rattle.cc_program.specs.declared.types.Structure.{Structure}
-use Rattle.cc_syntax.specs.Programs.{AreLeaves, IsInitial}
-use Rattle.cc_syntax.specs.Sizes.{AreSized}
-use Rattle.cc_syntax.specs.Sound.{IsSound, is_object}
-use Rattle.cc_syntax.specs.Types.{is_complete}
-use Rattle.cc_syntax.proofs.Parts.{all_at}
-use Rattle.cc_syntax.proofs.StructureLemmas.{structures_sized, object_complete}
+use Rattle.cc_type.specs.CcSyntax.Programs.{AreLeaves, IsInitial}
+use Rattle.cc_type.specs.CcSyntax.Sizes.{AreSized}
+use Rattle.cc_type.specs.CcSyntax.Sound.{IsSound, is_object}
+use Rattle.cc_type.specs.CcSyntax.Types.{is_complete}
+use Rattle.cc_type.proofs.CcSyntax.Parts.{all_at}
+use Rattle.cc_type.proofs.CcSyntax.StructureLemmas.{structures_sized, object_complete}
 use Rattle.cc_tree.specs.declared.at.At.{At}
 use Rattle.cc_tree.specs.declared.unit.Given.{Given}
-use Rattle.cc_typed_bodies.specs.Plans.{steps_done}
+use Rattle.cc_type.specs.CcTypedBodies.Plans.{steps_done}
 use Rattle.cc_unit_trees.specs.Values.{ShowsGiven, ShowsInitial, ShowsFirst}
 use Rattle.cc_shown_expressions.proofs.Stand.{tested-at}
 use Rattle.cc_shown_expressions.specs.KnownNames.{TypesStand}

@@ -1,8 +1,8 @@
 use Rattle.std.proofs.Common.{length}
 use Rattle.cc_program.specs.declared.program.Program.{Program}
-use Rattle.cc_syntax.specs.Sizes.{AreSized}
-use Rattle.cc_syntax.specs.Sound.{IsSound}
-use Rattle.cc_syntax.proofs.StructureLemmas.{structures_sized}
+use Rattle.cc_typed_bodies.specs.CcSyntax.Sizes.{AreSized}
+use Rattle.cc_typed_bodies.specs.CcSyntax.Sound.{IsSound}
+use Rattle.cc_typed_bodies.proofs.CcSyntax.StructureLemmas.{structures_sized}
 use Rattle.cc_shown_expressions.proofs.Stand.{types-stand}
 use Rattle.cc_shown_effects.proofs.Intrinsics.{intrinsic-shown, argument-shown}
 use Rattle.cc_shown_effects.proofs.intrinsic_law.intrinsics_are_typed.Goals as goal

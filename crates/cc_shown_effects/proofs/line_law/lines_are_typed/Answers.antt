@@ -2,10 +2,10 @@ use Rattle.std.proofs.Common.{◌≡◌, ◌∙◌, Some, length, subst}
 use Rattle.cc_program.specs.declared.program.Program.{Program}
 use Rattle.cc_program.specs.declared.types.CType.{CType}
 use Rattle.cc_program.specs.declared.types.Shape.{out-Shape}
-use Rattle.cc_syntax.specs.Sizes.{AreSized}
-use Rattle.cc_syntax.specs.Sound.{IsSound}
-use Rattle.cc_syntax.specs.Values.{scalar_value}
-use Rattle.cc_syntax.proofs.StructureLemmas.{structures_sized}
+use Rattle.cc_typed_bodies.specs.CcSyntax.Sizes.{AreSized}
+use Rattle.cc_typed_bodies.specs.CcSyntax.Sound.{IsSound}
+use Rattle.cc_typed_bodies.specs.CcSyntax.Values.{scalar_value}
+use Rattle.cc_typed_bodies.proofs.CcSyntax.StructureLemmas.{structures_sized}
 use Rattle.cc_shown_effects.proofs.Effects.{effect-done}
 use Rattle.cc_shown_expressions.proofs.Stand.{types-stand}
 use Rattle.cc_shown_expressions.proofs.Values.{value-taken}

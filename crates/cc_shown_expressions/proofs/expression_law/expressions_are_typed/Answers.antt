@@ -1,8 +1,8 @@
 use Rattle.std.proofs.Common.{length}
 use Rattle.cc_program.specs.declared.program.Program.{Program}
-use Rattle.cc_syntax.specs.Sizes.{AreSized}
-use Rattle.cc_syntax.specs.Sound.{IsSound}
-use Rattle.cc_syntax.proofs.StructureLemmas.{structures_sized}
+use Rattle.cc_terms.specs.CcSyntax.Sizes.{AreSized}
+use Rattle.cc_terms.specs.CcSyntax.Sound.{IsSound}
+use Rattle.cc_terms.proofs.CcSyntax.StructureLemmas.{structures_sized}
 use Rattle.cc_shown_expressions.proofs.Shown.{expr-shown, place-shown, pointer-shown}
 use Rattle.cc_shown_expressions.proofs.Stand.{types-stand}
 use Rattle.cc_shown_expressions.proofs.Values.{value-taken}

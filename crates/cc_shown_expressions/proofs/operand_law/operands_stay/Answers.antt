@@ -1,5 +1,5 @@
 use Rattle.std.proofs.Common.{true, false, refl}
-use Rattle.cc_operands.specs.declared.operator.Operator.TheVariants as operator
+use Rattle.cc_terms.specs.CcOperands.declared.operator.Operator.TheVariants as operator
 use Rattle.cc_shown_expressions.proofs.CastRules.{integer-cast, constant-pointer, void-pointer, null-pointer, qualified-pointer}
 use Rattle.cc_shown_expressions.proofs.ChoiceRules.{choose-integers, choose-pointers, assign-rule, assign-null, assign-constant}
 use Rattle.cc_shown_expressions.proofs.Rules.{unary-rule, integer-rule, move-rule, gap-rule, compare-rule, both-rule, either-rule}

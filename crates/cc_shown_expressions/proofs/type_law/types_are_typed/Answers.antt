@@ -1,10 +1,10 @@
 use Rattle.std.proofs.Common.{length, refl}
 use Rattle.cc_program.specs.declared.program.Program.{Program}
 use Rattle.cc_program.specs.declared.types.Shape.TheOpen as shape
-use Rattle.cc_scopes.specs.State.{structures_of, layouts_of}
-use Rattle.cc_syntax.specs.Sizes.{AreSized}
-use Rattle.cc_syntax.specs.Sound.{IsSound}
-use Rattle.cc_syntax.proofs.StructureLemmas.{structures_sized}
+use Rattle.cc_terms.specs.CcScopes.State.{structures_of, layouts_of}
+use Rattle.cc_terms.specs.CcSyntax.Sizes.{AreSized}
+use Rattle.cc_terms.specs.CcSyntax.Sound.{IsSound}
+use Rattle.cc_terms.proofs.CcSyntax.StructureLemmas.{structures_sized}
 use Rattle.cc_expression_trees.specs.Types.{Plain}
 use Rattle.cc_shown_expressions.specs.Numbers.{type_numbered}
 use Rattle.cc_shown_expressions.proofs.Bases.{specified-found}

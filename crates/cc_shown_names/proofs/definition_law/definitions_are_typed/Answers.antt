@@ -1,8 +1,8 @@
 use Rattle.std.proofs.Common.{length}
 use Rattle.cc_program.specs.declared.program.Program.{Program}
-use Rattle.cc_syntax.specs.Sizes.{AreSized}
-use Rattle.cc_syntax.specs.Sound.{IsSound}
-use Rattle.cc_syntax.proofs.StructureLemmas.{structures_sized}
+use Rattle.cc_type.specs.CcSyntax.Sizes.{AreSized}
+use Rattle.cc_type.specs.CcSyntax.Sound.{IsSound}
+use Rattle.cc_type.proofs.CcSyntax.StructureLemmas.{structures_sized}
 use Rattle.cc_shown_names.proofs.Definitions.{all-behind, all-found}
 use Rattle.cc_shown_names.proofs.definition_law.definitions_are_typed.Goals as goal
 

@@ -1,10 +1,10 @@
 use Rattle.std.proofs.Common.{length}
 use Rattle.cc_program.specs.declared.program.Program.{Program}
 use Rattle.cc_program.specs.declared.types.Sig.{out-Sig}
-use Rattle.cc_syntax.specs.Sizes.{AreSized}
-use Rattle.cc_syntax.specs.Sound.{IsSound, IsFunc}
-use Rattle.cc_syntax.proofs.Parts.{all_at}
-use Rattle.cc_syntax.proofs.StructureLemmas.{structures_sized}
+use Rattle.cc_type.specs.CcSyntax.Sizes.{AreSized}
+use Rattle.cc_type.specs.CcSyntax.Sound.{IsSound, IsFunc}
+use Rattle.cc_type.proofs.CcSyntax.Parts.{all_at}
+use Rattle.cc_type.proofs.CcSyntax.StructureLemmas.{structures_sized}
 use Rattle.cc_shown_expressions.proofs.Stand.{types-stand}
 use Rattle.cc_shown_expressions.specs.Numbers.{type_numbered}
 use Rattle.cc_shown_names.proofs.Lines.{lines-typed}

@@ -3,8 +3,8 @@ use Rattle.std.proofs.Common.{arith, ap, subst, sym, ◌∙◌, length, List, fa
 use Rattle.std.proofs.lemmas.List.{length-replicate, with_items_is}
 use Rattle.cc_slots.specs.Marks.{AreMarks}
 use Rattle.cc_slots.proofs.MarkLemmas.{no_marks}
-use Rattle.cc_state_facts.specs.declared.facts.Key.{Key}
-use Rattle.cc_state_keys.specs.Addressed.{taken_keys}
+use Rattle.cc_state_points.specs.CcStateFacts.declared.facts.Key.{Key}
+use Rattle.cc_state_points.specs.CcStateKeys.Addressed.{taken_keys}
 use Rattle.cc_slots.proofs.addressed.addressed.Goals as goal
 
 pub mark_all-requires-clause-none : goal.mark_all-requires-clause-none

@@ -1,6 +1,6 @@
 use Rattle.std.proofs.Common.{arith, ◌≡◌, ◌<◌, Some, length, ap, sym, ◌∙◌}
 use Rattle.cc_slots_accesses.proofs.PutAll.{number_below}
-use Rattle.cc_state_keys.specs.Keys.{key_number, keys_of}
+use Rattle.cc_state_points.specs.CcStateKeys.Keys.{key_number, keys_of}
 use Rattle.cc_slots.proofs.addressed.mark.Goals as goal
 
 pub bounds-marks-number : goal.bounds-marks-number

@@ -3,8 +3,8 @@ use Rattle.std.proofs.lemmas.List.{get_or_default}
 use Rattle.cc_slots.specs.Marks.{AreMarks}
 use Rattle.cc_slots.proofs.MarkLemmas.{one_more}
 use Rattle.cc_slots_accesses.proofs.PutAll.{next_of}
-use Rattle.cc_state_facts.specs.declared.facts.Key.{Key}
-use Rattle.cc_state_facts.specs.declared.facts.Key.TheVariants as key
+use Rattle.cc_state_points.specs.CcStateFacts.declared.facts.Key.{Key}
+use Rattle.cc_state_points.specs.CcStateFacts.declared.facts.Key.TheVariants as key
 use Rattle.cc_slots.proofs.addressed.mark_all.Goals as goal
 
 pub mark-requires-clause-marks : goal.mark-requires-clause-marks

@@ -1,8 +1,8 @@
 use Rattle.std.proofs.Common.{arith, ◌<◌, ◌^◌, length, ap, sym, subst}
 use Rattle.cc_program.specs.declared.types.Structure.{Structure}
 use Rattle.cc_slots.specs.Keys.{member_slots}
-use Rattle.cc_state_keys.specs.Lists.{all_from}
-use Rattle.cc_state_keys.proofs.Grown.{all_grown, get_same, whole}
+use Rattle.cc_state_points.specs.CcStateKeys.Lists.{all_from}
+use Rattle.cc_state_points.proofs.CcStateKeys.Grown.{all_grown, get_same, whole}
 use Rattle.cc_slots.proofs.keys.put_all_members.Goals as goal
 
 pub put_members-requires : goal.put_members-requires

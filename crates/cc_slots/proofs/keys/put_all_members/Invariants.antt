@@ -1,6 +1,6 @@
 use Rattle.std.proofs.Common.{◌≡◌, ◌++◌, take}
 use Rattle.cc_slots.specs.Keys.{member_slots}
-use Rattle.cc_state_keys.specs.Lists.{all_from}
+use Rattle.cc_state_points.specs.CcStateKeys.Lists.{all_from}
 use Rattle.cc_slots.proofs.keys.put_all_members.Given as goal
 
 abbrev pub invariant-loop-id : goal.invariant-loop-id

@@ -1,8 +1,8 @@
 use Rattle.std.proofs.Common.{arith}
-use Rattle.cc_state_facts.specs.declared.facts.Key.TheVariants as key
+use Rattle.cc_state_points.specs.CcStateFacts.declared.facts.Key.TheVariants as key
 use Rattle.cc_slots.specs.Keys.{is_member_slot}
-use Rattle.cc_state_keys.specs.Lists.{made_from}
-use Rattle.cc_state_keys.proofs.Grown.{made_grown, whole}
+use Rattle.cc_state_points.specs.CcStateKeys.Lists.{made_from}
+use Rattle.cc_state_points.proofs.CcStateKeys.Grown.{made_grown, whole}
 use Rattle.cc_slots.proofs.keys.put_members.Goals as goal
 
 pub loop-m-preserved : goal.loop-m-preserved

@@ -1,7 +1,7 @@
 use Rattle.std.proofs.Common.{◌≡◌, ◌++◌, take}
-use Rattle.cc_state_facts.specs.declared.facts.Key.TheVariants as key
+use Rattle.cc_state_points.specs.CcStateFacts.declared.facts.Key.TheVariants as key
 use Rattle.cc_slots.specs.Keys.{is_object_slot}
-use Rattle.cc_state_keys.specs.Lists.{made_from}
+use Rattle.cc_state_points.specs.CcStateKeys.Lists.{made_from}
 use Rattle.cc_slots.proofs.keys.put_objects.Given as goal
 
 abbrev pub invariant-loop-i : goal.invariant-loop-i

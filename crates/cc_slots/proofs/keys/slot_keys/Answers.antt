@@ -1,4 +1,4 @@
-use Rattle.cc_state_keys.proofs.Typed.{few-objects, few-structures, few-members}
+use Rattle.cc_state_points.proofs.CcStateKeys.Typed.{few-objects, few-structures, few-members}
 use Rattle.cc_slots.proofs.keys.slot_keys.Goals as goal
 
 pub put_objects-requires : goal.put_objects-requires

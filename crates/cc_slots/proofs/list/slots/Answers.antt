@@ -6,9 +6,9 @@ use Rattle.cc_slots.specs.Marks.{AreMarks}
 use Rattle.cc_slots.specs.Slots.{AreSlotsOf}
 use Rattle.cc_slots_points.specs.Lists.{AreLists}
 use Rattle.cc_slots_structures.specs.Standings.{AreStandings}
-use Rattle.cc_state_facts.specs.declared.facts.Key.{Key}
-use Rattle.cc_state_keys.specs.Addressed.{taken_keys}
-use Rattle.cc_syntax.proofs.NameRules.{sound-typed}
+use Rattle.cc_state_points.specs.CcStateFacts.declared.facts.Key.{Key}
+use Rattle.cc_state_points.specs.CcStateKeys.Addressed.{taken_keys}
+use Rattle.cc_state_points.proofs.CcSyntax.NameRules.{sound-typed}
 use Rattle.cc_slots.proofs.list.slots.Goals as goal
 
 pub accesses-requires-clause-shape : goal.accesses-requires-clause-shape

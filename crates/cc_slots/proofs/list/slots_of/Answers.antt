@@ -5,8 +5,8 @@ use Rattle.cc_slots.specs.Domain.{vals_domain}
 use Rattle.cc_slots.specs.Slots.{AreSlotsOf}
 use Rattle.cc_slots.proofs.SlotLemmas.{no_slots, one_slot}
 use Rattle.cc_slots_accesses.proofs.PutAll.{next_of}
-use Rattle.cc_state_facts.specs.declared.facts.Key.{Key}
-use Rattle.cc_state_facts.specs.declared.facts.Key.TheVariants as key
+use Rattle.cc_state_points.specs.CcStateFacts.declared.facts.Key.{Key}
+use Rattle.cc_state_points.specs.CcStateFacts.declared.facts.Key.TheVariants as key
 use Rattle.cc_slots.proofs.list.slots_of.Goals as goal
 
 pub slot_of-requires-clause-slot : goal.slot_of-requires-clause-slot

@@ -1,9 +1,9 @@
 use Rattle.std.proofs.Common.{ap, sym, ◌∙◌, ◌++◌, ◌∷◌, [], List}
 use Rattle.cc_slots_accesses.proofs.NamedLemmas.{own_keys, pointed_keys}
-use Rattle.cc_state_facts.specs.declared.facts.Key.{Key}
-use Rattle.cc_state_operators.specs.Domains.{domain}
-use Rattle.cc_state_values.specs.Contexts.{set_in}
-use Rattle.cc_state_values.proofs.Same.{order_of, same_value}
+use Rattle.cc_rules_flows.specs.CcStateFacts.declared.facts.Key.{Key}
+use Rattle.cc_rules_flows.specs.CcStateOperators.Domains.{domain}
+use Rattle.cc_rules_flows.specs.CcStateValues.Contexts.{set_in}
+use Rattle.cc_rules_flows.proofs.CcStateValues.Same.{order_of, same_value}
 use Rattle.cc_slots_accesses.proofs.named.keys_at.Goals as goal
 
 pub returns-in_ok-push-in-Some : goal.returns-in_ok-push-in-Some

@@ -6,12 +6,12 @@ use Rattle.cc_program.specs.declared.expr.Place.TheVariants.{outs-Element}
 use Rattle.cc_slots_accesses.proofs.OutsideLemmas.{outside_is}
 use Rattle.cc_slots_accesses.specs.Arrays.{array_length}
 use Rattle.cc_state_keys.specs.Addressed.{in_place}
-use Rattle.cc_state_operators.specs.Domains.{domain}
-use Rattle.cc_state_values.specs.Contexts.{set_in}
-use Rattle.cc_state_values.specs.Typed.{IsPure}
-use Rattle.cc_state_values.specs.Values.{IsVal}
-use Rattle.cc_state_values.proofs.Parts.{element_parts}
-use Rattle.cc_state_values.proofs.Same.{order_of, same_value}
+use Rattle.cc_rules_flows.specs.CcStateOperators.Domains.{domain}
+use Rattle.cc_rules_flows.specs.CcStateValues.Contexts.{set_in}
+use Rattle.cc_rules_flows.specs.CcStateValues.Typed.{IsPure}
+use Rattle.cc_rules_flows.specs.CcStateValues.Values.{IsVal}
+use Rattle.cc_rules_flows.proofs.CcStateValues.Parts.{element_parts}
+use Rattle.cc_rules_flows.proofs.CcStateValues.Same.{order_of, same_value}
 use Rattle.cc_slots_accesses.proofs.places.may_be_outside.Goals as goal
 
 pub value_of-requires-clause-pure : goal.value_of-requires-clause-pure

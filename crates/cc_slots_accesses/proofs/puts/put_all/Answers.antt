@@ -1,8 +1,8 @@
 use Rattle.std.proofs.Common.{arith, length, get_or, take, take_all, ap, subst, ◌∙◌, List}
 use Rattle.std.proofs.lemmas.List.{get_or_default}
 use Rattle.cc_slots_accesses.proofs.PutAll.{ArePut, all_put, by_number, next_of, none_put}
-use Rattle.cc_state_facts.specs.declared.facts.Key.{Key}
-use Rattle.cc_state_facts.specs.declared.facts.Key.TheVariants as key
+use Rattle.cc_rules_flows.specs.CcStateFacts.declared.facts.Key.{Key}
+use Rattle.cc_rules_flows.specs.CcStateFacts.declared.facts.Key.TheVariants as key
 use Rattle.cc_slots_accesses.proofs.puts.put_all.Goals as goal
 
 pub loop-key-init : goal.loop-key-init

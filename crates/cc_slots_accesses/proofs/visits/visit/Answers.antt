@@ -1,8 +1,8 @@
 use Rattle.std.proofs.Common.{subst, List, Bool}
 use Rattle.cc_slots_accesses.specs.Named.{AreKeysIn}
 use Rattle.cc_slots_accesses.specs.Puts.{IsPut}
-use Rattle.cc_state_facts.specs.declared.facts.Key.{Key}
-use Rattle.cc_state_operators.specs.Domains.{domain}
+use Rattle.cc_rules_flows.specs.CcStateFacts.declared.facts.Key.{Key}
+use Rattle.cc_rules_flows.specs.CcStateOperators.Domains.{domain}
 use Rattle.cc_slots_accesses.proofs.visits.visit.Goals as goal
 
 pub returns : goal.returns

@@ -1,7 +1,7 @@
 -- The sets are those of the registers, where anything is known.
 use Rattle.std.proofs.Common.{refl, ◌∙◌}
-use Rattle.cc_state.proofs.Sets.{known, sets_there}
-use Rattle.cc_state_facts.specs.Facts.{fact_at}
+use Rattle.cc_state_points.proofs.CcState.Sets.{known, sets_there}
+use Rattle.cc_state_points.specs.CcStateFacts.Facts.{fact_at}
 use Rattle.cc_slots_points.proofs.contexts.context_of.Goals as goal
 
 pub returns : goal.returns

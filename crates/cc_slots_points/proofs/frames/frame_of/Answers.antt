@@ -1,5 +1,5 @@
 use Rattle.std.proofs.Common.{◌∙◌, sym, subst, List, Bool}
-use Rattle.cc_registers.specs.Kept.{AreKept}
+use Rattle.cc_state_points.specs.CcRegisters.Kept.{AreKept}
 use Rattle.cc_slots_points.proofs.frames.frame_of.Goals as goal
 
 pub returns : goal.returns

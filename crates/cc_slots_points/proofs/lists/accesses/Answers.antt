@@ -7,8 +7,8 @@ use Rattle.cc_slots_accesses.specs.Puts.{of_number}
 use Rattle.cc_slots_points.specs.Frames.{AreFrames, HaveFewLocals}
 use Rattle.cc_slots_points.specs.Lists.{AreLists}
 use Rattle.cc_slots_points.proofs.Steps.{first_lists}
-use Rattle.cc_state.proofs.Sets.{function_few}
-use Rattle.cc_state_operators.specs.Domains.{domain}
+use Rattle.cc_state_points.proofs.CcState.Sets.{function_few}
+use Rattle.cc_state_points.specs.CcStateOperators.Domains.{domain}
 use Rattle.cc_slots_points.proofs.lists.accesses.Goals as goal
 
 pub frames-requires : goal.frames-requires

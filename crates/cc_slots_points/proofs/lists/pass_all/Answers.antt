@@ -1,10 +1,10 @@
 -- The points are few, and each is passed.
 use Rattle.std.proofs.Common.{arith, ◌≡◌, ap, sym, ◌∙◌, length}
-use Rattle.cc_flow.specs.declared.types.Flow.{Flow}
-use Rattle.cc_flow.specs.Points.{flow_of}
-use Rattle.cc_flow.proofs.Paths.{all_counted}
+use Rattle.cc_state_points.specs.CcFlow.declared.types.Flow.{Flow}
+use Rattle.cc_state_points.specs.CcFlow.Points.{flow_of}
+use Rattle.cc_state_points.proofs.CcFlow.Paths.{all_counted}
 use Rattle.cc_slots_points.proofs.Steps.{all_lists, next_lists}
-use Rattle.cc_state_operators.specs.Domains.{domain}
+use Rattle.cc_state_points.specs.CcStateOperators.Domains.{domain}
 use Rattle.cc_slots_points.proofs.lists.pass_all.Goals as goal
 
 pub overflow_cast-point : goal.overflow_cast-point

@@ -1,5 +1,5 @@
 use Rattle.cc_slots_points.specs.Lists.{AreListsBelow}
-use Rattle.cc_state_operators.specs.Domains.{domain}
+use Rattle.cc_state_points.specs.CcStateOperators.Domains.{domain}
 use Rattle.cc_slots_points.proofs.lists.pass_all.Given as goal
 
 abbrev pub invariant-loop-point : goal.invariant-loop-point

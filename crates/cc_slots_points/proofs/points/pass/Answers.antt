@@ -1,7 +1,7 @@
 -- Where no point or no function is nothing is accessed.
 use Rattle.std.proofs.Common.{◌≡◌, Some, refl, ap, sym, ◌∙◌, slice_get}
-use Rattle.cc_flow.specs.declared.types.Flow.{Flow}
-use Rattle.cc_flow.specs.Points.{flow_of}
+use Rattle.cc_state_points.specs.CcFlow.declared.types.Flow.{Flow}
+use Rattle.cc_state_points.specs.CcFlow.Points.{flow_of}
 use Rattle.cc_slots_points.specs.Points.{Quiet}
 use Rattle.cc_slots_points.proofs.Acting.{no_function, no_point}
 use Rattle.cc_slots_points.proofs.points.pass.Goals as goal

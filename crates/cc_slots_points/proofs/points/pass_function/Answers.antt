@@ -1,7 +1,7 @@
 -- Where no statement stands nothing is accessed.
 use Rattle.std.proofs.Common.{◌≡◌, None, refl, ap, sym, ◌∙◌}
-use Rattle.cc_flow_sound.specs.Statements.{statement_at}
-use Rattle.cc_rules_flows.specs.Nexts.{statement_of}
+use Rattle.cc_state_points.specs.CcFlowSound.Statements.{statement_at}
+use Rattle.cc_state_points.specs.CcRulesFlows.Nexts.{statement_of}
 use Rattle.cc_slots_points.specs.Points.{Quiet}
 use Rattle.cc_slots_points.proofs.Acting.{no_statement}
 use Rattle.cc_slots_points.proofs.FrameLemmas.{there_is}

@@ -4,17 +4,17 @@ use Rattle.std.specs.Prelude.{is_some}
 use Rattle.std.specs.Option.{option_copied}
 use Rattle.cc_program.specs.declared.func.Func.{Func}
 use Rattle.cc_program.specs.declared.program.Program.{Program}
-use Rattle.cc_registers.specs.Kept.{AreKept}
-use Rattle.cc_rules_flows.specs.Acts.{act_of}
+use Rattle.cc_state_points.specs.CcRegisters.Kept.{AreKept}
+use Rattle.cc_state_points.specs.CcRulesFlows.Acts.{act_of}
 use Rattle.cc_slots_points.specs.Points.{HasPurePlace, IsDone}
 use Rattle.cc_slots_points.proofs.Acting.{is_passed}
 use Rattle.cc_slots_points.proofs.Tests.{on_ok}
 use Rattle.cc_slots_points.proofs.ContextLemmas.{have_sets, of_operands, to_context}
-use Rattle.cc_state.proofs.Sets.{normal_sized}
-use Rattle.cc_state_facts.specs.declared.facts.PointFact.{PointFact}
-use Rattle.cc_state_keys.specs.Keys.{keys_of}
-use Rattle.cc_state_operators.specs.Domains.{domain}
-use Rattle.cc_syntax.specs.Sizes.{AreSized}
+use Rattle.cc_state_points.proofs.CcState.Sets.{normal_sized}
+use Rattle.cc_state_points.specs.CcStateFacts.declared.facts.PointFact.{PointFact}
+use Rattle.cc_state_points.specs.CcStateKeys.Keys.{keys_of}
+use Rattle.cc_state_points.specs.CcStateOperators.Domains.{domain}
+use Rattle.cc_state_points.specs.CcSyntax.Sizes.{AreSized}
 use Rattle.cc_slots_points.proofs.points.pass_in.Goals as goal
 
 pub pass_statement-passed-requires-clause-sized : goal.pass_statement-passed-requires-clause-sized

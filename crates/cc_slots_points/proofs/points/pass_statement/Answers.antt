@@ -1,9 +1,9 @@
 use Rattle.std.proofs.Common.{sym, subst}
 use Rattle.std.specs.Prelude.{OnOk}
 use Rattle.std.specs.Option.{option_copied}
-use Rattle.cc_rules_flows.specs.Acts.{Act}
+use Rattle.cc_state_points.specs.CcRulesFlows.Acts.{Act}
 use Rattle.cc_slots_points.specs.Points.{HasPurePlace, IsDone}
-use Rattle.cc_state_operators.specs.Domains.{domain}
+use Rattle.cc_state_points.specs.CcStateOperators.Domains.{domain}
 use Rattle.cc_slots_points.proofs.points.pass_statement.Goals as goal
 
 pub pass_act-requires-clause-pure : goal.pass_act-requires-clause-pure

@@ -3,13 +3,13 @@ use Rattle.std.specs.Option.{option_copied}
 use Rattle.cc_program.specs.declared.types.CType.{CType}
 use Rattle.cc_program.specs.declared.types.Structure.{Structure}
 use Rattle.cc_program.specs.declared.value.Leaf.{Leaf}
-use Rattle.cc_syntax.specs.Types.{is_complete}
-use Rattle.cc_syntax.specs.Values.{pointer_to}
+use Rattle.cc_typed.specs.CcSyntax.Types.{is_complete}
+use Rattle.cc_typed.specs.CcSyntax.Values.{pointer_to}
 use Rattle.cc_typed.specs.View.{value_view}
-use Rattle.cc_syntax.proofs.Parts.{all_at}
-use Rattle.cc_syntax.proofs.Measure.{arrays, in_members, arrays-Array, member_below, structure_below}
-use Rattle.cc_syntax.proofs.Prefixes.{take_length}
-use Rattle.cc_syntax.proofs.Shapes.{read_at}
+use Rattle.cc_typed.proofs.CcSyntax.Parts.{all_at}
+use Rattle.cc_typed.proofs.CcSyntax.Measure.{arrays, in_members, arrays-Array, member_below, structure_below}
+use Rattle.cc_typed.proofs.CcSyntax.Prefixes.{take_length}
+use Rattle.cc_typed.proofs.CcSyntax.Shapes.{read_at}
 use Rattle.cc_sound.proofs.DropLemmas.{dropped, drop_past}
 use Rattle.cc_sound.proofs.LeafLemmas.{Found, SameElements, SameMembers, found_integer, found_pointer, found_array, found_structure, element_more, elements_all, member_more, members_all}
 use Rattle.cc_sound.proofs.LeafSteps.{element_ready, struct_found, got_of_all, front_before, members_ready}

@@ -1,5 +1,5 @@
 use Rattle.std.proofs.Common.{◌+◌, ◌*◌, drop}
-use Rattle.cc_syntax.proofs.Measure.{arrays, in_members, in_structures}
+use Rattle.cc_typed.proofs.CcSyntax.Measure.{arrays, in_members, in_structures}
 use Rattle.cc_sound.proofs.LeafLemmas.{SameElements, SameMembers}
 use Rattle.cc_sound.proofs.initial.+leaves.Given as goal
 

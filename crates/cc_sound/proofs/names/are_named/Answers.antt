@@ -2,8 +2,8 @@ use Rattle.std.proofs.Common.{rules, tests, ◌≡◌, ◌∙◌}
 use Rattle.std.proofs.lemmas.Iterator.{YieldsList-from_slice}
 use Rattle.std.proofs.lemmas.Iterator.Search.{all_from_yields_List}
 use Rattle.std.specs.List.{list_all}
-use Rattle.cc_words.specs.Names.{is_name}
-use Rattle.cc_syntax.specs.Types.{Named}
+use Rattle.cc_program.specs.CcWords.Names.{is_name}
+use Rattle.cc_typed.specs.CcSyntax.Types.{Named}
 use Rattle.cc_sound.proofs.NameLemmas.{all_locals}
 use Rattle.cc_sound.proofs.names.are_named.Goals as goal
 

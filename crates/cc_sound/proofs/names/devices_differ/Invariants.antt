@@ -1,6 +1,6 @@
 use Rattle.std.proofs.Common.{◌≡◌, ◌++◌, length, map}
-use Rattle.cc_words.specs.Names.{are_distinct}
-use Rattle.cc_syntax.specs.Names.{device_names, file_names, intrinsic_names}
+use Rattle.cc_program.specs.CcWords.Names.{are_distinct}
+use Rattle.cc_typed.specs.CcSyntax.Names.{device_names, file_names, intrinsic_names}
 use Rattle.cc_sound.proofs.names.devices_differ.Given as goal
 
 abbrev pub invariant-loop-left : goal.invariant-loop-left

@@ -1,6 +1,6 @@
 use Rattle.std.proofs.Common.{◌≡◌, length}
-use Rattle.cc_words.specs.Names.{are_distinct}
-use Rattle.cc_syntax.specs.Names.{local_names}
+use Rattle.cc_program.specs.CcWords.Names.{are_distinct}
+use Rattle.cc_typed.specs.CcSyntax.Names.{local_names}
 use Rattle.cc_sound.proofs.names.members_differ.Given as goal
 
 abbrev pub invariant-loop-left : goal.invariant-loop-left

@@ -1,5 +1,5 @@
 use Rattle.std.proofs.Common.{◌≡◌, length, map}
-use Rattle.cc_words.specs.Names.{are_distinct}
+use Rattle.cc_program.specs.CcWords.Names.{are_distinct}
 use Rattle.cc_sound.proofs.names.tags_differ.Given as goal
 
 abbrev pub invariant-loop-left : goal.invariant-loop-left

@@ -1,5 +1,5 @@
 use Rattle.std.proofs.Common.{rules}
-use Rattle.cc_syntax.specs.Programs.{IsInitial}
+use Rattle.cc_typed.specs.CcSyntax.Programs.{IsInitial}
 use Rattle.cc_sound.proofs.Decisions.{object_ready, initial_more, initial_all}
 use Rattle.cc_sound.proofs.program.are_initial.Goals as goal
 

@@ -1,6 +1,6 @@
 use Rattle.std.proofs.Common.{take}
 use Rattle.std.specs.List.{All}
-use Rattle.cc_syntax.specs.Programs.{IsInitial}
+use Rattle.cc_typed.specs.CcSyntax.Programs.{IsInitial}
 use Rattle.cc_sound.proofs.program.are_initial.Given as goal
 
 abbrev pub invariant-loop-object : goal.invariant-loop-object

@@ -1,5 +1,5 @@
 use Rattle.std.proofs.Common.{◌≡◌, length}
-use Rattle.cc_syntax.specs.Sound.{are_parameters as are_parameters_of}
+use Rattle.cc_typed.specs.CcSyntax.Sound.{are_parameters as are_parameters_of}
 use Rattle.cc_sound.proofs.program.are_parameters.Given as goal
 
 abbrev pub invariant-loop-left : goal.invariant-loop-left

@@ -1,6 +1,6 @@
 use Rattle.std.proofs.Common.{rules, ◌≡◌, ◌∙◌, ◌+◌, ◌&&◌, true, ap, sym, length, take, drop}
-use Rattle.cc_syntax.specs.Sound.{is_structure, are_structures as are_structures_of}
-use Rattle.cc_syntax.proofs.StructureLemmas.{sized_more, structures_from}
+use Rattle.cc_typed.specs.CcSyntax.Sound.{is_structure, are_structures as are_structures_of}
+use Rattle.cc_typed.proofs.CcSyntax.StructureLemmas.{sized_more, structures_from}
 use Rattle.cc_sound.proofs.program.are_structures.Goals as goal
 
 pub loop-i-preserved : goal.loop-i-preserved

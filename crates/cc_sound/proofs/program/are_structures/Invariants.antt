@@ -1,6 +1,6 @@
 use Rattle.std.proofs.Common.{◌≡◌, [], length, take, drop}
-use Rattle.cc_syntax.specs.Sizes.{AreSized}
-use Rattle.cc_syntax.specs.Sound.{are_structures as are_structures_of}
+use Rattle.cc_typed.specs.CcSyntax.Sizes.{AreSized}
+use Rattle.cc_typed.specs.CcSyntax.Sound.{are_structures as are_structures_of}
 use Rattle.cc_sound.proofs.program.are_structures.Given as goal
 
 abbrev pub invariant-loop-i : goal.invariant-loop-i

@@ -1,5 +1,5 @@
 use Rattle.std.proofs.Common.{◌≡◌, length}
-use Rattle.cc_syntax.specs.Sound.{devices_differ as devices_differ_of}
+use Rattle.cc_typed.specs.CcSyntax.Sound.{devices_differ as devices_differ_of}
 use Rattle.cc_sound.proofs.program.devices_differ.Given as goal
 
 abbrev pub invariant-loop-left : goal.invariant-loop-left

@@ -1,6 +1,6 @@
 use Rattle.std.proofs.Common.{◌≡◌, length}
-use Rattle.cc_syntax.specs.Lists.{come_first}
-use Rattle.cc_syntax.specs.Sound.{is_only_named}
+use Rattle.cc_typed.specs.CcSyntax.Lists.{come_first}
+use Rattle.cc_typed.specs.CcSyntax.Sound.{is_only_named}
 use Rattle.cc_sound.proofs.program.named_first.Given as goal
 
 abbrev pub invariant-loop-left : goal.invariant-loop-left

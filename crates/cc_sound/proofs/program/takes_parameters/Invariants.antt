@@ -1,7 +1,7 @@
 use Rattle.std.proofs.Common.{◌≡◌, take, true}
 use Rattle.std.specs.List.{list_all}
-use Rattle.cc_syntax.specs.Kinds.{is_plain_scalar}
-use Rattle.cc_syntax.specs.Programs.{kind_in}
+use Rattle.cc_typed.specs.CcSyntax.Kinds.{is_plain_scalar}
+use Rattle.cc_typed.specs.CcSyntax.Programs.{kind_in}
 use Rattle.cc_sound.proofs.program.takes_parameters.Given as goal
 
 abbrev pub invariant-loop-t : goal.invariant-loop-t

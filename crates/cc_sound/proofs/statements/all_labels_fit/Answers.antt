@@ -3,7 +3,7 @@ use Rattle.std.proofs.lemmas.Iterator.{YieldsList-from_slice}
 use Rattle.std.proofs.lemmas.Iterator.Search.{all_from_yields_List}
 use Rattle.std.specs.List.{list_all}
 use Rattle.cc_program.specs.declared.stmt.Case.{Case, out-Case}
-use Rattle.cc_syntax.specs.Statements.{label_fits}
+use Rattle.cc_typed.specs.CcSyntax.Statements.{label_fits}
 use Rattle.cc_sound.proofs.LabelLemmas.{all_labels}
 use Rattle.cc_sound.proofs.statements.all_labels_fit.Goals as goal
 

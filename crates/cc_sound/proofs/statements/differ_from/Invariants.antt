@@ -1,5 +1,5 @@
 use Rattle.std.proofs.Common.{◌≡◌, length}
-use Rattle.cc_syntax.specs.Statements.{labels_of}
+use Rattle.cc_typed.specs.CcSyntax.Statements.{labels_of}
 use Rattle.cc_sound.specs.Cases.{apart_from}
 use Rattle.cc_sound.proofs.statements.differ_from.Given as goal
 

@@ -3,7 +3,7 @@ use Rattle.std.proofs.lemmas.Iterator.{YieldsList-from_slice}
 use Rattle.std.proofs.lemmas.Iterator.Search.{any_from_yields_List}
 use Rattle.std.specs.List.{list_any}
 use Rattle.cc_program.specs.declared.stmt.Case.{Case, out-Case}
-use Rattle.cc_syntax.specs.Statements.{same_label}
+use Rattle.cc_typed.specs.CcSyntax.Statements.{same_label}
 use Rattle.cc_sound.proofs.LabelLemmas.{any_labels}
 use Rattle.cc_sound.proofs.statements.is_among_cases.Goals as goal
 

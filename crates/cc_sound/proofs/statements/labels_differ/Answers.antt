@@ -1,7 +1,7 @@
 use Rattle.std.proofs.Common.{arith, rules, ◌≡◌, ◌∙◌, ◌+◌, ◌-◌, true, false, length, length-drop, take, take_all, drop, sym}
 use Rattle.cc_program.specs.declared.stmt.Case.{out-Case}
-use Rattle.cc_syntax.specs.Statements.{labels_of}
-use Rattle.cc_syntax.proofs.Shapes.{read_at}
+use Rattle.cc_typed.specs.CcSyntax.Statements.{labels_of}
+use Rattle.cc_typed.proofs.CcSyntax.Shapes.{read_at}
 use Rattle.cc_sound.specs.Cases.{apart_from}
 use Rattle.cc_sound.proofs.LabelLemmas.{first_fails, first_differs, none_left}
 use Rattle.cc_sound.proofs.statements.labels_differ.Goals as goal

@@ -1,5 +1,5 @@
 use Rattle.std.proofs.Common.{◌≡◌, drop}
-use Rattle.cc_syntax.specs.Statements.{are_apart, labels_of}
+use Rattle.cc_typed.specs.CcSyntax.Statements.{are_apart, labels_of}
 use Rattle.cc_sound.proofs.statements.labels_differ.Given as goal
 
 abbrev pub invariant-loop-i : goal.invariant-loop-i

@@ -1,4 +1,4 @@
-use Rattle.cc_specifiers.specs.declared.storage.Where.TheVariants as place
+use Rattle.cc_typed_bodies.specs.CcSpecifiers.declared.storage.Where.TheVariants as place
 use Rattle.cc_sound_declarations.proofs.Declarations.{declaration_reaches}
 use Rattle.cc_sound_declarations.proofs.assignment_law.assignment_laws.Goals as goal
 use Rattle.cc_sound_declarations.proofs.Storage.{Block, For}

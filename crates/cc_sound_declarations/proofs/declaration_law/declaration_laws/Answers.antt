@@ -1,4 +1,4 @@
-use Rattle.cc_specifiers.specs.declared.storage.Where.TheVariants as place
+use Rattle.cc_typed_bodies.specs.CcSpecifiers.declared.storage.Where.TheVariants as place
 use Rattle.cc_sound_declarations.proofs.Blocks.{declaration_leaves}
 use Rattle.cc_sound_declarations.proofs.Storage.{Block, For}
 use Rattle.cc_sound_declarations.proofs.declaration_law.declaration_laws.Goals as goal

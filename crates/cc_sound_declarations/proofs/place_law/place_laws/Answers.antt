@@ -1,5 +1,5 @@
 use Rattle.cc_sound_declarations.proofs.Places.{scalars_placed}
-use Rattle.cc_scopes.specs.State.{structures_of}
+use Rattle.cc_typed_bodies.specs.CcScopes.State.{structures_of}
 use Rattle.cc_sound_terms.proofs.Known.{within_known}
 use Rattle.cc_sound_declarations.proofs.place_law.place_laws.Goals as goal
 

@@ -2,8 +2,8 @@
 use Rattle.std.proofs.Common.{refl, sym, ap, ◌∙◌, slice_get}
 use Rattle.std.specs.Option.{option_copied}
 use Rattle.std.proofs.lemmas.Option.{same_Some}
-use Rattle.cc_flow.specs.declared.types.Flow.{Flow}
-use Rattle.cc_flow.specs.declared.types.Point.{Point}
+use Rattle.cc_flow_sound.specs.CcFlow.declared.types.Flow.{Flow}
+use Rattle.cc_flow_sound.specs.CcFlow.declared.types.Point.{Point}
 use Rattle.cc_state.proofs.Sets.{sets_there}
 use Rattle.cc_state.proofs.points.context_at.Goals as goal
 

@@ -1,8 +1,8 @@
 -- What is known of the point, and of the context.
 use Rattle.std.proofs.Common.{ap, sym, ◌∙◌}
 use Rattle.std.proofs.lemmas.Result.{IfOk-weaker}
-use Rattle.cc_state_keys.specs.Keys.{keys_of}
-use Rattle.cc_state_operators.specs.Domains.{domain}
+use Rattle.cc_state_reads.specs.CcStateKeys.Keys.{keys_of}
+use Rattle.cc_state_reads.specs.CcStateOperators.Domains.{domain}
 use Rattle.cc_state_reads.specs.Reads.{AreNamed}
 use Rattle.cc_state.proofs.Contexts.{from_context, context_sized, context_sets, context_place}
 use Rattle.cc_state.proofs.points.keys_by.Goals as goal

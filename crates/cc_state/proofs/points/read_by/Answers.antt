@@ -1,9 +1,9 @@
 -- What is known of the point, and of the context.
 use Rattle.std.proofs.Common.{ℕ, List, ◌<◌, length, ap, sym, ◌∙◌, subst}
 use Rattle.std.proofs.lemmas.Result.{IfOk-weaker}
-use Rattle.cc_state_keys.specs.Keys.{keys_of}
-use Rattle.cc_state_keys.specs.Tracked.{tracked}
-use Rattle.cc_state_operators.specs.Domains.{domain}
+use Rattle.cc_state_reads.specs.CcStateKeys.Keys.{keys_of}
+use Rattle.cc_state_reads.specs.CcStateKeys.Tracked.{tracked}
+use Rattle.cc_state_reads.specs.CcStateOperators.Domains.{domain}
 use Rattle.cc_state_reads.specs.Reads.{IsRead}
 use Rattle.cc_state.proofs.Contexts.{from_context, context_sized, context_sets, context_kinds, read_place, context_scalar}
 use Rattle.cc_state.proofs.points.read_by.Goals as goal

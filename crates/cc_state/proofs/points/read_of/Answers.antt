@@ -1,10 +1,10 @@
 -- Normal form and shape give what is asked for.
 use Rattle.std.proofs.Common.{◌∙◌}
-use Rattle.cc_state_operators.specs.Domains.{domain}
+use Rattle.cc_state_reads.specs.CcStateOperators.Domains.{domain}
 use Rattle.cc_state.proofs.KeyKinds.{kinds_at}
 use Rattle.cc_state.proofs.Sets.{sets_at, cells_of_point, normal_sized, few_locals}
 use Rattle.cc_state.proofs.points.read_of.Goals as goal
-use Rattle.cc_syntax.proofs.NameRules.{sound-typed}
+use Rattle.cc_state_reads.proofs.CcSyntax.NameRules.{sound-typed}
 
 pub tracked-requires : goal.tracked-requires
 tracked-requires g c = sound-typed c.args.p.now c.requires.normal.sound

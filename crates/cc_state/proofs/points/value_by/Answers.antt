@@ -1,7 +1,7 @@
 -- What is known of the point, and of the context.
 use Rattle.std.proofs.lemmas.Result.{IfOk-weaker}
-use Rattle.cc_state_operators.specs.Domains.{domain}
-use Rattle.cc_state_values.specs.Values.{IsVal}
+use Rattle.cc_state_reads.specs.CcStateOperators.Domains.{domain}
+use Rattle.cc_state_reads.specs.CcStateValues.Values.{IsVal}
 use Rattle.cc_state.proofs.Contexts.{from_context, context_sized, context_sets, context_pure}
 use Rattle.cc_state.proofs.points.value_by.Goals as goal
 

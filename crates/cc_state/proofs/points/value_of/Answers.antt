@@ -1,5 +1,5 @@
 -- Normal form and shape give what is asked for.
-use Rattle.cc_state_operators.specs.Domains.{domain}
+use Rattle.cc_state_reads.specs.CcStateOperators.Domains.{domain}
 use Rattle.cc_state.proofs.Sets.{sets_at, normal_sized, few_locals}
 use Rattle.cc_state.proofs.points.value_of.Goals as goal
 

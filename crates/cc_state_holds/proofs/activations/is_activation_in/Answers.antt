@@ -4,7 +4,7 @@ use Rattle.std.proofs.lemmas.Result.{IfOk-weaker}
 use Rattle.cc_program.specs.declared.func.Func.{Func}
 use Rattle.cc_state_holds.proofs.Activity.{other_reach, other_level, other_function, by_body}
 use Rattle.cc_state_holds.proofs.activations.is_activation_in.Goals as goal
-use Rattle.cc_state_operators.specs.Domains.{domain}
+use Rattle.cc_state_reads.specs.CcStateOperators.Domains.{domain}
 use Rattle.cc_steps.specs.View.{active_of, actives_of}
 
 pub is_body_in-requires-clause-basis : goal.is_body_in-requires-clause-basis

@@ -9,9 +9,9 @@ use Rattle.cc_proof_covers.specs.Covers.{StandsAtPoint}
 use Rattle.cc_state.proofs.Sets.{normal_sized, function_few}
 use Rattle.cc_state_holds.proofs.Activity.{other_locals, by_points}
 use Rattle.cc_state_holds.proofs.activations.is_body_in.Goals as goal
-use Rattle.cc_state_operators.specs.Domains.{domain}
+use Rattle.cc_state_reads.specs.CcStateOperators.Domains.{domain}
 use Rattle.cc_steps.specs.View.{active_of}
-use Rattle.cc_syntax.proofs.NameRules.{sound-typed}
+use Rattle.cc_state_reads.proofs.CcSyntax.NameRules.{sound-typed}
 
 pub registers-requires : goal.registers-requires
 registers-requires g c = function_few c.args.b.now.program.now c.requires.basis.normal c.args.a.now.func c.args.f.now c.requires.there

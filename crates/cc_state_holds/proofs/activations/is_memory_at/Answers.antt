@@ -4,7 +4,7 @@ use Rattle.std.specs.Option.{option_copied}
 use Rattle.std.specs.Prelude.{◌↔◌, IsTrue}
 use Rattle.cc_state_holds.proofs.activations.is_memory_at.Goals as goal
 use Rattle.cc_state_holds.specs.Parts.{IsMemoryAt}
-use Rattle.cc_state_operators.specs.Domains.{domain}
+use Rattle.cc_state_reads.specs.CcStateOperators.Domains.{domain}
 use Rattle.cc_steps.specs.View.{active_of}
 
 pub is_memory_in-requires-clause-basis : goal.is_memory_in-requires-clause-basis

@@ -7,7 +7,7 @@ use Rattle.cc_proof_covers.specs.Pending.{value_in}
 use Rattle.cc_state_holds.proofs.Right.{other_flag, other_cells, by_pairs}
 use Rattle.cc_state_holds.proofs.activations.is_memory_in.Goals as goal
 use Rattle.cc_state_holds.specs.Parts.{ArePairsHeld}
-use Rattle.cc_state_operators.specs.Domains.{domain}
+use Rattle.cc_state_reads.specs.CcStateOperators.Domains.{domain}
 use Rattle.cc_steps.specs.View.{active_of}
 
 pub are_cells_held-requires : goal.are_cells_held-requires

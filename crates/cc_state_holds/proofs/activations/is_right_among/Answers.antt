@@ -7,7 +7,7 @@ use Rattle.cc_state_holds.proofs.Activity.{none_right}
 use Rattle.cc_state_holds.proofs.Eaches.{each_more, each_all}
 use Rattle.cc_state_holds.proofs.activations.is_right_among.Goals as goal
 use Rattle.cc_state_holds.specs.Parts.{IsRight}
-use Rattle.cc_state_operators.specs.Domains.{domain}
+use Rattle.cc_state_reads.specs.CcStateOperators.Domains.{domain}
 use Rattle.cc_steps.specs.View.{active_of}
 
 pub is_right_in-requires-clause-basis : goal.is_right_in-requires-clause-basis

@@ -4,8 +4,8 @@ use Rattle.cc_cells.specs.Cells.{cells_of}
 use Rattle.cc_program.specs.declared.func.Func.{Func}
 use Rattle.cc_state_holds.proofs.Eaches.{EachTo}
 use Rattle.cc_state_holds.specs.Parts.{IsRight}
-use Rattle.cc_state_keys.specs.Tracked.{registers}
-use Rattle.cc_state_operators.specs.Domains.{domain}
+use Rattle.cc_state_reads.specs.CcStateKeys.Tracked.{registers}
+use Rattle.cc_state_reads.specs.CcStateOperators.Domains.{domain}
 use Rattle.cc_steps.specs.State.{Memory}
 use Rattle.cc_steps.specs.View.{active_of}
 use Rattle.cc_state_holds.proofs.activations.is_right_among.Given as goal

@@ -4,7 +4,7 @@ use Rattle.std.specs.Option.{option_copied}
 use Rattle.std.proofs.lemmas.Result.{IfOk-weaker}
 use Rattle.cc_state_holds.proofs.Right.{other_registers, other_memory, by_reads, reads_none, reads_some}
 use Rattle.cc_state_holds.proofs.activations.is_right_at.Goals as goal
-use Rattle.cc_state_operators.specs.Domains.{domain}
+use Rattle.cc_state_reads.specs.CcStateOperators.Domains.{domain}
 use Rattle.cc_steps.specs.View.{active_of}
 
 pub is_memory_at-requires-clause-basis : goal.is_memory_at-requires-clause-basis

@@ -3,7 +3,7 @@ use Rattle.std.proofs.Common.{◌∙◌}
 use Rattle.cc_state.proofs.Sets.{few_locals}
 use Rattle.cc_state_holds.proofs.Placed.{place_there, its_function}
 use Rattle.cc_state_holds.proofs.activations.is_right_by.Goals as goal
-use Rattle.cc_state_operators.specs.Domains.{domain}
+use Rattle.cc_state_reads.specs.CcStateOperators.Domains.{domain}
 
 pub func_at-func-requires-clause-flow : goal.func_at-func-requires-clause-flow
 func_at-func-requires-clause-flow g c = c.requires.basis.flow

@@ -3,7 +3,7 @@ use Rattle.std.proofs.Common.{◌-◌, length, take, sym, ◌∙◌, true≢fals
 use Rattle.std.proofs.lemmas.Result.{IfOk-weaker}
 use Rattle.cc_state_holds.proofs.Activity.{empty_stack, other_top, by_below}
 use Rattle.cc_state_holds.proofs.lies.+is_stack_in.Goals as goal
-use Rattle.cc_state_operators.specs.Domains.{domain}
+use Rattle.cc_state_reads.specs.CcStateOperators.Domains.{domain}
 use Rattle.cc_steps.specs.View.{active_of, actives_of}
 
 pub is_activation_in-requires : goal.is_activation_in-requires

@@ -8,15 +8,15 @@ use Rattle.cc_meaning.specs.View.{state_of}
 use Rattle.cc_program.specs.declared.value.Value.{Value}
 use Rattle.cc_proof_covers.specs.Covers.{AreStaticsIn}
 use Rattle.cc_state.specs.View.{view}
-use Rattle.cc_state_facts.specs.declared.facts.Key.{Key}
+use Rattle.cc_state_reads.specs.CcStateFacts.declared.facts.Key.{Key}
 use Rattle.cc_state_holds.proofs.Activity.{other_statics, by_stack}
 use Rattle.cc_state_holds.proofs.lies.holds.Goals as goal
 use Rattle.cc_state_holds.specs.Parts.{IsStackIn}
-use Rattle.cc_state_operators.specs.Domains.{domain}
+use Rattle.cc_state_reads.specs.CcStateOperators.Domains.{domain}
 use Rattle.cc_state_scalars.specs.Listed.{AreStaticKeys}
 use Rattle.cc_steps.specs.declared.activation.Activation.{Activation}
 use Rattle.cc_steps.specs.View.{actives_of}
-use Rattle.cc_syntax.proofs.NameRules.{sound-typed}
+use Rattle.cc_state_reads.proofs.CcSyntax.NameRules.{sound-typed}
 
 pub tracked-requires : goal.tracked-requires
 tracked-requires g c = sound-typed c.args.m.now.program.now c.requires.normal.sound

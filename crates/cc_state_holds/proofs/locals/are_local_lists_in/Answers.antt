@@ -6,12 +6,12 @@ use Rattle.std.specs.Prelude.{Option, Vec, option_map}
 use Rattle.std.specs.declared.alloc.Global.{Global}
 use Rattle.cc_cells.specs.Cells.{cells_of}
 use Rattle.cc_program.specs.declared.value.Value.{Value}
-use Rattle.cc_state_facts.specs.declared.facts.Key.{Key}
+use Rattle.cc_state_reads.specs.CcStateFacts.declared.facts.Key.{Key}
 use Rattle.cc_state_holds.proofs.Eaches.{each_more, each_all, at_place}
 use Rattle.cc_state_holds.proofs.Statics.{look_up}
 use Rattle.cc_state_holds.proofs.locals.are_local_lists_in.Goals as goal
 use Rattle.cc_state_holds.specs.Parts.{IsLocalIn}
-use Rattle.cc_state_operators.specs.Domains.{domain}
+use Rattle.cc_state_reads.specs.CcStateOperators.Domains.{domain}
 
 -- what the code finds is what the view has
 h_at : (locals : List (Vec (Option Value) Global)) (r : ℕ) (o : Option (Bor (Vec (Option Value) Global))) → option_copied o ≡ slice_get locals r → slice_get (cells_of locals) r ≡ option_map (λ v. v.items) (option_copied o)

@@ -1,11 +1,11 @@
 use Rattle.std.specs.Prelude.{◌≡◌, List, slice_get}
 use Rattle.cc_cells.specs.Cells.{cells_of}
 use Rattle.cc_program.specs.declared.func.Func.{Func}
-use Rattle.cc_state_facts.specs.declared.facts.Key.{Key}
+use Rattle.cc_state_reads.specs.CcStateFacts.declared.facts.Key.{Key}
 use Rattle.cc_state_holds.proofs.Eaches.{EachTo}
 use Rattle.cc_state_holds.specs.Parts.{IsLocalIn}
-use Rattle.cc_state_keys.specs.Tracked.{registers}
-use Rattle.cc_state_operators.specs.Domains.{domain}
+use Rattle.cc_state_reads.specs.CcStateKeys.Tracked.{registers}
+use Rattle.cc_state_reads.specs.CcStateOperators.Domains.{domain}
 use Rattle.cc_state_holds.proofs.locals.are_local_lists_in.Given as goal
 
 abbrev pub invariant-loop-r : goal.invariant-loop-r

@@ -4,11 +4,11 @@ use Rattle.std.specs.Prelude.{◌↔◌, IsTrue, Option, Vec}
 use Rattle.std.specs.declared.alloc.Global.{Global}
 use Rattle.cc_cells.specs.Cells.{cells_of}
 use Rattle.cc_program.specs.declared.value.Value.{Value}
-use Rattle.cc_state_facts.specs.declared.facts.Key.{Key}
+use Rattle.cc_state_reads.specs.CcStateFacts.declared.facts.Key.{Key}
 use Rattle.cc_state_holds.proofs.LocalKeys.{locals_by_keys}
 use Rattle.cc_state_holds.proofs.locals.are_locals_in.Goals as goal
 use Rattle.cc_state_holds.specs.Parts.{AreLocalListsIn}
-use Rattle.cc_state_operators.specs.Domains.{domain}
+use Rattle.cc_state_reads.specs.CcStateOperators.Domains.{domain}
 use Rattle.cc_state_scalars.proofs.Locals.{few_locals_of}
 use Rattle.cc_steps.specs.View.{active_of}
 

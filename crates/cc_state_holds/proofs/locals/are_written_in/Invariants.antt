@@ -1,8 +1,8 @@
 use Rattle.std.specs.Prelude.{slice_get}
-use Rattle.cc_state_facts.specs.declared.facts.Key.{Key}
+use Rattle.cc_state_reads.specs.CcStateFacts.declared.facts.Key.{Key}
 use Rattle.cc_state_holds.proofs.Eaches.{EachTo}
 use Rattle.cc_state_holds.specs.Parts.{good, IsScalarIn}
-use Rattle.cc_state_operators.specs.Domains.{domain}
+use Rattle.cc_state_reads.specs.CcStateOperators.Domains.{domain}
 use Rattle.cc_state_holds.proofs.locals.are_written_in.Given as goal
 
 abbrev pub invariant-loop-n : goal.invariant-loop-n

@@ -6,7 +6,7 @@ use Rattle.cc_program.specs.declared.value.Value.{Value}
 use Rattle.cc_state_holds.proofs.Held.{held_some, held_none}
 use Rattle.cc_state_holds.proofs.locals.is_local_in.Goals as goal
 use Rattle.cc_state_holds.specs.Parts.{AreWrittenIn}
-use Rattle.cc_state_operators.specs.Domains.{domain}
+use Rattle.cc_state_reads.specs.CcStateOperators.Domains.{domain}
 
 pub returns-then-is_register_among : goal.returns-then-is_register_among
 returns-then-is_register_among g c = λ f e. ((λ t no. absurd (true≢false (c.if-is_register_among.ensures f e ∙ no))), (λ h. refl))

@@ -5,7 +5,7 @@ use Rattle.cc_cells.specs.Cells.{cells_of, scalar_in}
 use Rattle.cc_state_holds.proofs.Eaches.{each_more, each_all}
 use Rattle.cc_state_holds.proofs.memory.are_cells_held.Goals as goal
 use Rattle.cc_state_holds.specs.Parts.{IsCellHeld}
-use Rattle.cc_state_operators.specs.Domains.{domain}
+use Rattle.cc_state_reads.specs.CcStateOperators.Domains.{domain}
 
 pub loop-i-init : goal.loop-i-init
 loop-i-init g c = λ n x l k. absurd (omega (arith, l))

@@ -2,7 +2,7 @@ use Rattle.std.specs.Prelude.{ℕ}
 use Rattle.cc_cells.specs.Cells.{cells_of, scalar_in}
 use Rattle.cc_state_holds.proofs.Eaches.{EachTo}
 use Rattle.cc_state_holds.specs.Parts.{IsCellHeld}
-use Rattle.cc_state_operators.specs.Domains.{domain}
+use Rattle.cc_state_reads.specs.CcStateOperators.Domains.{domain}
 use Rattle.cc_state_holds.proofs.memory.are_cells_held.Given as goal
 
 abbrev pub invariant-loop-i : goal.invariant-loop-i

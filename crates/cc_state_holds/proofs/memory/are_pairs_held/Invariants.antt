@@ -5,7 +5,7 @@ use Rattle.cc_program.specs.declared.func.Func.{Func}
 use Rattle.cc_proof_covers.specs.Pending.{value_in}
 use Rattle.cc_state_holds.proofs.Eaches.{EachTo}
 use Rattle.cc_state_holds.specs.Parts.{IsPairHeld}
-use Rattle.cc_state_keys.specs.Tracked.{registers}
+use Rattle.cc_state_reads.specs.CcStateKeys.Tracked.{registers}
 use Rattle.cc_steps.specs.View.{active_of}
 use Rattle.cc_state_holds.proofs.memory.are_pairs_held.Given as goal
 

@@ -1,12 +1,12 @@
 -- By the object's position among the tracked cells.
 use Rattle.std.proofs.Common.{ap, sym, ◌∙◌, subst}
 use Rattle.std.specs.Prelude.{◌↔◌, ◌==◌, IsTrue, position}
-use Rattle.cc_state_facts.specs.Facts.{cell_of}
+use Rattle.cc_state_reads.specs.CcStateFacts.Facts.{cell_of}
 use Rattle.cc_state_holds.proofs.Held.{there_some, there_none}
 use Rattle.cc_state_holds.proofs.memory.is_in_cell_set.Goals as goal
 use Rattle.cc_state_holds.specs.Parts.{HasIn}
-use Rattle.cc_state_keys.specs.Tracked.{tracked_number}
-use Rattle.cc_state_operators.specs.Domains.{domain}
+use Rattle.cc_state_reads.specs.CcStateKeys.Tracked.{tracked_number}
+use Rattle.cc_state_reads.specs.CcStateOperators.Domains.{domain}
 
 pub returns-in-None : goal.returns-in-None
 returns-in-None g c =

@@ -1,9 +1,9 @@
 use Rattle.std.specs.Prelude.{List, slice_get}
 use Rattle.cc_cells.specs.Cells.{cells_of}
-use Rattle.cc_state_facts.specs.declared.facts.Key.{Key}
+use Rattle.cc_state_reads.specs.CcStateFacts.declared.facts.Key.{Key}
 use Rattle.cc_state_holds.proofs.Eaches.{EachTo}
 use Rattle.cc_state_holds.specs.Parts.{IsObjectIn}
-use Rattle.cc_state_operators.specs.Domains.{domain}
+use Rattle.cc_state_reads.specs.CcStateOperators.Domains.{domain}
 use Rattle.cc_state_holds.proofs.objects.are_objects_in.Given as goal
 
 abbrev pub invariant-loop-i : goal.invariant-loop-i

@@ -1,12 +1,12 @@
 -- Scalar by scalar.
 use Rattle.std.proofs.Common.{arith, get_or, refl, sym, ◌∙◌, slice_get}
 use Rattle.std.proofs.lemmas.Option.{slice_get-get_or}
-use Rattle.cc_state_facts.specs.declared.facts.Key.{Key}
-use Rattle.cc_state_facts.specs.declared.facts.Key.TheVariants as key
+use Rattle.cc_state_reads.specs.CcStateFacts.declared.facts.Key.{Key}
+use Rattle.cc_state_reads.specs.CcStateFacts.declared.facts.Key.TheVariants as key
 use Rattle.cc_state_holds.proofs.Eaches.{each_more, each_all}
 use Rattle.cc_state_holds.proofs.objects.are_scalars_in.Goals as goal
 use Rattle.cc_state_holds.specs.Parts.{IsScalarIn}
-use Rattle.cc_state_operators.specs.Domains.{domain}
+use Rattle.cc_state_reads.specs.CcStateOperators.Domains.{domain}
 
 pub loop-n-init : goal.loop-n-init
 loop-n-init g c = λ n x l k. absurd (omega (arith, l))

@@ -2,7 +2,7 @@
 use Rattle.cc_cells.specs.Cells.{cells_of}
 use Rattle.cc_state_holds.proofs.Statics.{statics_by_keys}
 use Rattle.cc_state_holds.proofs.objects.are_statics_in.Goals as goal
-use Rattle.cc_state_operators.specs.Domains.{domain}
+use Rattle.cc_state_reads.specs.CcStateOperators.Domains.{domain}
 
 pub returns : goal.returns
 returns g c =

@@ -6,7 +6,7 @@ use Rattle.cc_program.specs.declared.value.Value.{Value}
 use Rattle.cc_state_holds.proofs.Held.{held_some, held_none}
 use Rattle.cc_state_holds.proofs.objects.is_object_in.Goals as goal
 use Rattle.cc_state_holds.specs.Parts.{AreScalarsIn}
-use Rattle.cc_state_operators.specs.Domains.{domain}
+use Rattle.cc_state_reads.specs.CcStateOperators.Domains.{domain}
 
 pub returns-in-None : goal.returns-in-None
 returns-in-None g c =

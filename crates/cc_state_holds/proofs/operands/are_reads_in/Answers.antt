@@ -1,11 +1,11 @@
 -- Mark by mark.
 use Rattle.std.proofs.Common.{arith, List, take, refl, sym, ◌∙◌, subst}
-use Rattle.cc_eval.specs.declared.mark.Mark.{Mark}
+use Rattle.cc_state_reads.specs.CcEval.declared.mark.Mark.{Mark}
 use Rattle.cc_state_holds.proofs.Eaches.{each_more, each_all, at_place}
 use Rattle.cc_state_holds.proofs.Right.{never}
 use Rattle.cc_state_holds.proofs.operands.are_reads_in.Goals as goal
 use Rattle.cc_state_holds.specs.Parts.{Each, IsReadIn}
-use Rattle.cc_state_operators.specs.Domains.{domain}
+use Rattle.cc_state_reads.specs.CcStateOperators.Domains.{domain}
 use Rattle.cc_steps.specs.View.{active_of}
 
 pub is_read_in-requires-clause-basis : goal.is_read_in-requires-clause-basis

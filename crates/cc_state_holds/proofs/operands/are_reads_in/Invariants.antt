@@ -2,8 +2,8 @@ use Rattle.std.specs.Prelude.{◌≡◌, take}
 use Rattle.cc_program.specs.declared.func.Func.{Func}
 use Rattle.cc_state_holds.proofs.Eaches.{EachTo}
 use Rattle.cc_state_holds.specs.Parts.{IsReadIn}
-use Rattle.cc_state_keys.specs.Tracked.{registers}
-use Rattle.cc_state_operators.specs.Domains.{domain}
+use Rattle.cc_state_reads.specs.CcStateKeys.Tracked.{registers}
+use Rattle.cc_state_reads.specs.CcStateOperators.Domains.{domain}
 use Rattle.cc_steps.specs.View.{active_of}
 use Rattle.cc_state_holds.proofs.operands.are_reads_in.Given as goal
 

@@ -2,7 +2,7 @@
 use Rattle.std.proofs.Common.{◌≡◌, ℤ, FitsSigned, List, rules, slice_get, subst, ap, ◌∙◌, to_z-of_z}
 use Rattle.std.specs.Prelude.{◌↔◌, IsTrue}
 use Rattle.std.specs.Int.{w128}
-use Rattle.cc_num.specs.Integers.{converted}
+use Rattle.cc_program.specs.CcNum.Integers.{converted}
 use Rattle.cc_program.specs.declared.object.Device.{Device}
 use Rattle.cc_state_holds.proofs.Devices.{no_device, no_number, a_number}
 use Rattle.cc_state_holds.proofs.operands.is_device_value.Goals as goal

@@ -1,12 +1,12 @@
 -- By the keys of the local.
 use Rattle.std.proofs.Common.{List, slice_get, ap, ◌∙◌, subst}
 use Rattle.std.specs.Prelude.{◌↔◌, IsTrue}
-use Rattle.cc_state_facts.specs.declared.facts.Key.{Key}
+use Rattle.cc_state_reads.specs.CcStateFacts.declared.facts.Key.{Key}
 use Rattle.cc_state_holds.proofs.Positions.{no_local, local_listed}
 use Rattle.cc_state_holds.proofs.operands.is_local_at.Goals as goal
 use Rattle.cc_state_holds.specs.Parts.{IsListedIn}
-use Rattle.cc_state_operators.specs.Domains.{domain}
-use Rattle.cc_syntax.proofs.NameRules.{sound-typed}
+use Rattle.cc_state_reads.specs.CcStateOperators.Domains.{domain}
+use Rattle.cc_state_reads.proofs.CcSyntax.NameRules.{sound-typed}
 
 pub local_keys-requires-clause-typed : goal.local_keys-requires-clause-typed
 local_keys-requires-clause-typed g c = sound-typed c.args.b.now.program.now c.requires.basis.normal.sound

@@ -5,7 +5,7 @@ use Rattle.cc_program.specs.declared.value.Root.TheVariants as root
 use Rattle.cc_state.proofs.Sets.{function_few}
 use Rattle.cc_state_holds.proofs.Positions.{register_read, other_read}
 use Rattle.cc_state_holds.proofs.operands.is_local_value.Goals as goal
-use Rattle.cc_state_operators.specs.Domains.{domain}
+use Rattle.cc_state_reads.specs.CcStateOperators.Domains.{domain}
 use Rattle.cc_steps.specs.Step.{cell_position}
 
 pub registers-requires : goal.registers-requires

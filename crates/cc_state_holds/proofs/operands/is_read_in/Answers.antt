@@ -6,8 +6,8 @@ use Rattle.cc_program.specs.declared.value.Value.{Value}
 use Rattle.cc_state_holds.proofs.Readings.{none_given}
 use Rattle.cc_state_holds.proofs.operands.is_read_in.Goals as goal
 use Rattle.cc_state_holds.specs.Parts.{cell_waited, value_given, WasReadIn}
-use Rattle.cc_state_operators.specs.Domains.{domain}
-use Rattle.cc_states.specs.States.{expression_of}
+use Rattle.cc_state_reads.specs.CcStateOperators.Domains.{domain}
+use Rattle.cc_flow_sound.specs.CcStates.States.{expression_of}
 use Rattle.cc_steps.specs.Step.{progress_at}
 use Rattle.cc_steps.specs.View.{active_of}
 

@@ -1,11 +1,11 @@
 -- By the keys of the object.
 use Rattle.std.proofs.Common.{List, subst}
 use Rattle.std.specs.Prelude.{◌↔◌, IsTrue}
-use Rattle.cc_state_facts.specs.declared.facts.Key.{Key}
+use Rattle.cc_state_reads.specs.CcStateFacts.declared.facts.Key.{Key}
 use Rattle.cc_state_holds.proofs.Positions.{no_static, static_listed}
 use Rattle.cc_state_holds.proofs.operands.is_static_at.Goals as goal
 use Rattle.cc_state_holds.specs.Parts.{IsListedIn}
-use Rattle.cc_state_operators.specs.Domains.{domain}
+use Rattle.cc_state_reads.specs.CcStateOperators.Domains.{domain}
 
 pub is_in_listed-requires : goal.is_in_listed-requires
 is_in_listed-requires g c = c.requires.shape.keys

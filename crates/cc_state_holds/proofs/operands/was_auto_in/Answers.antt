@@ -2,7 +2,7 @@
 use Rattle.std.proofs.lemmas.Result.{IfOk-weaker}
 use Rattle.cc_state_holds.proofs.Readings.{other_register, auto_by}
 use Rattle.cc_state_holds.proofs.operands.was_auto_in.Goals as goal
-use Rattle.cc_state_operators.specs.Domains.{domain}
+use Rattle.cc_state_reads.specs.CcStateOperators.Domains.{domain}
 use Rattle.cc_steps.specs.View.{active_of}
 
 pub was_local_in-requires : goal.was_local_in-requires

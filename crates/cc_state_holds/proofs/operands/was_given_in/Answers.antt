@@ -5,8 +5,8 @@ use Rattle.cc_state.proofs.Sets.{normal_sized}
 use Rattle.cc_state_holds.proofs.Readings.{none_read, one_read}
 use Rattle.cc_state_holds.proofs.operands.was_given_in.Goals as goal
 use Rattle.cc_state_holds.specs.Parts.{cell_waited}
-use Rattle.cc_state_operators.specs.Domains.{domain}
-use Rattle.cc_states.specs.States.{expression_of}
+use Rattle.cc_state_reads.specs.CcStateOperators.Domains.{domain}
+use Rattle.cc_flow_sound.specs.CcStates.States.{expression_of}
 use Rattle.cc_steps.specs.Step.{progress_at}
 use Rattle.cc_steps.specs.View.{active_of}
 

@@ -3,7 +3,7 @@ use Rattle.std.proofs.Common.{List, slice_get, ap, sym, ◌∙◌}
 use Rattle.cc_program.specs.declared.func.Func.{Func}
 use Rattle.cc_state_holds.proofs.Positions.{missing_read}
 use Rattle.cc_state_holds.proofs.operands.was_local_in.Goals as goal
-use Rattle.cc_state_operators.specs.Domains.{domain}
+use Rattle.cc_state_reads.specs.CcStateOperators.Domains.{domain}
 
 pub is_local_value-requires-clause-basis : goal.is_local_value-requires-clause-basis
 is_local_value-requires-clause-basis g c = c.requires

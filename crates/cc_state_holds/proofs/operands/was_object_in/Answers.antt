@@ -7,7 +7,7 @@ use Rattle.cc_program.specs.declared.value.Root.{Root}
 use Rattle.cc_proof_covers.specs.Covers.{WasIn}
 use Rattle.cc_state.specs.View.{view}
 use Rattle.cc_state_holds.proofs.operands.was_object_in.Goals as goal
-use Rattle.cc_state_operators.specs.Domains.{domain}
+use Rattle.cc_state_reads.specs.CcStateOperators.Domains.{domain}
 use Rattle.cc_steps.specs.View.{active_of}
 
 pub was_static_in-requires-clause-basis : goal.was_static_in-requires-clause-basis

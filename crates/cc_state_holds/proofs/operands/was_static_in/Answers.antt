@@ -3,7 +3,7 @@ use Rattle.std.proofs.Common.{sym}
 use Rattle.cc_program.specs.declared.value.Root.TheVariants as root
 use Rattle.cc_state_holds.proofs.Readings.{other_static, static_by}
 use Rattle.cc_state_holds.proofs.operands.was_static_in.Goals as goal
-use Rattle.cc_state_operators.specs.Domains.{domain}
+use Rattle.cc_state_reads.specs.CcStateOperators.Domains.{domain}
 use Rattle.cc_steps.specs.Step.{cell_position}
 
 pub is_in_tracked-requires : goal.is_in_tracked-requires

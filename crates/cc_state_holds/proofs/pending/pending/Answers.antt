@@ -1,7 +1,7 @@
 -- By the expression.
 use Rattle.std.proofs.Common.{◌∙◌}
 use Rattle.std.specs.Option.{option_copied}
-use Rattle.cc_eval.specs.View.{progress_of}
+use Rattle.cc_state_reads.specs.CcEval.View.{progress_of}
 use Rattle.cc_state_holds.proofs.Results.{no_result, some_result}
 use Rattle.cc_state_holds.proofs.pending.pending.Goals as goal
 use Rattle.cc_steps.specs.View.{active_of}

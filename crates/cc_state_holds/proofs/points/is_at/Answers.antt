@@ -1,8 +1,8 @@
 -- By the point of the number.
 use Rattle.std.proofs.Common.{List, ap, sym, ◌∙◌, slice_get}
 use Rattle.std.proofs.lemmas.Option.{same_Some, none-some}
-use Rattle.cc_flow.specs.declared.types.Flow.{Flow}
-use Rattle.cc_flow.specs.declared.types.Point.{Point}
+use Rattle.cc_flow_sound.specs.CcFlow.declared.types.Flow.{Flow}
+use Rattle.cc_flow_sound.specs.CcFlow.declared.types.Point.{Point}
 use Rattle.cc_state_holds.proofs.points.is_at.Goals as goal
 
 pub returns-in-None : goal.returns-in-None

@@ -1,7 +1,7 @@
 -- Number by number.
 use Rattle.std.proofs.Common.{arith, ℕ, ◌≡◌, List, length, sym, ap, ◌∙◌, subst}
-use Rattle.cc_flow.specs.declared.types.Flow.{Flow}
-use Rattle.cc_flow.specs.Points.{flow_of}
+use Rattle.cc_flow_sound.specs.CcFlow.declared.types.Flow.{Flow}
+use Rattle.cc_flow_sound.specs.CcFlow.Points.{flow_of}
 use Rattle.cc_flow_sound.specs.Moves.{IsAt, standing}
 use Rattle.cc_state_holds.proofs.Counted.{ArePassed, passed_none, passed_step, passed_all}
 use Rattle.cc_state_holds.proofs.points.own_points.Goals as goal

@@ -1,7 +1,7 @@
 -- By the point.
 use Rattle.std.proofs.Common.{◌++◌, List, ℕ, ap, sym, ◌∙◌, slice_get}
 use Rattle.std.proofs.lemmas.Result.{IfOk-weaker}
-use Rattle.cc_flow.specs.declared.types.Point.{Point}
+use Rattle.cc_flow_sound.specs.CcFlow.declared.types.Point.{Point}
 use Rattle.cc_state_holds.proofs.Counted.{next_nowhere, next_there}
 use Rattle.cc_state_holds.proofs.points.with_next.Goals as goal
 

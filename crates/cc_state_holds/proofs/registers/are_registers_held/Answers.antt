@@ -6,7 +6,7 @@ use Rattle.cc_proof_covers.specs.Pending.{value_in}
 use Rattle.cc_state_holds.proofs.Eaches.{each_more, each_all}
 use Rattle.cc_state_holds.proofs.registers.are_registers_held.Goals as goal
 use Rattle.cc_state_holds.specs.Parts.{good, IsRegisterHeld}
-use Rattle.cc_state_operators.specs.Domains.{domain}
+use Rattle.cc_state_reads.specs.CcStateOperators.Domains.{domain}
 use Rattle.cc_steps.specs.View.{active_of}
 
 pub loop-r-init : goal.loop-r-init

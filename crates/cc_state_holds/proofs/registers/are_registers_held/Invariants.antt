@@ -4,8 +4,8 @@ use Rattle.cc_program.specs.declared.func.Func.{Func}
 use Rattle.cc_proof_covers.specs.Pending.{value_in}
 use Rattle.cc_state_holds.proofs.Eaches.{EachTo}
 use Rattle.cc_state_holds.specs.Parts.{good, IsRegisterHeld}
-use Rattle.cc_state_keys.specs.Tracked.{registers}
-use Rattle.cc_state_operators.specs.Domains.{domain}
+use Rattle.cc_state_reads.specs.CcStateKeys.Tracked.{registers}
+use Rattle.cc_state_reads.specs.CcStateOperators.Domains.{domain}
 use Rattle.cc_steps.specs.View.{active_of}
 use Rattle.cc_state_holds.proofs.registers.are_registers_held.Given as goal
 

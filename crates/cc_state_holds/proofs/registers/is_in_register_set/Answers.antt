@@ -1,12 +1,12 @@
 -- By the register's position.
 use Rattle.std.proofs.Common.{ap, sym, ◌∙◌, subst}
 use Rattle.std.specs.Prelude.{◌↔◌, ◌==◌, IsTrue, position}
-use Rattle.cc_state_facts.specs.Facts.{local_of}
+use Rattle.cc_state_reads.specs.CcStateFacts.Facts.{local_of}
 use Rattle.cc_state_holds.proofs.Held.{there_some, there_none}
 use Rattle.cc_state_holds.proofs.registers.is_in_register_set.Goals as goal
 use Rattle.cc_state_holds.specs.Parts.{HasIn}
-use Rattle.cc_state_keys.specs.Tracked.{register_number}
-use Rattle.cc_state_operators.specs.Domains.{domain}
+use Rattle.cc_state_reads.specs.CcStateKeys.Tracked.{register_number}
+use Rattle.cc_state_reads.specs.CcStateOperators.Domains.{domain}
 
 pub returns-in-None : goal.returns-in-None
 returns-in-None g c = λ f e.

@@ -5,7 +5,7 @@ use Rattle.cc_program.specs.declared.value.Value.{Value}
 use Rattle.cc_state_holds.proofs.Held.{held_some, held_none}
 use Rattle.cc_state_holds.proofs.registers.is_register_held.Goals as goal
 use Rattle.cc_state_holds.specs.Parts.{IsInRegisterSet}
-use Rattle.cc_state_operators.specs.Domains.{domain}
+use Rattle.cc_state_reads.specs.CcStateOperators.Domains.{domain}
 
 pub returns-in-None : goal.returns-in-None
 returns-in-None g c = λ f e.

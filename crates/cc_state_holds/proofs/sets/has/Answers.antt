@@ -1,7 +1,7 @@
 -- By the set, if there is one.
 use Rattle.std.proofs.Common.{ap}
 use Rattle.std.specs.Option.{option_copied}
-use Rattle.cc_places.specs.Abstract.{HasValue}
+use Rattle.cc_state_reads.specs.CcPlaces.Abstract.{HasValue}
 use Rattle.cc_state_holds.proofs.Held.{there_some, there_none}
 use Rattle.cc_state_holds.proofs.sets.has.Goals as goal
 

@@ -7,7 +7,7 @@ use Rattle.cc_state.specs.View.{InWhole}
 use Rattle.cc_state_holds.proofs.Held.{held_some, held_none}
 use Rattle.cc_state_holds.proofs.sets.is_scalar_in.Goals as goal
 use Rattle.cc_state_holds.specs.Parts.{HasIn}
-use Rattle.cc_state_operators.specs.Domains.{domain}
+use Rattle.cc_state_reads.specs.CcStateOperators.Domains.{domain}
 
 pub returns-in-None : goal.returns-in-None
 returns-in-None g c =

@@ -2,8 +2,8 @@ use Rattle.std.proofs.Common.{arith, ℕ, length, take_all, ap, ◌∙◌}
 use Rattle.cc_state_keys.specs.Lists.{made_from}
 use Rattle.cc_state_keys.proofs.Grown.{numbers_put}
 use Rattle.cc_state_keys.proofs.numbers.registers_by.Goals as goal
-use Rattle.cc_syntax.specs.Registers.{is_register}
-use Rattle.cc_syntax.specs.Types.{Named}
+use Rattle.cc_eval.specs.CcSyntax.Registers.{is_register}
+use Rattle.cc_eval.specs.CcSyntax.Types.{Named}
 
 pub loop-r-preserved : goal.loop-r-preserved
 loop-r-preserved c =

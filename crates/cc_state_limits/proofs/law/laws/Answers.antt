@@ -1,7 +1,7 @@
 -- The law, over each domain.
 use Rattle.cc_state_limits.proofs.Smallness.{facts_small}
 use Rattle.cc_state_limits.proofs.law.laws.Goals as goal
-use Rattle.cc_state_operators.specs.Domains.{domain}
+use Rattle.cc_state_reads.specs.CcStateOperators.Domains.{domain}
 
 pub returns : goal.returns
 returns g c =

@@ -1,5 +1,5 @@
 use Rattle.std.proofs.Common.{arith, All, ap, subst, ◌∙◌}
-use Rattle.cc_state_facts.specs.declared.facts.Row.{Row}
+use Rattle.cc_state_reads.specs.CcStateFacts.declared.facts.Row.{Row}
 use Rattle.cc_state_limits.proofs.Each.{each_more, each_of_all}
 use Rattle.cc_state_limits.proofs.memory.held_rows.Goals as goal
 use Rattle.cc_state_limits.specs.Held.{IsHeldSet, IsHeldRow}

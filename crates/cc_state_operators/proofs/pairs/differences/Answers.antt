@@ -2,7 +2,7 @@
 use Rattle.std.proofs.Common.{sym, ◌∙◌}
 use Rattle.std.specs.Prelude.{◌&&◌}
 use Rattle.std.proofs.lemmas.Result.{IfOk-weaker}
-use Rattle.cc_syntax.specs.Operators.{difference_type}
+use Rattle.cc_eval.specs.CcSyntax.Operators.{difference_type}
 use Rattle.cc_state_operators.specs.Domains.{domain}
 use Rattle.cc_state_operators.specs.Results.{is_told}
 use Rattle.cc_state_operators.proofs.Images.{gap_told, gap_untold, whole_of}

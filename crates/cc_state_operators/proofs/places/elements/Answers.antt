@@ -1,6 +1,6 @@
 -- The addresses of the elements, or all addresses in their places.
 use Rattle.std.proofs.lemmas.Result.{IfOk-weaker}
-use Rattle.cc_typed.specs.View.{place_view}
+use Rattle.cc_eval.specs.CcTyped.View.{place_view}
 use Rattle.cc_state_operators.specs.Addresses.{IsElement}
 use Rattle.cc_state_operators.proofs.Sets.{stepped_exactly, stepped_in_places}
 use Rattle.cc_state_operators.proofs.places.elements.Goals as goal

@@ -1,6 +1,6 @@
 -- Each address adds those of the elements; at the end these are all.
 use Rattle.std.proofs.Common.{arith}
-use Rattle.cc_typed.specs.View.{place_view}
+use Rattle.cc_eval.specs.CcTyped.View.{place_view}
 use Rattle.cc_places.specs.laws.ListLaws.{all_taken}
 use Rattle.cc_state_operators.specs.Addresses.{IsElement}
 use Rattle.cc_state_operators.proofs.Sets.{from_none, from_more, from_all}

@@ -1,7 +1,7 @@
 -- The addresses of the members, or all addresses in their places.
 use Rattle.std.proofs.Common.{◌≡◌, Some}
 use Rattle.std.proofs.lemmas.Result.{IfOk-weaker}
-use Rattle.cc_typed.specs.View.{place_view}
+use Rattle.cc_eval.specs.CcTyped.View.{place_view}
 use Rattle.cc_program.specs.declared.value.Address.{Address}
 use Rattle.cc_state_operators.specs.Addresses.{member_address}
 use Rattle.cc_state_operators.proofs.Sets.{stepped_exactly, stepped_in_places}

@@ -1,6 +1,6 @@
 -- Each address adds that of the member; at the end these are all.
 use Rattle.std.proofs.Common.{◌≡◌, Some, arith}
-use Rattle.cc_typed.specs.View.{place_view}
+use Rattle.cc_eval.specs.CcTyped.View.{place_view}
 use Rattle.cc_places.specs.laws.ListLaws.{all_taken}
 use Rattle.cc_program.specs.declared.value.Address.{Address}
 use Rattle.cc_state_operators.specs.Addresses.{member_address}

@@ -1,6 +1,6 @@
 use Rattle.std.proofs.Common.{◌≡◌, Some, take}
 use Rattle.cc_places.specs.Sets.{IsSetOf}
-use Rattle.cc_typed.specs.View.{place_view}
+use Rattle.cc_eval.specs.CcTyped.View.{place_view}
 use Rattle.cc_state_operators.specs.Addresses.{FromEach, member_address}
 use Rattle.cc_state_operators.proofs.places.members_of_each.Given as goal
 

@@ -1,7 +1,7 @@
 -- The elements to which the first one is moved, where an array is named.
 use Rattle.std.proofs.Common.{sym, ◌∙◌}
 use Rattle.std.proofs.lemmas.Result.{IfOk-weaker}
-use Rattle.cc_typed.specs.View.{place_view}
+use Rattle.cc_eval.specs.CcTyped.View.{place_view}
 use Rattle.cc_state_operators.proofs.Sets.{elements_moved, no_array, no_object}
 use Rattle.cc_state_operators.proofs.places.with_elements.Goals as goal
 

@@ -1,7 +1,7 @@
 -- The address of the member, where there is one.
 use Rattle.std.proofs.Common.{sym, ◌∙◌}
 use Rattle.std.proofs.lemmas.Result.{IfOk-weaker}
-use Rattle.cc_typed.specs.View.{place_view}
+use Rattle.cc_eval.specs.CcTyped.View.{place_view}
 use Rattle.cc_state_operators.specs.Addresses.{member_address}
 use Rattle.cc_state_operators.proofs.Sets.{with_one, with_none}
 use Rattle.cc_state_operators.proofs.places.with_member.Goals as goal

@@ -1,7 +1,7 @@
 -- 0 and 1 are joined.
 use Rattle.std.proofs.Common.{true}
 use Rattle.std.proofs.lemmas.Result.{IfOk-weaker}
-use Rattle.cc_num.specs.declared.int_type.IntType.TheVariants as int
+use Rattle.cc_program.specs.CcNum.declared.int_type.IntType.TheVariants as int
 use Rattle.cc_state_operators.specs.Domains.{domain}
 use Rattle.cc_state_operators.proofs.Hulls.{order_of, as_truths, zero_and_one, zero_typed, one_typed}
 use Rattle.cc_state_operators.proofs.truths.truths.Goals as goal

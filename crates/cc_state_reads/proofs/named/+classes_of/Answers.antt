@@ -1,7 +1,7 @@
 -- The classes of each form of place.
 use Rattle.std.proofs.Common.{rules, refl}
 use Rattle.std.proofs.lemmas.Result.{IfOk-weaker}
-use Rattle.cc_state_operators.specs.Domains.{domain}
+use Rattle.cc_state_values.specs.CcStateOperators.Domains.{domain}
 use Rattle.cc_state_reads.proofs.Classes.{local_classes, static_classes, device_classes, element_classes, member_classes}
 use Rattle.cc_state_reads.proofs.named.+classes_of.Goals as goal
 use Rattle.cc_state_values.proofs.Arms.{place_layer, as-Element, as-Member, as-Deref}

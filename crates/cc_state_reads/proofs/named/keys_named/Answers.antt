@@ -1,6 +1,6 @@
 use Rattle.std.proofs.Common.{List, ap, ◌∙◌}
 use Rattle.std.specs.List.{filter}
-use Rattle.cc_state_facts.specs.declared.facts.Key.{Key}
+use Rattle.cc_state_keys.specs.CcStateFacts.declared.facts.Key.{Key}
 use Rattle.cc_state_reads.specs.Named.{is_among}
 use Rattle.cc_state_reads.proofs.named.keys_named.Goals as goal
 

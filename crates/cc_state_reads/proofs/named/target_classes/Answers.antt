@@ -2,8 +2,8 @@
 use Rattle.std.proofs.Common.{ap, ◌∙◌, subst}
 use Rattle.std.specs.List.{flat_map}
 use Rattle.std.proofs.lemmas.Result.{IfOk-weaker}
-use Rattle.cc_state_operators.specs.Domains.{domain}
-use Rattle.cc_state_operators.specs.Operands.{AreAddrs}
+use Rattle.cc_state_values.specs.CcStateOperators.Domains.{domain}
+use Rattle.cc_state_values.specs.CcStateOperators.Operands.{AreAddrs}
 use Rattle.cc_state_reads.specs.Named.{target_class}
 use Rattle.cc_state_reads.proofs.Classes.{is_pointer, target_classes}
 use Rattle.cc_state_reads.proofs.named.target_classes.Goals as goal

@@ -3,12 +3,12 @@ use Rattle.std.proofs.Common.{List, sym, ap, ◌∙◌, subst}
 use Rattle.std.specs.Prelude.{option_map}
 use Rattle.std.specs.List.{Contains}
 use Rattle.std.proofs.lemmas.Result.{IfOk-weaker}
-use Rattle.cc_state_facts.specs.declared.facts.Key.{Key}
-use Rattle.cc_state_operators.specs.Domains.{domain, IsUnion}
+use Rattle.cc_state_keys.specs.CcStateFacts.declared.facts.Key.{Key}
+use Rattle.cc_state_values.specs.CcStateOperators.Domains.{domain, IsUnion}
 use Rattle.cc_state_reads.specs.Reads.{IsOfKeys}
 use Rattle.cc_state_reads.proofs.Joins.{kinds_of}
 use Rattle.cc_state_reads.proofs.reads.set_of_keys.Goals as goal
-use Rattle.cc_typed.specs.View.{value_view}
+use Rattle.cc_state_keys.specs.CcTyped.View.{value_view}
 
 pub union_of-requires-clause-sets : goal.union_of-requires-clause-sets
 union_of-requires-clause-sets g c = λ k h.

@@ -1,10 +1,10 @@
 -- Each key adds its set; at the end these are all.
 use Rattle.std.proofs.Common.{arith, ◌<◌, length, get_or}
-use Rattle.cc_places.specs.laws.ListLaws.{item_in}
-use Rattle.cc_state_facts.specs.declared.facts.Key.TheVariants as key
-use Rattle.cc_state_operators.specs.Domains.{domain}
+use Rattle.cc_state_values.specs.CcPlaces.laws.ListLaws.{item_in}
+use Rattle.cc_state_keys.specs.CcStateFacts.declared.facts.Key.TheVariants as key
+use Rattle.cc_state_values.specs.CcStateOperators.Domains.{domain}
 use Rattle.cc_state_reads.proofs.Joins.{kinds_through, union_none, union_next, union_all, item_at}
-use Rattle.cc_places.specs.laws.AbstractLaws.{kind_back}
+use Rattle.cc_state_values.specs.CcPlaces.laws.AbstractLaws.{kind_back}
 use Rattle.cc_state_reads.proofs.unions.union_of.Goals as goal
 
 pub loop-key-init : goal.loop-key-init

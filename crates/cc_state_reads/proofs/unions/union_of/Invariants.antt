@@ -1,5 +1,5 @@
 use Rattle.std.proofs.Common.{take}
-use Rattle.cc_state_operators.specs.Domains.{domain, IsUnion}
+use Rattle.cc_state_values.specs.CcStateOperators.Domains.{domain, IsUnion}
 use Rattle.cc_state_reads.specs.Reads.{IsOfKeys}
 use Rattle.cc_state_reads.proofs.unions.union_of.Given as goal
 

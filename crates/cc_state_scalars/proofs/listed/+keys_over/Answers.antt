@@ -2,7 +2,7 @@
 use Rattle.std.proofs.Common.{◌≡◌, [], List, Option, ap, sym, ◌∙◌, subst, unwrap_or}
 use Rattle.std.proofs.lemmas.Result.{IfOk-weaker}
 use Rattle.cc_program.specs.declared.types.CType.{CType}
-use Rattle.cc_state_facts.specs.declared.facts.Key.{Key}
+use Rattle.cc_state_keys.specs.CcStateFacts.declared.facts.Key.{Key}
 use Rattle.cc_state_scalars.proofs.Over.{void_over, func_over, int_over, pointer_over, array_over, struct_over}
 use Rattle.cc_state_scalars.proofs.listed.+keys_over.Goals as goal
 use Rattle.cc_state_scalars.specs.Listed.{AreKeysOver}

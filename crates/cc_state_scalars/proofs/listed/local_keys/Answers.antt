@@ -2,12 +2,12 @@
 use Rattle.std.proofs.Common.{◌<◌, ◌^◌, List, length, sym, subst}
 use Rattle.std.proofs.lemmas.Result.{IfOk-weaker}
 use Rattle.cc_program.specs.declared.types.Structure.{Structure}
-use Rattle.cc_state_facts.specs.declared.facts.Key.{Key}
+use Rattle.cc_state_keys.specs.CcStateFacts.declared.facts.Key.{Key}
 use Rattle.cc_state_keys.proofs.Typed.{few-members}
 use Rattle.cc_state_scalars.proofs.Locals.{few_locals_of, locals_all}
 use Rattle.cc_state_scalars.proofs.listed.local_keys.Goals as goal
 use Rattle.cc_state_scalars.specs.Listed.{IsTableOf, AreLocalKeysOver}
-use Rattle.cc_syntax.specs.Types.{AreShort, Named}
+use Rattle.cc_state_keys.specs.CcSyntax.Types.{AreShort, Named}
 
 pub structure_keys-requires-clause-short : goal.structure_keys-requires-clause-short
 structure_keys-requires-clause-short c = subst AreShort (sym c.all.ensures) (few-members c.args.p.now c.requires.typed)

@@ -1,7 +1,7 @@
 -- Each member has its list.
 use Rattle.std.proofs.Common.{arith, ◌≡◌, ◌++◌, List, Some, ap, sym, ◌∙◌, subst, slice_get}
 use Rattle.std.proofs.lemmas.Option.{slice_get-get_or}
-use Rattle.cc_state_facts.specs.declared.facts.Key.{Key}
+use Rattle.cc_state_keys.specs.CcStateFacts.declared.facts.Key.{Key}
 use Rattle.cc_state_scalars.proofs.Over.{members_more, members_all}
 use Rattle.cc_state_scalars.proofs.listed.member_keys.Goals as goal
 use Rattle.cc_state_scalars.specs.Listed.{AreMemberKeysOver}

@@ -1,11 +1,11 @@
 -- Each structure stands on those before it.
 use Rattle.std.proofs.Common.{◌≡◌, ◌+◌, List, Some, ap, sym, ◌∙◌, subst, slice_get}
 use Rattle.std.proofs.lemmas.Option.{slice_get-get_or}
-use Rattle.cc_state_facts.specs.declared.facts.Key.{Key}
+use Rattle.cc_state_keys.specs.CcStateFacts.declared.facts.Key.{Key}
 use Rattle.cc_state_scalars.proofs.Over.{IsTableTo, table_more}
 use Rattle.cc_state_scalars.proofs.listed.structure_keys.Goals as goal
 use Rattle.cc_state_scalars.specs.Listed.{AreMemberKeysOver}
-use Rattle.cc_syntax.specs.Types.{Named}
+use Rattle.cc_state_keys.specs.CcSyntax.Types.{Named}
 
 pub loop-s-preserved : goal.loop-s-preserved
 loop-s-preserved c =

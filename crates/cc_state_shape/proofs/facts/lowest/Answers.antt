@@ -1,14 +1,14 @@
 -- What is lowest is of the shape, and below what is.
 use Rattle.std.proofs.lemmas.Result.{IfOk-weaker}
 use Rattle.cc_state.specs.Shape.{HaveShape}
-use Rattle.cc_state_facts.specs.declared.facts.Facts.{Facts}
-use Rattle.cc_state_facts.specs.Orders.{IsBelow}
-use Rattle.cc_state_operators.specs.Domains.{domain}
+use Rattle.cc_state_reads.specs.CcStateFacts.declared.facts.Facts.{Facts}
+use Rattle.cc_state_reads.specs.CcStateFacts.Orders.{IsBelow}
+use Rattle.cc_state_reads.specs.CcStateOperators.Domains.{domain}
 use Rattle.cc_state_shape.proofs.Alike.{one_key_type, one_result_type}
 use Rattle.cc_state_shape.proofs.Lowering.{lowest_shaped, lowest_below}
 use Rattle.cc_state_shape.proofs.facts.lowest.Goals as goal
 use Rattle.cc_state_shape.specs.Lowest.{AreLowest}
-use Rattle.cc_syntax.proofs.NameRules.{sound-typed}
+use Rattle.cc_state_reads.proofs.CcSyntax.NameRules.{sound-typed}
 
 pub lowest_by-requires : goal.lowest_by-requires
 lowest_by-requires g c = record { typed = sound-typed c.args.p.now c.requires.normal.sound; flow = c.requires.flow }

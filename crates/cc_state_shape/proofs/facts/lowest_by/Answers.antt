@@ -1,9 +1,9 @@
 use Rattle.std.proofs.Common.{ℕ, None, List, length, replicate, ap, subst, ◌∙◌}
 use Rattle.std.specs.List.{AllZip}
-use Rattle.cc_flow.proofs.Paths.{all_counted}
-use Rattle.cc_flow.specs.declared.types.Flow.{Flow}
+use Rattle.cc_state_reads.proofs.CcFlow.Paths.{all_counted}
+use Rattle.cc_state_reads.specs.CcFlow.declared.types.Flow.{Flow}
 use Rattle.cc_program.specs.declared.func.Func.{Func}
-use Rattle.cc_state_facts.specs.declared.facts.Key.{Key}
+use Rattle.cc_state_reads.specs.CcStateFacts.declared.facts.Key.{Key}
 use Rattle.cc_state_shape.proofs.facts.lowest_by.Goals as goal
 use Rattle.cc_state_shape.specs.Lowest.{IsNoneOfKey, IsNoneOfResult}
 

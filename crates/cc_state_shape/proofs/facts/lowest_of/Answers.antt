@@ -1,6 +1,6 @@
 use Rattle.std.proofs.Common.{ℕ, false, length, replicate, ap, sym, ◌∙◌, subst}
 use Rattle.std.specs.List.{AllZip}
-use Rattle.cc_state_keys.specs.Keys.{keys_of}
+use Rattle.cc_state_reads.specs.CcStateKeys.Keys.{keys_of}
 use Rattle.cc_state_shape.proofs.facts.lowest_of.Goals as goal
 use Rattle.cc_state_shape.specs.Lowest.{IsNoneOfKey, IsNoneOfResult}
 

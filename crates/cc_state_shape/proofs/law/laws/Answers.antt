@@ -1,5 +1,5 @@
 -- The laws, by the types of sets.
-use Rattle.cc_state_operators.specs.Domains.{domain}
+use Rattle.cc_state_reads.specs.CcStateOperators.Domains.{domain}
 use Rattle.cc_state_shape.proofs.Alike.{facts_alike, well_formed, points_alike, fact_of}
 use Rattle.cc_state_shape.proofs.law.laws.Goals as goal
 

@@ -1,7 +1,7 @@
 use Rattle.std.proofs.Common.{ap}
 use Rattle.cc_state_shaped.proofs.Names.{is_pointer, pointers_all}
 use Rattle.cc_state_shaped.proofs.addresses.holds_pointers.Goals as goal
-use Rattle.cc_typed.specs.View.{value_view}
+use Rattle.cc_state_reads.specs.CcTyped.View.{value_view}
 
 pub returns-in-ToObject : goal.returns-in-ToObject
 returns-in-ToObject c =

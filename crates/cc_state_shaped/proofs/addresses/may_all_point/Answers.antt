@@ -4,7 +4,7 @@ use Rattle.std.proofs.lemmas.List.{take_all}
 use Rattle.std.proofs.lemmas.List.Elements.{All-more}
 use Rattle.cc_state.specs.Shape.{MayPoint}
 use Rattle.cc_state_shaped.proofs.addresses.may_all_point.Goals as goal
-use Rattle.cc_typed.specs.View.{value_view}
+use Rattle.cc_state_reads.specs.CcTyped.View.{value_view}
 
 pub loop-address-preserved : goal.loop-address-preserved
 loop-address-preserved c =

@@ -1,15 +1,15 @@
 -- An address is named by its path, and its key is one that may be named.
 use Rattle.std.proofs.Common.{◌≡◌, ◌↔◌, List, IsTrue, ap, sym, ◌∙◌, subst}
-use Rattle.cc_eval.specs.Context.{object_type}
+use Rattle.cc_state_reads.specs.CcEval.Context.{object_type}
 use Rattle.cc_program.specs.declared.value.Address.{Address}
 use Rattle.cc_program.specs.declared.value.Part.{Part}
 use Rattle.cc_state.specs.Shape.{MayPoint}
-use Rattle.cc_state_keys.specs.Keys.{cell_key}
+use Rattle.cc_state_reads.specs.CcStateKeys.Keys.{cell_key}
 use Rattle.cc_state_shaped.proofs.Names.{named}
 use Rattle.cc_state_shaped.proofs.addresses.may_point.Goals as goal
-use Rattle.cc_syntax.specs.Expressions.{of_one}
-use Rattle.cc_syntax.specs.Initial.{place_at, names}
-use Rattle.cc_typed.specs.View.{value_view}
+use Rattle.cc_state_reads.specs.CcSyntax.Expressions.{of_one}
+use Rattle.cc_state_reads.specs.CcSyntax.Initial.{place_at, names}
+use Rattle.cc_state_reads.specs.CcTyped.View.{value_view}
 
 pub returns-then-is_named : goal.returns-then-is_named
 returns-then-is_named c =

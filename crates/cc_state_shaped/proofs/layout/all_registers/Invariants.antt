@@ -1,5 +1,5 @@
 use Rattle.std.proofs.Common.{◌≡◌, map, take}
-use Rattle.cc_state_keys.specs.Tracked.{registers}
+use Rattle.cc_state_reads.specs.CcStateKeys.Tracked.{registers}
 use Rattle.cc_state_shaped.proofs.layout.all_registers.Given as goal
 
 abbrev pub invariant-loop-func : goal.invariant-loop-func

@@ -1,8 +1,8 @@
 use Rattle.std.proofs.Common.{◌<◌, ◌^◌, length, map, refl, ap, sym, ◌∙◌, subst}
 use Rattle.std.specs.List.{All}
 use Rattle.cc_program.specs.declared.func.Func.{Func}
-use Rattle.cc_state_keys.proofs.Typed.{few-locals}
-use Rattle.cc_state_keys.specs.Tracked.{registers}
+use Rattle.cc_state_reads.proofs.CcStateKeys.Typed.{few-locals}
+use Rattle.cc_state_reads.specs.CcStateKeys.Tracked.{registers}
 use Rattle.cc_state_shaped.specs.Names.{may_name}
 use Rattle.cc_state_shaped.proofs.layout.layout_of.Goals as goal
 

@@ -1,6 +1,6 @@
 use Rattle.std.proofs.Common.{slice_get}
 use Rattle.cc_state.specs.Shape.{AreSets, IsRegisterType}
-use Rattle.cc_state_operators.specs.Domains.{domain}
+use Rattle.cc_state_reads.specs.CcStateOperators.Domains.{domain}
 use Rattle.cc_state_shaped.proofs.lists.are_register_sets.Given as goal
 
 abbrev pub invariant-loop-number : goal.invariant-loop-number

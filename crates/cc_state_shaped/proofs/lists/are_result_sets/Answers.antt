@@ -2,7 +2,7 @@
 use Rattle.std.proofs.Common.{arith, ◌≡◌, ◌<◌, Some, length, refl, slice_get}
 use Rattle.std.proofs.lemmas.Option.{slice_get_read}
 use Rattle.cc_state.specs.Shape.{IsResultType}
-use Rattle.cc_state_operators.specs.Domains.{domain}
+use Rattle.cc_state_reads.specs.CcStateOperators.Domains.{domain}
 use Rattle.cc_state_shaped.proofs.Typed.{sets_none, sets_more, sets_all, set_into, set_from}
 use Rattle.cc_state_shaped.proofs.lists.are_result_sets.Goals as goal
 

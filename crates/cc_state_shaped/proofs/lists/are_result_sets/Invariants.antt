@@ -1,6 +1,6 @@
 use Rattle.std.proofs.Common.{slice_get}
 use Rattle.cc_state.specs.Shape.{AreSets, IsResultType}
-use Rattle.cc_state_operators.specs.Domains.{domain}
+use Rattle.cc_state_reads.specs.CcStateOperators.Domains.{domain}
 use Rattle.cc_state_shaped.proofs.lists.are_result_sets.Given as goal
 
 abbrev pub invariant-loop-id : goal.invariant-loop-id

@@ -2,8 +2,8 @@
 use Rattle.std.proofs.Common.{ap, sym, ◌∙◌}
 use Rattle.std.specs.Option.{option_copied}
 use Rattle.cc_state.specs.Shape.{IsTrackedType}
-use Rattle.cc_state_facts.specs.Facts.{cell_of}
-use Rattle.cc_state_operators.specs.Domains.{domain}
+use Rattle.cc_state_reads.specs.CcStateFacts.Facts.{cell_of}
+use Rattle.cc_state_reads.specs.CcStateOperators.Domains.{domain}
 use Rattle.cc_state_shaped.proofs.Typed.{at_none, at_place}
 use Rattle.cc_state_shaped.proofs.lists.has_cell_set.Goals as goal
 

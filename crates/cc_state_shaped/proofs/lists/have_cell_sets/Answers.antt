@@ -1,8 +1,8 @@
 -- Each cell so far has its set; at the end these are all.
 use Rattle.std.proofs.Common.{arith, ◌<◌, refl}
 use Rattle.cc_state.specs.Shape.{IsTrackedType}
-use Rattle.cc_state_facts.specs.Facts.{cell_of}
-use Rattle.cc_state_operators.specs.Domains.{domain}
+use Rattle.cc_state_reads.specs.CcStateFacts.Facts.{cell_of}
+use Rattle.cc_state_reads.specs.CcStateOperators.Domains.{domain}
 use Rattle.cc_state_shaped.proofs.Typed.{sets_none, sets_more, sets_all}
 use Rattle.cc_state_shaped.proofs.lists.have_cell_sets.Goals as goal
 

@@ -1,6 +1,6 @@
 use Rattle.cc_state.specs.Shape.{AreSets, IsTrackedType}
-use Rattle.cc_state_facts.specs.Facts.{cell_of}
-use Rattle.cc_state_operators.specs.Domains.{domain}
+use Rattle.cc_state_reads.specs.CcStateFacts.Facts.{cell_of}
+use Rattle.cc_state_reads.specs.CcStateOperators.Domains.{domain}
 use Rattle.cc_state_shaped.proofs.lists.have_cell_sets.Given as goal
 
 abbrev pub invariant-loop-number : goal.invariant-loop-number

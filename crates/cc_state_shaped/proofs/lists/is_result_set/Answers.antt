@@ -2,10 +2,10 @@
 use Rattle.std.proofs.Common.{None, Some, ap, sym, ◌∙◌}
 use Rattle.std.specs.Prelude.{option_map}
 use Rattle.std.specs.Option.{option_copied}
-use Rattle.cc_state_operators.specs.Domains.{domain}
+use Rattle.cc_state_reads.specs.CcStateOperators.Domains.{domain}
 use Rattle.cc_state_shaped.proofs.Typed.{found_at, no_function, of_result}
 use Rattle.cc_state_shaped.proofs.lists.is_result_set.Goals as goal
-use Rattle.cc_typed.specs.View.{value_view}
+use Rattle.cc_state_reads.specs.CcTyped.View.{value_view}
 
 pub returns-in-None : goal.returns-in-None
 returns-in-None g c =

@@ -2,11 +2,11 @@
 use Rattle.std.proofs.Common.{None, Some, ap, sym, ◌∙◌}
 use Rattle.std.specs.Prelude.{option_map}
 use Rattle.std.specs.Option.{option_copied}
-use Rattle.cc_state_keys.specs.Tracked.{tracked}
-use Rattle.cc_state_operators.specs.Domains.{domain}
+use Rattle.cc_state_reads.specs.CcStateKeys.Tracked.{tracked}
+use Rattle.cc_state_reads.specs.CcStateOperators.Domains.{domain}
 use Rattle.cc_state_shaped.proofs.Typed.{found_at, no_cell, no_object, of_tracked}
 use Rattle.cc_state_shaped.proofs.lists.is_tracked_set.Goals as goal
-use Rattle.cc_typed.specs.View.{value_view}
+use Rattle.cc_state_reads.specs.CcTyped.View.{value_view}
 
 pub returns-in-None : goal.returns-in-None
 returns-in-None g c =

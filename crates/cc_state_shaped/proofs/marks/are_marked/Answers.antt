@@ -1,7 +1,7 @@
 -- Each set so far; at the end these are all, and behind them there are none.
 use Rattle.std.proofs.Common.{arith, ◌∙◌, sym, refl, below_more}
 use Rattle.std.proofs.lemmas.Option.{unwrap_or-slice_get}
-use Rattle.cc_state_facts.specs.Facts.{levels_of}
+use Rattle.cc_state_reads.specs.CcStateFacts.Facts.{levels_of}
 use Rattle.cc_state_shaped.proofs.Tests.{marked_all}
 use Rattle.cc_state_shaped.specs.Parts.{IsMarkedAt}
 use Rattle.cc_state_shaped.proofs.marks.are_marked.Goals as goal

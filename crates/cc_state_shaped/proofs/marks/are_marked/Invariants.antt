@@ -1,5 +1,5 @@
 use Rattle.std.proofs.Common.{ℕ, ◌<◌}
-use Rattle.cc_state_facts.specs.Facts.{levels_of}
+use Rattle.cc_state_reads.specs.CcStateFacts.Facts.{levels_of}
 use Rattle.cc_state_shaped.specs.Parts.{IsMarkedAt}
 use Rattle.cc_state_shaped.proofs.marks.are_marked.Given as goal
 

@@ -1,7 +1,7 @@
 -- What is known at each point so far is of its shape; at the end these are all.
 use Rattle.std.proofs.Common.{arith, ◌≡◌, Some, length, refl, slice_get, below_more}
 use Rattle.std.proofs.lemmas.Option.{slice_get_read}
-use Rattle.cc_state_operators.specs.Domains.{domain}
+use Rattle.cc_state_reads.specs.CcStateOperators.Domains.{domain}
 use Rattle.cc_state_shaped.proofs.Known.{IsKnownIn, known_into, known_from, known_all}
 use Rattle.cc_state_shaped.proofs.points.are_known.Goals as goal
 

@@ -1,10 +1,10 @@
 use Rattle.std.proofs.Common.{arith, ◌≡◌, ◌↔◌, IsTrue, List, length, ap, ◌∙◌, subst}
 use Rattle.cc_state.specs.Shape.{AreSets, IsTrackedType}
-use Rattle.cc_state_facts.specs.declared.facts.Row.{Row}
-use Rattle.cc_state_facts.specs.Facts.{cell_of}
-use Rattle.cc_state_keys.proofs.FactCounts.{few_tracked}
-use Rattle.cc_state_keys.specs.Tracked.{tracked}
-use Rattle.cc_state_operators.specs.Domains.{domain}
+use Rattle.cc_state_reads.specs.CcStateFacts.declared.facts.Row.{Row}
+use Rattle.cc_state_reads.specs.CcStateFacts.Facts.{cell_of}
+use Rattle.cc_state_reads.proofs.CcStateKeys.FactCounts.{few_tracked}
+use Rattle.cc_state_reads.specs.CcStateKeys.Tracked.{tracked}
+use Rattle.cc_state_reads.specs.CcStateOperators.Domains.{domain}
 use Rattle.cc_state_shaped.proofs.Tests.{both, not_first}
 use Rattle.cc_state_shaped.specs.Parts.{cell_count, AreFilled}
 use Rattle.cc_state_shaped.proofs.points.have_cells.Goals as goal

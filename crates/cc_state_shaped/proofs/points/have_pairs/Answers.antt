@@ -1,6 +1,6 @@
 use Rattle.std.proofs.Common.{◌↔◌, ℕ, IsTrue, List, length, ap, subst}
 use Rattle.std.specs.List.{All, AllPairs, Contains}
-use Rattle.cc_state_facts.specs.Orders.{IsBefore}
+use Rattle.cc_state_reads.specs.CcStateFacts.Orders.{IsBefore}
 use Rattle.cc_state_shaped.proofs.Filled.{each_contained, all_from_each}
 use Rattle.cc_state_shaped.proofs.Tests.{both, not_first, as_said}
 use Rattle.cc_state_shaped.specs.Parts.{IsWithin}

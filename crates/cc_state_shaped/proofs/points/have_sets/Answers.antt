@@ -1,4 +1,4 @@
-use Rattle.cc_state_operators.specs.Domains.{domain}
+use Rattle.cc_state_reads.specs.CcStateOperators.Domains.{domain}
 use Rattle.cc_state_shaped.specs.Parts.{HaveCells}
 use Rattle.cc_state_shaped.proofs.Tests.{both, not_first}
 use Rattle.cc_state_shaped.proofs.points.have_sets.Goals as goal

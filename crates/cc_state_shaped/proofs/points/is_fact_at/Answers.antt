@@ -1,8 +1,8 @@
 use Rattle.std.proofs.Common.{None, Some, ap, sym, ◌∙◌}
 use Rattle.std.specs.Option.{option_copied}
-use Rattle.cc_flow.specs.declared.types.Flow.{Flow}
-use Rattle.cc_flow.specs.Points.{flow_of}
-use Rattle.cc_state_operators.specs.Domains.{domain}
+use Rattle.cc_state_reads.specs.CcFlow.declared.types.Flow.{Flow}
+use Rattle.cc_state_reads.specs.CcFlow.Points.{flow_of}
+use Rattle.cc_state_reads.specs.CcStateOperators.Domains.{domain}
 use Rattle.cc_state_shaped.proofs.Known.{at_none, at_some}
 use Rattle.cc_state_shaped.proofs.Typed.{found_at}
 use Rattle.cc_state_shaped.proofs.points.is_fact_at.Goals as goal

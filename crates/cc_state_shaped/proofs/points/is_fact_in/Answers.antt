@@ -1,8 +1,8 @@
 use Rattle.std.proofs.Common.{None, Some, ap, sym, ◌∙◌}
 use Rattle.std.specs.Option.{option_copied, option_map}
 use Rattle.std.proofs.lemmas.Option.{none-some, same_Some}
-use Rattle.cc_state_keys.specs.Tracked.{registers}
-use Rattle.cc_state_operators.specs.Domains.{domain}
+use Rattle.cc_state_reads.specs.CcStateKeys.Tracked.{registers}
+use Rattle.cc_state_reads.specs.CcStateOperators.Domains.{domain}
 use Rattle.cc_state_shaped.proofs.Known.{in_none, in_some, registers_in}
 use Rattle.cc_state_shaped.proofs.Typed.{found_at}
 use Rattle.cc_state_shaped.proofs.points.is_fact_in.Goals as goal

@@ -1,7 +1,7 @@
 -- Each row so far is filled; at the end these are all.
 use Rattle.std.proofs.Common.{arith, ◌≡◌, ◌+◌, eqb, Some, length, refl, sym, subst, slice_get}
 use Rattle.std.proofs.lemmas.Option.{slice_get_read}
-use Rattle.cc_state_facts.specs.declared.facts.Row.{Row}
+use Rattle.cc_state_reads.specs.CcStateFacts.declared.facts.Row.{Row}
 use Rattle.cc_state_shaped.specs.Parts.{IsFilled}
 use Rattle.cc_state_shaped.proofs.Filled.{filled_more, filled_all, filled_at}
 use Rattle.cc_state_shaped.proofs.rows.are_filled.Goals as goal

@@ -3,7 +3,7 @@ use Rattle.std.proofs.Common.{arith, ◌≡◌, ◌≤◌, ◌+◌, ℕ, take, l
 use Rattle.std.proofs.lemmas.List.{take_all}
 use Rattle.std.proofs.lemmas.List.Sums.{sum_by_more, sum_by_more_le}
 use Rattle.std.specs.List.{sum_by}
-use Rattle.cc_state_facts.specs.declared.facts.Row.{Row}
+use Rattle.cc_state_reads.specs.CcStateFacts.declared.facts.Row.{Row}
 use Rattle.cc_state_shaped.specs.Parts.{cells_in}
 use Rattle.cc_state_shaped.proofs.Tests.{at_end}
 use Rattle.cc_state_shaped.proofs.rows.have_cells.Goals as goal

@@ -7,8 +7,8 @@ use Rattle.cc_program.specs.declared.types.Shape.TheOpen as shape
 use Rattle.cc_program.specs.declared.types.Shape.TheVariants.{outs-Array, outs-Func, outs-Int, outs-Pointer, outs-Struct, outs-Void}
 use Rattle.cc_state_shaped.proofs.Typed.{array_found, scalar_found}
 use Rattle.cc_state_shaped.proofs.sets.+cell_type.Goals as goal
-use Rattle.cc_syntax.specs.Values.{scalar_shape}
-use Rattle.cc_typed.specs.View.{value_view}
+use Rattle.cc_state_reads.specs.CcSyntax.Values.{scalar_shape}
+use Rattle.cc_state_reads.specs.CcTyped.View.{value_view}
 
 pub returns-in-Array : goal.returns-in-Array
 returns-in-Array t c =

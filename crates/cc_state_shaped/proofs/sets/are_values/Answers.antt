@@ -1,7 +1,7 @@
 -- By the ends of the set.
 use Rattle.std.proofs.Common.{sym, ◌∙◌, refl, subst}
 use Rattle.std.specs.Option.{IfSome}
-use Rattle.cc_lattice.specs.Domains.{AreEnds}
+use Rattle.cc_state_reads.specs.CcLattice.Domains.{AreEnds}
 use Rattle.cc_state_shaped.proofs.Integers.{both_ends, first_end}
 use Rattle.cc_state_shaped.proofs.sets.are_values.Goals as goal
 

@@ -1,8 +1,8 @@
 use Rattle.std.specs.Prelude.{option_map}
-use Rattle.cc_state_operators.specs.Domains.{domain}
+use Rattle.cc_state_reads.specs.CcStateOperators.Domains.{domain}
 use Rattle.cc_state_shaped.proofs.Typed.{of_cells}
 use Rattle.cc_state_shaped.proofs.sets.is_cell_set.Goals as goal
-use Rattle.cc_typed.specs.View.{value_view}
+use Rattle.cc_state_reads.specs.CcTyped.View.{value_view}
 
 pub returns : goal.returns
 returns g c =

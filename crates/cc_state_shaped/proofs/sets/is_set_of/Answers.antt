@@ -1,9 +1,9 @@
 use Rattle.std.proofs.Common.{ap}
 use Rattle.std.specs.Prelude.{option_map}
-use Rattle.cc_state_operators.specs.Domains.{domain}
+use Rattle.cc_state_reads.specs.CcStateOperators.Domains.{domain}
 use Rattle.cc_state_shaped.proofs.Typed.{of_some, of_no_type}
 use Rattle.cc_state_shaped.proofs.sets.is_set_of.Goals as goal
-use Rattle.cc_typed.specs.View.{value_view}
+use Rattle.cc_state_reads.specs.CcTyped.View.{value_view}
 
 pub returns-in-None : goal.returns-in-None
 returns-in-None g c =

@@ -1,10 +1,10 @@
 use Rattle.std.proofs.Common.{◌↔◌, IsTrue, sym, subst}
 use Rattle.cc_program.specs.declared.program.Program.{Program}
 use Rattle.cc_state.specs.Shape.{HaveShape}
-use Rattle.cc_state_operators.specs.Domains.{domain}
+use Rattle.cc_state_reads.specs.CcStateOperators.Domains.{domain}
 use Rattle.cc_state_shaped.specs.Layout.{IsLayoutOf}
 use Rattle.cc_state_shaped.proofs.shape.has_shape.Goals as goal
-use Rattle.cc_syntax.proofs.NameRules.{sound-typed}
+use Rattle.cc_state_reads.proofs.CcSyntax.NameRules.{sound-typed}
 
 pub layout_of-requires : goal.layout_of-requires
 layout_of-requires g c = record { typed = sound-typed c.args.p.now c.requires.normal.sound; flow = c.requires.flow }

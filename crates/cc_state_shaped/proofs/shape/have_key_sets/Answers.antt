@@ -1,7 +1,7 @@
 use Rattle.std.proofs.Common.{arith, ◌≡◌, length, ap, ◌∙◌}
 use Rattle.cc_state.specs.Shape.{IsKeyType}
-use Rattle.cc_state_keys.specs.Keys.{keys_of}
-use Rattle.cc_state_operators.specs.Domains.{domain}
+use Rattle.cc_state_reads.specs.CcStateKeys.Keys.{keys_of}
+use Rattle.cc_state_reads.specs.CcStateOperators.Domains.{domain}
 use Rattle.cc_state_shaped.proofs.Tests.{so_many}
 use Rattle.cc_state_shaped.proofs.shape.have_key_sets.Goals as goal
 

@@ -1,6 +1,6 @@
 use Rattle.std.proofs.Common.{arith, ◌≡◌, length, ap}
 use Rattle.cc_state.specs.Shape.{IsResultType}
-use Rattle.cc_state_operators.specs.Domains.{domain}
+use Rattle.cc_state_reads.specs.CcStateOperators.Domains.{domain}
 use Rattle.cc_state_shaped.proofs.Tests.{so_many}
 use Rattle.cc_state_shaped.proofs.shape.have_result_sets.Goals as goal
 

@@ -1,4 +1,4 @@
-use Rattle.cc_state_operators.specs.Domains.{domain}
+use Rattle.cc_state_reads.specs.CcStateOperators.Domains.{domain}
 use Rattle.cc_state_shaped.proofs.Known.{as_shape}
 use Rattle.cc_state_shaped.proofs.shape.have_shape.Goals as goal
 

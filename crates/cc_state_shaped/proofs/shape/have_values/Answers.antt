@@ -1,4 +1,4 @@
-use Rattle.cc_state_operators.specs.Domains.{domain}
+use Rattle.cc_state_reads.specs.CcStateOperators.Domains.{domain}
 use Rattle.cc_state_shaped.specs.Parts.{HavePoints}
 use Rattle.cc_state_shaped.proofs.Tests.{both, not_first}
 use Rattle.cc_state_shaped.proofs.shape.have_values.Goals as goal

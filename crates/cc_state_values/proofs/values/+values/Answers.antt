@@ -1,7 +1,7 @@
 -- What each construct may give, from what its operands may give; and each is less high than what it is an operand of.
 use Rattle.std.proofs.Common.{rules, ap, sym, ◌∙◌, subst, refl, option_map}
 use Rattle.std.proofs.lemmas.Result.{IfOk-weaker}
-use Rattle.cc_typed.specs.View.{place_view}
+use Rattle.cc_state_operators.specs.CcTyped.View.{place_view}
 use Rattle.cc_state_operators.specs.Domains.{domain}
 use Rattle.cc_state_operators.specs.Operands.{AreAddrs}
 use Rattle.cc_state_values.specs.Contexts.{set_in}

@@ -2,7 +2,7 @@
 use Rattle.std.proofs.Common.{◌≡◌, ◌∙◌, ℤ, to_z, of_z, arith, sym, subst, refl}
 use Rattle.std.specs.Int.{w128}
 use Rattle.std.proofs.lemmas.Int.{ints}
-use Rattle.cc_lattice.specs.Domains.{IsIntValue}
+use Rattle.cc_state_operators.specs.CcLattice.Domains.{IsIntValue}
 use Rattle.cc_state_values.proofs.values.constant.Goals as goal
 
 exact : (v : ℤ) → IsIntValue v → to_z w128 (of_z w128 v) ≡ v

@@ -1,5 +1,5 @@
 -- The laws, by those of the domain.
-use Rattle.cc_state_operators.specs.Domains.{domain}
+use Rattle.cc_state_reads.specs.CcStateOperators.Domains.{domain}
 use Rattle.cc_state_values_fit.proofs.Sets.{IsTyping}
 use Rattle.cc_state_values_fit.proofs.Values.{value_fits, pointers_fit}
 use Rattle.cc_state_values_fit.proofs.law.laws.Goals as goal

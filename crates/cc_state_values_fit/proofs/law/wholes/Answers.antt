@@ -1,8 +1,8 @@
 -- The set of each type is made.
 use Rattle.std.proofs.Common.{ℤ}
-use Rattle.cc_num.specs.declared.int_type.IntType.{IntType}
-use Rattle.cc_num.specs.declared.int_type.IntType.TheVariants as int
-use Rattle.cc_num.specs.Integers.{IsValueOf}
+use Rattle.cc_program.specs.CcNum.declared.int_type.IntType.{IntType}
+use Rattle.cc_program.specs.CcNum.declared.int_type.IntType.TheVariants as int
+use Rattle.cc_program.specs.CcNum.Integers.{IsValueOf}
 use Rattle.cc_state_values_fit.proofs.law.wholes.Goals as goal
 
 pub returns : goal.returns

@@ -1,6 +1,6 @@
 -- Each law is a lemma of its own, by the laws of the domain.
-use Rattle.cc_state_operators.specs.Domains.{domain}
-use Rattle.cc_state_values.proofs.Same.{order_of}
+use Rattle.cc_state_values_sound.specs.CcStateOperators.Domains.{domain}
+use Rattle.cc_state_values_sound.proofs.CcStateValues.Same.{order_of}
 use Rattle.cc_state_values_grow.proofs.Growing.{value_more, place_more}
 use Rattle.cc_state_values_grow.proofs.Images.{order_given, truth_grows}
 use Rattle.cc_state_values_grow.proofs.Leading.{leads_somewhere}

@@ -1,5 +1,5 @@
 -- Each law is a lemma of its own, by what the laws of the domain say of its operators.
-use Rattle.cc_state_operators.specs.Domains.{domain}
+use Rattle.cc_state_values.specs.CcStateOperators.Domains.{domain}
 use Rattle.cc_state_values_sound.proofs.Choices.{all_given}
 use Rattle.cc_state_values_sound.proofs.InStates.{value_in_states, place_in_states}
 use Rattle.cc_state_values_sound.proofs.law.laws.Goals as goal

@@ -1,11 +1,11 @@
 use Rattle.cc_states.proofs.TakenLemmas.{taken_one, taken_two, taken_change}
 use Rattle.std.proofs.Common.{◌∙◌}
-use Rattle.cc_eval.proofs.Works.{works_as}
-use Rattle.cc_eval.specs.Eval.{designation}
+use Rattle.cc_steps.proofs.CcEval.Works.{works_as}
+use Rattle.cc_steps.specs.CcEval.Eval.{designation}
 use Rattle.cc_states.specs.Answers.{IsMarkOf, IsStep}
 use Rattle.cc_states.specs.Typed.{MayLead}
 use Rattle.cc_states.proofs.PartTypes.{typed_parts, typed_place_parts}
-use Rattle.cc_eval.proofs.Links.{type_linked, place_type_linked}
+use Rattle.cc_steps.proofs.CcEval.Links.{type_linked, place_type_linked}
 use Rattle.cc_states.proofs.EvalTypes.{Spot-of, meaning_typed, designation_typed}
 use Rattle.cc_states.proofs.law.expression_laws.Goals as goal
 

@@ -1,7 +1,7 @@
 use Rattle.std.proofs.Common.{ap}
 use Rattle.cc_initialisers.specs.View.{step_view}
 use Rattle.cc_objects.specs.Values.{leaf_given, no_leaf}
-use Rattle.cc_operands.specs.View.{operand_view, type_view}
+use Rattle.cc_terms.specs.CcOperands.View.{operand_view, type_view}
 use Rattle.cc_program.specs.declared.value.Leaf.{Leaf}
 use Rattle.cc_scopes.specs.View.{state_of}
 use Rattle.cc_typed_bodies.proofs.Gives.{give-gives}

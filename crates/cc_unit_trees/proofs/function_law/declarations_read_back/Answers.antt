@@ -1,8 +1,8 @@
 use Rattle.std.proofs.Common.{false, ◌∷◌, [], refl}
 use Rattle.cc_program.specs.declared.types.Sig.{out-Sig}
 use Rattle.cc_unit_trees.proofs.Lines.{body-reads}
-use Rattle.cc_syntax.specs.Programs.{kind_in}
-use Rattle.cc_words.specs.declared.word.Word.TheVariants as w
+use Rattle.cc_typed.specs.CcSyntax.Programs.{kind_in}
+use Rattle.cc_program.specs.CcWords.declared.word.Word.TheVariants as w
 use Rattle.cc_unit_trees.proofs.FunctionDeclarations.{name-decl-read}
 use Rattle.cc_unit_trees.proofs.FunctionFitting.{decl-fits, function-fits}
 use Rattle.cc_unit_trees.proofs.Functions.{function-read}

@@ -1,5 +1,5 @@
 use Rattle.std.proofs.Common.{◌≡◌, refl}
-use Rattle.cc_steps.specs.View.{state_of as state_of_run}
+use Rattle.cc_states.specs.CcSteps.View.{state_of as state_of_run}
 use Rattle.cc_meaning.specs.View.{state_of}
 use Rattle.cc_meaning.proofs.Kept.{is_kept}
 use Rattle.cc_meaning.proofs.machine.Machine.step.Goals as goal

@@ -1,6 +1,6 @@
 use Rattle.std.proofs.lemmas.Result.{IfOk-weaker}
 use Rattle.cc_rules_flows.specs.Here.{IsWithFlags}
-use Rattle.cc_state_operators.specs.Domains.{domain}
+use Rattle.cc_state_reads.specs.CcStateOperators.Domains.{domain}
 use Rattle.cc_rules_flows.proofs.AfterLemmas.{of_either}
 use Rattle.cc_rules_flows.proofs.after.Here.restores.Goals as goal
 

@@ -1,5 +1,5 @@
 use Rattle.std.proofs.Common.{length, true, false}
-use Rattle.cc_places.specs.declared.abs.Abs.TheVariants as abs
+use Rattle.cc_state_reads.specs.CcPlaces.declared.abs.Abs.TheVariants as abs
 use Rattle.cc_rules_needs.specs.Flowing.{Flowing, with_local, with_flags}
 use Rattle.cc_rules_flows.proofs.ShapeLemmas.{kept_through}
 use Rattle.cc_rules_flows.proofs.AfterLemmas.{changed, shaped, of_saves}

@@ -1,8 +1,8 @@
 -- There are as many points as the program has.
 use Rattle.std.proofs.Common.{arith, ◌≡◌, length, sym, ap, ◌∙◌}
-use Rattle.cc_flow.proofs.Paths.{all_counted}
-use Rattle.cc_flow.specs.declared.types.Flow.{Flow}
-use Rattle.cc_flow.specs.Points.{count_of}
+use Rattle.cc_rules_asked.proofs.CcFlow.Paths.{all_counted}
+use Rattle.cc_rules_asked.specs.CcFlow.declared.types.Flow.{Flow}
+use Rattle.cc_rules_asked.specs.CcFlow.Points.{count_of}
 use Rattle.cc_rules_system.proofs.system.ConstraintSystemSystem.count.Goals as goal
 
 pub overflow_cast-all : goal.overflow_cast-all

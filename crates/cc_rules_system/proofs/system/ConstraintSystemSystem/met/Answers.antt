@@ -2,13 +2,13 @@
 use Rattle.std.proofs.Common.{arith, ◌≡◌, length, sym, ap, subst, ◌∙◌}
 use Rattle.cc_rules_asked.specs.Asked.{all_needs}
 use Rattle.cc_rules_lacking.specs.First.{LacksFirst}
-use Rattle.cc_rules_needs.specs.Needs.{Needs}
+use Rattle.cc_rules_asked.specs.CcRulesNeeds.Needs.{Needs}
 use Rattle.cc_rules_system.proofs.AskedLemmas.{asked_at}
 use Rattle.cc_rules_system.proofs.Having.{met_where}
 use Rattle.cc_rules_system.proofs.system.ConstraintSystemSystem.met.Goals as goal
-use Rattle.cc_state_keys.proofs.FactCounts.{few_tracked}
-use Rattle.cc_state_keys.specs.Tracked.{tracked}
-use Rattle.cc_state_operators.specs.Domains.{domain}
+use Rattle.cc_rules_asked.proofs.CcStateKeys.FactCounts.{few_tracked}
+use Rattle.cc_rules_asked.specs.CcStateKeys.Tracked.{tracked}
+use Rattle.cc_rules_asked.specs.CcStateOperators.Domains.{domain}
 
 pub asked-requires : goal.asked-requires
 asked-requires g c =

@@ -1,19 +1,19 @@
 -- What is asked fits and is laid out so that it raises facts; they rise to the least ones above that have it, and then their room falls.
 use Rattle.std.proofs.Common.{arith, ◌≡◌, ◌<◌, lit<, true, List, sym, ap, subst}
 use Rattle.std.proofs.lemmas.Result.{IfOk-weaker, on_ok_weaker}
-use Rattle.cc_places.specs.laws.AbstractLaws.{abs_itself, abs_through}
+use Rattle.cc_rules_asked.specs.CcPlaces.laws.AbstractLaws.{abs_itself, abs_through}
 use Rattle.cc_rules_asked.specs.Asked.{all_needs}
 use Rattle.cc_rules_asked.specs.declared.asked.Asked.{Asked}
 use Rattle.cc_rules_layout.specs.Raisable.{AreRaisable}
-use Rattle.cc_rules_needs.proofs.ByParts.{slots_below, parts_below}
-use Rattle.cc_rules_needs.proofs.Through.{facts_itself}
-use Rattle.cc_rules_needs.specs.Needs.{Needs, HasAll}
+use Rattle.cc_rules_asked.proofs.CcRulesNeeds.ByParts.{slots_below, parts_below}
+use Rattle.cc_rules_asked.proofs.CcRulesNeeds.Through.{facts_itself}
+use Rattle.cc_rules_asked.specs.CcRulesNeeds.Needs.{Needs, HasAll}
 use Rattle.cc_rules_shaped.specs.Shaped.{AreFit}
 use Rattle.cc_rules_system.proofs.AskedLemmas.{asked_at, asks}
 use Rattle.cc_rules_system.proofs.Having.{asked_had, met_had}
 use Rattle.cc_rules_system.proofs.system.ConstraintSystemSystem.raise.Goals as goal
 use Rattle.cc_state_limits.specs.Held.{most_members}
-use Rattle.cc_state_operators.specs.Domains.{domain}
+use Rattle.cc_rules_asked.specs.CcStateOperators.Domains.{domain}
 use Rattle.cc_state_room.specs.Room.{room_of}
 use Rattle.cc_state_shape.proofs.Alike.{facts_alike, well_formed}
 

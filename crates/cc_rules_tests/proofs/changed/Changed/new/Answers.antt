@@ -1,6 +1,6 @@
 -- One more register and one more set come first.
 use Rattle.std.proofs.Common.{◌++◌, ◌∷◌, [], ap, ◌∙◌}
-use Rattle.cc_places.specs.declared.abs.Abs.TheVariants as abs
+use Rattle.cc_rules_flows.specs.CcPlaces.declared.abs.Abs.TheVariants as abs
 use Rattle.cc_rules_tests.proofs.changed.Changed.new.Goals as goal
 
 pub returns : goal.returns

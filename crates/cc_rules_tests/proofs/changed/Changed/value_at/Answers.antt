@@ -2,7 +2,7 @@
 use Rattle.std.proofs.lemmas.Result.{IfOk-weaker}
 use Rattle.cc_rules_tests.proofs.Least.{hull_one, number_read}
 use Rattle.cc_rules_tests.proofs.Staying.{one_held, one_int}
-use Rattle.cc_state_operators.specs.Domains.{domain}
+use Rattle.cc_rules_flows.specs.CcStateOperators.Domains.{domain}
 use Rattle.cc_rules_tests.proofs.changed.Changed.value_at.Goals as goal
 
 pub value_with-requires : goal.value_with-requires

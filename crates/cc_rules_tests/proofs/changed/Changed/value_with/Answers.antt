@@ -2,11 +2,11 @@
 use Rattle.std.proofs.Common.{◌∷◌, ap, sym, subst, ◌∙◌}
 use Rattle.std.proofs.Math.ListN.{set}
 use Rattle.std.proofs.lemmas.Result.{IfOk-weaker}
-use Rattle.cc_places.specs.declared.abs.Abs.TheVariants as abs
+use Rattle.cc_rules_flows.specs.CcPlaces.declared.abs.Abs.TheVariants as abs
 use Rattle.cc_rules_tests.proofs.Changing.{have_sets, set_there}
-use Rattle.cc_state_operators.specs.Domains.{domain}
-use Rattle.cc_state_values.specs.Typed.{HaveSets}
-use Rattle.cc_state_values.specs.Values.{IsVal}
+use Rattle.cc_rules_flows.specs.CcStateOperators.Domains.{domain}
+use Rattle.cc_rules_flows.specs.CcStateValues.Typed.{HaveSets}
+use Rattle.cc_rules_flows.specs.CcStateValues.Values.{IsVal}
 use Rattle.cc_rules_tests.proofs.changed.Changed.value_with.Goals as goal
 
 pub value_of-value-requires-clause-sets : goal.value_of-value-requires-clause-sets

@@ -1,11 +1,11 @@
 -- Number by number.
 use Rattle.std.proofs.Common.{[], pos, get_or, arith, sym, subst}
-use Rattle.cc_places.specs.laws.ListLaws.{all_taken}
+use Rattle.cc_rules_flows.specs.CcPlaces.laws.ListLaws.{all_taken}
 use Rattle.cc_rules_tests.specs.Trials.{AreGivenAt, IsGivenAt}
 use Rattle.cc_rules_tests.proofs.Following.{itself_at}
 use Rattle.cc_rules_tests.proofs.Staying.{item_held}
 use Rattle.cc_rules_tests.proofs.Zips.{zip_more}
-use Rattle.cc_state_operators.specs.Domains.{domain}
+use Rattle.cc_rules_flows.specs.CcStateOperators.Domains.{domain}
 use Rattle.cc_rules_tests.proofs.changed.Changed.values_at.Goals as goal
 
 pub loop-m-init : goal.loop-m-init

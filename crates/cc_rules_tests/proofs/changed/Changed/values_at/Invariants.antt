@@ -1,7 +1,7 @@
 use Rattle.std.proofs.Common.{take}
 use Rattle.cc_rules_tests.specs.Tested.{IsChangedOf}
 use Rattle.cc_rules_tests.specs.Trials.{AreGivenAt}
-use Rattle.cc_state_operators.specs.Domains.{domain}
+use Rattle.cc_rules_flows.specs.CcStateOperators.Domains.{domain}
 use Rattle.cc_rules_tests.proofs.changed.Changed.values_at.Given as goal
 
 abbrev pub invariant-loop-m : goal.invariant-loop-m

@@ -1,8 +1,8 @@
 -- By the operands of a comparison, and not at all by another condition.
 use Rattle.std.proofs.Common.{◌≡◌, true, ap, sym, subst, ◌∙◌}
 use Rattle.std.proofs.lemmas.Result.{IfOk-weaker}
-use Rattle.cc_lattice.specs.Domains.{is_comparison}
-use Rattle.cc_state_operators.specs.Domains.{domain}
+use Rattle.cc_rules_flows.specs.CcLattice.Domains.{is_comparison}
+use Rattle.cc_rules_flows.specs.CcStateOperators.Domains.{domain}
 use Rattle.cc_rules_tests.specs.Forms.{comparison_view}
 use Rattle.cc_rules_tests.proofs.Cuts.{left_compared_by, left_uncompared}
 use Rattle.cc_rules_tests.proofs.Numbers.{compares, operands, passing_compares}

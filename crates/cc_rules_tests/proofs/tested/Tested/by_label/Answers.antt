@@ -1,9 +1,9 @@
 -- By the label where the expression is the register.
 use Rattle.std.proofs.Common.{subst, sym}
 use Rattle.std.proofs.lemmas.Result.{IfOk-weaker}
-use Rattle.cc_lattice.specs.Domains.{IsIntValue}
-use Rattle.cc_num.specs.declared.op.BinOp.TheVariants as op
-use Rattle.cc_state_operators.specs.Domains.{domain}
+use Rattle.cc_rules_flows.specs.CcLattice.Domains.{IsIntValue}
+use Rattle.cc_program.specs.CcNum.declared.op.BinOp.TheVariants as op
+use Rattle.cc_rules_flows.specs.CcStateOperators.Domains.{domain}
 use Rattle.cc_rules_tests.proofs.Cuts.{left_label, left_no_label, not_operand}
 use Rattle.cc_rules_tests.proofs.Following.{int_same}
 use Rattle.cc_rules_tests.proofs.Numbers.{cut_read, label_value}

@@ -1,6 +1,6 @@
 -- By each label where the expression is the register.
 use Rattle.std.proofs.lemmas.Result.{IfOk-weaker}
-use Rattle.cc_state_operators.specs.Domains.{domain}
+use Rattle.cc_rules_flows.specs.CcStateOperators.Domains.{domain}
 use Rattle.cc_rules_tests.proofs.Cuts.{left_labels, left_no_labels, not_operand}
 use Rattle.cc_rules_tests.proofs.Numbers.{labels_values}
 use Rattle.cc_rules_tests.proofs.Registers.{copy_below}

@@ -1,8 +1,8 @@
 -- The left operand first, and what it leaves by the right one.
 use Rattle.std.proofs.Common.{sym, subst, ◌≡◌, true}
 use Rattle.std.proofs.lemmas.Result.{IfOk-weaker}
-use Rattle.cc_lattice.specs.Domains.{is_comparison}
-use Rattle.cc_state_operators.specs.Domains.{domain}
+use Rattle.cc_rules_flows.specs.CcLattice.Domains.{is_comparison}
+use Rattle.cc_rules_flows.specs.CcStateOperators.Domains.{domain}
 use Rattle.cc_rules_tests.proofs.Numbers.{cut_copy, cut_turned, turned_compares}
 use Rattle.cc_rules_tests.proofs.tested.Tested.by_operands.Goals as goal
 

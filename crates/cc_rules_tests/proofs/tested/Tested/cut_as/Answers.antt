@@ -1,5 +1,5 @@
 -- Cut where the operand is the register, and as it was where it is not.
-use Rattle.cc_state_operators.specs.Domains.{domain}
+use Rattle.cc_rules_flows.specs.CcStateOperators.Domains.{domain}
 use Rattle.cc_rules_tests.proofs.Cuts.{cut_by, uncut_by}
 use Rattle.cc_rules_tests.proofs.tested.Tested.cut_as.Goals as goal
 

@@ -1,8 +1,8 @@
 -- By the type of the local.
 use Rattle.std.proofs.Common.{option_map, ap, sym, ◌∙◌}
 use Rattle.std.specs.Option.{option_copied}
-use Rattle.cc_typed.specs.View.{value_view}
-use Rattle.cc_state_operators.specs.Domains.{domain}
+use Rattle.cc_rules_flows.specs.CcTyped.View.{value_view}
+use Rattle.cc_rules_flows.specs.CcStateOperators.Domains.{domain}
 use Rattle.cc_rules_tests.proofs.Registers.{local_there, of_local, of_no_local, of_no_type}
 use Rattle.cc_rules_tests.proofs.tested.Tested.is_of_register.Goals as goal
 

@@ -1,9 +1,9 @@
 -- As of the register where all values are of its type.
 use Rattle.std.proofs.Common.{◌↔◌, IsTrue, subst}
 use Rattle.std.proofs.lemmas.Result.{IfOk-weaker}
-use Rattle.cc_places.specs.Abstract.{IsBelowAbs}
-use Rattle.cc_places.specs.laws.AbstractLaws.{abs_itself}
-use Rattle.cc_state_operators.specs.Domains.{domain}
+use Rattle.cc_rules_flows.specs.CcPlaces.Abstract.{IsBelowAbs}
+use Rattle.cc_rules_flows.specs.CcPlaces.laws.AbstractLaws.{abs_itself}
+use Rattle.cc_rules_flows.specs.CcStateOperators.Domains.{domain}
 use Rattle.cc_rules_tests.specs.Tested.{IsOfRegisterIn}
 use Rattle.cc_rules_tests.proofs.Registers.{copy_below, left_same_type, left_unlike, may_have, worked_unlike}
 use Rattle.cc_rules_tests.proofs.tested.Tested.left_alike.Goals as goal

@@ -1,11 +1,11 @@
 -- By the kind of the set.
 use Rattle.std.proofs.Common.{sym, ◌∙◌}
 use Rattle.std.proofs.lemmas.Result.{IfOk-weaker}
-use Rattle.cc_places.specs.Abstract.{IsBelowAbs}
-use Rattle.cc_places.specs.laws.AbstractLaws.{abs_itself}
+use Rattle.cc_rules_flows.specs.CcPlaces.Abstract.{IsBelowAbs}
+use Rattle.cc_rules_flows.specs.CcPlaces.laws.AbstractLaws.{abs_itself}
 use Rattle.cc_rules_tests.proofs.Cuts.{left_addresses}
 use Rattle.cc_rules_tests.proofs.Registers.{all_held, copy_below, worked_addresses}
-use Rattle.cc_state_operators.specs.Domains.{domain}
+use Rattle.cc_rules_flows.specs.CcStateOperators.Domains.{domain}
 use Rattle.cc_rules_tests.proofs.tested.Tested.left_of.Goals as goal
 
 pub returns-in-Addrs : goal.returns-in-Addrs

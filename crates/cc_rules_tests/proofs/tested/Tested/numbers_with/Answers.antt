@@ -1,5 +1,5 @@
 -- The value of an integer expression is a set of integers.
-use Rattle.cc_state_operators.specs.Domains.{domain}
+use Rattle.cc_rules_flows.specs.CcStateOperators.Domains.{domain}
 use Rattle.cc_rules_tests.proofs.Numbers.{copy_held, no_addresses, number_there}
 use Rattle.cc_rules_tests.proofs.tested.Tested.numbers_with.Goals as goal
 

@@ -1,7 +1,7 @@
 -- By what is tested.
 use Rattle.std.proofs.Common.{◌≡◌, ap, subst, sym}
 use Rattle.cc_rules_flows.specs.Tests.{Equals}
-use Rattle.cc_state_operators.specs.Domains.{domain}
+use Rattle.cc_rules_flows.specs.CcStateOperators.Domains.{domain}
 use Rattle.cc_rules_tests.specs.Tested.{test_of}
 use Rattle.cc_rules_tests.proofs.Following.{int_same}
 use Rattle.cc_rules_tests.proofs.Numbers.{label_value}

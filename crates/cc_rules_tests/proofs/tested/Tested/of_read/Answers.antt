@@ -2,8 +2,8 @@
 use Rattle.std.proofs.Common.{ℤ, ap, sym, subst, ◌∙◌}
 use Rattle.std.specs.List.{Contains}
 use Rattle.std.proofs.lemmas.Result.{IfOk-weaker}
-use Rattle.cc_places.specs.Abstract.{IsBelowAbs}
-use Rattle.cc_places.specs.laws.AbstractLaws.{abs_itself}
+use Rattle.cc_rules_flows.specs.CcPlaces.Abstract.{IsBelowAbs}
+use Rattle.cc_rules_flows.specs.CcPlaces.laws.AbstractLaws.{abs_itself}
 use Rattle.cc_rules_tests.specs.Tested.{MayHoldEach, StaysIn}
 use Rattle.cc_rules_tests.specs.Trials.{IsGivenAt, IsTried}
 use Rattle.cc_rules_tests.specs.declared.tried.Tried.{Tried}
@@ -11,8 +11,8 @@ use Rattle.cc_rules_tests.proofs.Explicit.{below_some, given_of, held_of, hull_o
 use Rattle.cc_rules_tests.proofs.Registers.{copy_below}
 use Rattle.cc_rules_tests.proofs.Staying.{StayOf, stays_on}
 use Rattle.cc_rules_tests.proofs.Zips.{zip_in}
-use Rattle.cc_state_operators.specs.Domains.{domain, IsHull}
-use Rattle.cc_state_values.proofs.Same.{order_of}
+use Rattle.cc_rules_flows.specs.CcStateOperators.Domains.{domain, IsHull}
+use Rattle.cc_rules_flows.proofs.CcStateValues.Same.{order_of}
 use Rattle.cc_rules_tests.proofs.tested.Tested.of_read.Goals as goal
 
 pub tried-requires : goal.tried-requires

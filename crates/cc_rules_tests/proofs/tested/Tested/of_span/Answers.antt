@@ -1,12 +1,12 @@
 -- A range stays where the register is not read; else by the test.
 use Rattle.std.proofs.Common.{sym, subst, ◌∙◌}
 use Rattle.std.proofs.lemmas.Result.{IfOk-weaker}
-use Rattle.cc_places.specs.Abstract.{IsBelowAbs}
-use Rattle.cc_places.specs.laws.AbstractLaws.{abs_itself}
+use Rattle.cc_rules_flows.specs.CcPlaces.Abstract.{IsBelowAbs}
+use Rattle.cc_rules_flows.specs.CcPlaces.laws.AbstractLaws.{abs_itself}
 use Rattle.cc_rules_tests.specs.Tested.{IsLeftIn}
 use Rattle.cc_rules_tests.proofs.Registers.{below_ints, copy_below, left_ints}
 use Rattle.cc_rules_tests.proofs.Unread.{range_unread}
-use Rattle.cc_state_operators.specs.Domains.{domain}
+use Rattle.cc_rules_flows.specs.CcStateOperators.Domains.{domain}
 use Rattle.cc_rules_tests.proofs.tested.Tested.of_span.Goals as goal
 
 pub returns-then-not-reads : goal.returns-then-not-reads

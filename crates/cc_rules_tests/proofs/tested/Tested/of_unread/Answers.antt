@@ -2,8 +2,8 @@
 use Rattle.std.proofs.Common.{◌≡◌, true, ℤ, sym, subst}
 use Rattle.std.specs.List.{Contains}
 use Rattle.std.proofs.lemmas.Result.{IfOk-weaker}
-use Rattle.cc_places.specs.Abstract.{IsBelowAbs}
-use Rattle.cc_places.specs.laws.AbstractLaws.{abs_itself}
+use Rattle.cc_rules_flows.specs.CcPlaces.Abstract.{IsBelowAbs}
+use Rattle.cc_rules_flows.specs.CcPlaces.laws.AbstractLaws.{abs_itself}
 use Rattle.cc_rules_tests.specs.Tested.{IsWorkedAt, StaysIn}
 use Rattle.cc_rules_tests.specs.Trials.{IsGivenAt}
 use Rattle.cc_rules_tests.proofs.Explicit.{below_some, left_all, left_some, worked_all}
@@ -11,9 +11,9 @@ use Rattle.cc_rules_tests.proofs.Least.{hull_none}
 use Rattle.cc_rules_tests.proofs.Registers.{copy_below}
 use Rattle.cc_rules_tests.proofs.Staying.{StayOf, held_int, stays_back, stays_on, worked_on}
 use Rattle.cc_rules_tests.proofs.Unread.{given_unread}
-use Rattle.cc_state_operators.specs.Domains.{domain, IsHull}
-use Rattle.cc_state_values.proofs.Same.{order_of}
-use Rattle.cc_state_values.specs.Contexts.{IsValIn}
+use Rattle.cc_rules_flows.specs.CcStateOperators.Domains.{domain, IsHull}
+use Rattle.cc_rules_flows.proofs.CcStateValues.Same.{order_of}
+use Rattle.cc_rules_flows.specs.CcStateValues.Contexts.{IsValIn}
 use Rattle.cc_rules_tests.proofs.tested.Tested.of_unread.Goals as goal
 
 pub have_ones-requires : goal.have_ones-requires

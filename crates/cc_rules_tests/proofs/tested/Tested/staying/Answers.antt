@@ -1,14 +1,14 @@
 -- Number by number, by what was given at each.
 use Rattle.std.proofs.Common.{pos, get_or, arith, sym, subst}
-use Rattle.cc_places.specs.laws.ListLaws.{all_taken}
+use Rattle.cc_rules_flows.specs.CcPlaces.laws.ListLaws.{all_taken}
 use Rattle.cc_rules_tests.specs.Tested.{MayHoldEach}
 use Rattle.cc_rules_tests.specs.Trials.{AreGivenAt, IsGivenAt}
 use Rattle.cc_rules_tests.proofs.Following.{itself_at}
 use Rattle.cc_rules_tests.proofs.Least.{order_of}
 use Rattle.cc_rules_tests.proofs.Staying.{StayOf, item_held, none_yet, one_int, one_more}
 use Rattle.cc_rules_tests.proofs.Zips.{zip_item, zip_long}
-use Rattle.cc_state_operators.specs.Domains.{domain, IsHull}
-use Rattle.cc_state_values.proofs.Same.{order_of as all_ordered}
+use Rattle.cc_rules_flows.specs.CcStateOperators.Domains.{domain, IsHull}
+use Rattle.cc_rules_flows.proofs.CcStateValues.Same.{order_of as all_ordered}
 use Rattle.cc_rules_tests.proofs.tested.Tested.staying.Goals as goal
 
 pub loop-at-init : goal.loop-at-init

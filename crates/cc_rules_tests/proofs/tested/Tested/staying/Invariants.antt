@@ -1,6 +1,6 @@
 use Rattle.std.proofs.Common.{take}
 use Rattle.cc_rules_tests.proofs.Staying.{StayOf}
-use Rattle.cc_state_operators.specs.Domains.{domain, IsHull}
+use Rattle.cc_rules_flows.specs.CcStateOperators.Domains.{domain, IsHull}
 use Rattle.cc_rules_tests.proofs.tested.Tested.staying.Given as goal
 
 abbrev pub invariant-loop-at : goal.invariant-loop-at

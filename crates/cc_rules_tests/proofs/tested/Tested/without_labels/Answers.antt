@@ -1,11 +1,11 @@
 -- Each label cuts what the labels before it have left.
 use Rattle.std.proofs.Common.{◌≡◌, pos, get_or, arith, sym, subst}
-use Rattle.cc_num.specs.declared.op.BinOp.TheVariants as op
-use Rattle.cc_places.specs.laws.ListLaws.{item_in}
+use Rattle.cc_program.specs.CcNum.declared.op.BinOp.TheVariants as op
+use Rattle.cc_rules_flows.specs.CcPlaces.laws.ListLaws.{item_in}
 use Rattle.cc_rules_tests.proofs.Cuts.{all_cut, none_cut, one_cut}
 use Rattle.cc_rules_tests.proofs.Following.{itself_at}
 use Rattle.cc_rules_tests.proofs.Numbers.{cut_read}
-use Rattle.cc_state_operators.specs.Domains.{domain}
+use Rattle.cc_rules_flows.specs.CcStateOperators.Domains.{domain}
 use Rattle.cc_rules_tests.proofs.tested.Tested.without_labels.Goals as goal
 
 pub loop-n-init : goal.loop-n-init

@@ -1,6 +1,6 @@
 use Rattle.std.proofs.Common.{drop}
 use Rattle.cc_rules_tests.proofs.Cuts.{IsCutSoFar}
-use Rattle.cc_state_operators.specs.Domains.{domain}
+use Rattle.cc_rules_flows.specs.CcStateOperators.Domains.{domain}
 use Rattle.cc_rules_tests.proofs.tested.Tested.without_labels.Given as goal
 
 abbrev pub invariant-loop-n : goal.invariant-loop-n

@@ -4,7 +4,7 @@ use Rattle.std.specs.List.{Contains}
 use Rattle.std.specs.Option.{IfSome}
 use Rattle.std.proofs.lemmas.List.Elements.{All-contains}
 use Rattle.cc_rules_tests.specs.Trials.{IsTried, IsTriedAt}
-use Rattle.cc_state_operators.specs.Domains.{domain}
+use Rattle.cc_rules_flows.specs.CcStateOperators.Domains.{domain}
 use Rattle.cc_rules_tests.proofs.trial.Trial.tried.Goals as goal
 
 pub returns-in-Some : goal.returns-in-Some

@@ -2,7 +2,7 @@
 use Rattle.std.proofs.Common.{All, refl, sym, subst}
 use Rattle.std.proofs.lemmas.List.Elements.{All-push}
 use Rattle.cc_rules_tests.specs.Trials.{AreGivenAt, IsTried, IsTriedAt}
-use Rattle.cc_state_operators.specs.Domains.{domain}
+use Rattle.cc_rules_flows.specs.CcStateOperators.Domains.{domain}
 use Rattle.cc_rules_tests.proofs.trial.Trial.try_now.Goals as goal
 
 pub values_at-requires : goal.values_at-requires

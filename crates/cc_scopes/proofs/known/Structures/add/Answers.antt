@@ -1,6 +1,6 @@
 use Rattle.std.proofs.Common.{◌≡◌, ◌∙◌, [], refl, sym, None, is_ok, is_some, false}
 use Rattle.std.specs.Option.{option_copied}
-use Rattle.cc_syntax.specs.declared.sizes.Layout.{Layout}
+use Rattle.cc_operands.specs.CcSyntax.declared.sizes.Layout.{Layout}
 use Rattle.cc_scopes.specs.State.{name_or_none}
 use Rattle.cc_scopes.specs.View.{known_of}
 use Rattle.cc_scopes.specs.declared.standing.Standing.{Standing}

@@ -1,5 +1,5 @@
 use Rattle.std.proofs.Common.{◌∙◌, ap, map}
-use Rattle.cc_syntax.specs.Layout.{structure, type_layout}
+use Rattle.cc_operands.specs.CcSyntax.Layout.{structure, type_layout}
 use Rattle.cc_scopes.proofs.States.{state-completed}
 use Rattle.cc_scopes.proofs.state.State.complete.Goals as goal
 

@@ -1,6 +1,6 @@
 use Rattle.std.proofs.Common.{rules, ◌≡◌, ◌∙◌, true, false, ap, map}
 use Rattle.std.specs.List.{list_all}
-use Rattle.cc_syntax.specs.Programs.{is_sound_stmt}
+use Rattle.cc_typed.specs.CcSyntax.Programs.{is_sound_stmt}
 use Rattle.cc_typed.proofs.ListLemmas.{all_tests-stop}
 use Rattle.cc_sound.specs.Cases.{switches}
 use Rattle.cc_sound.proofs.StatementLemmas.{switch_true, switch_false}

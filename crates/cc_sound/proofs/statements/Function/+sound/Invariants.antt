@@ -1,6 +1,6 @@
 use Rattle.std.proofs.Common.{◌≡◌, take, map, true}
 use Rattle.std.specs.List.{list_all}
-use Rattle.cc_syntax.specs.Programs.{is_sound_stmt}
+use Rattle.cc_typed.specs.CcSyntax.Programs.{is_sound_stmt}
 use Rattle.cc_sound.specs.Cases.{is_sound_case}
 use Rattle.cc_sound.proofs.statements.Function.+sound.Given as goal
 

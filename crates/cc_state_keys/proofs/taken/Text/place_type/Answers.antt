@@ -1,8 +1,8 @@
 use Rattle.std.proofs.Common.{List, ap, sym, ◌∙◌}
 use Rattle.cc_state_keys.proofs.PlaceTypes.{place_typed}
 use Rattle.cc_state_keys.proofs.taken.Text.place_type.Goals as goal
-use Rattle.cc_syntax.specs.Programs.{place_type}
-use Rattle.cc_syntax.specs.Types.{Named}
+use Rattle.cc_eval.specs.CcSyntax.Programs.{place_type}
+use Rattle.cc_eval.specs.CcSyntax.Types.{Named}
 
 pub returns : goal.returns
 returns c =

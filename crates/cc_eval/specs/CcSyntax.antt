@@ -1,0 +1,23 @@
+-- Definitions of cc_syntax, passed on.
+pub use Rattle.cc_typed.specs.CcSyntax.Effects
+pub use Rattle.cc_typed.specs.CcSyntax.Expressions
+pub use Rattle.cc_typed.specs.CcSyntax.Folding
+pub use Rattle.cc_typed.specs.CcSyntax.Forms
+pub use Rattle.cc_typed.specs.CcSyntax.Initial
+pub use Rattle.cc_typed.specs.CcSyntax.Kinds
+pub use Rattle.cc_typed.specs.CcSyntax.Layout
+pub use Rattle.cc_typed.specs.CcSyntax.Lists
+pub use Rattle.cc_typed.specs.CcSyntax.Names
+pub use Rattle.cc_typed.specs.CcSyntax.Normal
+pub use Rattle.cc_typed.specs.CcSyntax.Operators
+pub use Rattle.cc_typed.specs.CcSyntax.Pairs
+pub use Rattle.cc_typed.specs.CcSyntax.Programs
+pub use Rattle.cc_typed.specs.CcSyntax.Registers
+pub use Rattle.cc_typed.specs.CcSyntax.SameTypes
+pub use Rattle.cc_typed.specs.CcSyntax.Sizes
+pub use Rattle.cc_typed.specs.CcSyntax.Sound
+pub use Rattle.cc_typed.specs.CcSyntax.Statements
+pub use Rattle.cc_typed.specs.CcSyntax.Types
+pub use Rattle.cc_typed.specs.CcSyntax.Values
+pub use Rattle.cc_typed.specs.CcSyntax.Views
+pub use Rattle.cc_typed.specs.CcSyntax.declared

@@ -1,0 +1,3 @@
+-- Definitions of cc_control, passed on.
+pub use Rattle.cc_states.specs.CcControl.Control
+pub use Rattle.cc_states.specs.CcControl.declared

@@ -1,0 +1,6 @@
+-- Definitions of cc_flow, passed on.
+pub use Rattle.cc_flow.specs.Laws
+pub use Rattle.cc_flow.specs.Next
+pub use Rattle.cc_flow.specs.Points
+pub use Rattle.cc_flow.specs.View
+pub use Rattle.cc_flow.specs.declared

@@ -1,0 +1,8 @@
+-- Definitions of cc_steps, passed on.
+pub use Rattle.cc_states.specs.CcSteps.Access
+pub use Rattle.cc_states.specs.CcSteps.Runs
+pub use Rattle.cc_states.specs.CcSteps.State
+pub use Rattle.cc_states.specs.CcSteps.Step
+pub use Rattle.cc_states.specs.CcSteps.Turn
+pub use Rattle.cc_states.specs.CcSteps.Whole
+pub use Rattle.cc_states.specs.CcSteps.declared

@@ -1,0 +1,2 @@
+-- Definitions of cc_initial, passed on.
+pub use Rattle.cc_initial.specs.Addresses

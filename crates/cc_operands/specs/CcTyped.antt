@@ -1,0 +1,2 @@
+-- Definitions of cc_typed, passed on.
+pub use Rattle.cc_typed.specs.View

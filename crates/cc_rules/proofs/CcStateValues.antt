@@ -1,0 +1,4 @@
+-- Lemmas of cc_state_values, passed on.
+pub use Rattle.cc_rules_flows.proofs.CcStateValues.Parts
+pub use Rattle.cc_rules_flows.proofs.CcStateValues.Rules
+pub use Rattle.cc_rules_flows.proofs.CcStateValues.Same

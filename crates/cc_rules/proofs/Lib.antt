@@ -1,0 +1,12 @@
+pub mod CcFlow
+pub mod CcFlowSound
+pub mod CcLattice
+pub mod CcRulesFlows
+pub mod CcRulesNeeds
+pub mod CcStateFacts
+pub mod CcStateKeys
+pub mod CcStateReads
+pub mod CcStateValues
+pub mod CcStates
+pub mod CcSteps
+pub mod CcSyntax

@@ -1,0 +1,2 @@
+-- Definitions of cc_control, passed on.
+pub use Rattle.cc_rules_flows.specs.CcControl.Control

@@ -1,0 +1,3 @@
+-- Definitions of cc_state_values, passed on.
+pub use Rattle.cc_rules_flows.specs.CcStateValues.Contexts
+pub use Rattle.cc_rules_flows.specs.CcStateValues.Values

@@ -1,0 +1,2 @@
+-- Lemmas of cc_lattice, passed on.
+pub use Rattle.cc_rules.proofs.CcLattice.IntValues

@@ -1,0 +1,2 @@
+-- Definitions of cc_flow_sound, passed on.
+pub use Rattle.cc_rules.specs.CcFlowSound.Moves

@@ -1,0 +1,2 @@
+-- Definitions of cc_registers, passed on.
+pub use Rattle.cc_rules.specs.CcRegisters.Kept

@@ -1,0 +1,7 @@
+-- Definitions of cc_state_keys, passed on.
+pub use Rattle.cc_rules.specs.CcStateKeys.Counts
+pub use Rattle.cc_rules.specs.CcStateKeys.Keys
+pub use Rattle.cc_rules.specs.CcStateKeys.Lists
+pub use Rattle.cc_rules.specs.CcStateKeys.Order
+pub use Rattle.cc_rules.specs.CcStateKeys.Paths
+pub use Rattle.cc_rules.specs.CcStateKeys.Tracked

@@ -1,0 +1,2 @@
+-- Definitions of cc_states, passed on.
+pub use Rattle.cc_rules.specs.CcStates.Typed

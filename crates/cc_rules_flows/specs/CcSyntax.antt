@@ -1,0 +1,19 @@
+-- Definitions of cc_syntax, passed on.
+pub use Rattle.cc_state_reads.specs.CcSyntax.Effects
+pub use Rattle.cc_state_reads.specs.CcSyntax.Expressions
+pub use Rattle.cc_state_reads.specs.CcSyntax.Folding
+pub use Rattle.cc_state_reads.specs.CcSyntax.Forms
+pub use Rattle.cc_state_reads.specs.CcSyntax.Initial
+pub use Rattle.cc_state_reads.specs.CcSyntax.Layout
+pub use Rattle.cc_state_reads.specs.CcSyntax.Normal
+pub use Rattle.cc_state_reads.specs.CcSyntax.Operators
+pub use Rattle.cc_state_reads.specs.CcSyntax.Pairs
+pub use Rattle.cc_state_reads.specs.CcSyntax.Programs
+pub use Rattle.cc_state_reads.specs.CcSyntax.Registers
+pub use Rattle.cc_state_reads.specs.CcSyntax.SameTypes
+pub use Rattle.cc_state_reads.specs.CcSyntax.Sizes
+pub use Rattle.cc_state_reads.specs.CcSyntax.Sound
+pub use Rattle.cc_state_reads.specs.CcSyntax.Statements
+pub use Rattle.cc_state_reads.specs.CcSyntax.Types
+pub use Rattle.cc_state_reads.specs.CcSyntax.Values
+pub use Rattle.cc_state_reads.specs.CcSyntax.declared

@@ -1,0 +1,5 @@
+-- Lemmas of cc_rules_needs, passed on.
+pub use Rattle.cc_rules.proofs.CcRulesNeeds.ByParts
+pub use Rattle.cc_rules.proofs.CcRulesNeeds.Others
+pub use Rattle.cc_rules.proofs.CcRulesNeeds.Puts
+pub use Rattle.cc_rules.proofs.CcRulesNeeds.Through

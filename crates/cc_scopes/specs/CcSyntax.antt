@@ -1,0 +1,21 @@
+-- Definitions of cc_syntax, passed on.
+pub use Rattle.cc_operands.specs.CcSyntax.Effects
+pub use Rattle.cc_operands.specs.CcSyntax.Expressions
+pub use Rattle.cc_operands.specs.CcSyntax.Folding
+pub use Rattle.cc_operands.specs.CcSyntax.Forms
+pub use Rattle.cc_operands.specs.CcSyntax.Initial
+pub use Rattle.cc_operands.specs.CcSyntax.Kinds
+pub use Rattle.cc_operands.specs.CcSyntax.Layout
+pub use Rattle.cc_operands.specs.CcSyntax.Lists
+pub use Rattle.cc_operands.specs.CcSyntax.Names
+pub use Rattle.cc_operands.specs.CcSyntax.Normal
+pub use Rattle.cc_operands.specs.CcSyntax.Operators
+pub use Rattle.cc_operands.specs.CcSyntax.Programs
+pub use Rattle.cc_operands.specs.CcSyntax.SameTypes
+pub use Rattle.cc_operands.specs.CcSyntax.Sizes
+pub use Rattle.cc_operands.specs.CcSyntax.Sound
+pub use Rattle.cc_operands.specs.CcSyntax.Statements
+pub use Rattle.cc_operands.specs.CcSyntax.Types
+pub use Rattle.cc_operands.specs.CcSyntax.Values
+pub use Rattle.cc_operands.specs.CcSyntax.Views
+pub use Rattle.cc_operands.specs.CcSyntax.declared

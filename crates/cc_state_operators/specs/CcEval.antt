@@ -1,0 +1,6 @@
+-- Definitions of cc_eval, passed on.
+pub use Rattle.cc_eval.specs.Context
+pub use Rattle.cc_eval.specs.Eval
+pub use Rattle.cc_eval.specs.Marks
+pub use Rattle.cc_eval.specs.Progress
+pub use Rattle.cc_eval.specs.declared

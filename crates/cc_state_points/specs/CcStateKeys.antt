@@ -1,0 +1,5 @@
+-- Definitions of cc_state_keys, passed on.
+pub use Rattle.cc_rules_flows.specs.CcStateKeys.Addressed
+pub use Rattle.cc_rules_flows.specs.CcStateKeys.Keys
+pub use Rattle.cc_rules_flows.specs.CcStateKeys.Lists
+pub use Rattle.cc_rules_flows.specs.CcStateKeys.Tracked

@@ -1,0 +1,3 @@
+-- Definitions of cc_steps, passed on.
+pub use Rattle.cc_rules_flows.specs.CcSteps.State
+pub use Rattle.cc_rules_flows.specs.CcSteps.Step

@@ -1,0 +1,21 @@
+-- Definitions of cc_syntax, passed on.
+pub use Rattle.cc_state_keys.specs.CcSyntax.Effects
+pub use Rattle.cc_state_keys.specs.CcSyntax.Expressions
+pub use Rattle.cc_state_keys.specs.CcSyntax.Folding
+pub use Rattle.cc_state_keys.specs.CcSyntax.Forms
+pub use Rattle.cc_state_keys.specs.CcSyntax.Initial
+pub use Rattle.cc_state_keys.specs.CcSyntax.Kinds
+pub use Rattle.cc_state_keys.specs.CcSyntax.Layout
+pub use Rattle.cc_state_keys.specs.CcSyntax.Lists
+pub use Rattle.cc_state_keys.specs.CcSyntax.Normal
+pub use Rattle.cc_state_keys.specs.CcSyntax.Operators
+pub use Rattle.cc_state_keys.specs.CcSyntax.Pairs
+pub use Rattle.cc_state_keys.specs.CcSyntax.Programs
+pub use Rattle.cc_state_keys.specs.CcSyntax.Registers
+pub use Rattle.cc_state_keys.specs.CcSyntax.SameTypes
+pub use Rattle.cc_state_keys.specs.CcSyntax.Sizes
+pub use Rattle.cc_state_keys.specs.CcSyntax.Sound
+pub use Rattle.cc_state_keys.specs.CcSyntax.Statements
+pub use Rattle.cc_state_keys.specs.CcSyntax.Types
+pub use Rattle.cc_state_keys.specs.CcSyntax.Values
+pub use Rattle.cc_state_keys.specs.CcSyntax.declared

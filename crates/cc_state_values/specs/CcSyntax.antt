@@ -1,0 +1,19 @@
+-- Definitions of cc_syntax, passed on.
+pub use Rattle.cc_state_operators.specs.CcSyntax.Effects
+pub use Rattle.cc_state_operators.specs.CcSyntax.Expressions
+pub use Rattle.cc_state_operators.specs.CcSyntax.Folding
+pub use Rattle.cc_state_operators.specs.CcSyntax.Forms
+pub use Rattle.cc_state_operators.specs.CcSyntax.Initial
+pub use Rattle.cc_state_operators.specs.CcSyntax.Lists
+pub use Rattle.cc_state_operators.specs.CcSyntax.Names
+pub use Rattle.cc_state_operators.specs.CcSyntax.Normal
+pub use Rattle.cc_state_operators.specs.CcSyntax.Operators
+pub use Rattle.cc_state_operators.specs.CcSyntax.Pairs
+pub use Rattle.cc_state_operators.specs.CcSyntax.Programs
+pub use Rattle.cc_state_operators.specs.CcSyntax.Registers
+pub use Rattle.cc_state_operators.specs.CcSyntax.SameTypes
+pub use Rattle.cc_state_operators.specs.CcSyntax.Sound
+pub use Rattle.cc_state_operators.specs.CcSyntax.Statements
+pub use Rattle.cc_state_operators.specs.CcSyntax.Types
+pub use Rattle.cc_state_operators.specs.CcSyntax.Values
+pub use Rattle.cc_state_operators.specs.CcSyntax.Views

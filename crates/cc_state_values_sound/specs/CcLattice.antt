@@ -1,0 +1,2 @@
+-- Definitions of cc_lattice, passed on.
+pub use Rattle.cc_state_values.specs.CcLattice.Domains

@@ -1,0 +1,19 @@
+-- Definitions of cc_syntax, passed on.
+pub use Rattle.cc_state_values.specs.CcSyntax.Effects
+pub use Rattle.cc_state_values.specs.CcSyntax.Expressions
+pub use Rattle.cc_state_values.specs.CcSyntax.Folding
+pub use Rattle.cc_state_values.specs.CcSyntax.Forms
+pub use Rattle.cc_state_values.specs.CcSyntax.Initial
+pub use Rattle.cc_state_values.specs.CcSyntax.Lists
+pub use Rattle.cc_state_values.specs.CcSyntax.Names
+pub use Rattle.cc_state_values.specs.CcSyntax.Normal
+pub use Rattle.cc_state_values.specs.CcSyntax.Operators
+pub use Rattle.cc_state_values.specs.CcSyntax.Pairs
+pub use Rattle.cc_state_values.specs.CcSyntax.Programs
+pub use Rattle.cc_state_values.specs.CcSyntax.Registers
+pub use Rattle.cc_state_values.specs.CcSyntax.SameTypes
+pub use Rattle.cc_state_values.specs.CcSyntax.Sound
+pub use Rattle.cc_state_values.specs.CcSyntax.Statements
+pub use Rattle.cc_state_values.specs.CcSyntax.Types
+pub use Rattle.cc_state_values.specs.CcSyntax.Values
+pub use Rattle.cc_state_values.specs.CcSyntax.Views

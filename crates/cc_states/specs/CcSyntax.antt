@@ -1,0 +1,20 @@
+-- Definitions of cc_syntax, passed on.
+pub use Rattle.cc_steps.specs.CcSyntax.Effects
+pub use Rattle.cc_steps.specs.CcSyntax.Expressions
+pub use Rattle.cc_steps.specs.CcSyntax.Folding
+pub use Rattle.cc_steps.specs.CcSyntax.Forms
+pub use Rattle.cc_steps.specs.CcSyntax.Initial
+pub use Rattle.cc_steps.specs.CcSyntax.Kinds
+pub use Rattle.cc_steps.specs.CcSyntax.Layout
+pub use Rattle.cc_steps.specs.CcSyntax.Names
+pub use Rattle.cc_steps.specs.CcSyntax.Normal
+pub use Rattle.cc_steps.specs.CcSyntax.Operators
+pub use Rattle.cc_steps.specs.CcSyntax.Programs
+pub use Rattle.cc_steps.specs.CcSyntax.Registers
+pub use Rattle.cc_steps.specs.CcSyntax.SameTypes
+pub use Rattle.cc_steps.specs.CcSyntax.Sizes
+pub use Rattle.cc_steps.specs.CcSyntax.Sound
+pub use Rattle.cc_steps.specs.CcSyntax.Statements
+pub use Rattle.cc_steps.specs.CcSyntax.Types
+pub use Rattle.cc_steps.specs.CcSyntax.Values
+pub use Rattle.cc_steps.specs.CcSyntax.Views

@@ -1,0 +1,21 @@
+-- Definitions of cc_syntax, passed on.
+pub use Rattle.cc_eval.specs.CcSyntax.Effects
+pub use Rattle.cc_eval.specs.CcSyntax.Expressions
+pub use Rattle.cc_eval.specs.CcSyntax.Folding
+pub use Rattle.cc_eval.specs.CcSyntax.Forms
+pub use Rattle.cc_eval.specs.CcSyntax.Initial
+pub use Rattle.cc_eval.specs.CcSyntax.Kinds
+pub use Rattle.cc_eval.specs.CcSyntax.Layout
+pub use Rattle.cc_eval.specs.CcSyntax.Lists
+pub use Rattle.cc_eval.specs.CcSyntax.Names
+pub use Rattle.cc_eval.specs.CcSyntax.Normal
+pub use Rattle.cc_eval.specs.CcSyntax.Operators
+pub use Rattle.cc_eval.specs.CcSyntax.Programs
+pub use Rattle.cc_eval.specs.CcSyntax.Registers
+pub use Rattle.cc_eval.specs.CcSyntax.SameTypes
+pub use Rattle.cc_eval.specs.CcSyntax.Sizes
+pub use Rattle.cc_eval.specs.CcSyntax.Sound
+pub use Rattle.cc_eval.specs.CcSyntax.Statements
+pub use Rattle.cc_eval.specs.CcSyntax.Types
+pub use Rattle.cc_eval.specs.CcSyntax.Values
+pub use Rattle.cc_eval.specs.CcSyntax.Views

@@ -1,0 +1,2 @@
+-- Definitions of cc_values, passed on.
+pub use Rattle.cc_eval.specs.CcValues.Values

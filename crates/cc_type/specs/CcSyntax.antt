@@ -1,0 +1,20 @@
+-- Definitions of cc_syntax, passed on.
+pub use Rattle.cc_typed_bodies.specs.CcSyntax.Expressions
+pub use Rattle.cc_typed_bodies.specs.CcSyntax.Folding
+pub use Rattle.cc_typed_bodies.specs.CcSyntax.Forms
+pub use Rattle.cc_typed_bodies.specs.CcSyntax.Initial
+pub use Rattle.cc_typed_bodies.specs.CcSyntax.Kinds
+pub use Rattle.cc_typed_bodies.specs.CcSyntax.Layout
+pub use Rattle.cc_typed_bodies.specs.CcSyntax.Lists
+pub use Rattle.cc_typed_bodies.specs.CcSyntax.Names
+pub use Rattle.cc_typed_bodies.specs.CcSyntax.Normal
+pub use Rattle.cc_typed_bodies.specs.CcSyntax.Operators
+pub use Rattle.cc_typed_bodies.specs.CcSyntax.Programs
+pub use Rattle.cc_typed_bodies.specs.CcSyntax.SameTypes
+pub use Rattle.cc_typed_bodies.specs.CcSyntax.Sizes
+pub use Rattle.cc_typed_bodies.specs.CcSyntax.Sound
+pub use Rattle.cc_typed_bodies.specs.CcSyntax.Statements
+pub use Rattle.cc_typed_bodies.specs.CcSyntax.Types
+pub use Rattle.cc_typed_bodies.specs.CcSyntax.Values
+pub use Rattle.cc_typed_bodies.specs.CcSyntax.Views
+pub use Rattle.cc_typed_bodies.specs.CcSyntax.declared

@@ -1,0 +1,23 @@
+-- Definitions of cc_syntax, passed on.
+pub use Rattle.cc_syntax.specs.Effects
+pub use Rattle.cc_syntax.specs.Expressions
+pub use Rattle.cc_syntax.specs.Folding
+pub use Rattle.cc_syntax.specs.Forms
+pub use Rattle.cc_syntax.specs.Initial
+pub use Rattle.cc_syntax.specs.Kinds
+pub use Rattle.cc_syntax.specs.Layout
+pub use Rattle.cc_syntax.specs.Lists
+pub use Rattle.cc_syntax.specs.Names
+pub use Rattle.cc_syntax.specs.Normal
+pub use Rattle.cc_syntax.specs.Operators
+pub use Rattle.cc_syntax.specs.Pairs
+pub use Rattle.cc_syntax.specs.Programs
+pub use Rattle.cc_syntax.specs.Registers
+pub use Rattle.cc_syntax.specs.SameTypes
+pub use Rattle.cc_syntax.specs.Sizes
+pub use Rattle.cc_syntax.specs.Sound
+pub use Rattle.cc_syntax.specs.Statements
+pub use Rattle.cc_syntax.specs.Types
+pub use Rattle.cc_syntax.specs.Values
+pub use Rattle.cc_syntax.specs.Views
+pub use Rattle.cc_syntax.specs.declared

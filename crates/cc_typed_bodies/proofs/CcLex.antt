@@ -1,0 +1,2 @@
+-- Lemmas of cc_lex, passed on.
+pub use Rattle.cc_terms.proofs.CcLex.Whole

@@ -1,0 +1,3 @@
+-- Definitions of cc_linkage, passed on.
+pub use Rattle.cc_linkage.specs.Linkage
+pub use Rattle.cc_linkage.specs.declared

@@ -1,0 +1,21 @@
+-- Definitions of cc_syntax, passed on.
+pub use Rattle.cc_terms.specs.CcSyntax.Effects
+pub use Rattle.cc_terms.specs.CcSyntax.Expressions
+pub use Rattle.cc_terms.specs.CcSyntax.Folding
+pub use Rattle.cc_terms.specs.CcSyntax.Forms
+pub use Rattle.cc_terms.specs.CcSyntax.Initial
+pub use Rattle.cc_terms.specs.CcSyntax.Kinds
+pub use Rattle.cc_terms.specs.CcSyntax.Layout
+pub use Rattle.cc_terms.specs.CcSyntax.Lists
+pub use Rattle.cc_terms.specs.CcSyntax.Names
+pub use Rattle.cc_terms.specs.CcSyntax.Normal
+pub use Rattle.cc_terms.specs.CcSyntax.Operators
+pub use Rattle.cc_terms.specs.CcSyntax.Programs
+pub use Rattle.cc_terms.specs.CcSyntax.SameTypes
+pub use Rattle.cc_terms.specs.CcSyntax.Sizes
+pub use Rattle.cc_terms.specs.CcSyntax.Sound
+pub use Rattle.cc_terms.specs.CcSyntax.Statements
+pub use Rattle.cc_terms.specs.CcSyntax.Types
+pub use Rattle.cc_terms.specs.CcSyntax.Values
+pub use Rattle.cc_terms.specs.CcSyntax.Views
+pub use Rattle.cc_terms.specs.CcSyntax.declared

@@ -1,0 +1,21 @@
+-- Definitions of cc_syntax, passed on.
+pub use Rattle.cc_scopes.specs.CcSyntax.Effects
+pub use Rattle.cc_scopes.specs.CcSyntax.Expressions
+pub use Rattle.cc_scopes.specs.CcSyntax.Folding
+pub use Rattle.cc_scopes.specs.CcSyntax.Forms
+pub use Rattle.cc_scopes.specs.CcSyntax.Initial
+pub use Rattle.cc_scopes.specs.CcSyntax.Kinds
+pub use Rattle.cc_scopes.specs.CcSyntax.Layout
+pub use Rattle.cc_scopes.specs.CcSyntax.Lists
+pub use Rattle.cc_scopes.specs.CcSyntax.Names
+pub use Rattle.cc_scopes.specs.CcSyntax.Normal
+pub use Rattle.cc_scopes.specs.CcSyntax.Operators
+pub use Rattle.cc_scopes.specs.CcSyntax.Programs
+pub use Rattle.cc_scopes.specs.CcSyntax.SameTypes
+pub use Rattle.cc_scopes.specs.CcSyntax.Sizes
+pub use Rattle.cc_scopes.specs.CcSyntax.Sound
+pub use Rattle.cc_scopes.specs.CcSyntax.Statements
+pub use Rattle.cc_scopes.specs.CcSyntax.Types
+pub use Rattle.cc_scopes.specs.CcSyntax.Values
+pub use Rattle.cc_scopes.specs.CcSyntax.Views
+pub use Rattle.cc_scopes.specs.CcSyntax.declared
