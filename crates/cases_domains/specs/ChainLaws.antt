@@ -3,7 +3,7 @@
 use Rattle.std.specs.Prelude.{ℕ, zero, suc, ◌+◌, ◌<◌, ◌≡◌, ◌⊎◌, List, [], ◌∷◌, ◌++◌, length, All, Some, cond, count_by, slice_get, slice_set, refl}
 use Rattle.std.specs.List.{AllZip, AllByRecursion, Contains}
 use Rattle.std.proofs.lemmas.List.Recursion.{is_count_by}
-use Rattle.std.proofs.Common.{inl, inr, ⊎_elim, sym, ap, ◌∙◌, arith, length-append, add-one}
+use Rattle.std.proofs.Common.{true, false, true≢false, inl, inr, ⊎_elim, sym, ap, ◌∙◌, arith, length-append, add-one}
 use Rattle.cc_lattice.specs.declared.table.Table.{Table}
 use Rattle.cc_lattice.specs.Tables.{HaveOneShape}
 use Rattle.cc_lattice.specs.Systems.{MeetsAll, IsRaised}
@@ -193,6 +193,10 @@ asked_before : (i k : ℕ) (f g : Table ℕ Truth) → IsChain f → IsRaised Is
     → IsAsked (turned k) g.parts → IsAsked (turned k) f.parts
 asked_before i k f g chain raised other (inl e) = inl e
 asked_before i k f g chain raised other (inr there) = ⊎_elim (λ e. inr e) (λ e. absurd (other e)) (raised_part i (turned k + 1) f g chain raised there)
+
+-- none settles
+pub never_settles : (A : Type 0) → false ≡ true → A
+never_settles A none = absurd (true≢false (sym none))
 
 pub chain_lists : (i k : ℕ) (f g : Table ℕ Truth) → k < 1000 → IsChain f
     → IsRaised IsChain IsBelowChain (AsksYes i) f g → AsksYes k f f → AsksYes k g g ⊎ Contains (before (turned i)) k

@@ -1,7 +1,7 @@
 //! A chain of constraints, each on the next one, in an order that leaps through the chain.
 
 ghost use Rattle.std.specs.Prelude.{◌≡◌, ◌↔◌, ◌<◌, false, length, Some, IsTrue, IfOk, slice_get, slice_set, count_by};
-ghost use Rattle.cases_domains.specs.ChainLaws.{truth_itself, truth_through, truth_same, chains_alike, before_counts, chain_lists};
+ghost use Rattle.cases_domains.specs.ChainLaws.{truth_itself, truth_through, truth_same, chains_alike, before_counts, never_settles, chain_lists};
 ghost use Rattle.cases_domains.specs.Chain.{IsBelowTruth, IsChain, turned, IsAsked, AsksYes, before, is_no, numbers};
 
 use cc_fix::System;
@@ -88,6 +88,8 @@ impl System for Chain {
 
     ghost room_of = { λ _ f. count_by is_no f.parts };
 
+    ghost settles_of = { λ _ _. false };
+
     ghost again_of = { λ _ i _. before (turned i) };
 
     fn lowest(&self, alloc: Global) -> Result<Table<u32, Truth>, NoMemory> {
@@ -140,6 +142,10 @@ impl System for Chain {
         Ok(())
     }
 
+    fn settles(&self, _index: u32) -> bool {
+        false
+    }
+
     fn room(&self, facts: &Table<u32, Truth>) -> u128 {
         facts
             .parts
@@ -156,6 +162,8 @@ impl System for Chain {
     ghost fitting_alike = { λ _ f g h k. chains_alike f g h k };
 
     ghost again_counts = { λ _ i _ _ _. before_counts (turned i) };
+
+    ghost again_itself = { λ _ i f g none _ _ _ _. never_settles (AsksYes i g g ⊎ Contains (before (turned i)) i) none };
 
     ghost again_lists = { λ _ i k f g _ small chain _ raised met. chain_lists i k f g small chain raised met };
 }

@@ -1,13 +1,13 @@
 -- One step of the solver: a constraint is taken from the lists, and either it is met, or it raises the
--- facts and is listed again with those that it may have broken.
+-- facts and is listed again with those that it may have broken, unless it settles.
 use Rattle.std.proofs.Common.{◌≡◌, ℕ, zero, suc, ◌-◌, ◌<◌, ◌≤◌, ◌⊎◌, Bool, true, false, true≢false, List, [], ◌∷◌, ◌++◌, length, replicate, Some, slice_get, slice_set, inl, inr, ⊎_elim, refl, sym, ap, subst, ◌∙◌, arith}
 use Rattle.std.specs.List.{Contains, All}
 use Rattle.std.proofs.lemmas.Bool.{cases_lt}
 use Rattle.std.proofs.lemmas.List.{length-set}
-use Rattle.std.proofs.lemmas.List.Elements.{Contains-append_left, Contains-append_right, Contains-append_cases, Contains-push, Contains-push_cases, All-contains}
+use Rattle.std.proofs.lemmas.List.Elements.{Contains-append_left, Contains-append_right, Contains-append_cases, Contains-push, Contains-push_cases, All-cons, All-contains}
 use Rattle.std.proofs.lemmas.Option.{same_Some, none-some}
 use Rattle.cc_fix.specs.declared.work.Work.{Work}
-use Rattle.cc_fix.specs.Work.{listed, IsPending, IsWork, AreAll, ArePut, IsPushed}
+use Rattle.cc_fix.specs.Work.{listed, itself_unless, IsPending, IsWork, AreAll, ArePut, IsPushed}
 
 same_or : (i j : ℕ) → (j ≡ i) ⊎ (j ≡ i → ⊥)
 same_or zero zero = inl refl
@@ -178,21 +178,34 @@ module _ {F : Type 0} (count : ℕ) (asks : ℕ → F → F → Type 0) (i : ℕ
       by j (inr h) (inr other) = inr (set_elsewhere pending i j false other ∙ h)
 
   -- it raised the facts
-  pub work_raised : (g : F) (again : List ℕ) (new : List Bool) (is : List ℕ) → ((j : ℕ) → j < count → asks j f f → asks j g g ⊎ Contains again j) → All (λ j. j < count) again → ArePut (i ∷ [] ++ again) closed list new is → IsWork count asks g new is
-  work_raised g again new is law all put = record {
+  pub work_raised : (g : F) (again : List ℕ) (new : List Bool) (is : List ℕ) → asks i g g ⊎ Contains again i → ((j : ℕ) → j < count → asks j f f → asks j g g ⊎ Contains again j) → All (λ j. j < count) again → ArePut again closed list new is → IsWork count asks g new is
+  work_raised g again new is itself law all put = record {
     counts = put.count ∙ (length-set pending i false ∙ work.counts);
     known = λ j h. ⊎_elim (λ a. work.known j (Contains-append_left list (i ∷ []) j a)) (known j) (put.known j h);
     lists = λ j h. ⊎_elim (λ a. put.stays j (closed_lists j a (same_or i j))) (λ c. c) (put.lists j h);
     met = λ j l. by j l (work.met j l) (same_or i j);
   }
     where
-      known : (j : ℕ) → Contains (i ∷ [] ++ again) j → j < count
-      known j h = ⊎_elim (λ a. subst (λ (k : ℕ). k < count) (one_only i j a) taken_counts) (λ b. All-contains (λ k. k < count) again j all b) (Contains-append_cases (i ∷ []) again j h)
+      known : (j : ℕ) → Contains again j → j < count
+      known j h = All-contains (λ k. k < count) again j all h
 
       by : (j : ℕ) → j < count → asks j f f ⊎ IsPending pending j → (j ≡ i) ⊎ (j ≡ i → ⊥) → asks j g g ⊎ IsPending new j
-      by j l h (inl e) = inr (put.put j (Contains-append_left (i ∷ []) again j (subst (Contains (i ∷ [])) (sym e) (one_is i))))
-      by j l (inl met) (inr other) = ⊎_elim inl (λ c. inr (put.put j (Contains-append_right (i ∷ []) again j c))) (law j l met)
+      by j l h (inl e) = subst (λ (k : ℕ). asks k g g ⊎ IsPending new k) (sym e) (⊎_elim inl (λ c. inr (put.put i c)) itself)
+      by j l (inl met) (inr other) = ⊎_elim inl (λ c. inr (put.put j c)) (law j l met)
       by j l (inr h) (inr other) = inr (put.kept j (set_elsewhere pending i j false other ∙ h))
+
+-- ---- what a constraint that raised facts has listed: itself, unless it settles, and others
+
+pub itself_put : {A : Type 0} (settles : Bool) (i : ℕ) (again : List ℕ) → (settles ≡ true → A ⊎ Contains again i) → A ⊎ Contains (itself_unless settles i ++ again) i
+itself_put true i again law = law refl
+itself_put false i again law = inr (Contains-append_left (i ∷ []) again i (one_is i))
+
+pub others_put : {A : Type 0} (settles : Bool) (i j : ℕ) (again : List ℕ) → A ⊎ Contains again j → A ⊎ Contains (itself_unless settles i ++ again) j
+others_put settles i j again law = ⊎_elim inl (λ c. inr (Contains-append_right (itself_unless settles i) again j c)) law
+
+pub all_put : (settles : Bool) (i count : ℕ) (again : List ℕ) → i < count → All (λ j. j < count) again → All (λ j. j < count) (itself_unless settles i ++ again)
+all_put true i count again l all = all
+all_put false i count again l all = All-cons (λ j. j < count) i again l all
 
 -- ---- at first: those from one on are pending
 

@@ -1,6 +1,6 @@
 -- What the solver keeps: each constraint that is not met is pending, each that is pending is listed, and the facts are below each
 -- solution.
-use Rattle.std.specs.Prelude.{ℕ, ◌<◌, ◌≡◌, ◌⊎◌, Bool, true, List, [], ◌∷◌, ◌++◌, length, Some, slice_get}
+use Rattle.std.specs.Prelude.{ℕ, ◌<◌, ◌≡◌, ◌⊎◌, Bool, true, false, List, [], ◌∷◌, ◌++◌, length, Some, slice_get}
 use Rattle.std.specs.List.{Contains}
 use Rattle.cc_fix.specs.declared.work.Work.{Work}
 use Rattle.cc_lattice.specs.Systems.{MeetsAll}
@@ -47,6 +47,11 @@ pub record IsPushed (index : ℕ) (old new : Work) : Type 0 where
 pub record IsTaken (index : ℕ) (old new : Work) : Type 0 where
   pub pending : new.pending.items ≡ old.pending.items
   pub list : listed old ≡ listed new ++ index ∷ []
+
+-- a constraint that raised facts is listed again itself, unless it settles
+abbrev pub itself_unless : Bool → ℕ → List ℕ
+itself_unless true i = []
+itself_unless false i = i ∷ []
 
 -- facts below each solution
 abbrev pub IsBelowSolutions : {F : Type 0} → (F → Type 0) → (F → F → Type 0) → ℕ → (ℕ → F → F → Type 0) → F → Type 0

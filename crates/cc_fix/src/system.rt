@@ -1,6 +1,6 @@
 //! Systems of constraints.
 
-ghost use Rattle.std.specs.Prelude.{◌≡◌, ◌↔◌, ◌<◌, ◌⊎◌, ◌++◌, ℕ, List, true, false, IsTrue, IfOk, OnOk, All};
+ghost use Rattle.std.specs.Prelude.{◌≡◌, ◌↔◌, ◌<◌, ◌⊎◌, ◌++◌, ℕ, Bool, List, true, false, IsTrue, IfOk, OnOk, All};
 ghost use Rattle.std.specs.List.{Contains};
 ghost use Rattle.cc_lattice.specs.Systems.{MeetsAll, IsRaised, BeginsWith};
 
@@ -31,6 +31,9 @@ pub trait System {
 
     /// The constraints that facts may no longer meet once the constraint has raised them.
     ghost again_of: { Self → ℕ → Self.Facts → List ℕ };
+
+    /// Of which constraints it is known that facts which they raised meet them, or list them again.
+    ghost settles_of: { Self → ℕ → Bool };
 
     /// Facts below every solution.
     fn lowest(&self, alloc: Global) -> Result<Self::Facts, NoMemory>
@@ -76,6 +79,10 @@ pub trait System {
         ensures list { OnOk result (list.new.items ≡ list.old.items ++ again_of self.now index facts.now) }
         ensures kept { BeginsWith list.old.items list.new.items };
 
+    /// Whether it is known of a constraint that facts which it raised meet it, or have it listed by `again`.
+    fn settles(&self, index: u32) -> bool
+        ensures { result ≡ settles_of self.now index };
+
     /// How often the facts can still rise, at the most.
     fn room(&self, facts: &Self::Facts) -> u128
         requires ready { IsReady self.now }
@@ -90,6 +97,10 @@ pub trait System {
 
     /// Each number that is listed again is that of a constraint.
     ghost again_counts: { (s : Self) (i : ℕ) (f : Self.Facts) → i < count_of s → IsFitting s f → All (λ j. j < count_of s) (again_of s i f) };
+
+    /// A constraint that settles is met by the facts that it raised, or listed again.
+    ghost again_itself: { (s : Self) (i : ℕ) (f g : Self.Facts) → settles_of s i ≡ true → i < count_of s → IsFitting s f → IsFitting s g
+        → IsRaised (IsFitting s) Self.Facts.IsBelow (Asks s i) f g → Asks s i g g ⊎ Contains (again_of s i g) i };
 
     /// A constraint that facts met before another one raised them is met or listed again.
     ghost again_lists: { (s : Self) (i j : ℕ) (f g : Self.Facts) → i < count_of s → j < count_of s → IsFitting s f → IsFitting s g

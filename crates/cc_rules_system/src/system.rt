@@ -1,8 +1,8 @@
 //! The constraints of a program by their numbers, as what is solved.
 
-ghost use Rattle.std.specs.Prelude.{length, slice_get};
+ghost use Rattle.std.specs.Prelude.{true, length, slice_get};
 ghost use Rattle.cc_rules_asked.specs.CcRules.Constraints.{constraints};
-ghost use Rattle.cc_rules_system.specs.laws.Again.{fitting, counts, lists};
+ghost use Rattle.cc_rules_system.specs.laws.Again.{fitting, counts, again_itself as met_again, lists};
 ghost use Rattle.cc_rules_system.specs.System.{IsReady, Fits, AsksAt, again_at};
 ghost use Rattle.cc_state_limits.specs.Held.{most_members};
 ghost use Rattle.cc_rules_asked.specs.CcStateOperators.Domains.{domain};
@@ -48,6 +48,8 @@ impl<'p, I: IntDomain> System for ConstraintSystem<'p, I> {
 
     ghost room_of = { λ _ f. room_of most_members I.room_of f };
 
+    ghost settles_of = { λ _ _. true };
+
     ghost again_of = { λ s i f. again_at s.rules.program.now f (slice_get (constraints s.rules.program.now) i) };
 
     fn lowest(&self, alloc: Global) -> Result<Facts<I>, NoMemory> {
@@ -89,6 +91,11 @@ impl<'p, I: IntDomain> System for ConstraintSystem<'p, I> {
         )
     }
 
+    /// Each is asked again where it reads what it raised.
+    fn settles(&self, _index: u32) -> bool {
+        true
+    }
+
     fn room(&self, facts: &Facts<I>) -> u128 {
         limit_laws::<I>();
         room(facts, u64::MAX)
@@ -102,6 +109,8 @@ impl<'p, I: IntDomain> System for ConstraintSystem<'p, I> {
     ghost fitting_alike = { λ s f g h k. fitting (domain I.Has I.IsBelow I.OpGives I.OpOneGives I.ToGives I.KeepGives I.members_of) s.rules.program.now f g h k };
 
     ghost again_counts = { λ s i f _ _. counts s.rules.program.now i f };
+
+    ghost again_itself = { λ s i f g _ few first second raised. met_again (domain I.Has I.IsBelow I.OpGives I.OpOneGives I.ToGives I.KeepGives I.members_of) I.AreAlike I.below_itself I.below_through I.below_both_ways I.all_alike s.rules.program.now i f g few first second raised };
 
     ghost again_lists = { λ s i j f g few small first second raised met. lists (domain I.Has I.IsBelow I.OpGives I.OpOneGives I.ToGives I.KeepGives I.members_of) I.AreAlike I.below_itself I.below_through I.below_both_ways I.all_alike s.rules.program.now i j f g few small first second raised met };
 }

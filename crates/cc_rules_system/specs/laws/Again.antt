@@ -84,6 +84,30 @@ module _ {I : Type 0} (d : Domain I) (alike : I → I → Type 0) (itself : (a :
         inl (ns, asked_same d p f g e ns same asked, has_more d.below self (abs_through alike d.below through all_alike) f g ns (slots_below d.below self (abs_through alike d.below through all_alike) f g raised.above) has)
   ]
 
+  -- and so is one that raised them: what it asks is the same then, and is had
+  met_itself : (c : Constraint) (f g : Facts I) → Fits d p f → Fits d p g → Contains (constraints p) c → IsRaised (Fits d p) (IsBelow d.below) (Asks d p c) f g → Asks d p c g g ⊎ Contains (again_of p g c) (number_of c)
+  met_itself c f g first second there raised = elim (contained (again_of p g c) (number_of c)) [
+    | inl found ↦ inr found
+    | inr none ↦
+        let kind = facts_alike d p f g first.0 second.0 in
+        let same = same_for p f g c kind.whole (λ t reads. stays c f g first second raised t (λ raises. none (listed p g c c t there raises reads))) in
+        let (ns, asked, has) = raised.has in
+        inl (ns, asked_same d p f g c ns same asked, has)
+  ]
+
+  pub again_itself : (i : ℕ) (f g : Facts I) → i < length (constraints p) → Fits d p f → Fits d p g → IsRaised (Fits d p) (IsBelow d.below) (AsksAt d p i) f g → AsksAt d p i g g ⊎ Contains (again_at p g (slice_get (constraints p) i)) i
+  again_itself i f g few first second raised =
+      let (c, here, asks) = raised.has in
+      let rises : IsRaised (Fits d p) (IsBelow d.below) (Asks d p c) f g = record {
+        above = raised.above;
+        has = asks;
+        least = λ h fits below has. raised.least h fits below (c, here, has);
+      } in
+      elim (met_itself c f g first second (numbered_there p i c here) rises) [
+        | inl kept ↦ inl (c, here, kept)
+        | inr found ↦ inr (subst (λ (o : Option Constraint). Contains (again_at p g o) i) (sym here) (subst (λ (n : ℕ). Contains (again_of p g c) n) (numbered p i c few here) found))
+      ]
+
   pub lists : (i j : ℕ) (f g : Facts I) → i < length (constraints p) → j < length (constraints p) → Fits d p f → Fits d p g → IsRaised (Fits d p) (IsBelow d.below) (AsksAt d p i) f g →
       AsksAt d p j f f → AsksAt d p j g g ⊎ Contains (again_at p g (slice_get (constraints p) i)) j
   lists i j f g few small first second raised met =
