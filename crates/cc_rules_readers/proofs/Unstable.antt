@@ -1,5 +1,5 @@
 -- Tracked cells that handlers may write, function by function; and constraints that read what keys have in the whole run.
-use Rattle.std.proofs.Common.{arith, ◌≡◌, ◌≤◌, ◌<◌, ◌+◌, ℕ, zero, suc, Bool, true, false, ◌&&◌, ◌||◌, List, [], ◌∷◌, map, length, drop, get_or, Option, Some, None, option_map, slice_get, unwrap_or, refl, sym, ap, ◌∙◌}
+use Rattle.std.proofs.Common.{arith, ◌≡◌, ◌≤◌, ◌<◌, ◌+◌, ℕ, zero, suc, Bool, true, false, ◌&&◌, ◌||◌, List, [], ◌∷◌, ◌++◌, map, length, drop, get_or, append_assoc, append-nil, Option, Some, None, option_map, slice_get, unwrap_or, refl, sym, ap, ◌∙◌}
 use Rattle.std.specs.Prelude.{option_and_then}
 use Rattle.std.specs.List.{list_any}
 use Rattle.std.proofs.lemmas.List.{at_drop_more, at_drop_all}
@@ -21,7 +21,7 @@ use Rattle.cc_rules_readers.specs.declared.deeds.Deed.{Deed}
 use Rattle.cc_rules_readers.specs.declared.index.Index.{Index}
 use Rattle.cc_rules_readers.specs.declared.naming.Named.{Named}
 use Rattle.cc_rules_readers.specs.Index.{IsIndexOf}
-use Rattle.cc_rules_readers.specs.Points.{points_that, reads_in, is_entered_by, concern_any, few_functions}
+use Rattle.cc_rules_readers.specs.Points.{points_that, reads_in, is_entered_by, concern_any, numbers_concerned, few_functions}
 use Rattle.cc_rules_readers.specs.View.{named_view, IsDeedAt, AreDeeds}
 use Rattle.cc_rules_readers.proofs.Doing.{as_long, at_those, read_deed}
 use Rattle.cc_rules_readers.proofs.Numbers.{none_passes}
@@ -29,6 +29,7 @@ use Rattle.cc_rules_asked.specs.CcStateFacts.declared.facts.Facts.{Facts}
 use Rattle.cc_rules_asked.specs.CcStateFacts.declared.facts.Key.TheVariants as key
 use Rattle.cc_rules_asked.specs.CcStateFacts.Facts.{mark_of}
 use Rattle.cc_rules_asked.specs.CcStateKeys.Keys.{key_number}
+use Rattle.cc_rules_asked.specs.CcStateKeys.Lists.{only_if}
 use Rattle.cc_rules_asked.specs.CcStateKeys.Tracked.{tracked}
 
 -- ---- a loop that looks for one that passes
@@ -57,12 +58,37 @@ key_of_cell p keys cells cell are e l =
     ∙ (ap (option_and_then (λ (k : Option ℕ). k)) (slice_get-map (λ i. key_number p (key.Object i)) (tracked p) cell)
     ∙ key_opened (λ i. key_number p (key.Object i)) (slice_get (tracked p) cell) (get_or cells cell 0) (ap (λ (xs : List ℕ). slice_get xs cell) (sym e) ∙ slice_get-get_or cells cell 0 l))
 
--- as the code tests one
-pub unstable_cell : {I : Type 0} (p : Program) (facts : Facts I) (keys : is.Named) (id : ℕ) (rules : Rules) (cells : List ℕ) (cell : ℕ) (number : Option ℕ) → AreOf p rules → cells ≡ rules.tracked → cell < length cells → number ≡ key_at rules.cell_keys cell →
-    (is.concerns keys (key.Object (get_or cells cell 0)) && is_entered_by facts id number) ≡ (is.concerns keys (key.Object (get_or cells cell 0)) && is_entered p facts id (key_number p (key.Object (get_or cells cell 0))))
-unstable_cell p facts keys id rules cells cell number are e l same =
-    ap (λ b. is.concerns keys (key.Object (get_or cells cell 0)) && b)
-    (entered_same p facts id number ∙ ap (is_entered p facts id) (same ∙ key_of_cell p rules.cell_keys cells cell are.cell_keys (e ∙ are.tracked) l))
+-- ---- the keys of tracked cells among some
+
+pub put_among : (p : Program) (keys : is.Named) (xs : List ℕ) (i : ℕ) (found next whole : List (Option ℕ)) (b : Bool) (k : Option ℕ) → i < length xs → b ≡ is.concerns keys (key.Object (get_or xs i 0)) → k ≡ key_number p (key.Object (get_or xs i 0)) →
+    next ≡ found ++ only_if b k → found ++ numbers_concerned p keys (drop i xs) ≡ whole → next ++ numbers_concerned p keys (drop (i + 1) xs) ≡ whole
+put_among p keys xs i found next whole b k l among same put h =
+    ap (λ (ns : List (Option ℕ)). ns ++ numbers_concerned p keys (drop (i + 1) xs)) put
+    ∙ (append_assoc found (only_if b k) (numbers_concerned p keys (drop (i + 1) xs))
+    ∙ (ap (λ (c : Bool). found ++ (only_if c k ++ numbers_concerned p keys (drop (i + 1) xs))) among
+    ∙ (ap (λ (m : Option ℕ). found ++ (only_if (is.concerns keys (key.Object (get_or xs i 0))) m ++ numbers_concerned p keys (drop (i + 1) xs))) same
+    ∙ (sym (at_drop_more (λ (ys : List ℕ). found ++ numbers_concerned p keys ys) xs i 0 l) ∙ h))))
+
+pub all_among : (p : Program) (keys : is.Named) (xs : List ℕ) (i : ℕ) (found whole : List (Option ℕ)) → length xs ≤ i → found ++ numbers_concerned p keys (drop i xs) ≡ whole → found ≡ whole
+all_among p keys xs i found whole past h =
+    sym (append-nil found) ∙ (sym (at_drop_all (λ (ys : List ℕ). found ++ numbers_concerned p keys ys) xs i past) ∙ h)
+
+pub number_of_cell : (p : Program) (rules : Rules) (cells : List ℕ) (keys : List (Option ℕ)) (cell : ℕ) (number : Option ℕ) → AreOf p rules → cells ≡ rules.tracked → keys ≡ rules.cell_keys → cell < length cells → number ≡ key_at keys cell →
+    number ≡ key_number p (key.Object (get_or cells cell 0))
+number_of_cell p rules cells keys cell number are e f l same =
+    same ∙ key_of_cell p keys cells cell (f ∙ are.cell_keys) (e ∙ are.tracked) l
+
+any_of : (test : Option ℕ → Bool) (b : Bool) (k : Option ℕ) (ks : List (Option ℕ)) → list_any test (only_if b k ++ ks) ≡ ((b && test k) || list_any test ks)
+any_of test true k ks = refl
+any_of test false k ks = refl
+
+-- one of them may be written exactly where a tracked cell among the keys may
+pub entered_concerned : {I : Type 0} (p : Program) (facts : Facts I) (keys : is.Named) (id : ℕ) (xs : List ℕ) → list_any (is_entered_by facts id) (numbers_concerned p keys xs) ≡ list_any (λ i. is.concerns keys (key.Object i) && is_entered p facts id (key_number p (key.Object i))) xs
+entered_concerned p facts keys id [] = refl
+entered_concerned p facts keys id (x ∷ xs) =
+    any_of (is_entered_by facts id) (is.concerns keys (key.Object x)) (key_number p (key.Object x)) (numbers_concerned p keys xs)
+    ∙ (ap (λ (c : Bool). (is.concerns keys (key.Object x) && c) || list_any (is_entered_by facts id) (numbers_concerned p keys xs)) (entered_same p facts id (key_number p (key.Object x)))
+    ∙ ap (λ (c : Bool). (is.concerns keys (key.Object x) && is_entered p facts id (key_number p (key.Object x))) || c) (entered_concerned p facts keys id xs))
 
 -- ---- functions
 

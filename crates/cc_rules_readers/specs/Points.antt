@@ -2,6 +2,7 @@
 use Rattle.std.specs.Prelude.{ℕ, ◌<◌, ◌^◌, suc, ◌==◌, nat_lt, Bool, true, false, List, [], ◌∷◌, ◌++◌, map, length, take, drop, Option, Some, None, slice_get, if◌then◌else◌, Vec}
 use Rattle.std.specs.declared.alloc.Global.{Global}
 use Rattle.std.specs.List.{filter, flat_map, list_any}
+use Rattle.cc_program.specs.declared.program.Program.{Program}
 use Rattle.cc_rules_asked.specs.CcRules.Constraints.{Flow, Write, Touch, Call, Back, Return, Handler, Stability}
 use Rattle.cc_rules_again.specs.Again.{number_at}
 use Rattle.cc_rules_again.specs.Named as is
@@ -22,6 +23,8 @@ use Rattle.cc_rules_asked.specs.CcStateFacts.declared.facts.Facts.{Facts}
 use Rattle.cc_rules_asked.specs.CcStateFacts.declared.facts.Key.TheVariants as key
 use Rattle.cc_rules_asked.specs.CcStateFacts.Facts.{mark_of, levels_of}
 use Rattle.cc_rules_asked.specs.CcStateFacts.Levels.{one_may_enter}
+use Rattle.cc_rules_asked.specs.CcStateKeys.Keys.{key_number}
+use Rattle.cc_rules_asked.specs.CcStateKeys.Lists.{only_if}
 
 -- ---- points whose statements do something
 
@@ -124,3 +127,8 @@ is_entered_by facts id (Some k) = one_may_enter (levels_of facts.levels id) (lev
 
 abbrev pub concern_any : is.Named → List ℕ → Bool
 concern_any keys objects = list_any (λ i. is.concerns keys (key.Object i)) objects
+
+-- the numbers of the keys of those objects whose keys are among some
+abbrev pub numbers_concerned : Program → is.Named → List ℕ → List (Option ℕ)
+numbers_concerned p keys [] = []
+numbers_concerned p keys (i ∷ objects) = only_if (is.concerns keys (key.Object i)) (key_number p (key.Object i)) ++ numbers_concerned p keys objects

@@ -1,13 +1,15 @@
 //! The constraints of tracked cells that handlers which may enter may write.
 
-ghost use Rattle.std.specs.Prelude.{◌≡◌, ◌++◌, ◌&&◌, true, map, IfOk, OnOk};
+ghost use Rattle.std.specs.List.{list_any};
+ghost use Rattle.std.specs.Prelude.{◌≡◌, ◌++◌, true, map, IfOk, OnOk};
 ghost use Rattle.cc_rules_asked.specs.CcRules.Constraints.{Stability};
 ghost use Rattle.cc_rules_again.specs.Again.{ids, at_each, is_unstable as is_unstable_of, touch_readers};
-ghost use Rattle.cc_rules_again.specs.Named.{concerns as concerns_of};
+ghost use Rattle.cc_rules_asked.specs.CcStateKeys.Lists.{only_if};
+ghost use Rattle.cc_rules_asked.specs.CcStateKeys.Tracked.{tracked};
 ghost use Rattle.cc_rules_asked.specs.Unstable.{key_at as key_at_of};
 ghost use Rattle.cc_rules_made.specs.Rules.{AreOf};
 ghost use Rattle.cc_rules_readers.specs.Index.{IsIndexOf};
-ghost use Rattle.cc_rules_readers.specs.Points.{is_entered_by, concern_any, few_functions};
+ghost use Rattle.cc_rules_readers.specs.Points.{is_entered_by, concern_any, numbers_concerned, few_functions};
 ghost use Rattle.cc_rules_readers.specs.View.{named_view};
 
 use crate::index::Index;
@@ -34,17 +36,13 @@ fn is_entered<I>(facts: &Facts<I>, func: u32, key: Option<u32>) -> bool
     }
 }
 
-/// Whether they may write a static object whose key is among some.
-fn is_unstable_object<I>(
-    facts: &Facts<I>,
-    keys: Named,
-    func: u32,
-    object: u32,
-    number: Option<u32>,
-) -> bool
-    ensures { result ≡ (concerns_of (named_view keys) (Key.Object object) && is_entered_by facts.now func number) }
+/// Whether they may write one of some keys, each by its number.
+fn are_entered<I>(facts: &Facts<I>, func: u32, numbers: &[Option<u32>]) -> bool
+    ensures { result ≡ list_any (is_entered_by facts.now func) numbers.now }
 {
-    keys.concerns(Key::Object(object)) && is_entered(facts, func, number)
+    numbers
+        .iter()
+        .any(|number| is_entered(facts, func, *number))
 }
 
 /// The number of the key of a tracked cell.
@@ -57,23 +55,41 @@ fn key_at(keys: &[Option<u32>], cell: usize) -> Option<u32>
     }
 }
 
-/// Whether they may write a tracked cell whose key is among some.
-fn is_unstable<I>(rules: &Rules<'_>, facts: &Facts<I>, keys: Named, func: u32) -> bool
-    requires { AreOf rules.now.program.now rules.now }
-    ensures { result ≡ is_unstable_of rules.now.program.now facts.now (named_view keys) func }
+/// Puts the number of a key behind others, where the key is among some.
+fn put_number(
+    numbers: &mut Vec<Option<u32>>,
+    is_among: bool,
+    number: Option<u32>,
+) -> Result<(), NoMemory>
+    ensures { OnOk result (numbers.new.items ≡ numbers.old.items ++ only_if is_among number) }
 {
-    let objects = rules.tracked.all();
-    let numbers = rules.cell_keys.all();
-    for (cell, object) in objects.iter().enumerate() {
-        let number = key_at(numbers, cell);
-        if is_unstable_object(facts, keys, func, *object, number) {
-            return true;
-        }
+    if is_among {
+        numbers.push(number)?;
     }
-    false
+    Ok(())
 }
 
-/// Of each function whether they may.
+/// The numbers of the keys of the tracked cells whose keys are among some.
+fn numbers_among(
+    alloc: Global,
+    rules: &Rules<'_>,
+    keys: Named,
+) -> Result<Vec<Option<u32>>, NoMemory>
+    requires { AreOf rules.now.program.now rules.now }
+    ensures { IfOk result (λ numbers. numbers.items ≡ numbers_concerned rules.now.program.now (named_view keys) (tracked rules.now.program.now)) }
+{
+    let objects = rules.tracked.all();
+    let key_numbers = rules.cell_keys.all();
+    let mut numbers = Vec::new(alloc);
+    for (cell, object) in objects.iter().enumerate() {
+        let number = key_at(key_numbers, cell);
+        let is_among = keys.concerns(Key::Object(*object));
+        put_number(&mut numbers, is_among, number)?;
+    }
+    Ok(numbers)
+}
+
+/// Of each function whether they may write a tracked cell whose key is among some.
 fn unstable_functions<I>(
     alloc: Global,
     rules: &Rules<'_>,
@@ -84,10 +100,12 @@ fn unstable_functions<I>(
     requires few { few_functions rules.now }
     ensures { IfOk result (λ unstable. unstable.items ≡ map (is_unstable_of rules.now.program.now facts.now (named_view keys)) (ids rules.now.program.now)) }
 {
+    let numbers = numbers_among(alloc, rules, keys)?;
+    let numbers = numbers.as_slice();
     let functions = rules.functions.all();
     let mut unstable = Vec::new(alloc);
     for func in 0..functions.len() as u32 {
-        unstable.push(is_unstable(rules, facts, keys, func))?;
+        unstable.push(are_entered(facts, func, numbers))?;
     }
     Ok(unstable)
 }

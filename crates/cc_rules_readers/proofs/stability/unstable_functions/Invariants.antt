@@ -5,4 +5,4 @@ use Rattle.cc_rules_readers.specs.View.{named_view}
 use Rattle.cc_rules_readers.proofs.stability.unstable_functions.Given as goal
 
 abbrev pub invariant-loop-func : goal.invariant-loop-func
-invariant-loop-func g l = l.unstable.items ≡ map (is_unstable l.rules.program.now l.facts (named_view l.keys)) (numbers 0 l.func)
+invariant-loop-func g l = l.unstable.items ≡ map (is_unstable l.rules.program.now l.facts (named_view l.fn.keys)) (numbers 0 l.func)
