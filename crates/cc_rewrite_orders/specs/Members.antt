@@ -1,4 +1,5 @@
--- Programs whose members stand in another order, some of them left out.
+-- Programs whose members stand in another order, some of them left out. Words stand behind the members of their structures already, and no
+-- place is within a word: so the types of places are those over the structures without words, which may be of any size below the greatest.
 use Rattle.std.specs.Prelude.{ℕ, List, flat_map, map}
 use Rattle.std.specs.List.{enumerate_from}
 use Rattle.cc_state_points.specs.CcEval.Context.{object_type}
@@ -22,15 +23,19 @@ module _ (member_order : ℕ → List ℕ) where
   abbrev pub member_place : ℕ → ℕ → ℕ
   member_place s m = place_in 0 (member_order s) m
 
-  module _ (p : Program) where
+  -- by the structures without words
+  module _ (before : List Structure) (p : Program) where
+    abbrev pub typed : Program
+    typed = record p { structures = before }
+
     abbrev pub ordered_object : Object → Object
-    ordered_object o = record o { init = initial (map (leaf_renamed member_place p (object_type p)) (relaid in_order p.structures o.ctype o.init)) }
+    ordered_object o = record o { init = initial (map (leaf_renamed member_place typed (object_type typed)) (relaid in_order p.structures o.ctype o.init)) }
 
     abbrev pub ordered_structure : ℕ × Structure → Structure
     ordered_structure x = record x.1 { members = arranged x.1.members (member_order x.0) }
 
     abbrev pub ordered_func : Func → Func
-    ordered_func f = record f { body = map (stmt_renamed member_place p f) f.body }
+    ordered_func f = record f { body = map (stmt_renamed member_place typed f) f.body }
 
     unfoldable pub with_members_ordered : Program
     with_members_ordered = record p { structures = map ordered_structure (enumerate_from 0 p.structures); objects = map ordered_object p.objects; funcs = map ordered_func p.funcs }

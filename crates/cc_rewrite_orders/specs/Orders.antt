@@ -6,7 +6,6 @@ use Rattle.std.specs.List.{enumerate_from, flat_map, list_any}
 use Rattle.std.specs.Option.{option_map_or}
 use Rattle.cc_bins.specs.declared.types.Field.{Field}
 use Rattle.cc_lower_numbers.specs.Order.{arranged}
-use Rattle.cc_lower_numbers.specs.Order.{arranged}
 use Rattle.cc_names.specs.Names.{numbers_from}
 use Rattle.cc_plan_legal.specs.declared.kinds.Plan.{Plan}
 use Rattle.cc_plan_legal.specs.Legality.{field_of, is_among}

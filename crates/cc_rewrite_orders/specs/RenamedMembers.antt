@@ -1,13 +1,12 @@
--- Members of structures by other numbers; all else is the same.
-use Rattle.std.specs.Prelude.{ℕ, List, [], ◌∷◌, map, Option, Some, None, option_map, option_and_then, slice_get, unwrap_or}
+-- Members of structures by other numbers; all else is the same. Which structure a member is of is told by the types that places have in a
+-- program.
+use Rattle.std.specs.Prelude.{ℕ, List, [], ◌∷◌, Option, Some, None, option_and_then}
 use Rattle.cc_program.specs.declared.expr.Expr.{Expr, roll-Expr, map-Expr, fold-Expr}
 use Rattle.cc_program.specs.declared.expr.Expr.TheOpen as one
 use Rattle.cc_program.specs.declared.expr.Place.{Place, roll-Place, map-Place, fold-Place}
 use Rattle.cc_program.specs.declared.func.Func.{Func}
 use Rattle.cc_program.specs.declared.program.Program.{Program}
-use Rattle.cc_program.specs.declared.stmt.Case.{roll-Case, Case}
-use Rattle.cc_program.specs.declared.stmt.Stmt.{Stmt, roll-Stmt, fold-Stmt}
-use Rattle.cc_program.specs.declared.stmt.Stmt.TheOpen as is
+use Rattle.cc_program.specs.declared.stmt.Stmt.{Stmt}
 use Rattle.cc_program.specs.declared.value.Address.{Address}
 use Rattle.cc_program.specs.declared.value.Address.TheVariants as address
 use Rattle.cc_program.specs.declared.value.Leaf.{Leaf}
@@ -15,6 +14,7 @@ use Rattle.cc_program.specs.declared.value.Leaf.TheVariants as leaf
 use Rattle.cc_program.specs.declared.value.Part.{Part}
 use Rattle.cc_program.specs.declared.value.Part.TheVariants as part
 use Rattle.cc_program.specs.declared.value.Root.{Root}
+use Rattle.cc_rewrite_renamed.specs.Statements.{stmt_by}
 use Rattle.cc_state_points.specs.CcStateKeys.Keys.{structure_of}
 use Rattle.cc_state_points.specs.CcSyntax.Expressions.{of_one}
 use Rattle.cc_state_points.specs.CcSyntax.Initial.{step_into}
@@ -63,21 +63,8 @@ module _ (member : ℕ → ℕ → ℕ) where
     unfoldable pub expr_renamed : Expr → Expr
     expr_renamed e = (fold-Expr ExprIn PlaceIn expr_in place_in e).renamed
 
-    abbrev pub stmt_with : is.Stmt-F Stmt Case → is.Stmt-F Stmt Case
-    stmt_with (is.Do e) = is.Do (expr_renamed e)
-    stmt_with (is.If e a b) = is.If (expr_renamed e) a b
-    stmt_with (is.While e a) = is.While (expr_renamed e) a
-    stmt_with (is.DoWhile a e) = is.DoWhile a (expr_renamed e)
-    stmt_with (is.For first test again a) = is.For (option_map expr_renamed first) (option_map expr_renamed test) (option_map expr_renamed again) a
-    stmt_with (is.Switch e cases) = is.Switch (expr_renamed e) cases
-    stmt_with is.Break = is.Break
-    stmt_with is.Continue = is.Continue
-    stmt_with (is.Return e) = is.Return (option_map expr_renamed e)
-    stmt_with is.Empty = is.Empty
-    stmt_with (is.Block a) = is.Block a
-
-    unfoldable pub stmt_renamed : Stmt → Stmt
-    stmt_renamed s = fold-Stmt Stmt Case (λ x. roll-Stmt (stmt_with x)) roll-Case s
+    abbrev pub stmt_renamed : Stmt → Stmt
+    stmt_renamed s = stmt_by expr_renamed s
 
   -- ---- first values
 

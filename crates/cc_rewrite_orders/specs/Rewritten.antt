@@ -17,4 +17,4 @@ module _ {I : Type 0} (slots : List Slot) (plan : Plan) (facts : Facts I) (p : P
   coded = numbered (coded_program slots plan p facts)
 
   unfoldable pub rewritten : Program
-  rewritten = with_members_ordered (member_order slots plan p coded) (with_objects_ordered (object_order slots plan p coded) coded)
+  rewritten = with_members_ordered (member_order slots plan p coded) p.structures (with_objects_ordered (object_order slots plan p coded) coded)
