@@ -1,0 +1,4 @@
+pub mod Accesses
+pub mod Asked
+pub mod Evaluates
+pub mod Numbers
