@@ -1,0 +1,2 @@
+pub mod CodedObjects
+pub mod PlacedLayouts
