@@ -1,5 +1,5 @@
 #!/usr/bin/env python3
-"""What is planned for sources: plans.py < tests/cases/plans/stdin
+"""What is planned for sources: plans.py < crates/cases_slots/stdin
 
 Sources are read by the means of linked.py, lowered by those of lowering.py, and what is known of their runs is worked out by facts.py;
 slots.py says which variables may be told by few bits. Here are what codes cost, which are chosen, where they stand, and whether a
