@@ -195,8 +195,8 @@ asked_before i k f g chain raised other (inl e) = inl e
 asked_before i k f g chain raised other (inr there) = ⊎_elim (λ e. inr e) (λ e. absurd (other e)) (raised_part i (turned k + 1) f g chain raised there)
 
 -- none settles
-pub never_settles : (A : Type 0) → false ≡ true → A
-never_settles A none = absurd (true≢false (sym none))
+pub never_settles : {A : Type 0} → false ≡ true → A
+never_settles none = absurd (true≢false (sym none))
 
 pub chain_lists : (i k : ℕ) (f g : Table ℕ Truth) → k < 1000 → IsChain f
     → IsRaised IsChain IsBelowChain (AsksYes i) f g → AsksYes k f f → AsksYes k g g ⊎ Contains (before (turned i)) k

@@ -163,7 +163,7 @@ impl System for Chain {
 
     ghost again_counts = { λ _ i _ _ _. before_counts (turned i) };
 
-    ghost again_itself = { λ _ i f g none _ _ _ _. never_settles (AsksYes i g g ⊎ Contains (before (turned i)) i) none };
+    ghost again_itself = { λ _ _ _ _ none _ _ _ _. never_settles none };
 
     ghost again_lists = { λ _ i k f g _ small chain _ raised met. chain_lists i k f g small chain raised met };
 }
