@@ -1,5 +1,5 @@
 #!/usr/bin/env python3
-"""Questions on facts about programs: judged.py < tests/cases/facts/stdin
+"""Questions on facts about programs: judged.py < crates/cases_facts/stdin
 
 Each line `$ SOURCE`, or `$ [PROFILE ROWS] SOURCE`, is a program, and the lines behind it ask of its least facts, or of those with
 changes in them behind ` : `. `facts` writes them; `judge` says whether they have the shape of the program's, and the first constraint that
